@@ -1,0 +1,9 @@
+pub mod Orders
+pub mod Records
+pub mod Lines
+pub mod Reading
+pub mod Streams
+pub mod Progress
+pub mod Intake
+pub mod Inputs
+pub mod Rows

@@ -1,13 +1,20 @@
-// A library with one function.
+//! Records, the lines that give them, and the rows that are printed: what every other crate speaks of.
+//!
+//! An input is a list of lines. A line gives an [`Item`]: a record of a stream, a watermark of a stream, or nothing.
+//! [`read_line`] reads one line, [`Intake`] tests the lines of an input in their order, and [`row_bytes`] prints a row.
+//! Nothing in this crate takes memory.
 #![tactic(auto)]
 
-ghost use Rattle.std.specs.Prelude.{◌≡◌};
-ghost use Rattle.sb_record.specs.Echo.{echo_of};
+mod intake;
+mod item;
+mod line;
+mod number;
+mod row;
+mod sequence;
 
-// The `ensures` clause is the contract: what `echo` returns is `echo_of` of its argument, a definition
-// in `specs/Echo.antt`, which a caller's clause can cite too.
-pub fn echo(x: usize) -> usize
-    ensures { result ≡ echo_of x }
-{
-    x
-}
+pub use intake::{Intake, MAX_LINE_LENGTH, MAX_LINES, Refusal};
+pub use item::{END_MARK, Item, MAX_KEY, MAX_TIME, NoMemory, Record, Stream, Streams};
+pub use line::{Malformed, read_line};
+pub use number::read_number;
+pub use row::{RowBuf, row_bytes};
+pub use sequence::Sequence;

@@ -1,0 +1,44 @@
+-- Which lines of an input are accepted, and where reading stops.
+use Rattle.std.specs.Prelude.{Bool, if◌then◌else◌, List, [], ◌∷◌, ◌++◌, length, Option, Some, None, Result, Ok, Err}
+use Rattle.sb_record.specs.declared.item.Stream.TheVariants.{A, B}
+use Rattle.sb_record.specs.declared.item.Streams.{Streams}
+use Rattle.sb_record.specs.declared.item.Item.{Item}
+use Rattle.sb_record.specs.declared.intake.Refusal.{Refusal}
+use Rattle.sb_record.specs.Progress.{Progress}
+use Rattle.sb_record.specs.Intake.{tested}
+use Rattle.sb_record.specs.Streams.{last_watermark}
+use Rattle.std.specs.Prelude.{ℕ}
+
+-- what the accepted items of an input have said
+abbrev pub progress_of : Streams → List Item → Progress
+progress_of streams items = record { streams = streams; mark_a = last_watermark A items; mark_b = last_watermark B items; lines = length items }
+
+-- the items of the lines before the first that is refused, and that line's refusal where there is one
+pub record Accepted : Type 0 where
+  pub items : List Item
+  pub refused : Option Refusal
+
+-- the items so far, where the next line is refused, else those of the lines that follow too
+abbrev pub accepted_if : Result Item Refusal → List Item → (List Item → Accepted) → Accepted
+accepted_if (Ok item) items rest = rest (items ++ item ∷ [])
+accepted_if (Err refusal) items rest = record { items = items; refused = Some refusal }
+
+-- of the lines that follow these items, each is tested against what the items before it have said
+abbrev pub accepted_after : Streams → List Item → List (List ℕ) → Accepted
+accepted_after streams items [] = record { items = items; refused = None }
+accepted_after streams items (line ∷ lines) = accepted_if (tested (progress_of streams items) line) items (λ more. accepted_after streams more lines)
+
+-- the accepted items of an input
+abbrev pub accepted : Streams → List (List ℕ) → Accepted
+accepted streams lines = accepted_after streams [] lines
+
+-- where reading stops: at the first refused line, at the end of the input, or at a fault of its source
+pub data Stop : Type 0 where
+  Refused : (refusal : Refusal) → Stop
+  End : Stop
+  Fault : Stop
+
+-- a refusal comes first; else it is told by whether the input has ended
+abbrev pub stop_of : Bool → Option Refusal → Stop
+stop_of ended (Some refusal) = Refused refusal
+stop_of ended None = if ended then End else Fault

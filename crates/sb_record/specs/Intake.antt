@@ -1,0 +1,58 @@
+-- The tests that a line has to pass, after what the lines before it have said.
+use Rattle.std.specs.Prelude.{ℕ, ◌+◌, nat_le, nat_lt, if◌then◌else◌, List, length, Option, Some, None, Result, Ok, Err}
+use Rattle.sb_record.specs.declared.item.Record.{Record}
+use Rattle.sb_record.specs.declared.item.Stream.{Stream}
+use Rattle.sb_record.specs.declared.item.Stream.TheVariants.{A, B}
+use Rattle.sb_record.specs.declared.item.Streams.{Streams}
+use Rattle.sb_record.specs.declared.item.Item.{Item}
+use Rattle.sb_record.specs.declared.item.Item.TheVariants.{Rec, Mark, Skip}
+use Rattle.sb_record.specs.declared.intake.Refusal.{Refusal}
+use Rattle.sb_record.specs.declared.intake.Refusal.TheVariants as refusal
+use Rattle.sb_record.specs.declared.intake.TheConstants.{MAX_LINES, MAX_LINE_LENGTH}
+use Rattle.sb_record.specs.Progress.{Progress}
+use Rattle.sb_record.specs.Reading.{item_of}
+use Rattle.sb_record.specs.Streams.{uses, least_of}
+
+-- nothing was said yet, in so many lines
+abbrev pub started : Streams → ℕ → Progress
+started streams lines = record { streams = streams; mark_a = 0; mark_b = 0; lines = lines }
+
+abbrev pub mark_of : Progress → Stream → ℕ
+mark_of p A = p.mark_a
+mark_of p B = p.mark_b
+
+-- the item of line n, where its stream is one of the pipeline's and its time is not before the stream's last watermark
+abbrev pub timely : Progress → ℕ → Item → Result Item Refusal
+timely p n (Rec s r) =
+    if uses p.streams s then (if nat_lt r.time (mark_of p s) then Err (refusal.Late n r.time (mark_of p s)) else Ok (Rec s r))
+    else Err (refusal.WrongStream n)
+timely p n (Mark s t) =
+    if uses p.streams s then (if nat_lt t (mark_of p s) then Err (refusal.Back n t (mark_of p s)) else Ok (Mark s t))
+    else Err (refusal.WrongStream n)
+timely p n Skip = Ok Skip
+
+abbrev pub timely_if : Progress → ℕ → Option Item → Result Item Refusal
+timely_if p n None = Err (refusal.Malformed n)
+timely_if p n (Some item) = timely p n item
+
+-- the item of the next line, or the first test that it fails
+abbrev pub tested : Progress → List ℕ → Result Item Refusal
+tested p line =
+    if nat_le MAX_LINES p.lines then Err refusal.TooMany
+    else if nat_lt MAX_LINE_LENGTH (length line) then Err (refusal.TooLong (p.lines + 1))
+    else timely_if p (p.lines + 1) (item_of line)
+
+-- the first test that a next line of more than 128 bytes fails
+abbrev pub too_long : Progress → Refusal
+too_long p = if nat_le MAX_LINES p.lines then refusal.TooMany else refusal.TooLong (p.lines + 1)
+
+-- what is said with one accepted line more
+abbrev pub after : Item → Progress → Progress
+after (Rec s r) p = record p { lines = p.lines + 1 }
+after (Mark A t) p = record p { lines = p.lines + 1; mark_a = t }
+after (Mark B t) p = record p { lines = p.lines + 1; mark_b = t }
+after Skip p = record p { lines = p.lines + 1 }
+
+-- the low watermark
+abbrev pub low : Progress → ℕ
+low p = least_of p.streams p.mark_a p.mark_b

@@ -1,0 +1,103 @@
+-- How a line is read, from the left: each reader gives a value and the bytes after it.
+use Rattle.std.specs.Prelude.{ℕ, ℤ, pos, negsuc, ◌+◌, ◌-◌, ◌*◌, Bool, ◌&&◌, ◌==◌, nat_lt, nat_le, if◌then◌else◌, List, [], ◌∷◌, Option, Some, None}
+use Rattle.std.specs.Char.{is_ascii_digit}
+use Rattle.sb_record.specs.declared.item.TheConstants.{MAX_KEY, MAX_TIME}
+use Rattle.sb_record.specs.declared.item.Stream.{Stream}
+use Rattle.sb_record.specs.declared.item.Stream.TheVariants.{A, B}
+use Rattle.sb_record.specs.declared.item.Item.{Item}
+use Rattle.sb_record.specs.declared.item.Item.TheVariants.{Rec, Mark, Skip}
+
+infixl 10 ◌>>=◌
+abbrev pub ◌>>=◌ : {A B : Type 0} → Option A → (A → Option B) → Option B
+None >>= f = None
+(Some x) >>= f = f x
+
+-- the digits ended
+abbrev pub ended : ℕ → ℕ → List ℕ → Option (ℕ × List ℕ)
+ended value len rest = if nat_lt 0 len then Some (value, rest) else None
+
+-- whether a number has gone on past a first digit of zero
+abbrev pub is_leading_zero : ℕ → ℕ → Bool
+is_leading_zero value len = value == 0 && nat_lt 0 len
+
+-- a number, from the value and the count of the digits read so far
+unfoldable pub digits_from : ℕ → ℕ → List ℕ → Option (ℕ × List ℕ)
+digits_from value len [] = ended value len []
+digits_from value len (b ∷ rest) =
+    if is_ascii_digit b then
+    if is_leading_zero value len then None
+    else if nat_le 1000000000000000000 value then None
+    else digits_from (value * 10 + (b - 48)) (len + 1) rest
+    else ended value len (b ∷ rest)
+
+abbrev pub at_most : ℕ → ℕ × List ℕ → Option (ℕ × List ℕ)
+at_most most p = if nat_le p.0 most then Some p else None
+
+-- a number up to this bound
+unfoldable pub number_at : ℕ → List ℕ → Option (ℕ × List ℕ)
+number_at most bytes = digits_from 0 0 bytes >>= at_most most
+
+-- the value, where nothing follows it
+abbrev pub value_at_end : ℕ × List ℕ → Option ℕ
+value_at_end (value, []) = Some value
+value_at_end (value, b ∷ rest) = None
+
+-- a text that is a number up to this bound
+unfoldable pub whole_number : ℕ → List ℕ → Option ℕ
+whole_number most bytes = number_at most bytes >>= value_at_end
+
+-- what follows this byte
+unfoldable pub byte_at : ℕ → List ℕ → Option (List ℕ)
+byte_at byte [] = None
+byte_at byte (b ∷ rest) = if b == byte then Some rest else None
+
+-- a negative number of this magnitude
+abbrev pub negative : ℕ × List ℕ → Option (ℤ × List ℕ)
+negative p = if p.0 == 0 then None else Some (negsuc (p.0 - 1), p.1)
+
+abbrev pub positive : ℕ × List ℕ → Option (ℤ × List ℕ)
+positive p = Some (pos p.0, p.1)
+
+abbrev pub negative_at : List ℕ → Option (ℤ × List ℕ)
+negative_at bytes = number_at 9223372036854775808 bytes >>= negative
+
+abbrev pub positive_at : List ℕ → Option (ℤ × List ℕ)
+positive_at bytes = number_at 9223372036854775807 bytes >>= positive
+
+-- by what follows a minus sign, where there is one
+abbrev pub signed_from : Option (List ℕ) → List ℕ → Option (ℤ × List ℕ)
+signed_from None bytes = positive_at bytes
+signed_from (Some rest) bytes = negative_at rest
+
+unfoldable pub signed_at : List ℕ → Option (ℤ × List ℕ)
+signed_at bytes = signed_from (byte_at 45 bytes) bytes
+
+unfoldable pub stream_at : List ℕ → Option (Stream × List ℕ)
+stream_at [] = None
+stream_at (b ∷ rest) = if b == 97 then Some (A, rest) else if b == 98 then Some (B, rest) else None
+
+-- the item, where nothing follows
+unfoldable pub at_end : Item → List ℕ → Option Item
+at_end item [] = Some item
+at_end item (b ∷ rest) = None
+
+-- a record, after its stream
+unfoldable pub record_at : Stream → List ℕ → Option Item
+record_at s bytes =
+    number_at MAX_TIME bytes >>= λ t. byte_at 44 t.1 >>= λ b. number_at MAX_KEY b >>= λ k. byte_at 44 k.1 >>= λ c. signed_at c >>= λ v. at_end (Rec s (record { time = t.0; key = k.0; value = v.0 })) v.1
+
+-- a watermark, after its stream
+unfoldable pub mark_at : Stream → List ℕ → Option Item
+mark_at s bytes = number_at MAX_TIME bytes >>= λ t. at_end (Mark s t.0) t.1
+
+-- `,S,`
+unfoldable pub between : List ℕ → Option (Stream × List ℕ)
+between bytes = byte_at 44 bytes >>= λ b. stream_at b >>= λ s. byte_at 44 s.1 >>= λ c. Some (s.0, c)
+
+unfoldable pub item_of : List ℕ → Option Item
+item_of [] = None
+item_of (b ∷ rest) =
+    if b == 35 then Some Skip
+    else if b == 114 then (between rest >>= λ s. record_at s.0 s.1)
+    else if b == 119 then (between rest >>= λ s. mark_at s.0 s.1)
+    else None

@@ -1,0 +1,175 @@
+//! The tests that the lines of an input pass, in their order.
+
+ghost use Rattle.std.specs.Prelude.{◌≡◌, ◌≤◌, ◌<◌, length, OnErr, IfOk};
+ghost use Rattle.sb_record.specs.Intake as spec;
+ghost use Rattle.sb_record.specs.Streams as streams_spec;
+
+use crate::item::{Item, Stream, Streams};
+use crate::line::{Malformed, read_line};
+use std::marker::Model;
+
+/// How many lines an input may have. Comments count.
+pub const MAX_LINES: u64 = 4_294_967_295;
+
+/// How many bytes a line may have, without its line end.
+pub const MAX_LINE_LENGTH: usize = 128;
+
+/// Why a line is refused: the first test that it fails, in this order. `line` is its number, from 1.
+#[derive(Clone, Copy, Debug, PartialEq, Eq)]
+pub enum Refusal {
+    /// 4,294,967,295 lines went before.
+    TooMany,
+    /// It has more than 128 bytes, without its line end.
+    TooLong { line: u64 },
+    /// It gives no item.
+    Malformed { line: u64 },
+    /// Its stream is not one of the pipeline's.
+    WrongStream { line: u64 },
+    /// A record's time is before the last watermark of its stream. An equal time is not late.
+    Late { line: u64, time: u64, mark: u64 },
+    /// A watermark is before the last one of its stream. An equal one is accepted.
+    Back { line: u64, time: u64, mark: u64 },
+}
+
+/// What the accepted lines of an input have said so far, and so which lines may follow.
+#[derive(Drop)]
+pub struct Intake {
+    streams: Streams,
+    mark_a: u64,
+    mark_b: u64,
+    before: u64,
+}
+
+impl Model for Intake {
+    ghost use Rattle.sb_record.specs.Progress.{Progress};
+    ghost use Rattle.std.specs.Prelude.{◌≤◌};
+
+    ghost Value = { Progress };
+
+    ghost view = { λ s. record { streams = s.streams; mark_a = s.mark_a; mark_b = s.mark_b; lines = s.before } };
+
+    ghost invariant = { λ s. s.before ≤ 4294967295 };
+}
+
+impl Intake {
+    /// The intake of an input of which `before` lines went before, at most 4,294,967,295, with no watermark among them.
+    pub fn new(streams: Streams, before: u64) -> Intake
+        requires { before ≤ 4294967295 }
+        ensures { result ≡ spec.started streams before }
+    {
+        Intake {
+            streams,
+            mark_a: 0,
+            mark_b: 0,
+            before,
+        }
+    }
+
+    fn uses(&self, stream: Stream) -> bool
+        ensures { result ≡ streams_spec.uses self.now.streams stream }
+    {
+        match stream {
+            Stream::A => self.streams.a,
+            Stream::B => self.streams.b,
+        }
+    }
+
+    fn last(&self, stream: Stream) -> u64
+        ensures { result ≡ spec.mark_of self.now stream }
+    {
+        match stream {
+            Stream::A => self.mark_a,
+            Stream::B => self.mark_b,
+        }
+    }
+
+    /// The item of the next line, of at most 128 bytes: Ok counts the line and keeps its watermark. A line that fails a
+    /// test is refused by the first one that it fails, and changes nothing.
+    pub fn accept(&mut self, line: &[u8]) -> Result<Item, Refusal>
+        requires { length line.now ≤ 128 }
+        ensures value { result ≡ spec.tested self.old line.now }
+        ensures ok { IfOk result (λ i. self.new ≡ spec.after i self.old) }
+        ensures err { OnErr result (self.new ≡ self.old) }
+        ensures room { IfOk result (λ _. self.old.lines < 4294967295) }
+    {
+        let item = self.tested(line)?;
+        self.before += 1;
+        match item {
+            Item::Mark(Stream::A, time) => self.mark_a = time,
+            Item::Mark(Stream::B, time) => self.mark_b = time,
+            _ => {}
+        }
+        Ok(item)
+    }
+
+    /// The item of the next line, or the first refusal.
+    fn tested(&self, line: &[u8]) -> Result<Item, Refusal>
+        requires { length line.now ≤ 128 }
+        ensures value { result ≡ spec.tested self.now line.now }
+        ensures room { IfOk result (λ _. self.now.lines < 4294967295) }
+    {
+        if self.before >= MAX_LINES {
+            return Err(Refusal::TooMany);
+        }
+        let number = self.before + 1;
+        match read_line(line) {
+            Ok(item) => self.timely(number, item),
+            Err(Malformed) => Err(Refusal::Malformed { line: number }),
+        }
+    }
+
+    /// The item, where its stream is one of the pipeline's and its time is not before the last watermark.
+    fn timely(&self, line: u64, item: Item) -> Result<Item, Refusal>
+        ensures { result ≡ spec.timely self.now line item }
+    {
+        match item {
+            Item::Rec(stream, record) => {
+                if !self.uses(stream) {
+                    return Err(Refusal::WrongStream { line });
+                }
+                let mark = self.last(stream);
+                let time = record.time;
+                if time < mark {
+                    return Err(Refusal::Late { line, time, mark });
+                }
+                Ok(item)
+            }
+            Item::Mark(stream, time) => {
+                if !self.uses(stream) {
+                    return Err(Refusal::WrongStream { line });
+                }
+                let mark = self.last(stream);
+                if time < mark {
+                    return Err(Refusal::Back { line, time, mark });
+                }
+                Ok(item)
+            }
+            Item::Skip => Ok(item),
+        }
+    }
+
+    /// The refusal of a next line of more than 128 bytes.
+    pub fn too_long(&self) -> Refusal
+        ensures { result ≡ spec.too_long self.now }
+    {
+        if self.before >= MAX_LINES {
+            return Refusal::TooMany;
+        }
+        Refusal::TooLong {
+            line: self.before + 1,
+        }
+    }
+
+    /// The low watermark: the least of the last watermarks of the streams, 0 before the first and where there is no
+    /// stream. No accepted record still to come has a time before it.
+    pub fn low(&self) -> u64
+        ensures { result ≡ spec.low self.now }
+    {
+        match (self.streams.a, self.streams.b) {
+            (true, true) => self.mark_a.min(self.mark_b),
+            (true, false) => self.mark_a,
+            (false, true) => self.mark_b,
+            (false, false) => 0,
+        }
+    }
+}

@@ -1,0 +1,49 @@
+//! Records, streams and items: the types that the whole engine speaks of.
+
+/// The greatest time of a record or a watermark of an input. A time is a whole number without a unit of its own: what
+/// it counts (seconds, milliseconds) is up to who writes the input.
+pub const MAX_TIME: u64 = 1_000_000_000_000_000;
+
+/// The greatest key of a record of an input.
+pub const MAX_KEY: u64 = 1_000_000_000_000_000_000;
+
+/// The watermark that the end of an input counts as, on each stream: every time in the engine is below it.
+pub const END_MARK: u64 = 2_000_000_000_000_000;
+
+/// There was no memory for what was asked.
+#[derive(Clone, Copy, Debug, PartialEq, Eq)]
+pub struct NoMemory;
+
+/// An event: when it happened, what it is about, and a number. Records are ordered by time, then key, then value.
+#[derive(Clone, Copy, Debug, PartialEq, Eq, PartialOrd, Ord)]
+pub struct Record {
+    /// When the event happened (its event time), not when its line was read.
+    pub time: u64,
+    pub key: u64,
+    pub value: i64,
+}
+
+/// One of the two streams of an input.
+#[derive(Clone, Copy, Debug, PartialEq, Eq)]
+pub enum Stream {
+    A,
+    B,
+}
+
+/// Which streams a pipeline reads.
+#[derive(Clone, Copy, Debug, PartialEq, Eq)]
+pub struct Streams {
+    pub a: bool,
+    pub b: bool,
+}
+
+/// What a line gives.
+#[derive(Clone, Copy, Debug, PartialEq, Eq)]
+pub enum Item {
+    /// A record of a stream.
+    Rec(Stream, Record),
+    /// A watermark: no later record of the stream has a time before it.
+    Mark(Stream, u64),
+    /// Nothing: the line is a comment.
+    Skip,
+}
