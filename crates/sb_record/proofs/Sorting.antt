@@ -1,0 +1,189 @@
+-- A list put in order has the same elements, ascends, and is the only such list.
+use Rattle.std.proofs.Common.{◌≡◌, ℕ, suc, ◌+◌, ◌<◌, ℤ, Bool, true, false, cond, List, [], ◌∷◌, length, get_or, sym, refl, ap, ◌∙◌, arith}
+use Rattle.std.specs.Prelude.{count_by, sum_by}
+use Rattle.std.specs.List.{filter, AllByRecursion}
+use Rattle.std.specs.List.Sorted.{IsSorted}
+use Rattle.std.specs.Ordering.{eq_by_cmp, is_eq, is_lt, ordering_reverse, ordering_then, nat_cmp, int_cmp}
+use Rattle.std.specs.Cmp.{IsTotalOrder, IsStrictWeakOrder, nat_cmp_total, int_cmp_total, tied_itself}
+use Rattle.std.specs.declared.cmp.Ordering.{Ordering}
+use Rattle.std.specs.declared.cmp.Ordering.TheVariants.{Less, Equal, Greater}
+use Rattle.std.proofs.lemmas.Cmp.{then_total, on_total}
+use Rattle.std.proofs.lemmas.List.Sums.{sum_by-cons}
+use Rattle.std.proofs.lemmas.List.Sorted.{sorted_far, ranks_by}
+use Rattle.std.proofs.lemmas.Map.Lookups.{CmpEqualImpliesEq, exact_pairs, exact_unsigned, exact_signed}
+use Rattle.sb_record.specs.declared.item.Record.{Record}
+use Rattle.sb_record.specs.Orders.{put_in_order, in_order, IsAscending}
+use Rattle.sb_record.specs.Records.{record_cmp, count_of, SameRecords, sorted}
+use Rattle.sb_record.proofs.Sums.{SameSums, sum_by-filter}
+
+-- ---- putting in order moves elements alone
+SameSums-put_in_order : {X : Type 0} (cmp : X → X → Ordering) (x : X) (ys : List X) → SameSums (put_in_order cmp x ys) (x ∷ ys)
+SameSums-put_in_order cmp x [] f = refl
+SameSums-put_in_order cmp x (y ∷ ys) f = by_case (is_lt (cmp y x)) (SameSums-put_in_order cmp x ys f)
+  where
+    swapped : (a b n : ℕ) → a + (b + n) ≡ b + (a + n)
+    swapped a b n = omega arith
+
+    by_case : (b : Bool) → sum_by f (put_in_order cmp x ys) ≡ sum_by f (x ∷ ys) → sum_by f (cond b (y ∷ put_in_order cmp x ys) (x ∷ y ∷ ys)) ≡ sum_by f (x ∷ y ∷ ys)
+    by_case true h =
+        sum_by-cons f y (put_in_order cmp x ys) ∙ ap (λ n. f y + n) (h ∙ sum_by-cons f x ys) ∙ swapped (f y) (f x) (sum_by f ys)
+        ∙ sym (sum_by-cons f x (y ∷ ys) ∙ ap (λ n. f x + n) (sum_by-cons f y ys))
+    by_case false h = refl
+
+pub SameSums-in_order : {X : Type 0} (cmp : X → X → Ordering) (xs : List X) → SameSums (in_order cmp xs) xs
+SameSums-in_order cmp [] f = refl
+SameSums-in_order cmp (x ∷ xs) f = SameSums-put_in_order cmp x (in_order cmp xs) f ∙ sum_by-cons f x (in_order cmp xs) ∙ ap (λ n. f x + n) (SameSums-in_order cmp xs f) ∙ sym (sum_by-cons f x xs)
+
+pub All-put_in_order : {X : Type 0} (P : X → Type 0) (cmp : X → X → Ordering) (x : X) (ys : List X) → P x → AllByRecursion P ys → AllByRecursion P (put_in_order cmp x ys)
+All-put_in_order P cmp x [] h all = (h, tt)
+All-put_in_order P cmp x (y ∷ ys) h all = by_case (is_lt (cmp y x)) (All-put_in_order P cmp x ys h all.1)
+  where
+    by_case : (b : Bool) → AllByRecursion P (put_in_order cmp x ys) → AllByRecursion P (cond b (y ∷ put_in_order cmp x ys) (x ∷ y ∷ ys))
+    by_case true k = (all.0, k)
+    by_case false k = (h, all)
+
+pub All-in_order : {X : Type 0} (P : X → Type 0) (cmp : X → X → Ordering) (xs : List X) → AllByRecursion P xs → AllByRecursion P (in_order cmp xs)
+All-in_order P cmp [] all = tt
+All-in_order P cmp (x ∷ xs) all = All-put_in_order P cmp x (in_order cmp xs) all.0 (All-in_order P cmp xs all.1)
+
+-- ---- records are ordered, and records that compare alike are one
+pub records_total : IsTotalOrder record_cmp
+records_total = then_total (on_total (λ (r : Record). r.time) nat_cmp_total) (then_total (on_total (λ (r : Record). r.key) nat_cmp_total) (on_total (λ (r : Record). r.value) int_cmp_total))
+
+pub exact_records : CmpEqualImpliesEq record_cmp
+exact_records a b h =
+    ap (λ (p : ℕ × (ℕ × ℤ)). record { time = p.0; key = p.1.0; value = p.1.1 })
+    (exact_pairs nat_cmp (λ x y. ordering_then (nat_cmp x.0 y.0) (int_cmp x.1 y.1)) exact_unsigned (exact_pairs nat_cmp int_cmp exact_unsigned exact_signed) (a.time, (a.key, a.value)) (b.time, (b.key, b.value)) h)
+
+module _ {X : Type 0} {cmp : X → X → Ordering} (o : IsTotalOrder cmp) where
+  ranks : IsStrictWeakOrder (λ x y. is_lt (cmp x y))
+  ranks = ranks_by o (λ (x : X). x)
+
+  less_flip : (x y : X) → is_lt (cmp x y) ≡ true → is_lt (cmp y x) ≡ false
+  less_flip x y h = ap is_lt (o.antisymm y x) ∙ flipped (cmp x y) h
+    where
+      flipped : (r : Ordering) → is_lt r ≡ true → is_lt (ordering_reverse r) ≡ false
+      flipped Less h = refl
+      flipped Equal h = cc
+      flipped Greater h = cc
+
+  all_put : (P : X → Type 0) (x : X) (ys : List X) → P x → AllByRecursion P ys → AllByRecursion P (put_in_order cmp x ys)
+  all_put P x ys h all = All-put_in_order P cmp x ys h all
+
+  put_ascending : (x : X) (ys : List X) → IsAscending cmp ys → IsAscending cmp (put_in_order cmp x ys)
+  put_ascending x [] up = (tt, tt)
+  put_ascending x (y ∷ ys) up = by_case (is_lt (cmp y x)) refl (put_ascending x ys up.1)
+    where
+      -- what is not below y is not below x, where y is not below x
+      over : is_lt (cmp y x) ≡ false → (zs : List X) → AllByRecursion (λ z. is_lt (cmp z y) ≡ false) zs → AllByRecursion (λ z. is_lt (cmp z x) ≡ false) zs
+      over e [] all = tt
+      over e (z ∷ zs) all = (ranks.chain z y x all.0 e, over e zs all.1)
+
+      by_case : (b : Bool) → is_lt (cmp y x) ≡ b → IsAscending cmp (put_in_order cmp x ys) → IsAscending cmp (cond b (y ∷ put_in_order cmp x ys) (x ∷ y ∷ ys))
+      by_case true e k = (all_put (λ z. is_lt (cmp z y) ≡ false) x ys (less_flip y x e) up.0, k)
+      by_case false e k = ((e, over e ys up.0), up)
+
+  pub in_order-ascending : (xs : List X) → IsAscending cmp (in_order cmp xs)
+  in_order-ascending [] = tt
+  in_order-ascending (x ∷ xs) = put_ascending x (in_order cmp xs) (in_order-ascending xs)
+
+  -- what `sort` ensures
+  pub ascending-from_sorted : (xs : List X) → IsSorted cmp xs → IsAscending cmp xs
+  ascending-from_sorted [] up = tt
+  ascending-from_sorted (x ∷ xs) up = (after xs (λ k d h. sorted_far (λ x y. is_lt (cmp x y)) ranks (x ∷ xs) up 0 (suc k) d (omega arith) (omega arith)), ascending-from_sorted xs (λ k d low high. up_tail k d high))
+    where
+      after : (ys : List X) → ((k : ℕ) (d : X) → k < length ys → is_lt (cmp (get_or ys k d) x) ≡ false) → AllByRecursion (λ y. is_lt (cmp y x) ≡ false) ys
+      after [] h = tt
+      after (y ∷ ys) h = (h 0 y (omega arith), after ys (λ k d b. h (suc k) d (omega arith)))
+
+      up_tail : (k : ℕ) (d : X) → k + 1 < length xs → is_lt (cmp (get_or xs (k + 1) d) (get_or xs k d)) ≡ false
+      up_tail k d h = sorted_far (λ x y. is_lt (cmp x y)) ranks (x ∷ xs) up (suc k) (suc (k + 1)) d (omega arith) (omega arith)
+
+  module _ (exact : CmpEqualImpliesEq cmp) where
+    abbrev count : X → List X → ℕ
+    count x xs = count_by (eq_by_cmp cmp x) xs
+
+    count-cons : (x y : X) (ys : List X) → count x (y ∷ ys) ≡ cond (eq_by_cmp cmp x y) 1 0 + count x ys
+    count-cons x y ys = sum_by-cons (λ z. cond (eq_by_cmp cmp x z) 1 0) y ys
+
+    count-own : (x : X) (xs : List X) → count x (x ∷ xs) ≡ 1 + count x xs
+    count-own x xs = count-cons x x xs ∙ ap (λ r. cond {A = ℕ} (is_eq r) 1 0 + count x xs) (tied_itself o x)
+
+    -- what stands in an ascending list is not below its first
+    not_below_first : (x y : X) (ys : List X) → AllByRecursion (λ z. is_lt (cmp z y) ≡ false) ys → 0 < count x (y ∷ ys) → is_lt (cmp x y) ≡ false
+    not_below_first x y ys up h = first (cmp x y) refl
+      where
+        later : (zs : List X) → AllByRecursion (λ z. is_lt (cmp z y) ≡ false) zs → 0 < count x zs → is_lt (cmp x y) ≡ false
+        later [] all h = absurd (omega arith)
+        later (z ∷ zs) all h = by_case (cmp x z) refl (omega (arith, count-cons x z zs)) (λ k. later zs all.1 k)
+          where
+            by_case : (r : Ordering) → cmp x z ≡ r → 0 < cond {A = ℕ} (eq_by_cmp cmp x z) 1 0 + count x zs → (0 < count x zs → is_lt (cmp x y) ≡ false) → is_lt (cmp x y) ≡ false
+            by_case Equal e k ih = ap (λ w. is_lt (cmp w y)) (exact x z e) ∙ all.0
+            by_case Less e k ih = ih (let z : cond {A = ℕ} (eq_by_cmp cmp x z) 1 0 ≡ 0 = ap (λ r. cond {A = ℕ} (is_eq r) 1 0) e in omega arith)
+            by_case Greater e k ih = ih (let z : cond {A = ℕ} (eq_by_cmp cmp x z) 1 0 ≡ 0 = ap (λ r. cond {A = ℕ} (is_eq r) 1 0) e in omega arith)
+
+        first : (r : Ordering) → cmp x y ≡ r → is_lt (cmp x y) ≡ false
+        first Equal e = ap is_lt e
+        first Greater e = ap is_lt e
+        first Less e =
+            let k : cond {A = ℕ} (eq_by_cmp cmp x y) 1 0 ≡ 0 = ap (λ r. cond {A = ℕ} (is_eq r) 1 0) e in
+            later ys up (omega (arith, count-cons x y ys))
+
+    equal_by : (x y : X) → is_lt (cmp x y) ≡ false → is_lt (cmp y x) ≡ false → x ≡ y
+    equal_by x y a b = by_case (cmp x y) refl a
+      where
+        by_case : (r : Ordering) → cmp x y ≡ r → is_lt r ≡ false → x ≡ y
+        by_case Less e h = cc
+        by_case Equal e h = exact x y e
+        by_case Greater e h = let k : true ≡ false = sym (ap is_lt (o.antisymm y x ∙ ap ordering_reverse e)) ∙ b in cc
+
+    -- two ascending lists that hold each element equally often are one
+    pub ascending-unique : (xs ys : List X) → IsAscending cmp xs → IsAscending cmp ys → ((x : X) → count x xs ≡ count x ys) → xs ≡ ys
+    ascending-unique [] [] up vp same = refl
+    ascending-unique [] (y ∷ ys) up vp same = absurd (omega (arith, same y, count-own y ys))
+    ascending-unique (x ∷ xs) [] up vp same = absurd (omega (arith, same x, count-own x xs))
+    ascending-unique (x ∷ xs) (y ∷ ys) up vp same =
+        let e : x ≡ y = equal_by x y (not_below_first x y ys vp.0 (omega (arith, same x, count-own x xs))) (not_below_first y x xs up.0 (omega (arith, same y, count-own y ys))) in
+        let rest : xs ≡ ys = ascending-unique xs ys up.1 vp.1 (λ z. less z e) in
+        λ i. e i ∷ rest i
+      where
+        less : (z : X) → x ≡ y → count z xs ≡ count z ys
+        less z e =
+            let a : cond {A = ℕ} (eq_by_cmp cmp z x) 1 0 ≡ cond (eq_by_cmp cmp z y) 1 0 = ap (λ w. cond {A = ℕ} (eq_by_cmp cmp z w) 1 0) e in
+            omega (arith, same z, count-cons z x xs, count-cons z y ys)
+
+-- ---- records
+pub sorted-unique : (rows l : List Record) → IsAscending record_cmp rows → SameRecords rows l → rows ≡ sorted l
+sorted-unique rows l up same =
+    ascending-unique records_total exact_records rows (sorted l) up (in_order-ascending records_total l) (λ r. same r ∙ sym (SameSums-in_order record_cmp l (λ x. cond (eq_by_cmp record_cmp r x) 1 0)))
+
+-- what passes of lists with the same records
+pub SameRecords-filter : (p : Record → Bool) (l m : List Record) → SameRecords l m → SameRecords (filter p l) (filter p m)
+SameRecords-filter p l m same r = passing l ∙ ap (λ n. cond (p r) n 0) (same r) ∙ sym (passing m)
+  where
+    passing : (l : List Record) → count_of r (filter p l) ≡ cond (p r) (count_of r l) 0
+    passing l = sum_by-filter (λ x. cond (eq_by_cmp record_cmp r x) 1 0) p l ∙ go l
+      where
+        one : (x : Record) (rest : ℕ) (more : ℕ) → more ≡ cond (p r) rest 0 → cond (p x) (cond {A = ℕ} (eq_by_cmp record_cmp r x) 1 0) 0 + more ≡ cond (p r) (cond (eq_by_cmp record_cmp r x) 1 0 + rest) 0
+        one x rest more h = by_case (record_cmp r x) refl
+          where
+            none : (b c : Bool) → more ≡ cond c rest 0 → cond {A = ℕ} b 0 0 + more ≡ cond c (0 + rest) 0
+            none true true h = omega (arith, h)
+            none true false h = omega (arith, h)
+            none false true h = omega (arith, h)
+            none false false h = omega (arith, h)
+
+            yes : (c : Bool) → more ≡ cond c rest 0 → cond {A = ℕ} c 1 0 + more ≡ cond c (1 + rest) 0
+            yes true h = omega (arith, h)
+            yes false h = omega (arith, h)
+
+            by_case : (o : Ordering) → record_cmp r x ≡ o → cond (p x) (cond {A = ℕ} (is_eq (record_cmp r x)) 1 0) 0 + more ≡ cond (p r) (cond (is_eq (record_cmp r x)) 1 0 + rest) 0
+            by_case Equal e = ap (λ o. cond (p x) (cond {A = ℕ} (is_eq o) 1 0) 0 + more) e ∙ ap (λ x. cond {A = ℕ} (p x) 1 0 + more) (sym (exact_records r x e)) ∙ yes (p r) h ∙ ap (λ o. cond (p r) (cond {A = ℕ} (is_eq o) 1 0 + rest) 0) (sym e)
+            by_case Less e = ap (λ o. cond (p x) (cond {A = ℕ} (is_eq o) 1 0) 0 + more) e ∙ none (p x) (p r) h ∙ ap (λ o. cond (p r) (cond {A = ℕ} (is_eq o) 1 0 + rest) 0) (sym e)
+            by_case Greater e = ap (λ o. cond (p x) (cond {A = ℕ} (is_eq o) 1 0) 0 + more) e ∙ none (p x) (p r) h ∙ ap (λ o. cond (p r) (cond {A = ℕ} (is_eq o) 1 0 + rest) 0) (sym e)
+
+        go : (l : List Record) → sum_by (λ x. cond (p x) (cond (eq_by_cmp record_cmp r x) 1 0) 0) l ≡ cond (p r) (count_of r l) 0
+        go [] = elim (p r) as (λ b. ◌≡◌ {A = ℕ} 0 (cond b 0 0)) [ true ↦ refl | false ↦ refl ]
+        go (x ∷ l) =
+            sum_by-cons (λ x. cond (p x) (cond (eq_by_cmp record_cmp r x) 1 0) 0) x l ∙ one x (count_of r l) _ (go l)
+            ∙ ap (λ n. cond (p r) n 0) (sym (sum_by-cons (λ x. cond (eq_by_cmp record_cmp r x) 1 0) x l))
