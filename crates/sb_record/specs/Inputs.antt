@@ -1,13 +1,14 @@
 -- Which lines of an input are accepted, and where reading stops.
-use Rattle.std.specs.Prelude.{Bool, if◌then◌else◌, List, [], ◌∷◌, ◌++◌, length, Option, Some, None, Result, Ok, Err}
+use Rattle.std.specs.Prelude.{ℕ, Bool, true, false, List, [], ◌∷◌, ◌++◌, length, Option, Some, None, Result, Ok, Err}
 use Rattle.sb_record.specs.declared.item.Stream.TheVariants.{A, B}
 use Rattle.sb_record.specs.declared.item.Streams.{Streams}
 use Rattle.sb_record.specs.declared.item.Item.{Item}
 use Rattle.sb_record.specs.declared.intake.Refusal.{Refusal}
+use Rattle.sb_record.specs.declared.intake.Stop.{Stop}
+use Rattle.sb_record.specs.declared.intake.Stop.TheVariants.{End, Refused, Fault}
 use Rattle.sb_record.specs.Progress.{Progress}
 use Rattle.sb_record.specs.Intake.{tested}
 use Rattle.sb_record.specs.Streams.{last_watermark}
-use Rattle.std.specs.Prelude.{ℕ}
 
 -- what the accepted items of an input have said
 abbrev pub progress_of : Streams → List Item → Progress
@@ -32,13 +33,8 @@ accepted_after streams items (line ∷ lines) = accepted_if (tested (progress_of
 abbrev pub accepted : Streams → List (List ℕ) → Accepted
 accepted streams lines = accepted_after streams [] lines
 
--- where reading stops: at the first refused line, at the end of the input, or at a fault of its source
-pub data Stop : Type 0 where
-  Refused : (refusal : Refusal) → Stop
-  End : Stop
-  Fault : Stop
-
--- a refusal comes first; else it is told by whether the input has ended
+-- where reading stops: at the first refused line, else where the input ended, or where its source failed
 abbrev pub stop_of : Bool → Option Refusal → Stop
 stop_of ended (Some refusal) = Refused refusal
-stop_of ended None = if ended then End else Fault
+stop_of true None = End
+stop_of false None = Fault

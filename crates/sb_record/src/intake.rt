@@ -2,6 +2,7 @@
 
 ghost use Rattle.std.specs.Prelude.{◌≡◌, ◌≤◌, ◌<◌, length, OnErr, IfOk};
 ghost use Rattle.sb_record.specs.Intake as spec;
+ghost use Rattle.sb_record.specs.Lines.{IsTextOf};
 ghost use Rattle.sb_record.specs.Streams as streams_spec;
 
 use crate::item::{Item, Stream, Streams};
@@ -29,6 +30,17 @@ pub enum Refusal {
     Late { line: u64, time: u64, mark: u64 },
     /// A watermark is before the last one of its stream. An equal one is accepted.
     Back { line: u64, time: u64, mark: u64 },
+}
+
+/// Where the reading of an input stops.
+#[derive(Clone, Copy, Debug, PartialEq, Eq)]
+pub enum Stop {
+    /// At its end.
+    End,
+    /// At a line that is refused.
+    Refused(Refusal),
+    /// At a fault of where it comes from.
+    Fault,
 }
 
 /// What the accepted lines of an input have said so far, and so which lines may follow.
@@ -90,6 +102,7 @@ impl Intake {
         ensures value { result ≡ spec.tested self.old line.now }
         ensures ok { IfOk result (λ i. self.new ≡ spec.after i self.old) }
         ensures err { OnErr result (self.new ≡ self.old) }
+        ensures item { IfOk result (λ i. IsTextOf i line.now) }
         ensures room { IfOk result (λ _. self.old.lines < 4294967295) }
     {
         let item = self.tested(line)?;
@@ -106,6 +119,7 @@ impl Intake {
     fn tested(&self, line: &[u8]) -> Result<Item, Refusal>
         requires { length line.now ≤ 128 }
         ensures value { result ≡ spec.tested self.now line.now }
+        ensures item { IfOk result (λ i. IsTextOf i line.now) }
         ensures room { IfOk result (λ _. self.now.lines < 4294967295) }
     {
         if self.before >= MAX_LINES {
@@ -120,7 +134,8 @@ impl Intake {
 
     /// The item, where its stream is one of the pipeline's and its time is not before the last watermark.
     fn timely(&self, line: u64, item: Item) -> Result<Item, Refusal>
-        ensures { result ≡ spec.timely self.now line item }
+        ensures value { result ≡ spec.timely self.now line item }
+        ensures same { IfOk result (λ i. i ≡ item) }
     {
         match item {
             Item::Rec(stream, record) => {

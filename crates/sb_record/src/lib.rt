@@ -11,6 +11,7 @@ mod line;
 mod number;
 mod row;
 mod sequence;
+mod text;
 
 pub use intake::{Intake, MAX_LINE_LENGTH, MAX_LINES, Refusal};
 pub use item::{END_MARK, Item, MAX_KEY, MAX_TIME, NoMemory, Record, Stream, Streams};
@@ -18,3 +19,4 @@ pub use line::{Malformed, read_line};
 pub use number::read_number;
 pub use row::{RowBuf, row_bytes};
 pub use sequence::Sequence;
+pub use text::TextBuf;
