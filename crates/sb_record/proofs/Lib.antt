@@ -1,6 +1,9 @@
+pub mod Elements
 pub mod Steps
 pub mod Numbers
 pub mod Grammar
 pub mod Sums
 pub mod Distinct
 pub mod Sorting
+pub mod Earlier
+pub mod InputLemmas

@@ -28,6 +28,12 @@ pub record IsInRange (r : Record) : Type 0 where
   pub key : r.key ≤ MAX_KEY
   pub value : mag r.value < 2 ^ 63
 
+-- the items that a line can give
+abbrev pub IsItemInRange : Item → Type 0
+IsItemInRange (Rec s r) = IsInRange r
+IsItemInRange (Mark s t) = t ≤ MAX_TIME
+IsItemInRange Skip = Unit {0}
+
 -- the line is a text of the item: of a record or a watermark there is one, and a skipped line begins with `#`
 abbrev pub IsTextOf : Item → List ℕ → Type 0
 IsTextOf (Rec s r) line = IsInRange r × (line ≡ record_text s r)
