@@ -1,0 +1,6 @@
+pub mod Spacing
+pub mod Progressions
+pub mod Windows
+pub mod Aggregations
+pub mod Reorderings
+pub mod Laws

@@ -1,13 +1,16 @@
-// A library with one function.
+//! Windows of event time: in which windows a record lies, and what an aggregation gives over whole lists of records.
+//!
+//! A window is named by its end. [`Windows`] says how long windows are and how far apart, [`Windows::ends`] gives the
+//! ends of the windows of a time, and a [`KeyedWindow`] is a window of one key: what an aggregation gathers values by.
+//! The rules are those of "The Dataflow Model" (Akidau et al., PVLDB 2015). What an aggregation gives is defined on lists
+//! alone, and [`laws`] states what every way of working it out rests on. Nothing in this crate takes memory.
 #![tactic(auto)]
 
-ghost use Rattle.std.specs.Prelude.{◌≡◌};
-ghost use Rattle.sb_window.specs.Echo.{echo_of};
+mod ends;
+mod keyed_window;
+pub mod laws;
+mod windows;
 
-// The `ensures` clause is the contract: what `echo` returns is `echo_of` of its argument, a definition
-// in `specs/Echo.antt`, which a caller's clause can cite too.
-pub fn echo(x: usize) -> usize
-    ensures { result ≡ echo_of x }
-{
-    x
-}
+pub use ends::Ends;
+pub use keyed_window::KeyedWindow;
+pub use windows::{BadWindow, MAX_SIZE, MAX_WINDOWS_OF_A_TIME, Windows};
