@@ -1,0 +1,25 @@
+-- The laws of every operation.
+use Rattle.std.specs.Prelude.{◌≡◌, ◌≤◌, List, ◌++◌, flat_map, length}
+use Rattle.std.specs.List.{AllByRecursion}
+use Rattle.sb_record.specs.declared.item.Record.{Record}
+use Rattle.sb_record.specs.declared.item.TheConstants.{MAX_KEY}
+use Rattle.sb_pardo.specs.declared.operation.TheConstants.{MAX_ADDENDS}
+use Rattle.sb_pardo.specs.declared.operation.Op.{Op}
+use Rattle.sb_pardo.specs.Outputs.{most_outputs, outputs_of}
+use Rattle.sb_pardo.specs.Validity.{IsValid}
+
+-- for two lists, one after the other, it gives what it gives for the first, and then what it gives for the second
+abbrev pub OutputsOverAJoinedListAreJoined : Type 0
+OutputsOverAJoinedListAreJoined = (op : Op) (l m : List Record) → flat_map (outputs_of op) (l ++ m) ≡ flat_map (outputs_of op) l ++ flat_map (outputs_of op) m
+
+-- what it gives for a record has the record's time
+abbrev pub OutputsKeepTheTime : Type 0
+OutputsKeepTheTime = (op : Op) (r : Record) → AllByRecursion (λ output. output.time ≡ r.time) (outputs_of op r)
+
+-- what a valid operation gives for a record with a key in range has a key in range
+abbrev pub OutputsKeepKeysInRange : Type 0
+OutputsKeepKeysInRange = (op : Op) (r : Record) → IsValid op → r.key ≤ MAX_KEY → AllByRecursion (λ output. output.key ≤ MAX_KEY) (outputs_of op r)
+
+-- a valid operation gives at most so many records for one, and so many are at most eight
+abbrev pub OutputsAreFew : Type 0
+OutputsAreFew = (op : Op) (r : Record) → IsValid op → (length (outputs_of op r) ≤ most_outputs op) × (most_outputs op ≤ MAX_ADDENDS)

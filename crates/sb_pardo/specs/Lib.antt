@@ -1,0 +1,4 @@
+pub mod Tables
+pub mod Validity
+pub mod Outputs
+pub mod Laws

@@ -1,0 +1,20 @@
+//! The transforms that treat each record by itself, called ParDo in the Dataflow model: filters, maps, expansions and
+//! look-ups.
+//!
+//! An [`Op`] gives a list of records for each record, in the records' order, and never changes a record's time.
+//! [`apply`] runs one over a slice of records. A look-up reads a [`Table`].
+#![tactic(auto)]
+
+mod changes;
+mod filters;
+mod laws;
+mod operation;
+mod outputs;
+mod table;
+#[cfg(test)]
+mod tests;
+
+pub use laws::{outputs_are_few, outputs_keep_the_time, outputs_over_a_joined_list_are_joined};
+pub use operation::{Change, Field, MAX_ADDENDS, Op, Test, is_valid};
+pub use outputs::apply;
+pub use table::Table;
