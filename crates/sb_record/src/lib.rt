@@ -11,6 +11,8 @@ mod line;
 mod number;
 mod row;
 mod sequence;
+#[cfg(test)]
+mod tests;
 mod text;
 
 pub use intake::{Intake, MAX_LINE_LENGTH, MAX_LINES, Refusal};
