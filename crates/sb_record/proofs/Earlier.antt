@@ -1,7 +1,7 @@
 -- The rows before a time come before all others.
 use Rattle.std.proofs.Common.{◌≡◌, ℕ, ◌+◌, ◌<◌, ◌≤◌, Bool, true, false, cond, ltb, List, [], ◌∷◌, ◌++◌, sym, refl, ap, ◌∙◌, arith, inl, inr}
-use Rattle.std.specs.Prelude.{◌&&◌, nat_lt, not}
-use Rattle.std.specs.List.{filter, sum_by, AllByRecursion}
+use Rattle.std.specs.Prelude.{nat_lt, not}
+use Rattle.std.specs.List.{sum_by, AllByRecursion}
 use Rattle.std.specs.Ordering.{eq_by_cmp, is_lt, nat_cmp, int_cmp, ordering_then}
 use Rattle.std.specs.Cmp.{nat_cmp_is}
 use Rattle.std.specs.declared.cmp.Ordering.TheVariants.{Greater}

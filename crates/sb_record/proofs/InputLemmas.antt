@@ -1,11 +1,10 @@
 -- What one accepted line more says, and the range of what is accepted.
-use Rattle.std.proofs.Common.{◌≡◌, ℕ, ◌+◌, ◌≤◌, min, Bool, true, false, cond, List, [], ◌∷◌, ◌++◌, length, Some, None, Option, Result, Ok, Err, sym, refl, ap, ◌∙◌, arith, inl, inr, append-nil, length-append}
+use Rattle.std.proofs.Common.{◌≡◌, ℕ, ◌+◌, ◌≤◌, min, Bool, true, false, cond, List, [], ◌∷◌, ◌++◌, length, Some, None, Option, Result, Ok, Err, refl, ap, ◌∙◌, arith, inl, inr, append-nil, length-append}
 use Rattle.std.specs.List.{flat_map, AllByRecursion}
 use Rattle.std.specs.Prelude.{nat_le, nat_lt}
 use Rattle.std.proofs.lemmas.Bool.{cases_Bool}
 use Rattle.std.proofs.lemmas.List.Concat.{flat_map-append}
 use Rattle.sb_record.specs.declared.item.TheConstants.{MAX_TIME}
-use Rattle.sb_record.specs.declared.item.Record.{Record}
 use Rattle.sb_record.specs.declared.item.Stream.{Stream}
 use Rattle.sb_record.specs.declared.item.Stream.TheVariants.{A, B}
 use Rattle.sb_record.specs.declared.item.Streams.{Streams}
@@ -14,7 +13,7 @@ use Rattle.sb_record.specs.declared.item.Item.TheVariants.{Rec, Mark, Skip}
 use Rattle.sb_record.specs.declared.intake.Refusal.{Refusal}
 use Rattle.sb_record.specs.Progress.{Progress}
 use Rattle.sb_record.specs.Intake.{tested, timely, timely_if, after, mark_of}
-use Rattle.sb_record.specs.Inputs.{progress_of, Accepted, accepted_if, accepted_after, accepted}
+use Rattle.sb_record.specs.Inputs.{progress_of, accepted_if, accepted_after, accepted}
 use Rattle.sb_record.specs.Lines.{IsTextOf, IsItemInRange}
 use Rattle.sb_record.specs.Reading.{item_of}
 use Rattle.sb_record.specs.Streams.{uses, last_or, last_watermark, watermark_in, record_in, records_of, least_of, low_watermark}

@@ -19,12 +19,12 @@ pub record Accepted : Type 0 where
   pub items : List Item
   pub refused : Option Refusal
 
--- the items so far, where the next line is refused, else those of the lines that follow too
+-- the items so far and the refusal, where the next line is refused, else what the lines after it give
 abbrev pub accepted_if : Result Item Refusal → List Item → (List Item → Accepted) → Accepted
 accepted_if (Ok item) items rest = rest (items ++ item ∷ [])
 accepted_if (Err refusal) items rest = record { items = items; refused = Some refusal }
 
--- of the lines that follow these items, each is tested against what the items before it have said
+-- these items and those of the lines that follow, where each line is tested by what the items before it have said
 abbrev pub accepted_after : Streams → List Item → List (List ℕ) → Accepted
 accepted_after streams items [] = record { items = items; refused = None }
 accepted_after streams items (line ∷ lines) = accepted_if (tested (progress_of streams items) line) items (λ more. accepted_after streams more lines)

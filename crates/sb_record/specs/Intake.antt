@@ -1,6 +1,5 @@
 -- The tests that a line has to pass, after what the lines before it have said.
 use Rattle.std.specs.Prelude.{ℕ, ◌+◌, nat_le, nat_lt, if◌then◌else◌, List, length, Option, Some, None, Result, Ok, Err}
-use Rattle.sb_record.specs.declared.item.Record.{Record}
 use Rattle.sb_record.specs.declared.item.Stream.{Stream}
 use Rattle.sb_record.specs.declared.item.Stream.TheVariants.{A, B}
 use Rattle.sb_record.specs.declared.item.Streams.{Streams}
@@ -13,15 +12,16 @@ use Rattle.sb_record.specs.Progress.{Progress}
 use Rattle.sb_record.specs.Reading.{item_of}
 use Rattle.sb_record.specs.Streams.{uses, least_of}
 
--- nothing was said yet, in so many lines
+-- after so many lines, none of them a watermark
 abbrev pub started : Streams → ℕ → Progress
 started streams lines = record { streams = streams; mark_a = 0; mark_b = 0; lines = lines }
 
+-- the last watermark of the stream, 0 before the first
 abbrev pub mark_of : Progress → Stream → ℕ
 mark_of p A = p.mark_a
 mark_of p B = p.mark_b
 
--- the item of line n, where its stream is one of the pipeline's and its time is not before the stream's last watermark
+-- the item of line n, where its stream is one of the pipeline's and its time is not below the stream's last watermark
 abbrev pub timely : Progress → ℕ → Item → Result Item Refusal
 timely p n (Rec s r) =
     if uses p.streams s then (if nat_lt r.time (mark_of p s) then Err (refusal.Late n r.time (mark_of p s)) else Ok (Rec s r))
@@ -31,6 +31,7 @@ timely p n (Mark s t) =
     else Err (refusal.WrongStream n)
 timely p n Skip = Ok Skip
 
+-- what line n gives, where it is not malformed
 abbrev pub timely_if : Progress → ℕ → Option Item → Result Item Refusal
 timely_if p n None = Err (refusal.Malformed n)
 timely_if p n (Some item) = timely p n item
@@ -46,7 +47,7 @@ tested p line =
 abbrev pub too_long : Progress → Refusal
 too_long p = if nat_le MAX_LINES p.lines then refusal.TooMany else refusal.TooLong (p.lines + 1)
 
--- what is said with one accepted line more
+-- what the lines have said, with one more that is accepted
 abbrev pub after : Item → Progress → Progress
 after (Rec s r) p = record p { lines = p.lines + 1 }
 after (Mark A t) p = record p { lines = p.lines + 1; mark_a = t }

@@ -1,5 +1,5 @@
 -- The line grammar: the text that an item has, without its line end.
-use Rattle.std.specs.Prelude.{◌≡◌, ◌≤◌, ◌<◌, ◌^◌, ℕ, List, ◌∷◌, ◌++◌, decimal, codes}
+use Rattle.std.specs.Prelude.{◌≡◌, ◌≤◌, ◌<◌, ◌^◌, ℕ, List, ◌∷◌, ◌++◌, decimal}
 use Rattle.std.specs.Fmt.{signed_decimal}
 use lib.Signed.{mag}
 use Rattle.sb_record.specs.declared.item.TheConstants.{MAX_KEY, MAX_TIME}
@@ -34,7 +34,7 @@ IsItemInRange (Rec s r) = IsInRange r
 IsItemInRange (Mark s t) = t ≤ MAX_TIME
 IsItemInRange Skip = Unit {0}
 
--- the line is a text of the item: of a record or a watermark there is one, and a skipped line begins with `#`
+-- the line is a text of the item: a record or a watermark has one text, and a comment is any line that begins with `#`
 abbrev pub IsTextOf : Item → List ℕ → Type 0
 IsTextOf (Rec s r) line = IsInRange r × (line ≡ record_text s r)
 IsTextOf (Mark s t) line = (t ≤ MAX_TIME) × (line ≡ mark_text s t)

@@ -15,13 +15,13 @@ abbrev pub in_order : {X : Type 0} → (X → X → Ordering) → List X → Lis
 in_order cmp [] = []
 in_order cmp (x ∷ xs) = put_in_order cmp x (in_order cmp xs)
 
--- one of three values
+-- the first, the second or the third value, by the ordering
 abbrev pub by_ordering : {X : Type 0} → Ordering → X → X → X → X
 by_ordering Less x y z = x
 by_ordering Equal x y z = y
 by_ordering Greater x y z = z
 
--- the strictly sorted list with x, where it is not there
+-- a list sorted without repeats, with x put in its place, unless it is there
 abbrev pub put_once : {X : Type 0} → (X → X → Ordering) → X → List X → List X
 put_once cmp x [] = x ∷ []
 put_once cmp x (y ∷ ys) = by_ordering (cmp x y) (x ∷ y ∷ ys) (y ∷ ys) (y ∷ put_once cmp x ys)

@@ -7,12 +7,13 @@ use Rattle.sb_record.specs.declared.item.Stream.TheVariants.{A, B}
 use Rattle.sb_record.specs.declared.item.Item.{Item}
 use Rattle.sb_record.specs.declared.item.Item.TheVariants.{Rec, Mark, Skip}
 
+-- the next reader, where the one before it gave a value
 infixl 10 ◌>>=◌
 abbrev pub ◌>>=◌ : {A B : Type 0} → Option A → (A → Option B) → Option B
 None >>= f = None
 (Some x) >>= f = f x
 
--- the digits ended
+-- a number whose digits have ended, where there was one
 abbrev pub ended : ℕ → ℕ → List ℕ → Option (ℕ × List ℕ)
 ended value len rest = if nat_lt 0 len then Some (value, rest) else None
 
@@ -30,6 +31,7 @@ digits_from value len (b ∷ rest) =
     else digits_from (value * 10 + (b - 48)) (len + 1) rest
     else ended value len (b ∷ rest)
 
+-- a number and what follows it, where the number is up to this bound
 abbrev pub at_most : ℕ → ℕ × List ℕ → Option (ℕ × List ℕ)
 at_most most p = if nat_le p.0 most then Some p else None
 
@@ -51,16 +53,19 @@ unfoldable pub byte_at : ℕ → List ℕ → Option (List ℕ)
 byte_at byte [] = None
 byte_at byte (b ∷ rest) = if b == byte then Some rest else None
 
--- a negative number of this magnitude
+-- the negative number of this magnitude, which is not 0
 abbrev pub negative : ℕ × List ℕ → Option (ℤ × List ℕ)
 negative p = if p.0 == 0 then None else Some (negsuc (p.0 - 1), p.1)
 
+-- the number itself, without a sign
 abbrev pub positive : ℕ × List ℕ → Option (ℤ × List ℕ)
 positive p = Some (pos p.0, p.1)
 
+-- a number of at least -2^63, after its minus sign
 abbrev pub negative_at : List ℕ → Option (ℤ × List ℕ)
 negative_at bytes = number_at 9223372036854775808 bytes >>= negative
 
+-- a number below 2^63, without a sign
 abbrev pub positive_at : List ℕ → Option (ℤ × List ℕ)
 positive_at bytes = number_at 9223372036854775807 bytes >>= positive
 
@@ -69,9 +74,11 @@ abbrev pub signed_from : Option (List ℕ) → List ℕ → Option (ℤ × List 
 signed_from None bytes = positive_at bytes
 signed_from (Some rest) bytes = negative_at rest
 
+-- a number that may have a minus sign
 unfoldable pub signed_at : List ℕ → Option (ℤ × List ℕ)
 signed_at bytes = signed_from (byte_at 45 bytes) bytes
 
+-- `a` or `b`
 unfoldable pub stream_at : List ℕ → Option (Stream × List ℕ)
 stream_at [] = None
 stream_at (b ∷ rest) = if b == 97 then Some (A, rest) else if b == 98 then Some (B, rest) else None
@@ -94,6 +101,7 @@ mark_at s bytes = number_at MAX_TIME bytes >>= λ t. at_end (Mark s t.0) t.1
 unfoldable pub between : List ℕ → Option (Stream × List ℕ)
 between bytes = byte_at 44 bytes >>= λ b. stream_at b >>= λ s. byte_at 44 s.1 >>= λ c. Some (s.0, c)
 
+-- the item of a line
 unfoldable pub item_of : List ℕ → Option Item
 item_of [] = None
 item_of (b ∷ rest) =

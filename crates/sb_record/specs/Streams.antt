@@ -5,19 +5,20 @@ use Rattle.sb_record.specs.declared.item.Stream.{Stream}
 use Rattle.sb_record.specs.declared.item.Stream.TheVariants.{A, B}
 use Rattle.sb_record.specs.declared.item.Streams.{Streams}
 use Rattle.sb_record.specs.declared.item.Item.{Item}
-use Rattle.sb_record.specs.declared.item.Item.TheVariants.{Rec, Mark, Skip}
+use Rattle.sb_record.specs.declared.item.Item.TheVariants.{Rec, Mark}
 
 -- whether the stream is one of these
 abbrev pub uses : Streams → Stream → Bool
 uses streams A = streams.a
 uses streams B = streams.b
 
--- what one item gives to the stream
+-- the record of the stream that the item is, if it is one
 abbrev pub record_in : Stream → Item → List Record
 record_in A (Rec A r) = r ∷ []
 record_in B (Rec B r) = r ∷ []
 record_in s i = []
 
+-- the watermark of the stream that the item is, if it is one
 abbrev pub watermark_in : Stream → Item → List ℕ
 watermark_in A (Mark A t) = t ∷ []
 watermark_in B (Mark B t) = t ∷ []
@@ -27,7 +28,7 @@ watermark_in s i = []
 abbrev pub records_of : Stream → List Item → List Record
 records_of s items = flat_map (record_in s) items
 
--- the last of the numbers, or another where there is none
+-- the last of the numbers, or n where there is none
 abbrev pub last_or : ℕ → List ℕ → ℕ
 last_or n [] = n
 last_or n (x ∷ xs) = last_or x xs

@@ -9,41 +9,43 @@ use crate::item::{Item, Stream, Streams};
 use crate::line::{Malformed, read_line};
 use std::marker::Model;
 
-/// How many lines an input may have. Comments count.
+/// The most lines that an input may have, comments included.
 pub const MAX_LINES: u64 = 4_294_967_295;
 
-/// How many bytes a line may have, without its line end.
+/// The most bytes that a line may have, without its line end.
 pub const MAX_LINE_LENGTH: usize = 128;
 
-/// Why a line is refused: the first test that it fails, in this order. `line` is its number, from 1.
+/// Why a line is refused. The tests are made in this order, and the first that fails is given. `line` is the number of
+/// the line: the first line of an input has number 1.
 #[derive(Clone, Copy, Debug, PartialEq, Eq)]
 pub enum Refusal {
-    /// 4,294,967,295 lines went before.
+    /// 4,294,967,295 lines stand before it.
     TooMany,
     /// It has more than 128 bytes, without its line end.
     TooLong { line: u64 },
-    /// It gives no item.
+    /// It is neither a record, nor a watermark, nor a comment.
     Malformed { line: u64 },
     /// Its stream is not one of the pipeline's.
     WrongStream { line: u64 },
-    /// A record's time is before the last watermark of its stream. An equal time is not late.
+    /// It is a record with a time below the last watermark of its stream. An equal time is not late.
     Late { line: u64, time: u64, mark: u64 },
-    /// A watermark is before the last one of its stream. An equal one is accepted.
+    /// It is a watermark below the last one of its stream. An equal one is accepted.
     Back { line: u64, time: u64, mark: u64 },
 }
 
-/// Where the reading of an input stops.
+/// Why the reading of an input stops.
 #[derive(Clone, Copy, Debug, PartialEq, Eq)]
 pub enum Stop {
-    /// At its end.
+    /// The input has ended.
     End,
-    /// At a line that is refused.
+    /// A line is refused.
     Refused(Refusal),
-    /// At a fault of where it comes from.
+    /// The source of the input has failed.
     Fault,
 }
 
-/// What the accepted lines of an input have said so far, and so which lines may follow.
+/// What the accepted lines of an input have said so far: the last watermark of each stream, and how many lines there
+/// were. It decides which line may come next.
 #[derive(Drop)]
 pub struct Intake {
     streams: Streams,
@@ -64,7 +66,7 @@ impl Model for Intake {
 }
 
 impl Intake {
-    /// The intake of an input of which `before` lines went before, at most 4,294,967,295, with no watermark among them.
+    /// The intake of an input after its first `before` lines, at most 4,294,967,295, none of them a watermark.
     pub fn new(streams: Streams, before: u64) -> Intake
         requires { before ≤ 4294967295 }
         ensures { result ≡ spec.started streams before }
@@ -77,6 +79,7 @@ impl Intake {
         }
     }
 
+    /// Whether the stream is one of the pipeline's.
     fn uses(&self, stream: Stream) -> bool
         ensures { result ≡ streams_spec.uses self.now.streams stream }
     {
@@ -86,6 +89,7 @@ impl Intake {
         }
     }
 
+    /// The last watermark of a stream, 0 before the first.
     fn last(&self, stream: Stream) -> u64
         ensures { result ≡ spec.mark_of self.now stream }
     {
@@ -95,8 +99,8 @@ impl Intake {
         }
     }
 
-    /// The item of the next line, of at most 128 bytes: Ok counts the line and keeps its watermark. A line that fails a
-    /// test is refused by the first one that it fails, and changes nothing.
+    /// Tests the next line, of at most 128 bytes, and gives its item. An accepted line is counted, and its watermark is
+    /// kept. A refused line changes nothing.
     pub fn accept(&mut self, line: &[u8]) -> Result<Item, Refusal>
         requires { length line.now ≤ 128 }
         ensures value { result ≡ spec.tested self.old line.now }
@@ -115,7 +119,7 @@ impl Intake {
         Ok(item)
     }
 
-    /// The item of the next line, or the first refusal.
+    /// The item of the next line, or the first test that it fails.
     fn tested(&self, line: &[u8]) -> Result<Item, Refusal>
         requires { length line.now ≤ 128 }
         ensures value { result ≡ spec.tested self.now line.now }
@@ -132,7 +136,7 @@ impl Intake {
         }
     }
 
-    /// The item, where its stream is one of the pipeline's and its time is not before the last watermark.
+    /// The item, where its stream is one of the pipeline's and its time is not below the stream's last watermark.
     fn timely(&self, line: u64, item: Item) -> Result<Item, Refusal>
         ensures value { result ≡ spec.timely self.now line item }
         ensures same { IfOk result (λ i. i ≡ item) }
@@ -143,9 +147,12 @@ impl Intake {
                     return Err(Refusal::WrongStream { line });
                 }
                 let mark = self.last(stream);
-                let time = record.time;
-                if time < mark {
-                    return Err(Refusal::Late { line, time, mark });
+                if record.time < mark {
+                    return Err(Refusal::Late {
+                        line,
+                        time: record.time,
+                        mark,
+                    });
                 }
                 Ok(item)
             }
@@ -163,7 +170,7 @@ impl Intake {
         }
     }
 
-    /// The refusal of a next line of more than 128 bytes.
+    /// The refusal of the next line, where it has more than 128 bytes.
     pub fn too_long(&self) -> Refusal
         ensures { result ≡ spec.too_long self.now }
     {
@@ -175,8 +182,8 @@ impl Intake {
         }
     }
 
-    /// The low watermark: the least of the last watermarks of the streams, 0 before the first and where there is no
-    /// stream. No accepted record still to come has a time before it.
+    /// The low watermark: the least of the last watermarks of the pipeline's streams, where a stream without one yet
+    /// counts as 0. It is 0 where the pipeline has no stream. No record that is accepted later has a time below it.
     pub fn low(&self) -> u64
         ensures { result ≡ spec.low self.now }
     {

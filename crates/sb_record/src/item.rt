@@ -1,16 +1,16 @@
 //! Records, streams and items: the types that the whole engine speaks of.
 
 /// The greatest time of a record or a watermark of an input. A time is a whole number without a unit of its own: what
-/// it counts (seconds, milliseconds) is up to who writes the input.
+/// it counts (seconds, milliseconds) is up to whoever writes the input.
 pub const MAX_TIME: u64 = 1_000_000_000_000_000;
 
 /// The greatest key of a record of an input.
 pub const MAX_KEY: u64 = 1_000_000_000_000_000_000;
 
-/// The watermark that the end of an input counts as, on each stream: every time in the engine is below it.
+/// The watermark of every stream once the input has ended. It is above every time in the engine.
 pub const END_MARK: u64 = 2_000_000_000_000_000;
 
-/// There was no memory for what was asked.
+/// There was not enough memory.
 #[derive(Clone, Copy, Debug, PartialEq, Eq)]
 pub struct NoMemory;
 
@@ -19,7 +19,9 @@ pub struct NoMemory;
 pub struct Record {
     /// When the event happened (its event time), not when its line was read.
     pub time: u64,
+    /// What the event is about.
     pub key: u64,
+    /// The number that it carries.
     pub value: i64,
 }
 
@@ -30,7 +32,7 @@ pub enum Stream {
     B,
 }
 
-/// Which streams a pipeline reads.
+/// The streams that a pipeline reads.
 #[derive(Clone, Copy, Debug, PartialEq, Eq)]
 pub struct Streams {
     pub a: bool,
@@ -42,7 +44,7 @@ pub struct Streams {
 pub enum Item {
     /// A record of a stream.
     Rec(Stream, Record),
-    /// A watermark: no later record of the stream has a time before it.
+    /// A watermark of a stream: no later record of the stream has a time below it.
     Mark(Stream, u64),
     /// Nothing: the line is a comment.
     Skip,

@@ -2,7 +2,7 @@
 //!
 //! An input is a list of lines. A line gives an [`Item`]: a record of a stream, a watermark of a stream, or nothing.
 //! [`read_line`] reads one line, [`Intake`] tests the lines of an input in their order, and [`row_bytes`] prints a row.
-//! Nothing in this crate takes memory.
+//! Nothing in this crate allocates memory.
 #![tactic(auto)]
 
 mod intake;
@@ -11,6 +11,8 @@ mod line;
 mod number;
 mod row;
 mod sequence;
+#[cfg(test)]
+mod tests;
 mod text;
 
 pub use intake::{Intake, MAX_LINE_LENGTH, MAX_LINES, Refusal};

@@ -19,11 +19,11 @@ ghost use Rattle.sb_record.specs.Reading as spec;
 use crate::item::{Item, MAX_KEY, MAX_TIME, Record, Stream};
 use crate::number::leading_number;
 
-/// The line gives no item.
+/// The line is neither a record, nor a watermark, nor a comment.
 #[derive(Clone, Copy, Debug, PartialEq, Eq)]
 pub struct Malformed;
 
-/// What follows a byte at the front.
+/// What follows this byte, where it stands at the front.
 #[tactic(auto, unfolding(crate::specs::Reading::byte_at))]
 fn after(byte: u8, bytes: &[u8]) -> Option<&[u8]>
     ensures { option_map (λ r. r.now) result ≡ spec.byte_at byte bytes.now }
@@ -57,7 +57,7 @@ fn leading_signed(bytes: &[u8]) -> Option<(i64, &[u8])>
     }
 }
 
-/// The number behind a minus sign: not 0.
+/// The negative number whose minus sign stood before these bytes: -2^63 to -1.
 fn leading_negative(bytes: &[u8]) -> Option<(i64, &[u8])>
     ensures { option_map (λ x. (x.0, x.1.now)) result ≡ spec.negative_at bytes.now }
 {
@@ -68,6 +68,7 @@ fn leading_negative(bytes: &[u8]) -> Option<(i64, &[u8])>
     Some((-((value - 1) as i64) - 1, rest))
 }
 
+/// The number at the front that has no minus sign: 0 to 2^63 - 1.
 fn leading_positive(bytes: &[u8]) -> Option<(i64, &[u8])>
     ensures { option_map (λ x. (x.0, x.1.now)) result ≡ spec.positive_at bytes.now }
 {
@@ -104,8 +105,8 @@ fn read_record(stream: Stream, bytes: &[u8]) -> Option<Item>
 fn read_mark(stream: Stream, bytes: &[u8]) -> Option<Item>
     ensures { result ≡ spec.mark_at stream bytes.now }
 {
-    let (time, bytes) = leading_number(MAX_TIME, bytes)?;
-    at_end(Item::Mark(stream, time), bytes)
+    let (time, rest) = leading_number(MAX_TIME, bytes)?;
+    at_end(Item::Mark(stream, time), rest)
 }
 
 /// The item, where nothing follows.
@@ -116,7 +117,7 @@ fn at_end(item: Item, bytes: &[u8]) -> Option<Item>
     if bytes.is_empty() { Some(item) } else { None }
 }
 
-/// The item of a line.
+/// The item of a line, if it has one.
 #[tactic(auto, unfolding(crate::specs::Reading::item_of))]
 fn item_of(line: &[u8]) -> Option<Item>
     ensures { result ≡ spec.item_of line.now }
@@ -135,7 +136,7 @@ fn item_of(line: &[u8]) -> Option<Item>
     }
 }
 
-/// The item of a line, without its line end: `Malformed` where the line is the text of none.
+/// The item of a line, which comes without its line end: [`Malformed`] where the line is the text of no item.
 pub fn read_line(line: &[u8]) -> Result<Item, Malformed>
     ensures exact { (i : Item) → (result ≡ Ok i) ↔ IsTextOf i line.now }
     ensures value { result_ok result ≡ spec.item_of line.now }

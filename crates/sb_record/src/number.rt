@@ -4,7 +4,7 @@ ghost use Rattle.std.specs.Prelude.{◌≡◌, ◌≤◌, ◌<◌, ◌↔◌, �
 ghost use Rattle.std.specs.Option.{option_map};
 ghost use Rattle.sb_record.specs.Reading as spec;
 
-/// The digits ended at `len`.
+/// The number whose digits end after `len` bytes, and what follows it: none where there is no digit.
 fn ended(bytes: &[u8], value: u64, len: usize) -> Option<(u64, &[u8])>
     requires { len ≤ length bytes.now }
     ensures { option_map (λ x. (x.0, x.1.now)) result ≡ spec.ended value len (drop len bytes.now) }
@@ -65,7 +65,7 @@ fn whole_number(most: u64, text: &[u8]) -> Option<u64>
     if rest.is_empty() { Some(value) } else { None }
 }
 
-/// The number that a text spells, if it is at most `most`.
+/// The number that all of a text spells, where it is at most `most`. The bound itself is below 10^19.
 pub fn read_number(most: u64, text: &[u8]) -> Option<u64>
     requires { most < 10 ^ 19 }
     ensures exact { (n : ℕ) → (result ≡ Some n) ↔ ((n ≤ most) × (text.now ≡ decimal n)) }

@@ -9,18 +9,18 @@ use crate::text::TextBuf;
 /// The text of one row.
 pub type RowBuf = TextBuf<64>;
 
-/// The row of a record that a window gave, whose time is the last one of its window: the window's end is that and one
-/// more. The time is below [`END_MARK`].
-pub fn row_bytes(record: &Record) -> RowBuf
-    requires { record.now.time < END_MARK }
-    ensures { result ≡ row_text record.now }
+/// The text of a row. A row is a record that a window gives: its time is the last time of the window, so the window's
+/// end is that time plus 1. The time is below [`END_MARK`].
+pub fn row_bytes(row: &Record) -> RowBuf
+    requires { row.now.time < END_MARK }
+    ensures { result ≡ row_text row.now }
 {
-    let mut row = RowBuf::new();
-    row.push_number(record.time + 1);
-    row.push(b",");
-    row.push_number(record.key);
-    row.push(b",");
-    row.push_signed(record.value);
-    row.push(b"\n");
-    row
+    let mut text = RowBuf::new();
+    text.push_number(row.time + 1);
+    text.push(b",");
+    text.push_number(row.key);
+    text.push(b",");
+    text.push_signed(row.value);
+    text.push(b"\n");
+    text
 }

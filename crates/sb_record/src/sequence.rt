@@ -1,10 +1,11 @@
-//! Lists that contracts see as lists.
+//! A `Vec` that contracts see as a list.
 
 ghost use Rattle.std.specs.Prelude.{◌≡◌};
 
 use std::marker::Model;
 
-/// A `Vec` that a contract sees as the list of its elements, so that a type which holds one is seen as plain data.
+/// A `Vec` that contracts see as the list of its elements, without its capacity. A type that holds one is then plain
+/// data in contracts.
 #[derive(Drop)]
 pub struct Sequence<T> {
     pub items: Vec<T>,
@@ -33,7 +34,7 @@ impl<T> Sequence<T> {
         self.items.as_slice()
     }
 
-    /// The elements, as they were handed in.
+    /// The elements, in order, as a `Vec` again.
     pub fn into_vec(self) -> Vec<T>
         ensures { result.items ≡ self }
     {

@@ -1,4 +1,4 @@
-//! Short texts in fixed buffers: they take no memory.
+//! Short texts in buffers of a fixed size, so that printing allocates nothing.
 
 ghost use Rattle.std.specs.Prelude.{◌≡◌, ◌≤◌, ◌+◌, ◌++◌, [], take, length, decimal};
 ghost use Rattle.std.specs.Fmt.{signed_decimal};
@@ -34,7 +34,7 @@ impl<const N: usize> TextBuf<N> {
         }
     }
 
-    /// Adds a piece that fits.
+    /// Adds bytes at the end. They have to fit.
     pub fn push(&mut self, piece: &[u8])
         requires { length self.old + length piece.now ≤ N }
         ensures { self.new ≡ self.old ++ piece.now }
@@ -43,7 +43,7 @@ impl<const N: usize> TextBuf<N> {
         self.len += piece.len();
     }
 
-    /// Adds a number, where 20 bytes fit.
+    /// Adds a number at the end, in decimal. There has to be room for 20 bytes, the most that a `u64` has.
     pub fn push_number(&mut self, number: u64)
         requires { length self.old + 20 ≤ N }
         ensures text { self.new ≡ self.old ++ decimal number }
@@ -53,7 +53,7 @@ impl<const N: usize> TextBuf<N> {
         self.push(digits.format(number).as_bytes());
     }
 
-    /// Adds a signed number, where 20 bytes fit.
+    /// Adds a signed number at the end, in decimal. There has to be room for 20 bytes, the most that an `i64` has.
     pub fn push_signed(&mut self, number: i64)
         requires { length self.old + 20 ≤ N }
         ensures text { self.new ≡ self.old ++ signed_decimal number }
@@ -63,7 +63,7 @@ impl<const N: usize> TextBuf<N> {
         self.push(digits.format(number).as_bytes());
     }
 
-    /// The bytes.
+    /// The bytes of the text.
     pub fn as_slice(&self) -> &[u8]
         ensures { result.now ≡ self.now }
     {
@@ -71,7 +71,7 @@ impl<const N: usize> TextBuf<N> {
     }
 }
 
-/// Writes a piece from a place on.
+/// Writes `piece` over the bytes from index `at` on.
 fn put(bytes: &mut [u8], at: usize, piece: &[u8])
     requires { at + length piece.now ≤ length bytes.old }
     ensures { take (at + length piece.now) bytes.new ≡ take at bytes.old ++ piece.now }
