@@ -15,7 +15,7 @@ mod sequence;
 mod tests;
 mod text;
 
-pub use intake::{Intake, MAX_LINE_LENGTH, MAX_LINES, Refusal};
+pub use intake::{Intake, MAX_LINE_LENGTH, MAX_LINES, Refusal, Stop};
 pub use item::{END_MARK, Item, MAX_KEY, MAX_TIME, NoMemory, Record, Stream, Streams};
 pub use line::{Malformed, read_line};
 pub use number::read_number;

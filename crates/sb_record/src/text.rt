@@ -1,6 +1,6 @@
 //! Short texts in buffers of a fixed size, so that printing allocates nothing.
 
-ghost use Rattle.std.specs.Prelude.{◌≡◌, ◌≤◌, ◌+◌, ◌++◌, [], take, length, decimal};
+ghost use Rattle.std.specs.Prelude.{◌≡◌, ◌≤◌, ◌+◌, ◌++◌, ◌↔◌, [], take, length, decimal, IsTrue};
 ghost use Rattle.std.specs.Fmt.{signed_decimal};
 
 use itoa::Buffer;
@@ -63,9 +63,32 @@ impl<const N: usize> TextBuf<N> {
         self.push(digits.format(number).as_bytes());
     }
 
+    /// The empty text again.
+    pub fn clear(&mut self)
+        ensures { self.new ≡ [] }
+    {
+        self.len = 0;
+    }
+
+    /// How many bytes it has, at most `N`.
+    pub fn len(&self) -> usize
+        ensures length { result ≡ length self.now }
+        ensures bound { result ≤ N }
+    {
+        self.len
+    }
+
+    /// Whether it has no byte.
+    pub fn is_empty(&self) -> bool
+        ensures { IsTrue result ↔ (self.now ≡ []) }
+    {
+        self.len == 0
+    }
+
     /// The bytes of the text.
     pub fn as_slice(&self) -> &[u8]
-        ensures { result.now ≡ self.now }
+        ensures bytes { result.now ≡ self.now }
+        ensures bound { length self.now ≤ N }
     {
         &self.bytes[..self.len]
     }
