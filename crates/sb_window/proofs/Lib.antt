@@ -1,3 +1,3 @@
 pub mod Multiples
 pub mod Rows
-pub mod Entries
+pub mod Gathering

@@ -126,6 +126,25 @@ all-weaker : (P Q : ℕ → Type 0) → ((x : ℕ) → P x → Q x) → (l : Lis
 all-weaker P Q h [] all = tt
 all-weaker P Q h (x ∷ l) all = (h x all.0, all-weaker P Q h l all.1)
 
+-- each number is below those after it
+abbrev pub Rising : List ℕ → Type 0
+Rising [] = Unit {0}
+Rising (x ∷ xs) = AllByRecursion (λ y. x < y) xs × Rising xs
+
+pub window_ends-rising : (windows : Spacing) (t : ℕ) → Rising (window_ends windows t)
+window_ends-rising windows t = rising (t + 1) windows.size
+  where
+    above : (a n : ℕ) → AllByRecursion (λ y. a < y) (filter (is_multiple windows.every) (range_with_len (a + 1) n))
+    above a n = all-weaker _ (λ y. a < y) (λ y h. omega (arith, h.0)) (filter (is_multiple windows.every) (range_with_len (a + 1) n)) (All-range (is_multiple windows.every) (a + 1) n)
+
+    rising : (a n : ℕ) → Rising (filter (is_multiple windows.every) (range_with_len a n))
+    rising a zero = tt
+    rising a (suc n) = by_case (is_multiple windows.every a) (rising (a + 1) n)
+      where
+        by_case : (b : Bool) → Rising (filter (is_multiple windows.every) (range_with_len (a + 1) n)) → Rising (cond b (a ∷ filter (is_multiple windows.every) (range_with_len (a + 1) n)) (filter (is_multiple windows.every) (range_with_len (a + 1) n)))
+        by_case true h = (above a n, h)
+        by_case false h = h
+
 pub window_ends-spaced : WindowEndsAreSpaced
 window_ends-spaced windows are t =
     let is : window_ends windows t ≡ progression (first_end windows t) windows.every (windows.size / windows.every) = window_ends-progression windows are t in

@@ -14,3 +14,7 @@ pub record AreWindows (windows : Spacing) : Type 0 where
   pub some_every : 1 ≤ windows.every
   pub divides : windows.size % windows.every ≡ 0
   pub most_windows : windows.size / windows.every ≤ MAX_WINDOWS_OF_A_TIME
+
+-- fixed windows: each begins where the one before it ends
+abbrev pub fixed : ℕ → Spacing
+fixed size = record { size = size; every = size }

@@ -2,8 +2,8 @@
 //!
 //! A window is named by its end. [`Windows`] says how long windows are and how far apart, [`Windows::ends`] gives the
 //! ends of the windows of a time, and a [`KeyedWindow`] is a window of one key: what an aggregation gathers values by.
-//! The rules are those of "The Dataflow Model" (Akidau et al., PVLDB 2015). What an aggregation gives is defined on lists
-//! alone, and [`laws`] states what every way of working it out rests on. Nothing in this crate takes memory.
+//! What an aggregation gives is defined on lists alone, and [`laws`] states what every way of working it out rests on.
+//! Nothing in this crate takes memory.
 #![tactic(auto)]
 
 mod ends;

@@ -1,0 +1,175 @@
+-- Gathering what is made of values by keyed window: record by record, end by end, and the rows of a map's entries.
+use Rattle.std.proofs.Common.{◌≡◌, ℕ, ℤ, ◌<◌, Bool, true, false, cond, eqb, List, [], ◌∷◌, ◌++◌, map, Option, Some, None, append-nil, sym, refl, ap, ◌∙◌, arith}
+use Rattle.std.specs.Prelude.{◌||◌, ◌&&◌}
+use Rattle.std.specs.List.{filter, flat_map, list_any, AllByRecursion}
+use Rattle.std.specs.Option.{is_some}
+use Rattle.std.specs.Map.{keys_of}
+use Rattle.std.specs.BTreeMap.{BTreeMap, IsOrdered, get, is_at}
+use Rattle.std.specs.Ordering.{is_eq, nat_cmp, ordering_then}
+use Rattle.std.specs.declared.cmp.Ordering.{Ordering}
+use Rattle.std.specs.declared.cmp.Ordering.TheVariants.{Less, Equal, Greater}
+use Rattle.std.proofs.lemmas.Bool.Decides.{nat_tests}
+use Rattle.std.proofs.lemmas.Bool.{eqb-true}
+use Rattle.std.proofs.lemmas.List.{map-append}
+use Rattle.std.proofs.lemmas.List.Elements.{filter-append, recursion_from_All}
+use Rattle.std.proofs.lemmas.List.Folds.{list_any-append}
+use Rattle.std.proofs.lemmas.Map.Views.{All-found}
+use Rattle.std.proofs.lemmas.Map.Made.{is_some-lookup}
+use Rattle.std.proofs.lemmas.Map.Lookups.{btree_set_from_contains}
+use Rattle.sb_record.specs.declared.item.Record.{Record}
+use Rattle.sb_record.proofs.Distinct.{distinct-sorted}
+use Rattle.sb_window.specs.declared.keyed_window.KeyedWindow.{KeyedWindow}
+use Rattle.sb_window.specs.Spacing.{Spacing}
+use Rattle.sb_window.specs.Windows.{window_ends, keyed_window_cmp, windows_of, keyed_windows, is_in, values_in}
+use Rattle.sb_window.specs.Aggregations.{rows_in, rows_by}
+use Rattle.sb_window.specs.Gatherings.{gathered, joined, rows_of_entries}
+use Rattle.sb_window.proofs.Multiples.{Rising}
+use Rattle.sb_window.proofs.Rows.{keyed_windows_total, exact_keyed_windows, any_keyed_windows}
+
+pub joined_none : {V : Type 0} (join : V → V → V) (o : Option V) → joined join o None ≡ o
+joined_none join None = refl
+joined_none join (Some v) = refl
+
+-- ---- record by record
+none_pass : (p : Record → Bool) (l : List Record) → list_any p l ≡ false → filter p l ≡ []
+none_pass p [] h = refl
+none_pass p (r ∷ l) h = by_case (p r) h (none_pass p l)
+  where
+    by_case : (b : Bool) → (b || list_any p l) ≡ false → (list_any p l ≡ false → filter p l ≡ []) → cond b (r ∷ filter p l) (filter p l) ≡ []
+    by_case true h ih = cc
+    by_case false h ih = ih h
+
+some_pass : (p : Record → Bool) (l : List Record) → list_any p l ≡ true → (x : Record) × (xs : List Record) × (filter p l ≡ x ∷ xs)
+some_pass p [] h = cc
+some_pass p (r ∷ l) h = by_case (p r) h (some_pass p l)
+  where
+    by_case : (b : Bool) → (b || list_any p l) ≡ true → (list_any p l ≡ true → (x : Record) × (xs : List Record) × (filter p l ≡ x ∷ xs)) → (x : Record) × (xs : List Record) × (cond b (r ∷ filter p l) (filter p l) ≡ x ∷ xs)
+    by_case true h ih = (r, filter p l, refl)
+    by_case false h ih = ih h
+
+-- what is made of the values of two lists, where join makes it of what is made of each
+pub gathered-append : {V : Type 0} (made : List ℤ → V) (join : V → V → V) → ((v w : ℤ) (vs ws : List ℤ) → made ((v ∷ vs) ++ w ∷ ws) ≡ join (made (v ∷ vs)) (made (w ∷ ws)))
+    → (windows : Spacing) (q : KeyedWindow) (l m : List Record) → gathered made windows (l ++ m) q ≡ joined join (gathered made windows l q) (gathered made windows m q)
+gathered-append {V} made join joins windows q l m =
+    (λ i. cond (list_any-append (is_in windows q) l m i) (Some (made ((ap (map (λ r. r.value)) (filter-append (is_in windows q) l m) ∙ map-append (λ r. r.value) (filter (is_in windows q) l) (filter (is_in windows q) m)) i))) None)
+    ∙ by_case (list_any (is_in windows q) l) (list_any (is_in windows q) m) refl refl
+  where
+    vs : List ℤ
+    vs = values_in windows q l
+
+    ws : List ℤ
+    ws = values_in windows q m
+
+    by_case : (a b : Bool) → list_any (is_in windows q) l ≡ a → list_any (is_in windows q) m ≡ b
+        → cond {A = Option V} (a || b) (Some (made (values_in windows q l ++ values_in windows q m))) None ≡ joined join (cond a (Some (made (values_in windows q l))) None) (cond b (Some (made (values_in windows q m))) None)
+    by_case true true e f =
+        let x = some_pass (is_in windows q) l e in
+        let y = some_pass (is_in windows q) m f in
+        let left : values_in windows q l ≡ map (λ r. r.value) (x.0 ∷ x.1) = ap (map (λ (r : Record). r.value)) x.2 in
+        let right : values_in windows q m ≡ map (λ r. r.value) (y.0 ∷ y.1) = ap (map (λ (r : Record). r.value)) y.2 in
+        ap (λ v. Some v)
+        ((λ i. made (left i ++ right i)) ∙ joins x.0.value y.0.value (map (λ r. r.value) x.1) (map (λ r. r.value) y.1) ∙ sym (λ i. join (made (left i)) (made (right i))))
+    by_case true false e f =
+        let none : values_in windows q m ≡ [] = ap (map (λ (r : Record). r.value)) (none_pass (is_in windows q) m f) in
+        ap (λ v. Some (made v)) (ap (λ ws. values_in windows q l ++ ws) none ∙ append-nil (values_in windows q l))
+    by_case false true e f =
+        let none : values_in windows q l ≡ [] = ap (map (λ (r : Record). r.value)) (none_pass (is_in windows q) l e) in
+        ap (λ vs. Some (made (vs ++ values_in windows q m))) none
+    by_case false false e f = refl
+
+-- ---- end by end
+-- what is made of one value of a key, for a keyed window of that key with its end among these
+abbrev pub made_at : {V : Type 0} → V → ℕ → List ℕ → KeyedWindow → Option V
+made_at v key ends q = cond (eqb key q.key && list_any (λ e. eqb e q.end) ends) (Some v) None
+
+pub made_at-no_ends : {V : Type 0} (v : V) (key : ℕ) (q : KeyedWindow) → made_at v key [] q ≡ None
+made_at-no_ends {V} v key q = elim (eqb key q.key) as (λ b. cond {A = Option V} (b && false) (Some v) None ≡ None) [ true ↦ refl | false ↦ refl ]
+
+-- at all ends of its time it is what is gathered of the record
+pub made_at-window_ends : {V : Type 0} (made : List ℤ → V) (windows : Spacing) (r : Record) (q : KeyedWindow) → made_at (made (r.value ∷ [])) r.key (window_ends windows r.time) q ≡ gathered made windows (r ∷ []) q
+made_at-window_ends {V} made windows r q = by_case (is_in windows q r)
+  where
+    by_case : (b : Bool) → cond {A = Option V} b (Some (made (r.value ∷ []))) None ≡ cond (b || false) (Some (made (map (λ (x : Record). x.value) (cond b (r ∷ []) [])))) None
+    by_case true = refl
+    by_case false = refl
+
+is_eq_then : (a b : Ordering) → is_eq (ordering_then a b) ≡ (is_eq a && is_eq b)
+is_eq_then Less b = refl
+is_eq_then Equal b = refl
+is_eq_then Greater b = refl
+
+is_eq_nat : (a b : ℕ) → is_eq (nat_cmp a b) ≡ eqb a b
+is_eq_nat a b = grind (arith, nat_tests)
+
+-- what is above a number does not hold it
+not_among : (x : ℕ) (es : List ℕ) → AllByRecursion (λ e. x < e) es → list_any (λ e. eqb e x) es ≡ false
+not_among x [] all = refl
+not_among x (e ∷ es) all = by_case (eqb e x) refl (not_among x es all.1)
+  where
+    by_case : (b : Bool) → eqb e x ≡ b → list_any (λ e. eqb e x) es ≡ false → (b || list_any (λ e. eqb e x) es) ≡ false
+    by_case true k h = let same : e ≡ x = eqb-true e x k in absurd (omega (arith, all.0))
+    by_case false k h = h
+
+-- a step of a loop over rising ends, which joins what is made of one value to what there is at each
+pub made_at-more : {V : Type 0} (join : V → V → V) (v : V) (key e : ℕ) (es : List ℕ) → Rising (e ∷ es) → (now later : KeyedWindow → Option V)
+    → ((q : KeyedWindow) → later q ≡ cond (is_at (keyed_window_cmp (record { end = e; key = key })) q) (joined join (now (record { end = e; key = key })) (Some v)) (now q))
+    → (q : KeyedWindow) → joined join (later q) (made_at v key es q) ≡ joined join (now q) (made_at v key (e ∷ es) q)
+made_at-more {V} join v key e es rising now later step q =
+    ap (λ o. joined join o (made_at v key es q)) (step q ∙ ap (λ b. cond b (joined join (now (record { end = e; key = key })) (Some v)) (now q)) test)
+    ∙ by_case (eqb e q.end) (eqb key q.key) refl refl
+  where
+    test : is_at (keyed_window_cmp (record { end = e; key = key })) q ≡ (eqb e q.end && eqb key q.key)
+    test = is_eq_then (nat_cmp e q.end) (nat_cmp key q.key) ∙ (λ i. is_eq_nat e q.end i && is_eq_nat key q.key i)
+
+    by_case : (a k : Bool) → eqb e q.end ≡ a → eqb key q.key ≡ k
+        → joined join (cond (a && k) (joined join (now (record { end = e; key = key })) (Some v)) (now q)) (cond (k && list_any (λ x. eqb x q.end) es) (Some v) None)
+        ≡ joined join (now q) (cond (k && (a || list_any (λ x. eqb x q.end) es)) (Some v) None)
+    by_case true true c d =
+        let end_is : e ≡ q.end = eqb-true e q.end c in
+        let key_is : key ≡ q.key = eqb-true key q.key d in
+        let none : list_any (λ x. eqb x q.end) es ≡ false = ap (λ y. list_any (λ x. eqb x y) es) (sym end_is) ∙ not_among e es rising.0 in
+        ap (λ b. joined join (joined join (now (record { end = e; key = key })) (Some v)) (cond b (Some v) None)) none
+        ∙ joined_none join (joined join (now (record { end = e; key = key })) (Some v))
+        ∙ ap (λ o. joined join o (Some v)) (λ i. now (record { end = end_is i; key = key_is i }))
+    by_case true false c d = refl
+    by_case false true c d = refl
+    by_case false false c d = refl
+
+-- ---- the entries of a map
+-- a map that has a value just at the keyed windows that have records has an entry for each of these, in order
+pub entries-keyed_windows : {V : Type 0} (windows : Spacing) (l : List Record) (f : KeyedWindow → V) (m : BTreeMap KeyedWindow V) → IsOrdered keyed_window_cmp m
+    → ((q : KeyedWindow) → get keyed_window_cmp m q ≡ cond (list_any (is_in windows q) l) (Some (f q)) None)
+    → m.entries ≡ map (λ q. (q, f q)) (keyed_windows windows l)
+entries-keyed_windows {V} windows l f m ordered at =
+    sym (each m.entries (recursion_from_All (λ (e : KeyedWindow × V). get keyed_window_cmp m e.0 ≡ Some e.1) m.entries (All-found keyed_windows_total m ordered)))
+    ∙ ap (map (λ q. (q, f q))) (sym same_keys)
+  where
+    is_some-cond : (b : Bool) (v : V) → is_some (cond b (Some v) None) ≡ b
+    is_some-cond true v = refl
+    is_some-cond false v = refl
+
+    same_keys : keyed_windows windows l ≡ keys_of m.entries
+    same_keys = btree_set_from_contains keyed_windows_total (record { keys = keyed_windows windows l }) (record { keys = keys_of m.entries })
+        (distinct-sorted keyed_windows_total (flat_map (windows_of windows) l)) ordered
+        (λ q. any_keyed_windows windows q l ∙ sym (is_some-cond (list_any (is_in windows q) l) (f q)) ∙ ap is_some (sym (at q)) ∙ is_some-lookup (is_at (keyed_window_cmp q)) m.entries)
+        exact_keyed_windows
+
+    value_is : (b : Bool) (v w : V) → cond b (Some v) None ≡ Some w → v ≡ w
+    value_is true v w h = some_is v w h
+      where
+        some_is : (v w : V) → Some v ≡ Some w → v ≡ w
+        some_is v w h = cc
+    value_is false v w h = cc
+
+    each : (es : List (KeyedWindow × V)) → AllByRecursion (λ (e : KeyedWindow × V). get keyed_window_cmp m e.0 ≡ Some e.1) es → map (λ q. (q, f q)) (keys_of es) ≡ es
+    each [] all = refl
+    each (e ∷ es) all = λ i. (e.0, value_is (list_any (is_in windows e.0) l) (f e.0) e.1 (sym (at e.0) ∙ all.0) i) ∷ each es all.1 i
+
+-- the rows of a map that gathers the values of records are the rows over the records
+pub rows_of_entries-gathered : {V : Type 0} (made : List ℤ → V) (values : V → List ℤ) (windows : Spacing) (l : List Record) (m : BTreeMap KeyedWindow V) → IsOrdered keyed_window_cmp m
+    → ((q : KeyedWindow) → get keyed_window_cmp m q ≡ gathered made windows l q) → rows_of_entries values m.entries ≡ rows_by (λ vs. values (made vs)) windows l
+rows_of_entries-gathered made values windows l m ordered at = ap (rows_of_entries values) (entries-keyed_windows windows l (λ q. made (values_in windows q l)) m ordered at) ∙ each (keyed_windows windows l)
+  where
+    each : (qs : List KeyedWindow) → rows_of_entries values (map (λ q. (q, made (values_in windows q l))) qs) ≡ flat_map (rows_in (λ vs. values (made vs)) windows l) qs
+    each [] = refl
+    each (q ∷ qs) = ap (λ rows. rows_in (λ vs. values (made vs)) windows l q ++ rows) (each qs)
