@@ -1,13 +1,11 @@
-// A library with one function.
+//! The plain slow program: it filters and folds whole lists, and has no threads, no bundles and no watermarks.
+//!
+//! What it gives is what the engine has to give, row for row. It is short enough to be read, so tests and benchmarks
+//! compare the engine with it.
 #![tactic(auto)]
 
-ghost use Rattle.std.specs.Prelude.{◌≡◌};
-ghost use Rattle.sb_slow.specs.Echo.{echo_of};
+mod gather;
+mod rows;
+mod sums;
 
-// The `ensures` clause is the contract: what `echo` returns is `echo_of` of its argument, a definition
-// in `specs/Echo.antt`, which a caller's clause can cite too.
-pub fn echo(x: usize) -> usize
-    ensures { result ≡ echo_of x }
-{
-    x
-}
+pub use sums::sum_rows;
