@@ -1,0 +1,12 @@
+pub mod Lines
+pub mod Sources
+pub mod Sinks
+pub mod Readings
+pub mod Rests
+pub mod Schedules
+pub mod MemoryForms
+pub mod Counts
+pub mod Looks
+pub mod Fills
+pub mod Buffers
+pub mod Searches

@@ -1,0 +1,7 @@
+pub mod Ranges
+pub mod Ends
+pub mod FirstLines
+pub mod Windows
+pub mod Appending
+pub mod Searches
+pub mod MemoryReads

@@ -1,0 +1,7 @@
+-- What a buffer holds.
+use Rattle.std.specs.Prelude.{ℕ, List, slice_range}
+use Rattle.sb_outside.specs.declared.buffer.Buffer.{Buffer}
+
+-- the bytes that were read and not taken
+abbrev pub pending : Buffer → List ℕ
+pending b = slice_range b.bytes b.start b.end

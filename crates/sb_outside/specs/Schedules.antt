@@ -1,0 +1,26 @@
+-- Calls of a source or a sink in memory: how large their pieces are, and which of them fail.
+use Rattle.std.specs.Prelude.{ℕ, ◌+◌, ◌-◌, ◌^◌, min, Bool, ◌==◌, if◌then◌else◌, List, unwrap_or, slice_get}
+use Rattle.std.specs.List.{list_any}
+
+-- the most bytes of call k at place k - 1, the numbers of the calls that fail, and how many calls there were and how many failed
+pub record Schedule : Type 0 where
+  pub pieces : List ℕ
+  pub failing : List ℕ
+  pub calls : ℕ
+  pub faults : ℕ
+
+-- one more, up to the end of the count's type
+abbrev pub counted : ℕ → ℕ
+counted n = min (n + 1) (2 ^ 64 - 1)
+
+-- whether the next call fails
+abbrev pub fails : Schedule → Bool
+fails s = list_any (λ call. call == counted s.calls) s.failing
+
+-- how many of the bytes that are offered the next call may take: there is no limit behind the end of the list
+abbrev pub piece_of : Schedule → ℕ → ℕ
+piece_of s offered = min (unwrap_or (slice_get s.pieces (counted s.calls - 1)) offered) offered
+
+-- the schedule behind the next call
+abbrev pub after_call : Schedule → Schedule
+after_call s = record s { calls = counted s.calls; faults = if fails s then counted s.faults else s.faults }
