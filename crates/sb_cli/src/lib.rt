@@ -1,13 +1,18 @@
-// A library with one function.
+//! The command line of StreamBox: what words ask for, and the one call that answers them.
+//!
+//! [`streambox`] is all that the program does. Its contract says what the sink has taken, for every list of words and
+//! every input, and why each answer comes.
 #![tactic(auto)]
 
-ghost use Rattle.std.specs.Prelude.{◌≡◌};
-ghost use Rattle.sb_cli.specs.Echo.{echo_of};
+mod answer;
+mod command;
+mod input;
+mod note;
+mod output;
+mod status;
+#[cfg(test)]
+mod tests;
+mod words;
 
-// The `ensures` clause is the contract: what `echo` returns is `echo_of` of its argument, a definition
-// in `specs/Echo.antt`, which a caller's clause can cite too.
-pub fn echo(x: usize) -> usize
-    ensures { result ≡ echo_of x }
-{
-    x
-}
+pub use command::streambox;
+pub use status::Status;

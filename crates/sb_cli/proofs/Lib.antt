@@ -1,0 +1,5 @@
+pub mod Commands
+pub mod Reading
+pub mod Takings
+pub mod Printing
+pub mod Answering

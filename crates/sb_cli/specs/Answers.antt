@@ -1,0 +1,81 @@
+-- The answer to an input.
+use Rattle.std.specs.Prelude.{◌≡◌, ◌⊎◌, ℕ, List, Option, ⊤}
+use Rattle.std.specs.Io.KnownBytes.{Appends}
+use Rattle.sb_record.specs.declared.intake.Stop.{Stop}
+use Rattle.sb_record.specs.declared.intake.Stop.TheVariants.{End, Refused, Fault}
+use Rattle.sb_record.specs.declared.intake.Refusal.{Refusal}
+use Rattle.sb_record.specs.declared.item.Item.{Item}
+use Rattle.sb_record.specs.declared.item.TheConstants.{END_MARK}
+use Rattle.sb_record.specs.declared.item.Record.{Record}
+use Rattle.sb_record.specs.Rows.{text_of}
+use Rattle.sb_record.specs.Streams.{low_watermark}
+use Rattle.sb_outside.specs.Sources.{Rose}
+use Rattle.sb_outside.specs.Sinks.{AppendsPrefix}
+use Rattle.sb_cli.specs.declared.status.Status.{Status}
+use Rattle.sb_cli.specs.declared.status.Status.TheVariants.{Done, Words, Line, Input, Output, Memory}
+use Rattle.sb_cli.specs.Given.{Given, items_of, stop_at}
+use Rattle.sb_cli.specs.Pipelines.{Pipeline, all_rows}
+
+-- the watermark below which rows are due where reading stopped: above all of them at the end, else the low watermark
+abbrev pub due_mark : Stop → ℕ → ℕ
+due_mark End low = END_MARK
+due_mark (Refused refusal) low = low
+due_mark Fault low = low
+
+-- the rows that are due where reading stopped
+abbrev pub due_rows : Pipeline → Stop → List Item → List Record
+due_rows pipeline stop items = pipeline.rows_below (due_mark stop (low_watermark pipeline.streams items)) items
+
+-- a sink took the text of these rows, and nothing else
+abbrev pub Wrote : Option (List ℕ) → Option (List ℕ) → List Record → Type 0
+Wrote taken taken' rows = Appends taken taken' (text_of rows)
+
+-- a sink took a prefix of the text of these rows
+abbrev pub WrotePrefix : Option (List ℕ) → Option (List ℕ) → List Record → Type 0
+WrotePrefix taken taken' rows = AppendsPrefix taken taken' (text_of rows)
+
+-- what was written, by how the run ended: the rows that are due, where writing went well
+abbrev pub HasWritten : Pipeline → Stop → List Item → Option (List ℕ) → Option (List ℕ) → Status → Type 0
+HasWritten pipeline stop items taken taken' Done = (stop ≡ End) × Wrote taken taken' (due_rows pipeline stop items)
+HasWritten pipeline stop items taken taken' (Line refusal) = (stop ≡ Refused refusal) × Wrote taken taken' (due_rows pipeline stop items)
+HasWritten pipeline stop items taken taken' Input = (stop ≡ Fault) × Wrote taken taken' (due_rows pipeline stop items)
+HasWritten pipeline stop items taken taken' Output = WrotePrefix taken taken' (all_rows pipeline items)
+HasWritten pipeline stop items taken taken' Memory = WrotePrefix taken taken' (all_rows pipeline items)
+HasWritten pipeline stop items taken taken' Words = ⊥
+
+-- the answer to what the source gave
+abbrev pub IsAnswer : Pipeline → Option (List ℕ) → Option (List ℕ) → Option (List ℕ) → Option (List ℕ) → Status → Type 0
+IsAnswer pipeline left left' taken taken' status =
+    (given : Given left left') × HasWritten pipeline (stop_at pipeline.streams given) (items_of pipeline.streams given) taken taken' status
+
+-- a fault is answered only where the count of faults of what failed rose
+abbrev pub HasCause : ℕ → ℕ → ℕ → ℕ → Status → Type 0
+HasCause reads reads' writes writes' Input = Rose reads reads'
+HasCause reads reads' writes writes' Output = Rose writes writes'
+HasCause reads reads' writes writes' Done = ⊤
+HasCause reads reads' writes writes' Words = ⊤
+HasCause reads reads' writes writes' (Line refusal) = ⊤
+HasCause reads reads' writes writes' Memory = ⊤
+
+-- the run was done, or memory was wanting
+abbrev pub IsDoneOrMemory : Status → Type 0
+IsDoneOrMemory status = (status ≡ Done) ⊎ (status ≡ Memory)
+
+-- no line of what the source gave is refused, and no count of faults rose
+pub record NothingFails (pipeline : Pipeline) (left left' : Option (List ℕ)) (reads reads' writes writes' : ℕ) : Type 0 where
+  pub no_refusal : (given : Given left left') (refusal : Refusal) → stop_at pipeline.streams given ≡ Refused refusal → ⊥
+  pub no_read_failed : Rose reads reads' → ⊥
+  pub no_write_failed : Rose writes writes' → ⊥
+
+-- the notes took their text, or a prefix of it where their own count rose; nothing is said where memory was wanting
+abbrev pub HasNoted : Option (List ℕ) → Option (List ℕ) → ℕ → ℕ → List ℕ → Status → Type 0
+HasNoted taken taken' faults faults' text Memory = ⊤
+HasNoted taken taken' faults faults' text status = Appends taken taken' text ⊎ (AppendsPrefix taken taken' text × Rose faults faults')
+
+-- words that are no command are answered as that, where memory was not wanting
+abbrev pub IsWordsOrMemory : Status → Type 0
+IsWordsOrMemory status = (status ≡ Words) ⊎ (status ≡ Memory)
+
+-- the status is told as it is, or memory was wanting
+abbrev pub IsToldOf : Status → Status → Type 0
+IsToldOf status told = (told ≡ status) ⊎ (told ≡ Memory)

@@ -1,0 +1,78 @@
+//! The one call that the program makes.
+
+ghost use Rattle.std.specs.Prelude.{◌≡◌, map, string_bytes};
+ghost use Rattle.sb_cli.specs.declared.words.Request.{Request};
+ghost use Rattle.sb_cli.specs.Answers.{IsAnswer, HasCause, HasNoted, IsDoneOrMemory, IsToldOf, IsWordsOrMemory, NothingFails};
+ghost use Rattle.sb_cli.specs.Pipelines.{pipeline_of};
+ghost use Rattle.sb_cli.specs.Statuses.{note_text};
+ghost use Rattle.sb_cli.specs.Words.{IsCommand, IsNoCommand};
+
+use crate::answer::answer;
+use crate::note::note_of;
+use crate::status::Status;
+use crate::words::read_words;
+use sb_outside::{Sink, SinkFault, Source, write_all_of};
+use std::alloc::Global;
+
+/// Does what the words of a command line ask for: reads records and watermarks from `input`, and writes rows to `out`
+/// and at most one line to `notes`.
+///
+/// What is said of bytes holds of sources and sinks that tell theirs. Where the words are no command the input is not
+/// read and nothing is written. A run that ends as `Done` has read its input to the end, and `out` has taken exactly the
+/// rows of the pipeline over all accepted records.
+pub fn streambox<S: Source, K: Sink, N: Sink>(
+    alloc: Global,
+    words: &[String],
+    input: &mut S,
+    out: &mut K,
+    notes: &mut N,
+) -> Status
+    // What was written, by how the run ended, over the items that were accepted.
+    ensures answer { (request : Request) → IsCommand request (map (λ w. string_bytes w) words.now)
+        → IsAnswer (pipeline_of request) (S.left input.old) (S.left input.new) (K.taken out.old) (K.taken out.new) result }
+
+    // Words that are no command.
+    ensures no_command { IsNoCommand (map (λ w. string_bytes w) words.now) → IsWordsOrMemory result }
+    ensures untouched { IsNoCommand (map (λ w. string_bytes w) words.now) → (input.new ≡ input.old) × (out.new ≡ out.old) }
+
+    // Faults come from where they say, and a run in which nothing fails is done.
+    ensures cause { HasCause (S.faults input.old) (S.faults input.new) (K.sink_faults out.old) (K.sink_faults out.new) result }
+    ensures complete { (request : Request) → IsCommand request (map (λ w. string_bytes w) words.now)
+        → NothingFails (pipeline_of request) (S.left input.old) (S.left input.new) (S.faults input.old) (S.faults input.new) (K.sink_faults out.old) (K.sink_faults out.new)
+        → IsDoneOrMemory result }
+
+    // What the user is told.
+    ensures notes { HasNoted (N.taken notes.old) (N.taken notes.new) (N.sink_faults notes.old) (N.sink_faults notes.new) (note_text result) result }
+{
+    let status = respond(alloc, words, input, out);
+    tell(notes, status)
+}
+
+/// Does what the words ask for.
+fn respond<S: Source, K: Sink>(
+    alloc: Global,
+    words: &[String],
+    input: &mut S,
+    out: &mut K,
+) -> Status
+    ensures answer { (request : Request) → IsCommand request (map (λ w. string_bytes w) words.now)
+        → IsAnswer (pipeline_of request) (S.left input.old) (S.left input.new) (K.taken out.old) (K.taken out.new) result }
+    ensures no_command { IsNoCommand (map (λ w. string_bytes w) words.now) → (result ≡ Status.Words) × (input.new ≡ input.old) × (out.new ≡ out.old) }
+    ensures cause { HasCause (S.faults input.old) (S.faults input.new) (K.sink_faults out.old) (K.sink_faults out.new) result }
+{
+    match read_words(words) {
+        Some(request) => answer(alloc, request, input, out),
+        None => Status::Words,
+    }
+}
+
+/// Tells the user how the run ended, unless there is no memory for that.
+fn tell<N: Sink>(notes: &mut N, status: Status) -> Status
+    ensures notes { HasNoted (N.taken notes.old) (N.taken notes.new) (N.sink_faults notes.old) (N.sink_faults notes.new) (note_text result) result }
+    ensures status { IsToldOf status result }
+{
+    match write_all_of(notes, note_of(status).as_slice()) {
+        Ok(()) | Err(SinkFault::Failed) => status,
+        Err(SinkFault::Memory) => Status::Memory,
+    }
+}

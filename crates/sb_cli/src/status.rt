@@ -1,0 +1,50 @@
+//! How a run ends.
+
+ghost use Rattle.std.specs.Prelude.{◌≡◌};
+ghost use Rattle.sb_cli.specs.Statuses as spec;
+
+use sb_record::{Refusal, Stop};
+
+/// How a run ends.
+#[derive(Clone, Copy, Debug, PartialEq, Eq)]
+pub enum Status {
+    /// The input was read to its end, and all rows were written.
+    Done,
+    /// The words are no command.
+    Words,
+    /// A line of the input is refused: the first one that is.
+    Line(Refusal),
+    /// Reading the input failed.
+    Input,
+    /// Writing the rows failed.
+    Output,
+    /// There was no memory.
+    Memory,
+}
+
+impl Status {
+    /// The exit code of the program.
+    pub fn code(&self) -> u8
+        ensures { result ≡ spec.code_of self.now }
+    {
+        match self {
+            Status::Done => 0,
+            Status::Words => 1,
+            Status::Line(_) => 3,
+            Status::Input => 4,
+            Status::Output => 5,
+            Status::Memory => 7,
+        }
+    }
+
+    /// How a run ends whose output went well, by where reading stopped.
+    pub(crate) fn of_stop(stop: Stop) -> Status
+        ensures { result ≡ spec.status_of stop }
+    {
+        match stop {
+            Stop::End => Status::Done,
+            Stop::Refused(refusal) => Status::Line(refusal),
+            Stop::Fault => Status::Input,
+        }
+    }
+}
