@@ -1,0 +1,5 @@
+pub mod Sums
+pub mod Firsts
+pub mod Distinct
+pub mod Orderless
+pub mod Times

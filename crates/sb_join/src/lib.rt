@@ -1,0 +1,11 @@
+//! Joins: what a pair of a left and a right record of one window and key gives.
+//!
+//! A join has two inputs, and gives a row for each pair of a left and a right record that lie in the same window of the same
+//! key. A [`Combine`] says what becomes of the two values, and [`pair_values`] works out the pairs of one keyed window. What a
+//! join gives over whole lists is defined on lists alone, and [`laws`] states what every way of working it out rests on.
+#![tactic(auto)]
+
+mod join;
+pub mod laws;
+
+pub use join::{Combine, Side, pair_values};

@@ -1,0 +1,4 @@
+pub mod Elements
+pub mod Steps
+pub mod Times
+pub mod Feeding

@@ -1,0 +1,25 @@
+-- The laws of plans.
+use Rattle.std.specs.Prelude.{◌≡◌, ◌≤◌, ℕ, List, ◌++◌}
+use Rattle.sb_record.specs.declared.item.Record.{Record}
+use Rattle.sb_record.specs.declared.item.Stream.{Stream}
+use Rattle.sb_record.specs.declared.item.Stream.TheVariants.{A}
+use Rattle.sb_record.specs.Records.{before, sorted}
+use Rattle.sb_window.specs.declared.windows.TheConstants.{MAX_SIZE}
+use Rattle.sb_window.specs.Spacing.{fixed}
+use Rattle.sb_window.specs.Aggregations.{sum_rows}
+use Rattle.sb_pipeline.specs.Plans.{IsPlan}
+use Rattle.sb_pipeline.specs.Results.{rows_below}
+use Rattle.sb_pipeline.specs.Shapes.{Shape, sum_shape}
+
+-- the plan of one sum is a plan
+abbrev pub SumPlanIsPlan : Type 0
+SumPlanIsPlan = (size : ℕ) → 1 ≤ size → size ≤ MAX_SIZE → IsPlan (sum_shape size)
+
+-- and it gives the sums of stream a by window and key
+abbrev pub SumPlanGivesSums : Type 0
+SumPlanGivesSums = (size w : ℕ) (streams : Stream → List Record) → rows_below w (sum_shape size) streams ≡ sorted (before w (sum_rows (fixed size) (streams A)))
+
+-- the rows below a watermark begin those below each later one
+abbrev pub RowsOfEarlierWatermarksComeFirst : Type 0
+RowsOfEarlierWatermarksComeFirst =
+    (v w : ℕ) (plan : Shape) (streams : Stream → List Record) → v ≤ w → (more : List Record) × (rows_below w plan streams ≡ rows_below v plan streams ++ more)

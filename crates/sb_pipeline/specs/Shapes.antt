@@ -1,0 +1,49 @@
+-- Shapes: the transforms of a pipeline in their order, and where what each gives goes.
+use Rattle.std.specs.Prelude.{◌≡◌, ◌≤◌, ◌<◌, ℕ, Bool, true, false, ◌&&◌, ◌==◌, List, [], ◌∷◌, ◌++◌, map, length, count_by, Option, Some, None, slice_get, is_some}
+use Rattle.sb_record.specs.declared.item.Stream.{Stream}
+use Rattle.sb_record.specs.declared.item.Stream.TheVariants.{A, B}
+use Rattle.sb_record.specs.declared.item.Streams.{Streams}
+use Rattle.sb_window.specs.Spacing.{fixed}
+use Rattle.sb_aggregate.specs.declared.aggregate.Agg.TheVariants.{Sum}
+use Rattle.sb_pipeline.specs.declared.transform.Down.{Down}
+use Rattle.sb_pipeline.specs.declared.transform.Kind.TheVariants.{Group}
+use Rattle.sb_pipeline.specs.declared.transform.Step.{Step}
+
+-- the transforms are the nodes from 0 on, and the node after them is the sink; the sources are where the streams go, if anywhere
+pub record Shape : Type 0 where
+  pub steps : List Step
+  pub source_a : Option Down
+  pub source_b : Option Down
+
+-- where the stream goes, if the plan uses it
+abbrev pub source : Shape → Stream → Option Down
+source plan A = plan.source_a
+source plan B = plan.source_b
+
+abbrev pub streams_of : Shape → Streams
+streams_of plan = record { a = is_some plan.source_a; b = is_some plan.source_b }
+
+-- the place, where there is one
+abbrev pub if_any : Option Down → List Down
+if_any None = []
+if_any (Some down) = down ∷ []
+
+-- all the places that something is sent to, each as often as it is
+abbrev pub downs : Shape → List Down
+downs plan = map (λ s. s.down) plan.steps ++ (if_any plan.source_a ++ if_any plan.source_b)
+
+abbrev pub is_same_place : Down → Down → Bool
+is_same_place d e = (d.node == e.node) && (d.lane == e.lane)
+
+-- how many transforms and streams send to the place
+abbrev pub feeds : Shape → Down → ℕ
+feeds plan place = count_by (is_same_place place) (downs plan)
+
+-- one sum over fixed windows of stream a
+abbrev pub sum_shape : ℕ → Shape
+sum_shape size =
+    record {
+      steps = record { kind = Group Sum (fixed size); down = record { node = 1; lane = 0 } } ∷ [];
+      source_a = Some (record { node = 0; lane = 0 });
+      source_b = None;
+    }

@@ -1,0 +1,138 @@
+//! Plans: the pipelines that can be run.
+
+ghost use Rattle.std.specs.Prelude.{◌≡◌, ◌≤◌, ◌<◌, ◌↔◌, Some, IsSome, IfSome, IfOk, length, slice_get};
+ghost use Rattle.std.specs.Option.{option_map};
+ghost use Rattle.sb_pipeline.specs.Operators.{lanes_of, operator_at, operator_of};
+ghost use Rattle.sb_pipeline.specs.Plans.{IsPlace, IsPlan, IsValidKind};
+ghost use Rattle.sb_pipeline.specs.Shapes as shape;
+
+use crate::transform::{Down, Kind, Step};
+use crate::validity::{is_plan, lanes_at};
+use sb_aggregate::Agg;
+use sb_record::{NoMemory, Sequence, Stream, Streams};
+use sb_window::{MAX_SIZE, Windows};
+use std::alloc::Global;
+use std::marker::Model;
+
+/// A pipeline that can be run. It keeps these rules:
+///
+/// - There are 1 to [`MAX_TRANSFORMS`](crate::MAX_TRANSFORMS) transforms, at most one of them a join, and at least one an
+///   aggregation or a join.
+/// - Each operation and each aggregation is valid, and a join has fixed windows.
+/// - Each transform sends to a lane of a later node, and each stream that is used to a lane of a node.
+/// - Each lane of each node is fed once.
+#[derive(Drop)]
+pub struct Plan {
+    steps: Sequence<Step>,
+    source_a: Option<Down>,
+    source_b: Option<Down>,
+}
+
+impl Model for Plan {
+    ghost use Rattle.sb_pipeline.specs.Shapes.{Shape};
+    ghost use Rattle.sb_pipeline.specs.Plans.{IsPlan};
+    ghost use Rattle.std.specs.Coded.{codes};
+    ghost use Rattle.sb_pipeline.specs.contracts.transform.Step as step;
+
+    ghost Value = { Shape };
+
+    ghost coded = { Prim.hlevel (codes, step.the_row.coded) };
+
+    ghost view = { λ p. record { steps = p.steps; source_a = p.source_a; source_b = p.source_b } };
+
+    ghost invariant = { λ p. IsPlan (record { steps = p.steps; source_a = p.source_a; source_b = p.source_b }) };
+}
+
+impl Plan {
+    /// The plan of these transforms in their order, where each stream goes to its source, if it has one. There is none
+    /// just where a rule of plans is broken. It takes no memory.
+    pub fn new(steps: Vec<Step>, source_a: Option<Down>, source_b: Option<Down>) -> Option<Plan>
+        ensures valid { IsSome result ↔ IsPlan (record { steps = steps.items; source_a = source_a; source_b = source_b }) }
+        ensures value { IfSome result (λ plan. plan ≡ record { steps = steps.items; source_a = source_a; source_b = source_b }) }
+    {
+        if !is_plan(&steps, source_a, source_b) {
+            return None;
+        }
+        Some(Plan {
+            steps: Sequence::new(steps),
+            source_a,
+            source_b,
+        })
+    }
+
+    /// How many transforms there are: the nodes below this are transforms, and this node is the sink.
+    pub fn transforms(&self) -> u32
+        ensures value { result ≡ length self.now.steps }
+        ensures sound { IsPlan self.now }
+    {
+        self.steps.as_slice().len() as u32
+    }
+
+    /// What a transform does.
+    pub fn kind(&self, node: u32) -> &Kind
+        requires { node < length self.now.steps }
+        ensures kind { option_map (λ s. s.kind) (slice_get self.now.steps node) ≡ Some result.now }
+        ensures operator { operator_at (slice_get self.now.steps node) ≡ operator_of result.now }
+        ensures valid { IsValidKind result.now }
+    {
+        &self.steps.as_slice()[node as usize].kind
+    }
+
+    /// Where what a transform gives goes.
+    pub fn down(&self, node: u32) -> Down
+        requires { node < length self.now.steps }
+        ensures down { option_map (λ s. s.down) (slice_get self.now.steps node) ≡ Some result }
+        ensures later { node < result.node }
+        ensures place { IsPlace self.now.steps result }
+    {
+        self.steps.as_slice()[node as usize].down
+    }
+
+    /// How many lanes a transform or the sink has.
+    pub fn lanes(&self, node: u32) -> u32
+        requires { node ≤ length self.now.steps }
+        ensures { result ≡ lanes_of (operator_at (slice_get self.now.steps node)) }
+    {
+        lanes_at(self.steps.as_slice(), node)
+    }
+
+    /// Where a stream goes, if the plan uses it.
+    pub fn source(&self, stream: Stream) -> Option<Down>
+        ensures value { result ≡ shape.source self.now stream }
+        ensures place { IfSome result (IsPlace self.now.steps) }
+    {
+        match stream {
+            Stream::A => self.source_a,
+            Stream::B => self.source_b,
+        }
+    }
+
+    /// The streams that the plan uses.
+    pub fn streams(&self) -> Streams
+        ensures { result ≡ shape.streams_of self.now }
+    {
+        Streams {
+            a: self.source_a.is_some(),
+            b: self.source_b.is_some(),
+        }
+    }
+}
+
+/// The plan of the sums of stream a, by key, over fixed windows of a size from 1 to 10^12.
+pub fn sum_plan(alloc: Global, size: u64) -> Result<Plan, NoMemory>
+    requires some_size { 1 ≤ size }
+    requires most_size { size ≤ MAX_SIZE }
+    ensures { IfOk result (λ plan. plan ≡ shape.sum_shape size) }
+{
+    let windows = Windows::new(size, size).unwrap();
+    let sum = Step {
+        kind: Kind::Group(Agg::Sum, windows),
+        down: Down { node: 1, lane: 0 },
+    };
+    let steps = vec![in alloc; sum].map_err(|_| NoMemory)?;
+    Ok(Plan {
+        steps: Sequence::new(steps),
+        source_a: Some(Down { node: 0, lane: 0 }),
+        source_b: None,
+    })
+}

@@ -1,0 +1,43 @@
+//! Transforms: what each does, and where what it gives goes.
+
+use sb_aggregate::Agg;
+use sb_join::Combine;
+use sb_pardo::Op;
+use sb_record::Record;
+use sb_window::Windows;
+
+/// How many transforms a plan may have.
+pub const MAX_TRANSFORMS: usize = 12;
+
+/// A record on a lane of a node.
+#[derive(Clone, Copy, Debug, PartialEq, Eq)]
+pub struct KeptRec {
+    pub lane: u32,
+    pub rec: Record,
+}
+
+/// What a transform does.
+#[derive(Drop)]
+pub enum Kind {
+    /// Treats each record by itself.
+    Do(Op),
+    /// Aggregates the values of each window and key.
+    Group(Agg, Windows),
+    /// Combines the records of lanes 0 and 1 that lie in the same window of the same key.
+    Join(Combine, Windows),
+}
+
+/// A lane of a node: where records are sent. The left input of a join is its lane 0, the right one its lane 1, and every
+/// other node has lane 0 alone.
+#[derive(Clone, Copy, Debug, PartialEq, Eq)]
+pub struct Down {
+    pub node: u32,
+    pub lane: u32,
+}
+
+/// A transform: what it does, and where what it gives goes.
+#[derive(Drop)]
+pub struct Step {
+    pub kind: Kind,
+    pub down: Down,
+}
