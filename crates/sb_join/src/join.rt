@@ -1,6 +1,6 @@
 //! How two values are combined, and the pairs of one keyed window.
 
-ghost use Rattle.std.specs.Prelude.{◌≡◌, ◌++◌, OnOk, OnErr};
+ghost use Rattle.std.specs.Prelude.{◌≡◌, ◌+◌, ◌*◌, ◌≤◌, ◌++◌, length, map, take, vec_len, vec_capacity, IsOk, OnOk, OnErr};
 ghost use Rattle.sb_join.specs.Joins as spec;
 
 use sb_record::NoMemory;
@@ -48,7 +48,8 @@ impl Combine {
     }
 }
 
-/// Appends the combined value of each pair of a left and a right value, the pairs of the first left value first.
+/// Appends the combined value of each pair of a left and a right value, the pairs of the first left value first. It takes no
+/// memory where there is room for all of them.
 ///
 /// # Errors
 ///
@@ -61,14 +62,33 @@ pub fn pair_values(
 ) -> Result<(), NoMemory>
     ensures ok { OnOk result (into.new.items ≡ into.old.items ++ spec.pair_values combine left.now right.now) }
     ensures err { OnErr result (into.new.items ≡ into.old.items) }
+    ensures succeeds { vec_len into.old + length left.now * length right.now ≤ vec_capacity into.old → IsOk result }
 {
     let before = into.len();
     for &x in left {
-        let row = right.iter().map(|&y| combine.combine(x, y));
-        if into.extend(row).is_err() {
+        if pair_with_each(combine, x, right, into).is_err() {
             into.truncate(before);
             return Err(NoMemory);
         }
+    }
+    Ok(())
+}
+
+// Appends the combined values of one left value with each right one, or some of them where there is no memory for more.
+fn pair_with_each(
+    combine: Combine,
+    left: i64,
+    right: &[i64],
+    into: &mut Vec<i64>,
+) -> Result<(), NoMemory>
+    ensures ok { OnOk result (into.new.items ≡ into.old.items ++ map (spec.combined combine left) right.now) }
+    ensures len { OnOk result (vec_len into.new ≡ vec_len into.old + length right.now) }
+    ensures capacity { vec_capacity into.old ≤ vec_capacity into.new }
+    ensures err { OnErr result (take (vec_len into.old) into.new.items ≡ into.old.items) }
+    ensures succeeds { vec_len into.old + length right.now ≤ vec_capacity into.old → IsOk result }
+{
+    for &y in right {
+        into.push(combine.combine(left, y)).map_err(|_| NoMemory)?;
     }
     Ok(())
 }

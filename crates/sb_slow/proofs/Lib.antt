@@ -1,2 +1,4 @@
 pub mod Pushed
 pub mod Times
+pub mod Steps
+pub mod Pairs

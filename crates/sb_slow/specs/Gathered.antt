@@ -1,9 +1,12 @@
 -- The values of each keyed window.
-use Rattle.std.specs.Prelude.{ℤ, List, ◌++◌, Option}
+use Rattle.std.specs.Prelude.{ℤ, ◌-◌, List, [], ◌++◌, map, Option, unwrap_or}
+use Rattle.std.specs.List.{flat_map}
 use Rattle.sb_record.specs.declared.item.Record.{Record}
 use Rattle.sb_window.specs.declared.keyed_window.KeyedWindow.{KeyedWindow}
 use Rattle.sb_window.specs.Spacing.{Spacing}
 use Rattle.sb_window.specs.Gatherings.{gathered, joined}
+use Rattle.sb_join.specs.declared.join.Combine.{Combine}
+use Rattle.sb_join.specs.Joins.{pair_values}
 
 -- the values of the records that lie in a keyed window, where there are any
 abbrev pub values_at : Spacing → List Record → KeyedWindow → Option (List ℤ)
@@ -12,3 +15,7 @@ values_at windows l q = gathered (λ vs. vs) windows l q
 -- values followed by others, where there are any
 abbrev pub followed : Option (List ℤ) → Option (List ℤ) → Option (List ℤ)
 followed first more = joined (λ vs ws. vs ++ ws) first more
+
+-- the rows of the pairs of each left entry with the right values of the same keyed window, if there are any
+abbrev pub rows_of_pairs : Combine → (KeyedWindow → Option (List ℤ)) → List (KeyedWindow × List ℤ) → List Record
+rows_of_pairs combine right entries = flat_map (λ e. map (λ v. record { time = e.0.end - 1; key = e.0.key; value = v }) (pair_values combine e.1 (unwrap_or (right e.0) []))) entries

@@ -1,11 +1,13 @@
-//! The plain slow program: it filters and folds whole lists, and has no threads, no bundles and no watermarks.
+//! The plain slow program: it runs a plan over whole lists, transform by transform, and has no threads, no bundles and no
+//! watermarks.
 //!
 //! What it gives is what the engine has to give, row for row. It is short enough to be read, so tests and benchmarks
 //! compare the engine with it.
 #![tactic(auto)]
 
+mod flow;
 mod gather;
+mod operate;
 mod rows;
-mod sums;
 
-pub use sums::sum_rows;
+pub use flow::slow_rows;

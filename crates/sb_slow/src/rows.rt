@@ -3,16 +3,15 @@
 ghost use Rattle.std.specs.Prelude.{◌≡◌, OnOk};
 ghost use Rattle.sb_record.specs.Records.{before, sorted};
 
-use sb_record::Record;
+use sb_record::{NoMemory, Record};
 use std::alloc::AllocError;
 
 /// Keeps the rows with a time below the mark, and puts them in order.
-pub(crate) fn sort_below(rows: &mut Vec<Record>, mark: u64) -> Result<(), AllocError>
+pub(crate) fn sort_below(rows: &mut Vec<Record>, mark: u64) -> Result<(), NoMemory>
     ensures { OnOk result (rows.new.items ≡ sorted (before mark rows.old.items)) }
 {
     keep_below(rows, mark);
-    sort_rows(rows)?;
-    Ok(())
+    sort_rows(rows).map_err(|_| NoMemory)
 }
 
 fn keep_below(rows: &mut Vec<Record>, mark: u64)

@@ -1,0 +1,15 @@
+use Rattle.std.proofs.Common.{rules, ◌≡◌, List, IfOk, subst}
+use Rattle.std.specs.BTreeMap.{get}
+use Rattle.sb_record.specs.declared.item.Record.{Record}
+use Rattle.sb_window.specs.declared.keyed_window.KeyedWindow.{KeyedWindow}
+use Rattle.sb_window.specs.Windows.{keyed_window_cmp}
+use Rattle.sb_slow.specs.Gathered.{values_at}
+use Rattle.sb_slow.proofs.Pairs.{rows_of_pairs-gathered}
+use Rattle.sb_slow.proofs.operate.pairs.Goals as goal
+
+pub returns : goal.returns
+returns c =
+    let at : (q : KeyedWindow) → get keyed_window_cmp c.in_ok-left.left q ≡ values_at c.args.windows.now c.args.left.now q = search rules in
+    let there : (q : KeyedWindow) → get keyed_window_cmp c.in_ok-right.right q ≡ values_at c.args.windows.now c.args.right.now q = search rules in
+    subst (λ (l : List Record). IfOk c.pairs_of.result (λ rows. rows.items ≡ l))
+    (rows_of_pairs-gathered c.args.combine c.args.windows.now c.args.left.now c.args.right.now c.in_ok-left.left c.in_ok-right.right c.pairs_of.ensures.ordered at there) c.pairs_of.ensures.rows

@@ -1,0 +1,187 @@
+//! What one transform gives for all the records that arrive at it.
+
+ghost use Rattle.std.specs.Prelude.{◌≡◌, ◌<◌, ◌-◌, ◌++◌, [], All, map, unwrap_or, OnOk, IfOk, flat_map};
+ghost use Rattle.std.specs.BTreeMap.{IsOrdered, get};
+ghost use Rattle.sb_window.specs.Gatherings.{rows_of_entries};
+ghost use Rattle.sb_window.specs.Windows.{keyed_window_cmp};
+ghost use Rattle.sb_pardo.specs.Validity.{IsValid};
+ghost use Rattle.sb_pardo.specs.Outputs.{outputs_of};
+ghost use Rattle.sb_aggregate.specs.Aggregates.{aggregate_rows, aggregate_values};
+ghost use Rattle.sb_join.specs.Joins.{join_rows};
+ghost use Rattle.sb_pipeline.specs.Elements as elements_spec;
+ghost use Rattle.sb_pipeline.specs.Operators as operators;
+ghost use Rattle.sb_pipeline.specs.Plans.{IsValidKind};
+ghost use Rattle.sb_slow.specs.Gathered.{rows_of_pairs};
+
+use crate::gather::values_by_window;
+use sb_aggregate::{Agg, aggregated};
+use sb_join::{Combine, pair_values};
+use sb_pardo::{Op, apply};
+use sb_pipeline::{KeptRec, Kind};
+use sb_record::{END_MARK, NoMemory, Record, Sequence};
+use sb_window::{KeyedWindow, Windows};
+use std::alloc::{AllocError, Global};
+use std::collections::BTreeMap;
+
+/// What a transform gives for what arrives at its node.
+pub(crate) fn output(
+    alloc: Global,
+    kind: &Kind,
+    elements: &[KeptRec],
+) -> Result<Vec<Record>, NoMemory>
+    requires valid { IsValidKind kind.now }
+    requires times { All (λ e. e.rec.time < END_MARK) elements.now }
+    ensures { IfOk result (λ rows. rows.items ≡ operators.output (operators.operator_of kind.now) elements.now) }
+{
+    match kind {
+        Kind::Do(op) => {
+            let records = all_records(alloc, elements)?;
+            outputs(alloc, op, &records)
+        }
+        Kind::Group(agg, windows) => {
+            let records = all_records(alloc, elements)?;
+            aggregates(alloc, *agg, windows, &records)
+        }
+        Kind::Join(combine, windows) => {
+            let left = of_lane(alloc, 0, elements)?;
+            let right = of_lane(alloc, 1, elements)?;
+            pairs(alloc, *combine, windows, &left, &right)
+        }
+    }
+}
+
+/// The records of all lanes, in order.
+pub(crate) fn all_records(alloc: Global, elements: &[KeptRec]) -> Result<Vec<Record>, NoMemory>
+    ensures { IfOk result (λ records. records.items ≡ elements_spec.all_records elements.now) }
+{
+    let mut records = Vec::new(alloc);
+    for element in elements {
+        records.push(element.rec).map_err(|_| NoMemory)?;
+    }
+    Ok(records)
+}
+
+/// The records of a lane, in order.
+fn of_lane(alloc: Global, lane: u32, elements: &[KeptRec]) -> Result<Vec<Record>, NoMemory>
+    ensures { IfOk result (λ records. records.items ≡ elements_spec.of_lane lane elements.now) }
+{
+    let mut records = Vec::new(alloc);
+    for element in elements {
+        if element.lane == lane {
+            records.push(element.rec).map_err(|_| NoMemory)?;
+        }
+    }
+    Ok(records)
+}
+
+/// What an operation gives for each record.
+fn outputs(alloc: Global, op: &Op, records: &[Record]) -> Result<Vec<Record>, NoMemory>
+    requires { IsValid op.now }
+    ensures { IfOk result (λ rows. rows.items ≡ flat_map (outputs_of op.now) records.now) }
+{
+    let mut rows = Vec::new(alloc);
+    apply(op, records, &mut rows)?;
+    Ok(rows)
+}
+
+/// The rows of an aggregation over records.
+fn aggregates(
+    alloc: Global,
+    agg: Agg,
+    windows: &Windows,
+    records: &[Record],
+) -> Result<Vec<Record>, NoMemory>
+    requires { All (λ r. r.time < END_MARK) records.now }
+    ensures { IfOk result (λ rows. rows.items ≡ aggregate_rows agg windows.now records.now) }
+{
+    let values = values_by_window(alloc, windows, records).map_err(|_| NoMemory)?;
+    aggregates_of(alloc, agg, values)
+}
+
+/// The rows of each keyed window with its values.
+fn aggregates_of(
+    alloc: Global,
+    agg: Agg,
+    values: BTreeMap<KeyedWindow, Sequence<i64>>,
+) -> Result<Vec<Record>, NoMemory>
+    ensures rows { IfOk result (λ rows. rows.items ≡ rows_of_entries (aggregate_values agg) values.entries) }
+    ensures ordered { IsOrdered keyed_window_cmp values }
+{
+    let mut rows = Vec::new(alloc);
+    for (window, values) in values {
+        let mut values = values.into_vec();
+        aggregated(agg, &mut values)?;
+        push_rows(window, &values, &mut rows)?;
+    }
+    Ok(rows)
+}
+
+/// The rows of a join over the records of its two inputs.
+fn pairs(
+    alloc: Global,
+    combine: Combine,
+    windows: &Windows,
+    left: &[Record],
+    right: &[Record],
+) -> Result<Vec<Record>, NoMemory>
+    requires left { All (λ r. r.time < END_MARK) left.now }
+    requires right { All (λ r. r.time < END_MARK) right.now }
+    ensures { IfOk result (λ rows. rows.items ≡ join_rows combine windows.now left.now right.now) }
+{
+    let left = values_by_window(alloc, windows, left).map_err(|_| NoMemory)?;
+    let right = values_by_window(alloc, windows, right).map_err(|_| NoMemory)?;
+    pairs_of(alloc, combine, left, &right)
+}
+
+/// The rows of each keyed window that has values on the left.
+fn pairs_of(
+    alloc: Global,
+    combine: Combine,
+    left: BTreeMap<KeyedWindow, Sequence<i64>>,
+    right: &BTreeMap<KeyedWindow, Sequence<i64>>,
+) -> Result<Vec<Record>, NoMemory>
+    ensures rows { IfOk result (λ rows. rows.items ≡ rows_of_pairs combine (get keyed_window_cmp right.now) left.entries) }
+    ensures ordered { IsOrdered keyed_window_cmp left }
+{
+    let mut rows = Vec::new(alloc);
+    let mut values = Vec::new(alloc);
+    for (window, left) in left {
+        values.clear();
+        pair_values(
+            combine,
+            left.as_slice(),
+            values_of(right, &window),
+            &mut values,
+        )?;
+        push_rows(window, &values, &mut rows)?;
+    }
+    Ok(rows)
+}
+
+/// The values of a keyed window, none where nothing was gathered.
+fn values_of<'a>(
+    values: &'a BTreeMap<KeyedWindow, Sequence<i64>>,
+    window: &KeyedWindow,
+) -> &'a [i64]
+    ensures { result.now ≡ unwrap_or (get keyed_window_cmp values.now window.now) [] }
+{
+    match values.get(window) {
+        Some(values) => values.as_slice(),
+        None => &[],
+    }
+}
+
+/// Appends a row of a keyed window for each value.
+fn push_rows(window: KeyedWindow, values: &[i64], rows: &mut Vec<Record>) -> Result<(), NoMemory>
+    ensures { OnOk result (rows.new.items ≡ rows.old.items ++ map (λ v. record { time = window.end - 1; key = window.key; value = v }) values.now) }
+{
+    for value in values {
+        rows.push(Record {
+            time: window.end.saturating_sub(1),
+            key: window.key,
+            value: *value,
+        })
+        .map_err(|_| NoMemory)?;
+    }
+    Ok(())
+}
