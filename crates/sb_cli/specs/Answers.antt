@@ -9,12 +9,13 @@ use Rattle.sb_record.specs.declared.item.TheConstants.{END_MARK}
 use Rattle.sb_record.specs.declared.item.Record.{Record}
 use Rattle.sb_record.specs.Rows.{text_of}
 use Rattle.sb_record.specs.Streams.{low_watermark}
+use Rattle.sb_pipeline.specs.Shapes.{Shape, streams_of}
 use Rattle.sb_outside.specs.Sources.{Rose}
 use Rattle.sb_outside.specs.Sinks.{AppendsPrefix}
 use Rattle.sb_cli.specs.declared.status.Status.{Status}
 use Rattle.sb_cli.specs.declared.status.Status.TheVariants.{Done, Words, Line, Input, Output, Memory}
 use Rattle.sb_cli.specs.Given.{Given, items_of, stop_at}
-use Rattle.sb_cli.specs.Pipelines.{Pipeline, all_rows}
+use Rattle.sb_cli.specs.Pipelines.{rows_below, all_rows}
 
 -- the watermark below which rows are due where reading stopped: above all of them at the end, else the low watermark
 abbrev pub due_mark : Stop → ℕ → ℕ
@@ -23,8 +24,8 @@ due_mark (Refused refusal) low = low
 due_mark Fault low = low
 
 -- the rows that are due where reading stopped
-abbrev pub due_rows : Pipeline → Stop → List Item → List Record
-due_rows pipeline stop items = pipeline.rows_below (due_mark stop (low_watermark pipeline.streams items)) items
+abbrev pub due_rows : Shape → Stop → List Item → List Record
+due_rows plan stop items = rows_below (due_mark stop (low_watermark (streams_of plan) items)) plan items
 
 -- a sink took the text of these rows, and nothing else
 abbrev pub Wrote : Option (List ℕ) → Option (List ℕ) → List Record → Type 0
@@ -35,18 +36,18 @@ abbrev pub WrotePrefix : Option (List ℕ) → Option (List ℕ) → List Record
 WrotePrefix taken taken' rows = AppendsPrefix taken taken' (text_of rows)
 
 -- what was written, by how the run ended: the rows that are due, where writing went well
-abbrev pub HasWritten : Pipeline → Stop → List Item → Option (List ℕ) → Option (List ℕ) → Status → Type 0
-HasWritten pipeline stop items taken taken' Done = (stop ≡ End) × Wrote taken taken' (due_rows pipeline stop items)
-HasWritten pipeline stop items taken taken' (Line refusal) = (stop ≡ Refused refusal) × Wrote taken taken' (due_rows pipeline stop items)
-HasWritten pipeline stop items taken taken' Input = (stop ≡ Fault) × Wrote taken taken' (due_rows pipeline stop items)
-HasWritten pipeline stop items taken taken' Output = WrotePrefix taken taken' (all_rows pipeline items)
-HasWritten pipeline stop items taken taken' Memory = WrotePrefix taken taken' (all_rows pipeline items)
-HasWritten pipeline stop items taken taken' Words = ⊥
+abbrev pub HasWritten : Shape → Stop → List Item → Option (List ℕ) → Option (List ℕ) → Status → Type 0
+HasWritten plan stop items taken taken' Done = (stop ≡ End) × Wrote taken taken' (due_rows plan stop items)
+HasWritten plan stop items taken taken' (Line refusal) = (stop ≡ Refused refusal) × Wrote taken taken' (due_rows plan stop items)
+HasWritten plan stop items taken taken' Input = (stop ≡ Fault) × Wrote taken taken' (due_rows plan stop items)
+HasWritten plan stop items taken taken' Output = WrotePrefix taken taken' (all_rows plan items)
+HasWritten plan stop items taken taken' Memory = WrotePrefix taken taken' (all_rows plan items)
+HasWritten plan stop items taken taken' Words = ⊥
 
 -- the answer to what the source gave
-abbrev pub IsAnswer : Pipeline → Option (List ℕ) → Option (List ℕ) → Option (List ℕ) → Option (List ℕ) → Status → Type 0
-IsAnswer pipeline left left' taken taken' status =
-    (given : Given left left') × HasWritten pipeline (stop_at pipeline.streams given) (items_of pipeline.streams given) taken taken' status
+abbrev pub IsAnswer : Shape → Option (List ℕ) → Option (List ℕ) → Option (List ℕ) → Option (List ℕ) → Status → Type 0
+IsAnswer plan left left' taken taken' status =
+    (given : Given left left') × HasWritten plan (stop_at (streams_of plan) given) (items_of (streams_of plan) given) taken taken' status
 
 -- a fault is answered only where the count of faults of what failed rose
 abbrev pub HasCause : ℕ → ℕ → ℕ → ℕ → Status → Type 0
@@ -62,8 +63,8 @@ abbrev pub IsDoneOrMemory : Status → Type 0
 IsDoneOrMemory status = (status ≡ Done) ⊎ (status ≡ Memory)
 
 -- no line of what the source gave is refused, and no count of faults rose
-pub record NothingFails (pipeline : Pipeline) (left left' : Option (List ℕ)) (reads reads' writes writes' : ℕ) : Type 0 where
-  pub no_refusal : (given : Given left left') (refusal : Refusal) → stop_at pipeline.streams given ≡ Refused refusal → ⊥
+pub record NothingFails (plan : Shape) (left left' : Option (List ℕ)) (reads reads' writes writes' : ℕ) : Type 0 where
+  pub no_refusal : (given : Given left left') (refusal : Refusal) → stop_at (streams_of plan) given ≡ Refused refusal → ⊥
   pub no_read_failed : Rose reads reads' → ⊥
   pub no_write_failed : Rose writes writes' → ⊥
 

@@ -1,32 +1,25 @@
 -- What a request asks of an input.
-use Rattle.std.specs.Prelude.{ℕ, true, false, List}
-use Rattle.sb_record.specs.declared.item.TheConstants.{END_MARK}
+use Rattle.std.specs.Prelude.{ℕ, List}
 use Rattle.sb_record.specs.declared.item.Item.{Item}
 use Rattle.sb_record.specs.declared.item.Record.{Record}
-use Rattle.sb_record.specs.declared.item.Stream.TheVariants.{A}
-use Rattle.sb_record.specs.declared.item.Streams.{Streams}
-use Rattle.sb_record.specs.Records.{sorted, before}
+use Rattle.sb_record.specs.declared.item.Stream.{Stream}
 use Rattle.sb_record.specs.Streams.{records_of}
-use Rattle.sb_window.specs.Spacing.{fixed}
-use Rattle.sb_window.specs.Aggregations.{sum_rows}
+use Rattle.sb_pipeline.specs.Shapes.{Shape, sum_shape}
+use Rattle.sb_pipeline.specs.Results as result
 use Rattle.sb_cli.specs.declared.words.Request.{Request}
 
--- the streams that are read, and the rows with time below a watermark that accepted items give
-pub record Pipeline : Type 0 where
-  pub streams : Streams
-  pub rows_below : ℕ → List Item → List Record
+-- the plan that is asked for: the sums of stream a over fixed windows
+abbrev pub plan_of : Request → Shape
+plan_of request = sum_shape request.size
 
--- the sums of stream a over fixed windows
-abbrev pub sum_pipeline : ℕ → Pipeline
-sum_pipeline size =
-    record {
-      streams = record { a = true; b = false };
-      rows_below = λ mark items. sorted (before mark (sum_rows (fixed size) (records_of A items)));
-    }
+-- the records of each stream among the items
+abbrev pub streams_in : List Item → Stream → List Record
+streams_in items s = records_of s items
 
-abbrev pub pipeline_of : Request → Pipeline
-pipeline_of request = sum_pipeline request.size
+-- the rows with time below a watermark that a plan gives over the items
+abbrev pub rows_below : ℕ → Shape → List Item → List Record
+rows_below mark plan items = result.rows_below mark plan (streams_in items)
 
--- the rows of all windows: the end of the input is the watermark above every time
-abbrev pub all_rows : Pipeline → List Item → List Record
-all_rows pipeline items = pipeline.rows_below END_MARK items
+-- the rows of all windows
+abbrev pub all_rows : Shape → List Item → List Record
+all_rows plan items = result.all_rows plan (streams_in items)

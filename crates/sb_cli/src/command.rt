@@ -3,7 +3,7 @@
 ghost use Rattle.std.specs.Prelude.{◌≡◌, map, string_bytes};
 ghost use Rattle.sb_cli.specs.declared.words.Request.{Request};
 ghost use Rattle.sb_cli.specs.Answers.{IsAnswer, HasCause, HasNoted, IsDoneOrMemory, IsToldOf, IsWordsOrMemory, NothingFails};
-ghost use Rattle.sb_cli.specs.Pipelines.{pipeline_of};
+ghost use Rattle.sb_cli.specs.Pipelines.{plan_of};
 ghost use Rattle.sb_cli.specs.Statuses.{note_text};
 ghost use Rattle.sb_cli.specs.Words.{IsCommand, IsNoCommand};
 
@@ -29,7 +29,7 @@ pub fn streambox<S: Source, K: Sink, N: Sink>(
 ) -> Status
     // What was written, by how the run ended, over the items that were accepted.
     ensures answer { (request : Request) → IsCommand request (map (λ w. string_bytes w) words.now)
-        → IsAnswer (pipeline_of request) (S.left input.old) (S.left input.new) (K.taken out.old) (K.taken out.new) result }
+        → IsAnswer (plan_of request) (S.left input.old) (S.left input.new) (K.taken out.old) (K.taken out.new) result }
 
     // Words that are no command.
     ensures no_command { IsNoCommand (map (λ w. string_bytes w) words.now) → IsWordsOrMemory result }
@@ -38,7 +38,7 @@ pub fn streambox<S: Source, K: Sink, N: Sink>(
     // Faults come from where they say, and a run in which nothing fails is done.
     ensures cause { HasCause (S.faults input.old) (S.faults input.new) (K.sink_faults out.old) (K.sink_faults out.new) result }
     ensures complete { (request : Request) → IsCommand request (map (λ w. string_bytes w) words.now)
-        → NothingFails (pipeline_of request) (S.left input.old) (S.left input.new) (S.faults input.old) (S.faults input.new) (K.sink_faults out.old) (K.sink_faults out.new)
+        → NothingFails (plan_of request) (S.left input.old) (S.left input.new) (S.faults input.old) (S.faults input.new) (K.sink_faults out.old) (K.sink_faults out.new)
         → IsDoneOrMemory result }
 
     // What the user is told.
@@ -56,7 +56,7 @@ fn respond<S: Source, K: Sink>(
     out: &mut K,
 ) -> Status
     ensures answer { (request : Request) → IsCommand request (map (λ w. string_bytes w) words.now)
-        → IsAnswer (pipeline_of request) (S.left input.old) (S.left input.new) (K.taken out.old) (K.taken out.new) result }
+        → IsAnswer (plan_of request) (S.left input.old) (S.left input.new) (K.taken out.old) (K.taken out.new) result }
     ensures no_command { IsNoCommand (map (λ w. string_bytes w) words.now) → (result ≡ Status.Words) × (input.new ≡ input.old) × (out.new ≡ out.old) }
     ensures cause { HasCause (S.faults input.old) (S.faults input.new) (K.sink_faults out.old) (K.sink_faults out.new) result }
 {

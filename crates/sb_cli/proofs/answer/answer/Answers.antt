@@ -1,22 +1,20 @@
-use Rattle.std.proofs.Common.{◌≡◌, sym, subst}
-use Rattle.std.specs.List.{AllByRecursion}
-use Rattle.sb_record.specs.Lines.{IsItemInRange}
-use Rattle.sb_record.proofs.InputLemmas.{accepted-in_range}
-use Rattle.sb_outside.specs.Lines.{lines}
-use Rattle.sb_cli.specs.Answers.{HasWritten}
-use Rattle.sb_cli.specs.Pipelines.{sum_pipeline}
+use Rattle.std.proofs.Common.{[], false, subst}
+use Rattle.std.proofs.KnownBytes.{Consumes-nil}
+use Rattle.sb_pipeline.specs.Shapes.{streams_of}
+use Rattle.sb_cli.specs.Answers.{IsAnswer}
+use Rattle.sb_cli.specs.Given.{Given, items_of}
+use Rattle.sb_cli.specs.Pipelines.{plan_of, all_rows}
 use Rattle.sb_cli.proofs.Answering.{nothing_written}
 use Rattle.sb_cli.proofs.answer.answer.Goals as goal
 
-pub returns-in-Err-clause-answer : goal.returns-in-Err-clause-answer
-returns-in-Err-clause-answer g c = (c.in-Err.ensures.reads, nothing_written (g.K.Sink.taken c.args.out.now) _)
-
-pub write_sums-requires-clause-range : goal.write_sums-requires-clause-range
-write_sums-requires-clause-range g c = λ κs outlives.
-    let (given, is) = c.in-Ok.ensures.reads in
-    subst (λ items. AllByRecursion IsItemInRange items) (sym is.items) (accepted-in_range (sum_pipeline c.args.request.size).streams (lines given.ended given.bytes))
-
 pub returns-in-Ok-clause-answer : goal.returns-in-Ok-clause-answer
 returns-in-Ok-clause-answer g c =
-    let (given, is) = c.in-Ok.ensures.reads in
-    (given, rw (← is.stop, ← is.items) c.write_sums.ensures.written)
+    subst (λ plan. IsAnswer plan (g.S.Source.left c.args.source.now) (g.S.Source.left c.answer_plan.new.source) (g.K.Sink.taken c.args.out.now) (g.K.Sink.taken c.answer_plan.new.out) c.answer_plan.result)
+    c.in-Ok.ensures c.answer_plan.ensures.answer
+
+pub returns-in-Err-clause-answer : goal.returns-in-Err-clause-answer
+returns-in-Err-clause-answer g c =
+    let left = g.S.Source.left c.args.source.now in
+    let plan = plan_of c.args.request in
+    let given : Given left left = record { bytes = []; were_left = Consumes-nil left; ended = false; at_end = λ e. absurd (cc e) } in
+    (given, nothing_written (g.K.Sink.taken c.args.out.now) (all_rows plan (items_of (streams_of plan) given)))

@@ -1,0 +1,25 @@
+use Rattle.std.proofs.Common.{◌∙◌, ap}
+use Rattle.std.proofs.lemmas.List.Elements.{All-from_recursion}
+use Rattle.sb_record.specs.declared.item.Stream.TheVariants.{A, B}
+use Rattle.sb_record.proofs.InputLemmas.{records-in_range}
+use Rattle.sb_cli.specs.Answers.{WrotePrefix}
+use Rattle.sb_cli.proofs.Answering.{has_written, prefix_of_due, rows_are_due}
+use Rattle.sb_cli.proofs.answer.write_due.Goals as goal
+
+pub slow_rows-requires-clause-times_a : goal.slow_rows-requires-clause-times_a
+slow_rows-requires-clause-times_a g c = rw c.as_slice.ensures (All-from_recursion _ _ (records-in_range A c.args.input.now.items c.requires.range))
+
+pub slow_rows-requires-clause-times_b : goal.slow_rows-requires-clause-times_b
+slow_rows-requires-clause-times_b g c = rw c.as_slice.ensures (All-from_recursion _ _ (records-in_range B c.args.input.now.items c.requires.range))
+
+pub returns-in-Err-Failed-clause-written : goal.returns-in-Err-Failed-clause-written
+returns-in-Err-Failed-clause-written g c =
+    let input = c.args.input.now in
+    let due = c.deref.ensures.value ∙ rows_are_due c.args.plan.now c.due_mark.result input.low input.stop input.items c.as_slice.result.now c.in-Ok.rows.items c.in-Ok.ensures.rows c.as_slice.ensures c.due_mark.ensures c.requires.low in
+    prefix_of_due c.args.plan.now input.stop input.items (g.K.Sink.taken c.args.out.now) (g.K.Sink.taken c.write_rows.new.out) c.requires.range (rw due at c.in-Err-Failed.ensures.bytes)
+
+pub returns-clause-written : goal.returns-clause-written
+returns-clause-written g c =
+    let input = c.args.input.now in
+    let due = c.deref.ensures.value ∙ rows_are_due c.args.plan.now c.due_mark.result input.low input.stop input.items c.as_slice.result.now c.in-Ok.rows.items c.in-Ok.ensures.rows c.as_slice.ensures c.due_mark.ensures c.requires.low in
+    prefix_of_due c.args.plan.now input.stop input.items (g.K.Sink.taken c.args.out.now) (g.K.Sink.taken c.write_rows.new.out) c.requires.range (rw due at c.in-Err-Memory.ensures.bytes)
