@@ -6,11 +6,10 @@ use Rattle.sb_cli.specs.Answers.{WrotePrefix}
 use Rattle.sb_cli.proofs.Answering.{has_written, prefix_of_due, rows_are_due}
 use Rattle.sb_cli.proofs.answer.write_due.Goals as goal
 
-pub slow_rows-requires-clause-times_a : goal.slow_rows-requires-clause-times_a
-slow_rows-requires-clause-times_a g c = rw c.as_slice.ensures (All-from_recursion _ _ (records-in_range A c.args.input.now.items c.requires.range))
-
-pub slow_rows-requires-clause-times_b : goal.slow_rows-requires-clause-times_b
-slow_rows-requires-clause-times_b g c = rw c.as_slice.ensures (All-from_recursion _ _ (records-in_range B c.args.input.now.items c.requires.range))
+pub slow_rows-requires : goal.slow_rows-requires
+slow_rows-requires g c =
+    let input = c.args.input.now in
+    rw c.as_slice.ensures (record { times = (All-from_recursion _ _ (records-in_range A input.items c.requires.range), All-from_recursion _ _ (records-in_range B input.items c.requires.range)) })
 
 pub returns-in-Err-Failed-clause-written : goal.returns-in-Err-Failed-clause-written
 returns-in-Err-Failed-clause-written g c =
