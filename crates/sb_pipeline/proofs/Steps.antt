@@ -1,5 +1,5 @@
 -- The transforms of a plan, one by one.
-use Rattle.std.proofs.Common.{◌≡◌, ◌<◌, ℕ, List, All, Some, length, subst}
+use Rattle.std.proofs.Common.{◌≡◌, ℕ, List, All, Some, subst}
 use Rattle.std.specs.List.{slice_get}
 use Rattle.std.proofs.lemmas.Option.{slice_get_within, get_or_from_slice_get}
 use Rattle.sb_pipeline.specs.declared.transform.Step.{Step}

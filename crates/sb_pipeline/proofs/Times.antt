@@ -1,6 +1,6 @@
 -- How late records can be at each node: each node adds at most the greatest size of windows.
-use Rattle.std.proofs.Common.{◌≡◌, ◌≤◌, ◌<◌, ℕ, suc, zero, ◌+◌, ◌*◌, Bool, true, false, cond, eqb, List, [], ◌∷◌, ◌++◌, length, Option, Some, None, refl, sym, ap, subst, ◌∙◌, arith}
-use Rattle.std.specs.List.{slice_get, filter, flat_map, AllByRecursion}
+use Rattle.std.proofs.Common.{◌≡◌, ◌≤◌, ◌<◌, ℕ, suc, ◌+◌, ◌*◌, Bool, true, false, cond, eqb, List, [], ◌∷◌, ◌++◌, length, Option, Some, None, refl, sym, ap, subst, ◌∙◌, arith}
+use Rattle.std.specs.List.{slice_get, AllByRecursion}
 use Rattle.std.proofs.lemmas.Bool.{eqb-true}
 use Rattle.std.proofs.lemmas.Bool.Decides.{nat_tests}
 use Rattle.std.proofs.lemmas.Option.{slice_get_past}
@@ -11,7 +11,6 @@ use Rattle.sb_record.specs.declared.item.TheConstants.{MAX_TIME, END_MARK}
 use Rattle.sb_record.specs.Records.{before, sorted}
 use Rattle.sb_record.proofs.Elements.{every, All-join, All-flat_map}
 use Rattle.sb_window.specs.declared.windows.TheConstants.{MAX_SIZE}
-use Rattle.sb_pardo.specs.declared.operation.Op.{Op}
 use Rattle.sb_pardo.specs.Outputs.{outputs_of}
 use Rattle.sb_pardo.proofs.Keeping.{outputs_keep_time}
 use Rattle.sb_aggregate.proofs.Times.{aggregate_rows-times}
@@ -22,7 +21,7 @@ use Rattle.sb_pipeline.specs.declared.transform.Kind.{Kind}
 use Rattle.sb_pipeline.specs.declared.transform.Kind.TheVariants.{Do, Group, Join}
 use Rattle.sb_pipeline.specs.declared.transform.Step.{Step}
 use Rattle.sb_pipeline.specs.Elements.{on_lane, all_records, of_lane}
-use Rattle.sb_pipeline.specs.Operators.{Operator, operator_of, operator_at, output}
+use Rattle.sb_pipeline.specs.Operators.{operator_of, operator_at, output}
 use Rattle.sb_pipeline.specs.Shapes.{Shape}
 use Rattle.sb_pipeline.specs.Plans.{IsPlan, IsValidKind}
 use Rattle.sb_pipeline.specs.Flow.{Sent, arriving, from_stream, from_streams, from_step, sent_from}

@@ -1,5 +1,5 @@
 -- Shapes: the transforms of a pipeline in their order, and where what each gives goes.
-use Rattle.std.specs.Prelude.{◌≡◌, ◌≤◌, ◌<◌, ℕ, Bool, true, false, ◌&&◌, ◌==◌, List, [], ◌∷◌, ◌++◌, map, length, count_by, Option, Some, None, slice_get, is_some}
+use Rattle.std.specs.Prelude.{ℕ, Bool, ◌&&◌, ◌==◌, List, [], ◌∷◌, ◌++◌, map, count_by, Option, Some, None, is_some}
 use Rattle.sb_record.specs.declared.item.Stream.{Stream}
 use Rattle.sb_record.specs.declared.item.Stream.TheVariants.{A, B}
 use Rattle.sb_record.specs.declared.item.Streams.{Streams}

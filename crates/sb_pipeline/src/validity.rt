@@ -119,13 +119,17 @@ pub(crate) fn lanes_at(steps: &[Step], node: u32) -> u32
     ensures { result ≡ lanes_of (operator_at (slice_get steps.now node)) }
 {
     match steps.get(node as usize) {
-        Some(
-            Step {
-                kind: Kind::Join(_, _),
-                ..
-            },
-        ) => 2,
-        _ => 1,
+        Some(step) => lanes_of(&step.kind),
+        None => 1,
+    }
+}
+
+fn lanes_of(kind: &Kind) -> u32
+    ensures { result ≡ lanes_of (operator_of kind.now) }
+{
+    match kind {
+        Kind::Do(_) | Kind::Group(_, _) => 1,
+        Kind::Join(_, _) => 2,
     }
 }
 

@@ -1,4 +1,4 @@
-use Rattle.std.proofs.Common.{◌≡◌, Bool, true, false, IsTrue, arith, rules, subst}
+use Rattle.std.proofs.Common.{◌≡◌, false, IsTrue, arith, rules, subst}
 use Rattle.sb_pipeline.proofs.validity.are_fed_once.Goals as goal
 
 pub returns-then-not-are_lanes_fed_once : goal.returns-then-not-are_lanes_fed_once
