@@ -9,5 +9,7 @@ mod flow;
 mod gather;
 mod operate;
 mod rows;
+#[cfg(test)]
+mod tests;
 
 pub use flow::slow_rows;

@@ -147,12 +147,8 @@ fn pairs_of(
     let mut values = Vec::new(alloc);
     for (window, left) in left {
         values.clear();
-        pair_values(
-            combine,
-            left.as_slice(),
-            values_of(right, &window),
-            &mut values,
-        )?;
+        let right = values_of(right, &window);
+        pair_values(combine, left.as_slice(), right, &mut values)?;
         push_rows(window, &values, &mut rows)?;
     }
     Ok(rows)

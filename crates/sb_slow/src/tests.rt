@@ -1,0 +1,347 @@
+//! What plans give, by example.
+
+ghost use Rattle.std.specs.Prelude.{All, IfOk};
+ghost use Rattle.sb_record.specs.Lines.{IsItemInRange};
+
+use crate::slow_rows;
+use sb_aggregate::{Agg, MAX_TOP};
+use sb_join::Combine;
+use sb_pardo::{Change, Field, Op, Table, Test};
+use sb_pipeline::{Down, Kind, Plan, Step};
+use sb_record::{END_MARK, Item, MAX_KEY, Sequence, read_line};
+use sb_window::{BadWindow, Windows};
+use std::alloc::{AllocError, Global};
+use std::test::Fail;
+
+/// The items of lines, with a space between each two.
+fn items_of(alloc: Global, lines: &str) -> Result<Vec<Item>, Fail>
+    ensures { IfOk result (λ items. All IsItemInRange items.items) }
+{
+    let mut items = Vec::new(alloc);
+    for line in lines.split_whitespace() {
+        items.push(read_line(line.as_bytes())?)?;
+    }
+    Ok(items)
+}
+
+/// The rows below a time, as `end,key,value`, with a space between each two.
+fn rows_below(alloc: Global, plan: Option<Plan>, lines: &str, below: u64) -> Result<String, Fail> {
+    let plan = plan.ok_or("no plan")?;
+    let items = items_of(alloc, lines)?;
+    let rows = slow_rows(alloc, &plan, &items, below)?;
+    let mut text = String::new(alloc);
+    for row in &rows {
+        if !text.is_empty() {
+            text.push_str(" ")?;
+        }
+        let end = row.time.saturating_add(1);
+        write!(text, "{end},{},{}", row.key, row.value)?;
+    }
+    Ok(text)
+}
+
+/// All rows.
+fn rows_of(alloc: Global, plan: Option<Plan>, lines: &str) -> Result<String, Fail> {
+    rows_below(alloc, plan, lines, END_MARK)
+}
+
+const fn place(node: u32, lane: u32) -> Down {
+    Down { node, lane }
+}
+
+fn group(agg: Agg, size: u64, every: u64) -> Result<Kind, BadWindow> {
+    Ok(Kind::Group(agg, Windows::new(size, every)?))
+}
+
+fn join(combine: Combine, size: u64) -> Result<Kind, BadWindow> {
+    Ok(Kind::Join(combine, Windows::new(size, size)?))
+}
+
+/// The plan where each transform sends to the next, and stream a goes to the first.
+fn chain(
+    alloc: Global,
+    kinds: Vec<Kind>,
+    source_b: Option<Down>,
+) -> Result<Option<Plan>, AllocError> {
+    let mut steps = Vec::new(alloc);
+    let mut node = 0_u32;
+    for kind in kinds {
+        node = node.saturating_add(1);
+        let down = place(node, 0);
+        steps.push(Step { kind, down })?;
+    }
+    Ok(Plan::new(steps, Some(place(0, 0)), source_b))
+}
+
+/// The plan of one transform that gathers records of stream a by window.
+fn alone(alloc: Global, kind: Kind) -> Result<Option<Plan>, AllocError> {
+    chain(alloc, vec![in alloc; kind]?, None)
+}
+
+/// The plan of a join of stream a with stream b.
+fn joined(alloc: Global, kind: Kind) -> Result<Option<Plan>, AllocError> {
+    chain(alloc, vec![in alloc; kind]?, Some(place(0, 1)))
+}
+
+/// The plan of an operation, with a row for each record that it gives.
+fn each_output(alloc: Global, op: Op) -> Result<Option<Plan>, Fail> {
+    let kinds = vec![in alloc; Kind::Do(op), group(Agg::Top(MAX_TOP), 1, 1)?]?;
+    Ok(chain(alloc, kinds, None)?)
+}
+
+#[test]
+fn aggregates_by_window_and_key(rt: HostRuntime) -> Result<(), Fail> {
+    let alloc = rt.alloc();
+    let cases = [
+        (Agg::Sum, 10, 5, "r,a,7,1,2", "10,1,2 15,1,2"),
+        (Agg::Sum, 10, 5, "r,a,5,1,2", "10,1,2 15,1,2"),
+        (
+            Agg::Sum,
+            10,
+            10,
+            "r,a,3,1,5 r,b,4,1,100 r,a,3,2,7 w,a,5",
+            "10,1,5 10,2,7",
+        ),
+        (Agg::Sum, 10, 10, "", ""),
+        (
+            Agg::Top(2),
+            10,
+            10,
+            "r,a,1,1,5 r,a,2,1,5 r,a,3,1,3",
+            "10,1,5 10,1,5",
+        ),
+        (
+            Agg::Distinct,
+            10,
+            10,
+            "r,a,1,1,5 r,a,2,1,5 r,a,3,1,-1",
+            "10,1,2",
+        ),
+    ];
+    for (agg, size, every, lines, want) in cases {
+        let plan = alone(alloc, group(agg, size, every)?)?;
+        assert_eq!(rt;
+            rows_of(alloc, plan, lines)?.as_str(),
+            want,
+            "{agg:?} of {lines}"
+        );
+    }
+    Ok(())
+}
+
+#[test]
+fn aggregates_the_ends_of_ranges(rt: HostRuntime) -> Result<(), Fail> {
+    let alloc = rt.alloc();
+    let lines = "r,a,1,1,5 r,a,2,1,-9223372036854775808 r,a,3,1,5 r,a,4,1,9223372036854775807";
+    let cases = [
+        (Agg::Count, "10,1,4"),
+        (Agg::Sum, "10,1,9"),
+        (Agg::Min, "10,1,-9223372036854775808"),
+        (Agg::Max, "10,1,9223372036854775807"),
+        (Agg::Distinct, "10,1,3"),
+        (Agg::Top(1), "10,1,9223372036854775807"),
+        (
+            Agg::Top(MAX_TOP),
+            "10,1,-9223372036854775808 10,1,5 10,1,5 10,1,9223372036854775807",
+        ),
+    ];
+    for (agg, want) in cases {
+        let plan = alone(alloc, group(agg, 10, 10)?)?;
+        assert_eq!(rt; rows_of(alloc, plan, lines)?.as_str(), want, "{agg:?}");
+    }
+    Ok(())
+}
+
+#[test]
+fn joins_by_window_and_key(rt: HostRuntime) -> Result<(), Fail> {
+    let alloc = rt.alloc();
+    // Each left record has one right record in its window and of its key.
+    let lines =
+        "r,a,1,1,-9223372036854775808 r,a,2,1,7 r,b,3,1,9223372036854775807 r,b,4,2,9 r,b,13,1,9";
+    let cases = [
+        (Combine::Add, "10,1,-9223372036854775802 10,1,-1"),
+        (Combine::Sub, "10,1,-9223372036854775800 10,1,1"),
+        (
+            Combine::Mul,
+            "10,1,-9223372036854775808 10,1,9223372036854775801",
+        ),
+        (Combine::Min, "10,1,-9223372036854775808 10,1,7"),
+        (
+            Combine::Max,
+            "10,1,9223372036854775807 10,1,9223372036854775807",
+        ),
+        (Combine::Left, "10,1,-9223372036854775808 10,1,7"),
+        (
+            Combine::Right,
+            "10,1,9223372036854775807 10,1,9223372036854775807",
+        ),
+    ];
+    for (combine, want) in cases {
+        let plan = joined(alloc, join(combine, 10)?)?;
+        assert_eq!(rt; rows_of(alloc, plan, lines)?.as_str(), want, "{combine:?}");
+    }
+    let cases = [
+        ("r,a,3,1,5 r,a,4,1,6 r,b,8,1,100", "10,1,105 10,1,106"),
+        ("r,a,1,1,1 r,b,2,2,3", ""),
+        ("r,a,9,1,1 r,b,10,1,3", ""),
+    ];
+    for (lines, want) in cases {
+        let plan = joined(alloc, join(Combine::Add, 10)?)?;
+        assert_eq!(rt; rows_of(alloc, plan, lines)?.as_str(), want, "{lines}");
+    }
+    Ok(())
+}
+
+const LOW: &str = "1,0,-9223372036854775808";
+
+const HIGH: &str = "1000000000000001,1000000000000000000,9223372036854775807";
+
+const LOW_AND_HIGH: &str =
+    "1,0,-9223372036854775808 1000000000000001,1000000000000000000,9223372036854775807";
+
+#[test]
+fn filters_each_field(rt: HostRuntime) -> Result<(), Fail> {
+    let alloc = rt.alloc();
+    let lines =
+        "r,a,0,0,-9223372036854775808 r,a,1000000000000000,1000000000000000000,9223372036854775807";
+    let cases = [
+        (Field::Time, Test::Less, 1_000_000_000_000_000, LOW),
+        (
+            Field::Time,
+            Test::AtMost,
+            1_000_000_000_000_000,
+            LOW_AND_HIGH,
+        ),
+        (Field::Time, Test::Equal, 1_000_000_000_000_000, HIGH),
+        (Field::Time, Test::AtLeast, 0, LOW_AND_HIGH),
+        (Field::Time, Test::More, 0, HIGH),
+        (Field::Key, Test::Less, 0, ""),
+        (Field::Key, Test::AtMost, 0, LOW),
+        (Field::Key, Test::Equal, 0, LOW),
+        (Field::Key, Test::AtLeast, 1_000_000_000_000_000_000, HIGH),
+        (Field::Key, Test::More, i64::MIN, LOW_AND_HIGH),
+        (Field::Value, Test::Less, i64::MAX, LOW),
+        (Field::Value, Test::AtMost, i64::MIN, LOW),
+        (Field::Value, Test::Equal, i64::MAX, HIGH),
+        (Field::Value, Test::AtLeast, i64::MIN, LOW_AND_HIGH),
+        (Field::Value, Test::More, i64::MAX, ""),
+    ];
+    for (field, test, number, want) in cases {
+        let plan = each_output(alloc, Op::Filter(field, test, number))?;
+        let rows = rows_of(alloc, plan, lines)?;
+        assert_eq!(rt; rows.as_str(), want, "{field:?} {test:?} {number}");
+    }
+    Ok(())
+}
+
+#[test]
+fn changes_one_field(rt: HostRuntime) -> Result<(), Fail> {
+    let alloc = rt.alloc();
+    let cases = [
+        (Change::KeyMod(10), "r,a,1,1234,5", "2,4,5"),
+        (
+            Change::KeyMod(MAX_KEY),
+            "r,a,1,1000000000000000000,5",
+            "2,0,5",
+        ),
+        (Change::KeyDiv(100), "r,a,1,1299,5", "2,12,5"),
+        (
+            Change::KeySet(MAX_KEY),
+            "r,a,1,0,5",
+            "2,1000000000000000000,5",
+        ),
+        (
+            Change::ValueAdd(1),
+            "r,a,1,2,9223372036854775807",
+            "2,2,-9223372036854775808",
+        ),
+        (Change::ValueMul(2), "r,a,1,2,9223372036854775807", "2,2,-2"),
+        (
+            Change::ValueSet(i64::MIN),
+            "r,a,1,2,5",
+            "2,2,-9223372036854775808",
+        ),
+    ];
+    for (change, line, want) in cases {
+        let plan = each_output(alloc, Op::Map(change))?;
+        assert_eq!(rt; rows_of(alloc, plan, line)?.as_str(), want, "{change:?}");
+    }
+    Ok(())
+}
+
+#[test]
+fn passes_on_from_transform_to_transform(rt: HostRuntime) -> Result<(), Fail> {
+    let alloc = rt.alloc();
+    let kinds = vec![in alloc; group(Agg::Sum, 10, 10)?, group(Agg::Max, 20, 20)?]?;
+    let plan = chain(alloc, kinds, None)?;
+    let rows = rows_of(alloc, plan, "r,a,3,1,4 r,a,13,1,6")?;
+    assert_eq!(rt; rows.as_str(), "20,1,6");
+
+    let kinds = vec![in alloc; join(Combine::Add, 10)?, group(Agg::Sum, 10, 10)?]?;
+    let plan = chain(alloc, kinds, Some(place(0, 1)))?;
+    let rows = rows_of(alloc, plan, "r,a,3,1,5 r,a,4,1,6 r,b,8,1,100")?;
+    assert_eq!(rt; rows.as_str(), "10,1,211");
+
+    let addends = Sequence::new(vec![in alloc; 0, 10]?);
+    let kinds = vec![in alloc; Kind::Do(Op::Expand(addends)), group(Agg::Sum, 10, 10)?]?;
+    let plan = chain(alloc, kinds, None)?;
+    let rows = rows_of(alloc, plan, "r,a,3,1,5")?;
+    assert_eq!(rt; rows.as_str(), "10,1,20");
+    Ok(())
+}
+
+#[test]
+fn counts_views_by_campaign(rt: HostRuntime) -> Result<(), Fail> {
+    let alloc = rt.alloc();
+    let mut campaigns = Table::new(alloc);
+    for (advertisement, campaign) in [(101, 7), (102, 7), (103, 9)] {
+        campaigns.insert(advertisement, campaign)?;
+    }
+    let kinds = vec![in alloc;
+        Kind::Do(Op::Filter(Field::Value, Test::Equal, 1)),
+        Kind::Do(Op::Lookup(campaigns)),
+        group(Agg::Count, 10_000, 10_000)?,
+    ]?;
+    let lines =
+        "r,a,1200,101,1 r,a,800,103,1 r,a,2500,102,0 r,a,9999,102,1 w,a,10000 r,a,10000,999,1 r,a,15000,103,1";
+    let rows = rows_of(alloc, chain(alloc, kinds, None)?, lines)?;
+    assert_eq!(rt; rows.as_str(), "10000,7,2 10000,9,1 20000,9,1");
+    Ok(())
+}
+
+#[test]
+fn sends_each_stream_where_it_goes(rt: HostRuntime) -> Result<(), Fail> {
+    let alloc = rt.alloc();
+    // The right input takes what the filter passes of stream a, and the left one stream b.
+    let filter = Step {
+        kind: Kind::Do(Op::Filter(Field::Value, Test::More, 0)),
+        down: place(1, 1),
+    };
+    let join = Step {
+        kind: join(Combine::Sub, 10)?,
+        down: place(2, 0),
+    };
+    let steps = vec![in alloc; filter, join]?;
+    let plan = Plan::new(steps, Some(place(0, 0)), Some(place(1, 0)));
+    let rows = rows_of(alloc, plan, "r,a,1,1,-4 r,a,2,1,3 r,b,3,1,10 r,b,4,1,-20")?;
+    assert_eq!(rt; rows.as_str(), "10,1,-23 10,1,7");
+    Ok(())
+}
+
+#[test]
+fn cuts_rows_off(rt: HostRuntime) -> Result<(), Fail> {
+    let alloc = rt.alloc();
+    let lines = "r,a,10,1,6 r,a,3,1,4 r,a,23,1,8";
+    for (below, want) in [
+        (9, ""),
+        (10, "10,1,4"),
+        (19, "10,1,4"),
+        (20, "10,1,4 20,1,6"),
+        (u64::MAX, "10,1,4 20,1,6 30,1,8"),
+    ] {
+        let plan = alone(alloc, group(Agg::Sum, 10, 10)?)?;
+        let rows = rows_below(alloc, plan, lines, below)?;
+        assert_eq!(rt; rows.as_str(), want, "below {below}");
+    }
+    Ok(())
+}
