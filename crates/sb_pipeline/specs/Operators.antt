@@ -25,6 +25,7 @@ pub data Operator : Type 0 where
   Windowed : (grouping : WindowOperator) → Operator
   Sink : Operator
 
+-- what a transform of this kind does
 abbrev pub operator_of : Kind → Operator
 operator_of (Do op) = ParDo op
 operator_of (Group agg windows) = Windowed (Aggregated agg windows)
@@ -42,6 +43,7 @@ lanes_of (Windowed (Aggregated agg windows)) = 1
 lanes_of (Windowed (Joined combine windows)) = 2
 lanes_of Sink = 1
 
+-- the windows that it gathers by
 abbrev pub windows_in : WindowOperator → Spacing
 windows_in (Aggregated agg windows) = windows
 windows_in (Joined combine windows) = windows

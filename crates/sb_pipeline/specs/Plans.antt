@@ -17,11 +17,13 @@ IsValidKind (Do op) = pardo.IsValid op
 IsValidKind (Group agg windows) = aggregate.IsValid agg × AreWindows windows
 IsValidKind (Join combine windows) = AreWindows windows × (windows.size ≡ windows.every)
 
+-- whether the transform is a join
 abbrev pub is_join : Kind → Bool
 is_join (Do op) = false
 is_join (Group agg windows) = false
 is_join (Join combine windows) = true
 
+-- whether it gathers records by window
 abbrev pub has_windows : Kind → Bool
 has_windows (Do op) = false
 has_windows (Group agg windows) = true

@@ -20,6 +20,7 @@ abbrev pub source : Shape → Stream → Option Down
 source plan A = plan.source_a
 source plan B = plan.source_b
 
+-- the streams that go somewhere
 abbrev pub streams_of : Shape → Streams
 streams_of plan = record { a = is_some plan.source_a; b = is_some plan.source_b }
 
@@ -32,6 +33,7 @@ if_any (Some down) = down ∷ []
 abbrev pub downs : Shape → List Down
 downs plan = map (λ s. s.down) plan.steps ++ (if_any plan.source_a ++ if_any plan.source_b)
 
+-- whether the places are one lane of one node
 abbrev pub is_same_place : Down → Down → Bool
 is_same_place d e = (d.node == e.node) && (d.lane == e.lane)
 
