@@ -190,17 +190,31 @@ fn a_refused_line_leaves_the_rows_below_the_low_watermark(rt: HostRuntime) -> Re
 #[test]
 fn a_line_has_at_most_128_bytes(rt: HostRuntime) -> Result<(), Fail> {
     let alloc = rt.alloc();
-    for (more, rows, note) in [(127, "10,1,5\n", ""), (128, "", "line 1: too long\n")] {
-        let mut text = vec![in alloc; b'#'; 1]?;
-        text.extend_from_slice(&vec![in alloc; 255u8; more]?)?;
-        text.extend_from_slice(b"\nr,a,3,1,5\n")?;
-        let ran = run_in_pieces(alloc, &["sum", "10"], &text, 7)?;
-        assert_eq!(rt; ran.rows.as_slice(), rows.as_bytes(), "{more}");
-        assert_eq!(rt; ran.notes.as_slice(), note.as_bytes(), "{more}");
+    for size in 1..8usize {
+        for (more, rows, note) in [(127, "10,1,5\n", ""), (128, "", "line 1: too long\n")] {
+            let mut text = vec![in alloc; b'#'; 1]?;
+            text.extend_from_slice(&vec![in alloc; 255u8; more]?)?;
+            text.extend_from_slice(b"\nr,a,3,1,5\n")?;
+            let ran = run_in_pieces(alloc, &["sum", "10"], &text, size)?;
+            assert_eq!(rt;
+                ran.rows.as_slice(),
+                rows.as_bytes(),
+                "{more} in pieces of {size}"
+            );
+            assert_eq!(rt;
+                ran.notes.as_slice(),
+                note.as_bytes(),
+                "{more} in pieces of {size}"
+            );
+        }
+        let zeros = vec![in alloc; 0u8; 4096]?;
+        let ran = run_in_pieces(alloc, &["sum", "10"], &zeros, size)?;
+        assert_eq!(rt;
+            ran.status,
+            Status::Line(Refusal::TooLong { line: 1 }),
+            "pieces of {size}"
+        );
     }
-    let zeros = vec![in alloc; 0u8; 4096]?;
-    let ran = run_in_pieces(alloc, &["sum", "10"], &zeros, 7)?;
-    assert_eq!(rt; ran.status, Status::Line(Refusal::TooLong { line: 1 }));
     Ok(())
 }
 
