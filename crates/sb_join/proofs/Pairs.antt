@@ -1,9 +1,8 @@
 -- The rows of a join depend on the records of each keyed window alone.
 use Rattle.std.proofs.Common.{◌≡◌, ℕ, ℤ, ◌-◌, ◌≤◌, ◌<◌, Bool, true, false, cond, ltb, List, [], ◌∷◌, ◌++◌, map, sym, refl, ap, ◌∙◌, arith}
-use Rattle.std.specs.Prelude.{◌||◌, nat_lt}
-use Rattle.std.specs.List.{filter, flat_map, list_any, sum_by}
-use Rattle.std.proofs.lemmas.Bool.{lt-ltb, ltb-true}
-use Rattle.std.proofs.lemmas.List.Sums.{sum_by-cons}
+use Rattle.std.specs.Prelude.{nat_lt}
+use Rattle.std.specs.List.{filter, flat_map, sum_by}
+use Rattle.std.proofs.lemmas.Bool.{ltb-true}
 use Rattle.std.proofs.lemmas.List.Elements.{filter-append}
 use Rattle.sb_record.specs.declared.item.Record.{Record}
 use Rattle.sb_record.specs.Records.{before}
@@ -12,19 +11,10 @@ use Rattle.sb_window.specs.declared.keyed_window.KeyedWindow.{KeyedWindow}
 use Rattle.sb_window.specs.Spacing.{Spacing}
 use Rattle.sb_window.specs.Windows.{is_in, keyed_windows, values_in}
 use Rattle.sb_window.specs.Reorderings.{IsReordered}
-use Rattle.sb_window.proofs.Rows.{when, in_closed, keyed_windows-same}
+use Rattle.sb_window.proofs.Rows.{any_by_count, when, in_closed, keyed_windows-same}
 use Rattle.sb_join.specs.declared.join.Combine.{Combine}
 use Rattle.sb_join.specs.Joins.{combined, pair_values, pairs, join_rows}
 use Rattle.sb_join.specs.Laws.{JoinsDoNotDependOnOrder, ClosedJoinsDependOnEarlierRecords}
-
--- whether one passes, by what passes
-any_by_count : {X : Type 0} (p : X → Bool) (l : List X) → list_any p l ≡ ltb 0 (sum_by (λ x. 1) (filter p l))
-any_by_count p [] = refl
-any_by_count p (x ∷ l) = by_case (p x) (any_by_count p l)
-  where
-    by_case : (b : Bool) → list_any p l ≡ ltb 0 (sum_by (λ x. 1) (filter p l)) → (b || list_any p l) ≡ ltb 0 (sum_by (λ x. 1) (cond b (x ∷ filter p l) (filter p l)))
-    by_case true h = sym (ap (ltb 0) (sum_by-cons (λ x. 1) x (filter p l)) ∙ lt-ltb 0 _ (omega arith))
-    by_case false h = h
 
 filter_all : {X : Type 0} (l : List X) → filter (λ _. true) l ≡ l
 filter_all [] = refl

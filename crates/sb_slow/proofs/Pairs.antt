@@ -1,13 +1,12 @@
 -- The rows of the pairs of what two maps gathered.
 use Rattle.std.proofs.Common.{◌≡◌, ℤ, ◌-◌, Bool, true, false, cond, List, [], ◌∷◌, ◌++◌, map, Some, None, unwrap_or, refl, sym, ap, ◌∙◌}
-use Rattle.std.specs.Prelude.{◌||◌}
-use Rattle.std.specs.List.{filter, flat_map, list_any}
+use Rattle.std.specs.List.{flat_map, list_any}
 use Rattle.std.specs.BTreeMap.{BTreeMap, IsOrdered, get}
 use Rattle.sb_record.specs.declared.item.Record.{Record}
 use Rattle.sb_window.specs.declared.keyed_window.KeyedWindow.{KeyedWindow}
 use Rattle.sb_window.specs.Spacing.{Spacing}
 use Rattle.sb_window.specs.Windows.{is_in, keyed_window_cmp, keyed_windows, values_in}
-use Rattle.sb_window.proofs.Gathering.{entries-keyed_windows}
+use Rattle.sb_window.proofs.Gathering.{entries-keyed_windows, none_pass}
 use Rattle.sb_join.specs.declared.join.Combine.{Combine}
 use Rattle.sb_join.specs.Joins.{pair_values, pairs, join_rows}
 use Rattle.sb_slow.specs.Gathered.{values_at, rows_of_pairs}
@@ -16,14 +15,6 @@ use Rattle.sb_slow.specs.Gathered.{values_at, rows_of_pairs}
 pub pair_values-nil : (combine : Combine) (xs : List ℤ) → pair_values combine xs [] ≡ []
 pair_values-nil combine [] = refl
 pair_values-nil combine (x ∷ xs) = pair_values-nil combine xs
-
-none_pass : (p : Record → Bool) (l : List Record) → list_any p l ≡ false → filter p l ≡ []
-none_pass p [] h = refl
-none_pass p (r ∷ l) h = by_case (p r) h (none_pass p l)
-  where
-    by_case : (b : Bool) → (b || list_any p l) ≡ false → (list_any p l ≡ false → filter p l ≡ []) → cond b (r ∷ filter p l) (filter p l) ≡ []
-    by_case true h ih = cc
-    by_case false h ih = ih h
 
 -- the values gathered for a keyed window, where there are any, are those in it
 values_or_nil : (windows : Spacing) (l : List Record) (q : KeyedWindow) → unwrap_or (values_at windows l q) [] ≡ values_in windows q l

@@ -31,7 +31,8 @@ joined_none join None = refl
 joined_none join (Some v) = refl
 
 -- ---- record by record
-none_pass : (p : Record → Bool) (l : List Record) → list_any p l ≡ false → filter p l ≡ []
+-- nothing passes where none does
+pub none_pass : (p : Record → Bool) (l : List Record) → list_any p l ≡ false → filter p l ≡ []
 none_pass p [] h = refl
 none_pass p (r ∷ l) h = by_case (p r) h (none_pass p l)
   where

@@ -92,7 +92,7 @@ All-keyed_windows windows l =
     each (q ∷ qs) all = (sym (any_keyed_windows windows q l) ∙ all.0, each qs all.1)
 
 -- whether one passes, by what passes
-any_by_count : {X : Type 0} (p : X → Bool) (l : List X) → list_any p l ≡ ltb 0 (sum_by (λ x. 1) (filter p l))
+pub any_by_count : {X : Type 0} (p : X → Bool) (l : List X) → list_any p l ≡ ltb 0 (sum_by (λ x. 1) (filter p l))
 any_by_count p [] = refl
 any_by_count p (x ∷ l) = by_case (p x) (any_by_count p l)
   where
