@@ -18,7 +18,7 @@ use std::alloc::Global;
 /// and at most one line to `notes`.
 ///
 /// What is said of bytes holds of sources and sinks that tell theirs. Where the words are no command the input is not
-/// read and nothing is written. A run that ends as `Done` has read its input to the end, and `out` has taken exactly the
+/// read and no row is written. A run that ends as `Done` has read its input to the end, and `out` has taken exactly the
 /// rows of the pipeline over all accepted records.
 pub fn streambox<S: Source, K: Sink, N: Sink>(
     alloc: Global,
