@@ -1,8 +1,8 @@
 //! The lines of a source, one at a time.
 //!
 //! A line is the bytes up to an LF or to the end of the input, and one CR at its end is taken off.
-//! Nothing after the last LF is no line. A line has at most 128 bytes after the CR is taken off; a
-//! longer one is refused as soon as its bytes show that, also where its end has not come yet.
+//! An empty rest after the last LF is no line. A line has at most 128 bytes after the CR is taken
+//! off; a longer one is refused as soon as its bytes show that, also where its end has not come yet.
 
 ghost use Rattle.std.specs.Prelude.{◌≡◌, ◌≤◌, [], None, length};
 ghost use Rattle.std.specs.Borrow.{sem};
