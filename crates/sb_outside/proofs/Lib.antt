@@ -5,3 +5,4 @@ pub mod Windows
 pub mod Appending
 pub mod Searches
 pub mod MemoryReads
+pub mod Folders

@@ -1,10 +1,12 @@
 pub mod Lines
 pub mod Sources
 pub mod Sinks
+pub mod Folders
 pub mod Readings
 pub mod Rests
 pub mod Schedules
 pub mod MemoryForms
+pub mod MemoryFolders
 pub mod Counts
 pub mod Looks
 pub mod Fills

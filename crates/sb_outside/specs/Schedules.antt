@@ -13,9 +13,13 @@ pub record Schedule : Type 0 where
 abbrev pub counted : ℕ → ℕ
 counted n = min (n + 1) (2 ^ 64 - 1)
 
+-- whether the next call, behind so many, is one of those that fail
+abbrev pub next_fails : List ℕ → ℕ → Bool
+next_fails failing calls = list_any (λ call. call == counted calls) failing
+
 -- whether the next call fails
 abbrev pub fails : Schedule → Bool
-fails s = list_any (λ call. call == counted s.calls) s.failing
+fails s = next_fails s.failing s.calls
 
 -- how many of the bytes that are offered the next call may take: there is no limit behind the end of the list
 abbrev pub piece_of : Schedule → ℕ → ℕ

@@ -3,12 +3,15 @@
 
 ghost use Rattle.std.specs.Prelude.{◌≤◌, None, All, IfOk};
 
+use crate::standard_folder::append_some;
 use crate::{
-    LineBuffer, LineReader, MemSink, MemSource, Next, Sink, SinkFault, Source, SourceFault,
-    StdSink, StdSource, Step, write_all_of,
+    Folder, FolderFault, LineBuffer, LineReader, MemFolder, MemSink, MemSource, Next, Sink,
+    SinkFault, Source, SourceFault, StdFolder, StdSink, StdSource, Step, write_all_of,
 };
 use std::alloc::{AllocError, Global};
-use std::io::{self, ErrorKind, Write};
+use std::collections::BTreeMap;
+use std::fs;
+use std::io::{self, ErrorKind, Read, Write};
 use std::test::Fail;
 
 /// Pieces that are all of one size.
@@ -230,4 +233,123 @@ fn a_writer_that_fails_is_answered_with_its_cause(rt: HostRuntime) {
         assert_eq!(rt; sink.write(b"abc"), first);
         assert_eq!(rt; sink.write(b"c"), second);
     }
+}
+
+const FOLDER: &str = "sb_outside_test";
+
+const LETTERS: &str = "sb_outside_test/letters";
+
+const EMPTY: &str = "sb_outside_test/empty";
+
+const MISSING: &str = "sb_outside_test/missing";
+
+/// Loads of at most so many bytes behind `>`: their answers, and what stands then.
+const LOADS: [(&str, usize, Result<(), FolderFault>, &[u8]); 8] = [
+    (LETTERS, usize::MAX, Ok(()), b">abcdef"),
+    (LETTERS, 7, Ok(()), b">abcdef"),
+    (LETTERS, 6, Ok(()), b">abcdef"),
+    (LETTERS, 5, Ok(()), b">abcde"),
+    (LETTERS, 0, Ok(()), b">"),
+    (EMPTY, 9, Ok(()), b">"),
+    (MISSING, 9, Err(FolderFault::Failed), b">"),
+    // A folder is no file.
+    (FOLDER, 9, Err(FolderFault::Failed), b">"),
+];
+
+fn load_behind<F: Folder + Drop>(
+    alloc: Global,
+    mut folder: F,
+    name: &str,
+    most: usize,
+) -> Result<(Result<(), FolderFault>, Vec<u8>), AllocError> {
+    let mut into = Vec::from_slice(alloc, b">")?;
+    let answer = folder.load(name, most, &mut into);
+    Ok((answer, into))
+}
+
+/// A folder of two files, of which the loads with these numbers fail.
+fn two_files(alloc: Global, failing: Vec<u64>) -> Result<MemFolder, AllocError> {
+    let mut files = BTreeMap::new(alloc);
+    files.insert(
+        LETTERS.to_string(alloc)?,
+        Vec::from_slice(alloc, b"abcdef")?,
+    )?;
+    files.insert(EMPTY.to_string(alloc)?, Vec::new(alloc))?;
+    Ok(MemFolder::new(files, failing))
+}
+
+#[test]
+fn folders_give_the_first_bytes_of_a_file(rt: HostRuntime) -> Result<(), Fail> {
+    let _ = fs::remove_dir_all(&rt, FOLDER);
+    fs::create_dir(&rt, FOLDER)?;
+    fs::write(&rt, LETTERS, b"abcdef".as_slice())?;
+    fs::write(&rt, EMPTY, b"".as_slice())?;
+    let mut memory = two_files(rt.alloc(), Vec::new(rt.alloc()))?;
+    let mut real = StdFolder::new(rt);
+    for (name, most, answer, bytes) in LOADS {
+        let (given, into) = load_behind(rt.alloc(), &mut memory, name, most)?;
+        assert_eq!(rt; given, answer, "in memory: {name}, {most}");
+        assert_eq!(rt; into.as_slice(), bytes, "in memory: {name}, {most}");
+        let (given, into) = load_behind(rt.alloc(), &mut real, name, most)?;
+        assert_eq!(rt; given, answer, "{name}, {most}");
+        assert_eq!(rt; into.as_slice(), bytes, "{name}, {most}");
+    }
+    assert_eq!(rt; memory.faults(), 2);
+    fs::remove_dir_all(&rt, FOLDER)?;
+    Ok(())
+}
+
+#[test]
+fn loads_that_are_told_to_fail_do(rt: HostRuntime) -> Result<(), Fail> {
+    let mut folder = two_files(rt.alloc(), vec![in rt.alloc(); 2, 4, 4, 9]?)?;
+    let mut into = Vec::new(rt.alloc());
+    for (name, answer, faults, bytes) in [
+        (LETTERS, Ok(()), 0, b"ab".as_slice()),
+        (LETTERS, Err(FolderFault::Failed), 1, b"ab"),
+        (LETTERS, Ok(()), 1, b"abab"),
+        (MISSING, Err(FolderFault::Failed), 2, b"abab"),
+        (MISSING, Err(FolderFault::Failed), 3, b"abab"),
+        (LETTERS, Ok(()), 3, b"ababab"),
+    ] {
+        assert_eq!(rt; folder.load(name, 2, &mut into), answer);
+        assert_eq!(rt; folder.faults(), faults);
+        assert_eq!(rt; into.as_slice(), bytes);
+    }
+    Ok(())
+}
+
+#[test]
+fn a_file_without_an_end_is_loaded_in_part(rt: HostRuntime) -> Result<(), Fail> {
+    let mut into = Vec::from_slice(rt.alloc(), b">")?;
+    let mut folder = StdFolder::new(rt);
+    assert_eq!(rt; folder.load("/dev/zero", 3, &mut into), Ok(()));
+    assert_eq!(rt; into.as_slice(), b">\0\0\0".as_slice());
+    Ok(())
+}
+
+/// A reader that fails once it has given so many bytes.
+#[derive(Drop)]
+struct BreaksAfter(usize);
+
+impl Read for BreaksAfter {
+    fn read(&mut self, buf: &mut [u8]) -> io::Result<usize> {
+        if self.0 == 0 {
+            return Err(io::Error::from(ErrorKind::BrokenPipe));
+        }
+        let count = buf.len().min(self.0);
+        buf[..count].fill(b'x');
+        self.0 -= count;
+        Ok(count)
+    }
+}
+
+#[test]
+fn no_byte_behind_the_last_that_is_wanted_is_read(rt: HostRuntime) -> Result<(), Fail> {
+    for (most, passes) in [(0, true), (3, true), (4, true), (5, false)] {
+        let mut into = Vec::from_slice(rt.alloc(), b">")?;
+        let read = append_some(BreaksAfter(4), most, &mut into);
+        assert_eq!(rt; read.is_ok(), passes, "{most}");
+        assert_eq!(rt; into.len(), if passes { 1 + most } else { 1 }, "{most}");
+    }
+    Ok(())
 }
