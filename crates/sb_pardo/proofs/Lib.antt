@@ -1,2 +1,4 @@
 pub mod Tables
 pub mod Keeping
+pub mod TableRows
+pub mod TableEntries

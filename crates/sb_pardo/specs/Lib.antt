@@ -2,3 +2,5 @@ pub mod Tables
 pub mod Validity
 pub mod Outputs
 pub mod Laws
+pub mod TableFiles
+pub mod TableReading

@@ -11,6 +11,8 @@ mod laws;
 mod operation;
 mod outputs;
 mod table;
+mod table_file;
+mod table_rows;
 #[cfg(test)]
 mod tests;
 
@@ -18,3 +20,4 @@ pub use laws::{outputs_are_few, outputs_keep_the_time, outputs_over_a_joined_lis
 pub use operation::{Change, Field, MAX_ADDENDS, Op, Test, is_valid};
 pub use outputs::apply;
 pub use table::Table;
+pub use table_file::{MAX_ROWS, RowFault, TableFault, TableStop};

@@ -1,7 +1,8 @@
-//! What each operation gives for records, those at the ends of their ranges too.
+//! What each operation gives for records, those at the ends of their ranges too; and which texts are tables.
 
-use crate::{Change, Field, Op, Table, Test, apply, is_valid};
+use crate::{Change, Field, Op, RowFault, Table, TableFault, TableStop, Test, apply, is_valid};
 use sb_record::{MAX_KEY, Record, Sequence};
+use std::alloc::Global;
 use std::test::Fail;
 
 /// One more than the greatest `i64`.
@@ -123,5 +124,134 @@ fn refuses_what_a_plan_may_not_have(rt: HostRuntime) -> Result<(), Fail> {
         let op = Op::Expand(Sequence::new(vec![in rt.alloc(); 1; addends]?));
         assert_eq!(rt; is_valid(&op), valid, "{addends} addends");
     }
+    Ok(())
+}
+
+/// Why the text is no table, where it is none.
+fn stop_of(alloc: Global, text: &str) -> Option<TableStop> {
+    Table::read(alloc, text.as_bytes()).err()
+}
+
+const fn fault(row: u32, what: RowFault) -> Option<TableStop> {
+    Some(TableStop::Fault(TableFault { row, what }))
+}
+
+#[test]
+fn reads_one_table_in_all_its_spellings(rt: HostRuntime) -> Result<(), Fail> {
+    let spellings = [
+        "101,7\n102,7\n103,9\n",
+        "101,7\n102,7\n103,9",
+        "101,7\r\n102,7\r\n103,9\r\n",
+        "101,7\r102,7\r103,9\r",
+        "\n\r\n101,7\n\n\n102,7\n\r103,9\n\n",
+        "\"101\",7\n102,\"7\"\n\"103\",\"9\"",
+        "\u{feff}101,7\n102,7\n103,9\n",
+        "103,9\n102,7\n101,7\n",
+    ];
+    for text in spellings {
+        let table = Table::read(rt.alloc(), text.as_bytes())?;
+        for (key, image) in [(101, 7), (102, 7), (103, 9)] {
+            assert_eq!(rt; table.image(key), Some(image), "{key} in {text:?}");
+        }
+        for key in [0, 7, 9, 100, 104, MAX_KEY] {
+            assert_eq!(rt; table.image(key), None, "{key} in {text:?}");
+        }
+    }
+    for text in ["", "\n", "\r\n\r\n", "\u{feff}"] {
+        let table = Table::read(rt.alloc(), text.as_bytes())?;
+        assert_eq!(rt; table.image(0), None, "{text:?}");
+    }
+    let ends = Table::read(
+        rt.alloc(),
+        b"0,1000000000000000000\n1000000000000000000,0\n",
+    )?;
+    assert_eq!(rt; ends.image(0), Some(MAX_KEY));
+    assert_eq!(rt; ends.image(MAX_KEY), Some(0));
+    Ok(())
+}
+
+#[test]
+fn names_the_first_fault_of_the_first_faulty_row(rt: HostRuntime) {
+    let cases = [
+        ("101,7\n101,8\n", 2, RowFault::Repeated),
+        ("101,7\n\"101\",7\n", 2, RowFault::Repeated),
+        ("\n\n101,7\n\r\n\n101,7\n", 2, RowFault::Repeated),
+        ("101\n", 1, RowFault::Width),
+        ("1,2,3\n", 1, RowFault::Width),
+        ("101,7,\n", 1, RowFault::Width),
+        ("\"101,7\"\n", 1, RowFault::Width),
+        ("\"101,7\n102,7\n", 1, RowFault::Width),
+        ("101,7\n102\n103,7\n", 2, RowFault::Width),
+        ("101,7\n102,7\n103,7,9\n", 3, RowFault::Width),
+        // Two faults in one row.
+        ("x\n", 1, RowFault::Width),
+        ("x,y,z\n", 1, RowFault::Width),
+        ("x,y\n", 1, RowFault::Key),
+        ("101,7\n101,7,7\n", 2, RowFault::Width),
+        ("101,7\n101,y\n", 2, RowFault::Image),
+        // A fault in each of two rows.
+        ("101,y\nx,7\n", 1, RowFault::Image),
+        ("101,7\n101,8\n102\n", 2, RowFault::Repeated),
+    ];
+    for (text, row, what) in cases {
+        assert_eq!(rt; stop_of(rt.alloc(), text), fault(row, what), "{text:?}");
+    }
+}
+
+#[test]
+fn takes_keys_in_one_spelling_alone(rt: HostRuntime) -> Result<(), Fail> {
+    let alloc = rt.alloc();
+    let no_keys = [
+        "",
+        "x",
+        "-1",
+        "-0",
+        "+1",
+        "01",
+        "00",
+        " 1",
+        "1 ",
+        "1.0",
+        "0x1",
+        "1000000000000000001",
+        "18446744073709551616",
+    ];
+    for spelling in no_keys {
+        let key = format!(in alloc; "1,7\n{spelling},7\n")?;
+        let image = format!(in alloc; "1,7\n2,{spelling}\n")?;
+        assert_eq!(rt;
+            stop_of(alloc, &key),
+            fault(2, RowFault::Key),
+            "{spelling:?}"
+        );
+        assert_eq!(rt;
+            stop_of(alloc, &image),
+            fault(2, RowFault::Image),
+            "{spelling:?}"
+        );
+    }
+    Ok(())
+}
+
+#[test]
+fn takes_as_many_rows_as_a_table_may_have(rt: HostRuntime) -> Result<(), Fail> {
+    let alloc = rt.alloc();
+    let mut most = String::new(alloc);
+    for key in 0..100_000 {
+        write!(most, "{key},7\n")?;
+    }
+    let table = Table::read(alloc, most.as_bytes())?;
+    assert_eq!(rt; table.image(99_999), Some(7));
+    assert_eq!(rt; table.image(100_000), None);
+    for row in ["100000,7", "0,7", "x", "1,2,3", "1,y"] {
+        let text = format!(in alloc; "{most}{row}\n")?;
+        assert_eq!(rt;
+            stop_of(alloc, &text),
+            fault(100_001, RowFault::TooMany),
+            "{row}"
+        );
+    }
+    let text = format!(in alloc; "x,7\n{most}")?;
+    assert_eq!(rt; stop_of(alloc, &text), fault(1, RowFault::Key));
     Ok(())
 }
