@@ -109,7 +109,8 @@ impl Plan {
 
     /// The streams that the plan uses.
     pub fn streams(&self) -> Streams
-        ensures { result ≡ shape.streams_of self.now }
+        ensures value { result ≡ shape.streams_of self.now }
+        ensures sound { IsPlan self.now }
     {
         Streams {
             a: self.source_a.is_some(),
