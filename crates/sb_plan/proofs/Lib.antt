@@ -1,0 +1,12 @@
+pub mod Integers
+pub mod Files
+pub mod AllKeys
+pub mod Blaming
+pub mod Sending
+pub mod Sent
+pub mod Joined
+pub mod OfKinds
+pub mod Elements
+pub mod Documents
+pub mod Finishing
+pub mod Passing

@@ -1,0 +1,265 @@
+-- What a table says of its transform may be in a plan.
+use Rattle.std.proofs.Common.{◌≡◌, ◌≤◌, ◌+◌, ℕ, ℤ, pos, negsuc, Bool, true, false, cond, List, [], ◌∷◌, length, Option, Some, None, option_map, IfOk, Result, Ok, Err, refl, sym, ap, subst, arith, rules}
+use Rattle.std.specs.Prelude.{is_some, ◌&&◌, ◌||◌, ◌==◌, ◌%◌, ◌/◌, not, nat_lt, nat_le, unwrap_or}
+use Rattle.std.specs.FinMap.{FinMap, empty, get, insert}
+use Rattle.std.specs.Ordering.{nat_cmp}
+use Rattle.std.proofs.lemmas.Bool.{and_parts, leb-true}
+use Rattle.toml.specs.Data.{Members, get_member, as_integer}
+use Rattle.sb_record.specs.declared.item.TheConstants.{MAX_KEY}
+use Rattle.sb_record.proofs.Numbers.{whole_number_exact}
+use Rattle.sb_outside.specs.Folders.{Files}
+use Rattle.sb_window.specs.declared.windows.TheConstants.{MAX_SIZE, MAX_WINDOWS_OF_A_TIME}
+use Rattle.sb_window.specs.Spacing.{Spacing, AreWindows, fixed}
+use Rattle.sb_window.specs.Windows.{spacing_of}
+use Rattle.sb_window.specs.declared.windows.BadWindow.TheVariants as bad
+use Rattle.sb_pardo.proofs.Tables.{no_images, images_with}
+use Rattle.sb_aggregate.specs.declared.aggregate.TheConstants.{MAX_TOP}
+use Rattle.sb_plan.specs.declared.TheConstants.{MAX_TABLE_BYTES}
+use Rattle.std.proofs.lemmas.Bool.Decides.{nat_tests}
+use Rattle.sb_pardo.specs.declared.operation.TheConstants.{MAX_ADDENDS}
+use Rattle.sb_pardo.specs.declared.operation.Op.TheVariants.{Filter, Map, Expand, Lookup}
+use Rattle.sb_pardo.specs.declared.operation.Change.{Change}
+use Rattle.sb_pardo.specs.declared.operation.Change.TheVariants as change
+use Rattle.sb_pardo.specs.TableFiles.{then_test, or_fault, table_of, table_from, entry_of, rows_of, at_row, columns_of, key_of, Fields}
+use Rattle.sb_pardo.specs.declared.table_file.TheConstants.{MAX_ROWS}
+use Rattle.sb_pardo.specs.declared.table_file.TableFault.{TableFault}
+use Rattle.sb_pardo.specs.declared.table_file.RowFault.{RowFault}
+use Rattle.sb_pardo.specs.declared.table_file.RowFault.TheVariants.{TooMany, Width, Key, Image, Repeated}
+use Rattle.sb_pardo.specs.Validity.{IsValidChange}
+use Rattle.sb_pardo.specs.Tables.{HasKeyImages}
+use Rattle.sb_aggregate.specs.Aggregates as aggregate
+use Rattle.sb_aggregate.specs.declared.aggregate.Agg.{Agg}
+use Rattle.sb_aggregate.specs.declared.aggregate.Agg.TheVariants.{Count, Sum, Min, Max, Distinct, Top}
+use Rattle.sb_pipeline.specs.declared.transform.Kind.{Kind}
+use Rattle.sb_pipeline.specs.declared.transform.Kind.TheVariants.{Do, Group, Join}
+use Rattle.sb_plan.specs.declared.fault.PlanCause.TheVariants.{OutOfRange, TableRow, TableTooLong}
+use Rattle.sb_plan.specs.declared.fault.PlanKey.{PlanKey}
+use Rattle.sb_plan.specs.declared.fault.PlanKey.TheVariants as key
+use Rattle.sb_plan.specs.declared.words.KindName.{KindName}
+use Rattle.sb_plan.specs.declared.words.KindName.TheVariants as kind
+use Rattle.sb_plan.specs.declared.words.ChangeName.{ChangeName}
+use Rattle.sb_plan.specs.declared.words.ChangeName.TheVariants as change_name
+use Rattle.sb_plan.specs.Keys.{key_text, typed_at, word_at, number_at, number_between}
+use Rattle.sb_plan.specs.Words.{change_by, change_named, combine_named, field_named, test_named}
+use Rattle.sb_plan.specs.Kinds.{file_name, as_integers, filter_at, map_at, expand_at, windows_every, windows_at, group_at, top_at, join_at, lookup_in, lookup_at, transform_at, in_place_of}
+use Rattle.sb_plan.specs.declared.stop.Stop.{Stop}
+use Rattle.sb_plan.specs.Answers.{AnswersTests}
+use Rattle.sb_plan.specs.Soundness.{IsOfKind, names_join}
+
+-- where a test and the next ones pass, each does
+pub passed : {A B E : Type 0} (r : Result A E) (f : A → Result B E) (b : B) → then_test r f ≡ Ok b → (a : A) × (r ≡ Ok a) × (f a ≡ Ok b)
+passed (Ok a) f b h = (a, refl, h)
+passed (Err e) f b h = cc
+
+pub found : {A E : Type 0} (e : E) (o : Option A) (a : A) → or_fault e o ≡ Ok a → o ≡ Some a
+found e (Some x) a h = cc
+found e None a h = cc
+
+-- a number is in its range
+pub between : (low high : ℕ) (z : ℤ) (n : ℕ) → number_between low high z ≡ Some n → (low ≤ n) × (n ≤ high)
+between low high (pos x) n h = by_case (nat_le low x && nat_le x high) refl h
+  where
+    by_case : (b : Bool) → (nat_le low x && nat_le x high) ≡ b → cond b (Some x) None ≡ Some n → (low ≤ n) × (n ≤ high)
+    by_case true e g =
+        let both = and_parts (nat_le low x) (nat_le x high) e in
+        let same : x ≡ n = cc in
+        (omega (arith, leb-true low x both.0, same), omega (arith, leb-true x high both.1, same))
+    by_case false e g = cc
+between low high (negsuc x) n h = cc
+
+numbers : (low high : ℕ) (k : PlanKey) (table : Members) (n : ℕ) → number_at low high k table ≡ Ok n → (low ≤ n) × (n ≤ high)
+unfolding number_at
+numbers low high k table n h =
+    let p = passed (typed_at as_integer k table) _ n h in
+    between low high p.0 n (found _ (number_between low high p.0) n p.2)
+
+pub filter-valid : (table : Members) (t : Kind) → filter_at table ≡ Ok t → IsOfKind kind.Filter t
+unfolding filter_at
+filter-valid table t h =
+    let field = passed (word_at field_named key.Field table) _ t h in
+    let test = passed (word_at test_named key.Test table) _ t field.2 in
+    let number = passed (typed_at as_integer key.Number table) _ t test.2 in
+    let same : Do (Filter field.0 test.0 number.0) ≡ t = cc in
+    subst (IsOfKind kind.Filter) same (tt, refl)
+
+mapped : {A B : Type 0} (f : A → B) (o : Option A) (b : B) → option_map f o ≡ Some b → (a : A) × (o ≡ Some a) × (f a ≡ b)
+mapped f (Some a) b h = (a, refl, cc)
+mapped f None b h = cc
+
+change-valid : (name : ChangeName) (z : ℤ) (c : Change) → change_by name z ≡ Some c → IsValidChange c
+change-valid change_name.KeyMod z c h =
+    let p = mapped (λ n. change.KeyMod n) (number_between 1 MAX_KEY z) c h in
+    subst IsValidChange p.2 (between 1 MAX_KEY z p.0 p.1)
+change-valid change_name.KeyDiv z c h =
+    let p = mapped (λ n. change.KeyDiv n) (number_between 1 MAX_KEY z) c h in
+    subst IsValidChange p.2 (between 1 MAX_KEY z p.0 p.1)
+change-valid change_name.KeySet z c h =
+    let p = mapped (λ n. change.KeySet n) (number_between 0 MAX_KEY z) c h in
+    subst IsValidChange p.2 (between 0 MAX_KEY z p.0 p.1).1
+change-valid change_name.ValueAdd z c h = let same : change.ValueAdd z ≡ c = cc in subst IsValidChange same tt
+change-valid change_name.ValueMul z c h = let same : change.ValueMul z ≡ c = cc in subst IsValidChange same tt
+change-valid change_name.ValueSet z c h = let same : change.ValueSet z ≡ c = cc in subst IsValidChange same tt
+
+pub map-valid : (table : Members) (t : Kind) → map_at table ≡ Ok t → IsOfKind kind.Map t
+unfolding map_at
+map-valid table t h =
+    let name = passed (word_at change_named key.Change table) _ t h in
+    let number = passed (typed_at as_integer key.Number table) _ t name.2 in
+    let by = passed (or_fault (OutOfRange key.Number) (change_by name.0 number.0)) _ t number.2 in
+    let same : Do (Map by.0) ≡ t = cc in
+    subst (IsOfKind kind.Map) same (change-valid name.0 number.0 by.0 (found _ (change_by name.0 number.0) by.0 by.1), refl)
+
+pub expand-valid : (table : Members) (t : Kind) → expand_at table ≡ Ok t → IsOfKind kind.Expand t
+unfolding expand_at
+expand-valid table t h =
+    let addends = passed (typed_at as_integers key.Addends table) _ t h in
+    by_case addends.0 (nat_le 1 (length addends.0) && nat_le (length addends.0) MAX_ADDENDS) refl addends.2
+  where
+    by_case : (zs : List ℤ) (b : Bool) → (nat_le 1 (length zs) && nat_le (length zs) MAX_ADDENDS) ≡ b → cond b (Ok (Do (Expand zs))) (Err (OutOfRange key.Addends)) ≡ Ok t → IsOfKind kind.Expand t
+    by_case zs true e g =
+        let both = and_parts (nat_le 1 (length zs)) (nat_le (length zs) MAX_ADDENDS) e in
+        let same : Do (Expand zs) ≡ t = cc in
+        subst (IsOfKind kind.Expand) same ((leb-true 1 (length zs) both.0, leb-true (length zs) MAX_ADDENDS both.1), refl)
+    by_case zs false e g = cc
+
+fixed-valid : (size : ℕ) → 1 ≤ size → size ≤ MAX_SIZE → AreWindows (fixed size)
+fixed-valid size some most = search rules
+
+spacing-valid : (size every : ℕ) (w : Spacing) → spacing_of size every ≡ Ok w → AreWindows w
+spacing-valid size every w h = by_size (size == 0 || nat_lt MAX_SIZE size) refl h
+  where
+    sizes : (size == 0 || nat_lt MAX_SIZE size) ≡ false → (1 ≤ size) × (size ≤ MAX_SIZE)
+    sizes e = (grind (arith, nat_tests), grind (arith, nat_tests))
+
+    everies : (every == 0 || (not (size % every == 0) || nat_lt MAX_WINDOWS_OF_A_TIME (size / every))) ≡ false
+        → (1 ≤ every) × (size % every ≡ 0) × (size / every ≤ MAX_WINDOWS_OF_A_TIME)
+    everies e = (grind (arith, nat_tests), grind (arith, nat_tests), grind (arith, nat_tests))
+
+    by_every : (size == 0 || nat_lt MAX_SIZE size) ≡ false → (b : Bool) → (every == 0 || (not (size % every == 0) || nat_lt MAX_WINDOWS_OF_A_TIME (size / every))) ≡ b
+        → cond b (Err bad.Every) (Ok (record { size = size; every = every })) ≡ Ok w → AreWindows w
+    by_every e true f g = cc
+    by_every e false f g =
+        let same : record { size = size; every = every } ≡ w = cc in
+        subst AreWindows same (record { some_size = (sizes e).0; most_size = (sizes e).1; some_every = (everies f).0; divides = (everies f).1; most_windows = (everies f).2 })
+
+    by_size : (b : Bool) → (size == 0 || nat_lt MAX_SIZE size) ≡ b
+        → cond b (Err bad.Size) (cond (every == 0 || (not (size % every == 0) || nat_lt MAX_WINDOWS_OF_A_TIME (size / every))) (Err bad.Every) (Ok (record { size = size; every = every }))) ≡ Ok w
+        → AreWindows w
+    by_size true e g = cc
+    by_size false e g = by_every e (every == 0 || (not (size % every == 0) || nat_lt MAX_WINDOWS_OF_A_TIME (size / every))) refl g
+
+in_place : {A E F : Type 0} (fault : F → E) (r : Result A F) (a : A) → in_place_of fault r ≡ Ok a → r ≡ Ok a
+in_place fault (Ok x) a h = cc
+in_place fault (Err f) a h = cc
+
+every-valid : (size : ℕ) (table : Members) (w : Spacing) → 1 ≤ size → size ≤ MAX_SIZE → windows_every size table ≡ Ok w → AreWindows w
+unfolding windows_every
+every-valid size table w some most h = by_case (is_some (get_member (key_text key.Every) table)) h
+  where
+    by_case : (b : Bool) → cond b (then_test (number_at 1 MAX_SIZE key.Every table) (λ every. in_place_of (λ _. OutOfRange key.Every) (spacing_of size every))) (Ok (fixed size)) ≡ Ok w → AreWindows w
+    by_case true g =
+        let every = passed (number_at 1 MAX_SIZE key.Every table) _ w g in
+        spacing-valid size every.0 w (in_place (λ _. OutOfRange key.Every) (spacing_of size every.0) w every.2)
+    by_case false g = let same : fixed size ≡ w = cc in subst AreWindows same (fixed-valid size some most)
+
+windows-valid : (table : Members) (w : Spacing) → windows_at table ≡ Ok w → AreWindows w
+unfolding windows_at
+windows-valid table w h =
+    let size = passed (number_at 1 MAX_SIZE key.Size table) _ w h in
+    let range = numbers 1 MAX_SIZE key.Size table size.0 size.1 in
+    every-valid size.0 table w range.0 range.1 size.2
+
+pub group-valid : (agg : Agg) (name : KindName) (table : Members) (t : Kind) → aggregate.IsValid agg → names_join name ≡ false → group_at agg table ≡ Ok t → IsOfKind name t
+unfolding group_at
+group-valid agg name table t valid single h =
+    let windows = passed (windows_at table) _ t h in
+    let same : Group agg windows.0 ≡ t = cc in
+    subst (IsOfKind name) same ((valid, windows-valid table windows.0 windows.1), sym single)
+
+pub top-valid : (table : Members) (t : Kind) → top_at table ≡ Ok t → IsOfKind kind.Top t
+unfolding top_at
+top-valid table t h =
+    let windows = passed (windows_at table) _ t h in
+    let keep = passed (number_at 1 MAX_TOP key.Keep table) _ t windows.2 in
+    let same : Group (Top keep.0) windows.0 ≡ t = cc in
+    subst (IsOfKind kind.Top) same ((numbers 1 MAX_TOP key.Keep table keep.0 keep.1, windows-valid table windows.0 windows.1), refl)
+
+pub join-valid : (table : Members) (t : Kind) → join_at table ≡ Ok t → IsOfKind kind.Join t
+unfolding join_at
+join-valid table t h =
+    let size = passed (number_at 1 MAX_SIZE key.Size table) _ t h in
+    let combine = passed (word_at combine_named key.Give table) _ t size.2 in
+    let range = numbers 1 MAX_SIZE key.Size table size.0 size.1 in
+    let same : Join combine.0 (fixed size.0) ≡ t = cc in
+    subst (IsOfKind kind.Join) same ((fixed-valid size.0 range.0 range.1, refl), refl)
+
+-- the images of a table are keys
+passed_row : {A B : Type 0} (n : ℕ) (r : Result A RowFault) (f : A → Result B TableFault) (b : B) → at_row n r f ≡ Ok b → (a : A) × (r ≡ Ok a) × (f a ≡ Ok b)
+passed_row n (Ok a) f b h = (a, refl, h)
+passed_row n (Err e) f b h = cc
+
+few : (b : Bool) (r : Result (ℕ × ℕ) RowFault) (e : ℕ × ℕ) → cond b (Err TooMany) r ≡ Ok e → r ≡ Ok e
+few true r e h = cc
+few false r e h = h
+
+image-valid : (seen : FinMap nat_cmp ℕ) (row : Fields) (e : ℕ × ℕ) → entry_of seen row ≡ Ok e → e.1 ≤ MAX_KEY
+unfolding entry_of
+image-valid seen row e h =
+    let columns = passed (or_fault Width (columns_of row)) _ e h in
+    let key = passed (or_fault Key (key_of columns.0.0)) _ e columns.2 in
+    let image = passed (or_fault Image (key_of columns.0.1)) _ e key.2 in
+    let low : image.0 ≤ MAX_KEY = ((whole_number_exact MAX_KEY columns.0.1 image.0 (omega arith)).0 (found _ (key_of columns.0.1) image.0 image.1)).0 in
+    by_case (is_some (get seen key.0)) key.0 image.0 low image.2
+  where
+    by_case : (b : Bool) (k i : ℕ) → i ≤ MAX_KEY → cond b (Err Repeated) (Ok (k, i)) ≡ Ok e → e.1 ≤ MAX_KEY
+    by_case true k i low g = cc
+    by_case false k i low g = let same : (k, i) ≡ e = cc in omega (arith, low, ap (λ p. p.1) same)
+
+table-valid : (n : ℕ) (seen table : FinMap nat_cmp ℕ) (rows : List Fields) → HasKeyImages seen → table_from n seen rows ≡ Ok table → HasKeyImages table
+unfolding table_from
+table-valid n seen table [] images h = let same : seen ≡ table = cc in subst HasKeyImages same images
+table-valid n seen table (row ∷ rows) images h =
+    let first = passed_row n (cond (nat_lt MAX_ROWS n) (Err TooMany) (entry_of seen row)) _ table h in
+    let entry : entry_of seen row ≡ Ok first.0 = few (nat_lt MAX_ROWS n) (entry_of seen row) first.0 first.1 in
+    table-valid (n + 1) (insert seen first.0.0 first.0.1) table rows (images_with seen first.0.0 first.0.1 images (image-valid seen row first.0 entry)) first.2
+
+pub lookup-valid : (bytes : List ℕ) (t : Kind) → lookup_in bytes ≡ Ok t → IsOfKind kind.Lookup t
+unfolding lookup_in
+lookup-valid bytes t h = by_case (nat_lt MAX_TABLE_BYTES (length bytes)) h
+  where
+    by_case : (b : Bool) → cond b (Err TableTooLong) (then_test (in_place_of (λ fault. TableRow fault) (table_of bytes)) (λ table. Ok (Do (Lookup table)))) ≡ Ok t → IsOfKind kind.Lookup t
+    by_case true g = cc
+    by_case false g =
+        let table = passed (in_place_of (λ fault. TableRow fault) (table_of bytes)) _ t g in
+        let same : Do (Lookup table.0) ≡ t = cc in
+        subst (IsOfKind kind.Lookup) same (table-valid 1 empty table.0 (rows_of bytes) no_images (in_place (λ fault. TableRow fault) (table_of bytes) table.0 table.1), refl)
+
+lookup_file-valid : (files : Files) (table : Members) (t : Kind) → lookup_at files table ≡ Ok t → IsOfKind kind.Lookup t
+unfolding lookup_at
+lookup_file-valid files table t h =
+    let name = passed (word_at file_name key.Table table) _ t h in
+    lookup-valid (unwrap_or (files name.0) []) t name.2
+
+-- the transform of a kind
+pub transform-valid : (files : Files) (name : KindName) (table : Members) (t : Kind) → transform_at files name table ≡ Ok t → IsOfKind name t
+unfolding transform_at
+transform-valid files kind.Filter table t h = filter-valid table t h
+transform-valid files kind.Map table t h = map-valid table t h
+transform-valid files kind.Expand table t h = expand-valid table t h
+transform-valid files kind.Lookup table t h = lookup_file-valid files table t h
+transform-valid files kind.Count table t h = group-valid Count kind.Count table t tt refl h
+transform-valid files kind.Sum table t h = group-valid Sum kind.Sum table t tt refl h
+transform-valid files kind.Min table t h = group-valid Min kind.Min table t tt refl h
+transform-valid files kind.Max table t h = group-valid Max kind.Max table t tt refl h
+transform-valid files kind.Distinct table t h = group-valid Distinct kind.Distinct table t tt refl h
+transform-valid files kind.Top table t h = top-valid table t h
+transform-valid files kind.Join table t h = join-valid table t h
+
+-- the same of answers that may want memory
+pub expanded-valid : (table : Members) (r : Result Kind Stop) → AnswersTests r (expand_at table) → IfOk r (IsOfKind kind.Expand)
+expanded-valid table (Ok t) h = expand-valid table t h
+expanded-valid table (Err s) h = tt
+
+pub looked_up-valid : (bytes : List ℕ) (r : Result Kind Stop) → AnswersTests r (lookup_in bytes) → IfOk r (IsOfKind kind.Lookup)
+looked_up-valid bytes (Ok t) h = lookup-valid bytes t h
+looked_up-valid bytes (Err s) h = tt

@@ -1,0 +1,84 @@
+-- The transform of a name among the earlier ones, found by its position.
+use Rattle.std.proofs.Common.{◌≡◌, ◌<◌, ◌≤◌, ◌+◌, sym, ℕ, zero, suc, Bool, true, false, List, [], ◌∷◌, length, get_or, Option, Some, None, Result, Ok, Err, set, refl, ap, ◌∙◌, arith}
+use Rattle.std.specs.Prelude.{bytes_eq, nat_lt}
+use Rattle.std.specs.List.{position, position_or_len}
+use Rattle.std.proofs.lemmas.Bool.{ltb-false, le-ltb}
+use Rattle.std.proofs.lemmas.List.{get_or_default}
+use Rattle.std.proofs.lemmas.List.Quantifiers.{position-Some}
+use Rattle.sb_pardo.specs.TableFiles.{then_test}
+use Rattle.sb_pipeline.specs.declared.transform.Down.{Down}
+use Rattle.sb_plan.specs.declared.entry.Entry.{Entry}
+use Rattle.sb_plan.specs.declared.wiring.Wiring.{Wiring}
+use Rattle.sb_plan.specs.declared.wiring.Part.{Part}
+use Rattle.sb_plan.specs.declared.fault.PlanKey.{PlanKey}
+use Rattle.sb_plan.specs.declared.fault.PlanCause.{PlanCause}
+use Rattle.sb_plan.specs.declared.fault.PlanCause.TheVariants.{UnknownFrom}
+use Rattle.sb_plan.specs.Wiring.{part_sent, sent_once, inputs_sent, is_second_join, with_part, connected}
+
+abbrev pub has_name : List ℕ → Part → Bool
+has_name input part = bytes_eq part.name input
+
+abbrev pub sent_at : PlanKey → Down → List Part → ℕ → Part → Result (List Part) PlanCause
+sent_at k place ps i p = then_test (sent_once k place p.down) (λ down. Ok (set ps i (record p { down = down })))
+
+at_first : (k : PlanKey) (input : List ℕ) (place : Down) (ps : List Part) (i : ℕ) (d : Part) → i < length ps → has_name input (get_or ps i d) ≡ true
+    → ((j : ℕ) → j < i → has_name input (get_or ps j d) ≡ false) → part_sent k input place ps ≡ sent_at k place ps i (get_or ps i d)
+at_first k input place [] i d within named before = absurd (omega arith)
+at_first k input place (q ∷ qs) zero d within named before = rw named refl
+at_first k input place (q ∷ qs) (suc i) d within named before =
+    let other : has_name input q ≡ false = before 0 (omega arith) in
+    rw other (rw (at_first k input place qs i d (omega arith) named (λ j h. before (suc j) (omega arith))) (by_case (get_or qs i d).down))
+  where
+    by_case : (o : Option Down) → then_test (then_test (sent_once k place o) (λ down. Ok (set qs i (record (get_or qs i d) { down = down })))) (λ rest. Ok (q ∷ rest))
+        ≡ then_test (sent_once k place o) (λ down. Ok (q ∷ set qs i (record (get_or qs i d) { down = down })))
+    by_case None = refl
+    by_case (Some x) = refl
+
+pub part_sent-at : (k : PlanKey) (input : List ℕ) (place : Down) (ps : List Part) (i : ℕ) (p : Part) → position (has_name input) ps ≡ Some i → p ≡ get_or ps i p
+    → part_sent k input place ps ≡ sent_at k place ps i p
+part_sent-at k input place ps i p found at =
+    let first = position-Some (has_name input) ps i p found in
+    at_first k input place ps i p first.0 first.1 first.2 ∙ ap (sent_at k place ps i) (sym at)
+
+none_named : (k : PlanKey) (input : List ℕ) (place : Down) (ps : List Part) → nat_lt (position_or_len (has_name input) ps) (length ps) ≡ false → part_sent k input place ps ≡ Err (UnknownFrom k)
+none_named k input place [] h = refl
+none_named k input place (q ∷ qs) h = by_case (has_name input q) refl (λ r. none_named k input place qs r)
+  where
+    by_case : (b : Bool) → has_name input q ≡ b → (nat_lt (position_or_len (has_name input) qs) (length qs) ≡ false → part_sent k input place qs ≡ Err (UnknownFrom k))
+        → part_sent k input place (q ∷ qs) ≡ Err (UnknownFrom k)
+    by_case true e later = absurd (omega (arith, ltb-false 0 (length (q ∷ qs)) (rw e at h)))
+    by_case false e later =
+        let n : suc (length qs) ≤ 1 + position_or_len (has_name input) qs = ltb-false (1 + position_or_len (has_name input) qs) (suc (length qs)) (rw e at h) in
+        rw e (rw (later (le-ltb (position_or_len (has_name input) qs) (length qs) (omega arith))) refl)
+
+pub part_sent-none : (k : PlanKey) (input : List ℕ) (place : Down) (ps : List Part) → position (has_name input) ps ≡ None → part_sent k input place ps ≡ Err (UnknownFrom k)
+part_sent-none k input place ps none = by_case (nat_lt (position_or_len (has_name input) ps) (length ps)) refl
+  where
+    by_case : (b : Bool) → nat_lt (position_or_len (has_name input) ps) (length ps) ≡ b → part_sent k input place ps ≡ Err (UnknownFrom k)
+    by_case true e = let some : Some (position_or_len (has_name input) ps) ≡ None = rw e at none in cc
+    by_case false e = none_named k input place ps e
+
+pub connected-passed : (entry : Entry) (wiring sent : Wiring) (node : ℕ) → is_second_join entry.kind wiring.parts ≡ false → node ≡ length wiring.parts
+    → inputs_sent node entry wiring ≡ Ok sent → connected entry wiring ≡ Ok (with_part entry sent)
+unfolding connected
+connected-passed entry wiring sent node single at passed = rw single (rw (sym at) (rw passed refl))
+
+pub connected-refused : (entry : Entry) (wiring : Wiring) (node : ℕ) (cause : PlanCause) → is_second_join entry.kind wiring.parts ≡ false → node ≡ length wiring.parts
+    → inputs_sent node entry wiring ≡ Err cause → connected entry wiring ≡ Err cause
+unfolding connected
+connected-refused entry wiring node cause single at refused = rw single (rw (sym at) (rw refused refl))
+
+-- the same, as the code finds it: the elements read from the list qs that it holds
+pub part_sent-passed : (k : PlanKey) (input : List ℕ) (place : Down) (ps qs : List Part) (i : ℕ) (p q : Part) (down : Option Down) → position (has_name input) ps ≡ Some i → qs ≡ ps
+    → p ≡ get_or qs i p → q ≡ get_or qs i q → Ok down ≡ sent_once k place p.down → part_sent k input place ps ≡ Ok (set qs i (record q { down = down }))
+part_sent-passed k input place ps qs i p q down found same at_p at_q passed =
+    let here : position (has_name input) qs ≡ Some i = ap (position (has_name input)) same ∙ found in
+    let one : p ≡ q = at_p ∙ get_or_default qs i p q (position-Some (has_name input) qs i p here).0 ∙ sym at_q in
+    let once : sent_once k place q.down ≡ Ok down = ap (λ r. sent_once k place r.down) (sym one) ∙ sym passed in
+    ap (part_sent k input place) (sym same) ∙ part_sent-at k input place qs i q here at_q ∙ rw once refl
+
+pub part_sent-refused : (k : PlanKey) (input : List ℕ) (place : Down) (ps qs : List Part) (i : ℕ) (p : Part) (cause : PlanCause) → position (has_name input) ps ≡ Some i → qs ≡ ps
+    → p ≡ get_or qs i p → Err cause ≡ sent_once k place p.down → part_sent k input place ps ≡ Err cause
+part_sent-refused k input place ps qs i p cause found same at refused =
+    let once : sent_once k place p.down ≡ Err cause = sym refused in
+    ap (part_sent k input place) (sym same) ∙ part_sent-at k input place qs i p (ap (position (has_name input)) same ∙ found) at ∙ rw once refl

@@ -1,0 +1,23 @@
+use Rattle.std.proofs.Common.{◌≤◌, ◌∙◌, length, subst, sym, rules}
+use Rattle.sb_plan.specs.Answers.{AnswersTests, BlamesInTests}
+use Rattle.sb_plan.proofs.OfKinds.{looked_up-valid}
+use Rattle.sb_plan.proofs.Files.{lookup-read}
+use Rattle.toml.specs.View.{table_view}
+use Rattle.sb_plan.proofs.table.lookup_at.Goals as goal
+
+pub returns-clause-exact : goal.returns-clause-exact
+returns-clause-exact g c = λ files told.
+    let read = c.in_ok-bytes.ensures.bytes files told in
+    let name = c.in_ok-name.name.now in
+    let some : 1 ≤ length name = search rules in
+    subst (λ wanted. AnswersTests c.lookup_in.result wanted)
+    (sym (lookup-read files (table_view c.args.table.now) name read.0 c.deref.result.now c.in_ok-name.ensures some read.1 (c.deref.ensures.value ∙ read.2)))
+    c.lookup_in.ensures.exact
+
+pub returns-clause-blames : goal.returns-clause-blames
+returns-clause-blames g c =
+    subst (λ before. BlamesInTests before (g.F.Folder.folder_faults c.load.new.folder) c.lookup_in.result) c.in_ok-bytes.ensures.blames
+    (c.lookup_in.ensures.blames (g.F.Folder.folder_faults c.load.new.folder))
+
+pub returns-clause-valid : goal.returns-clause-valid
+returns-clause-valid g c = looked_up-valid c.deref.result.now c.lookup_in.result c.lookup_in.ensures.exact

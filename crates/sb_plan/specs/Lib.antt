@@ -1,0 +1,9 @@
+pub mod Keys
+pub mod Words
+pub mod Kinds
+pub mod Entries
+pub mod Wiring
+pub mod PlanFiles
+pub mod Answers
+pub mod Soundness
+pub mod Laws

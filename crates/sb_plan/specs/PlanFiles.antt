@@ -1,0 +1,128 @@
+-- The plan that a text describes, or the first test that it fails.
+use Rattle.std.specs.Prelude.{◌≡◌, ◌≤◌, ⊤, bytes_eq, ℕ, ◌+◌, ◌-◌, ◌==◌, nat_lt, take, Bool, if◌then◌else◌, List, [], map, length, Option, Some, None, is_none, unwrap_or, Result, Ok, Err}
+use Rattle.std.specs.List.{list_any, position}
+use Rattle.std.specs.Str.{is_utf8}
+use Rattle.toml.specs.Data.{Data, Items, no_items, item, Members, as_array, as_table}
+use Rattle.toml.specs.Parse.{parse_document}
+use Rattle.sb_outside.specs.Folders.{Files}
+use Rattle.sb_outside.specs.Sources.{Rose}
+use Rattle.sb_pardo.specs.TableFiles.{then_test, or_fault}
+use Rattle.sb_pipeline.specs.declared.transform.Down.{Down}
+use Rattle.sb_pipeline.specs.declared.transform.Step.{Step}
+use Rattle.sb_pipeline.specs.declared.transform.TheConstants.{MAX_TRANSFORMS}
+use Rattle.sb_pipeline.specs.Plans.{has_windows}
+use Rattle.sb_pipeline.specs.Shapes.{Shape}
+use Rattle.sb_plan.specs.declared.fault.PlanKey.TheVariants as key
+use Rattle.sb_plan.specs.declared.fault.PlanCause.{PlanCause}
+use Rattle.sb_plan.specs.declared.fault.PlanCause.TheVariants.{NoWindow, NotToml, OutOfRange, TooLong, TooMany, UnknownField, Unused, WrongType}
+use Rattle.sb_plan.specs.declared.fault.PlanFault.{PlanFault}
+use Rattle.sb_plan.specs.declared.fault.PlanStop.{PlanStop}
+use Rattle.sb_plan.specs.declared.fault.PlanStop.TheVariants as stop
+use Rattle.sb_plan.specs.declared.TheConstants.{MAX_PLAN_BYTES}
+use Rattle.sb_plan.specs.declared.wiring.Part.{Part}
+use Rattle.sb_plan.specs.declared.wiring.Wiring.{Wiring}
+use Rattle.sb_plan.specs.Keys.{key_text, typed_at}
+use Rattle.sb_plan.specs.Entries.{all_keys, entry_at}
+use Rattle.sb_plan.specs.Wiring.{connected}
+
+-- the table that some bytes are, where they are UTF-8 and TOML
+unfoldable pub document_of : List ℕ → Option Members
+document_of bytes = if is_utf8 bytes then parse_document bytes else None
+
+-- a fault at a place: that of a transform, from 1, or 0 for the document
+abbrev pub fault_at : ℕ → PlanCause → PlanFault
+fault_at place cause = record { at = place; what = cause }
+
+-- the next tests, where those at this place passed
+abbrev pub at_place : {A B : Type 0} → ℕ → Result A PlanCause → (A → Result B PlanFault) → Result B PlanFault
+at_place place (Ok x) next = next x
+at_place place (Err cause) next = Err (fault_at place cause)
+
+-- one element of the array: a table, whose transform is connected with the earlier ones
+unfoldable pub element_wired : Files → Wiring → Data → Result Wiring PlanCause
+element_wired files wiring value =
+    then_test (or_fault (WrongType key.Transform) (as_table value)) (λ table.
+    then_test (entry_at files wiring.parts table) (λ entry.
+    connected entry wiring))
+
+-- the elements from this place on, after the earlier ones
+unfoldable pub wired_from : Files → ℕ → Wiring → Items → Result Wiring PlanFault
+wired_from files place wiring no_items = Ok wiring
+wired_from files place wiring (item value rest) = at_place place (element_wired files wiring value) (λ more. wired_from files (place + 1) more rest)
+
+-- no transforms
+abbrev pub unwired : Wiring
+unwired = record { parts = []; source_a = None; source_b = None }
+
+-- the first transform that goes nowhere, of all but the last
+abbrev pub first_unused : List Part → Option ℕ
+first_unused parts = position (λ part. is_none part.down) (take (length parts - 1) parts)
+
+-- a transform of the plan: the last one goes to the sink
+abbrev pub step_of : Down → Part → Step
+step_of sink part = record { kind = part.kind; down = unwrap_or part.down sink }
+
+-- the plan of a wiring
+abbrev pub shape_of : Wiring → Shape
+shape_of wiring =
+    record {
+      steps = map (step_of (record { node = length wiring.parts; lane = 0 })) wiring.parts;
+      source_a = wiring.source_a;
+      source_b = wiring.source_b;
+    }
+
+-- there is an aggregation or a join
+abbrev pub windowed : Wiring → Result Shape PlanFault
+windowed wiring = if list_any (λ part. has_windows part.kind) wiring.parts then Ok (shape_of wiring) else Err (fault_at 0 NoWindow)
+
+-- each transform but the last goes somewhere, and what is left to test passes
+abbrev pub used_by : Option ℕ → Wiring → Result Shape PlanFault
+used_by (Some k) wiring = Err (fault_at (k + 1) Unused)
+used_by None wiring = windowed wiring
+
+-- the tests of the whole, and the plan
+unfoldable pub finished : Wiring → Result Shape PlanFault
+finished wiring = used_by (first_unused wiring.parts) wiring
+
+-- how many elements there are
+abbrev pub item_count : Items → ℕ
+item_count no_items = 0
+item_count (item value rest) = item_count rest + 1
+
+-- 1 to 12 elements, and then the tests of each, and of the whole
+unfoldable pub transforms_of : Files → Items → Result Shape PlanFault
+transforms_of files items =
+    if item_count items == 0 then Err (fault_at 0 (OutOfRange key.Transform))
+    else if nat_lt MAX_TRANSFORMS (item_count items) then Err (fault_at 0 TooMany)
+    else then_test (wired_from files 1 unwired items) finished
+
+-- the one key of a document
+abbrev pub is_document_key : List ℕ → Bool
+is_document_key text = bytes_eq text (key_text key.Transform)
+
+-- the plan of a text, where the files of the folder are these; or the first test that it fails
+unfoldable pub plan_of : Files → List ℕ → Result Shape PlanFault
+plan_of files text =
+    if nat_lt MAX_PLAN_BYTES (length text) then Err (fault_at 0 TooLong)
+    else at_place 0 (or_fault NotToml (document_of text)) (λ document.
+    if all_keys is_document_key document
+    then at_place 0 (typed_at as_array key.Transform document) (transforms_of files)
+    else Err (fault_at 0 UnknownField))
+
+-- the fault is the first one of the text; nothing is said where the folder failed or memory was wanting
+abbrev pub IsPlanStopOf : {A : Type 0} → Result A PlanFault → PlanStop → Type 0
+IsPlanStopOf wanted (stop.Fault fault) = wanted ≡ Err fault
+IsPlanStopOf wanted stop.Folder = ⊤
+IsPlanStopOf wanted stop.Memory = ⊤
+
+-- the answer for a whole text is the plan that is wanted, or the first fault
+abbrev pub AnswersPlan : {A : Type 0} → Result A PlanStop → Result A PlanFault → Type 0
+AnswersPlan (Ok x) wanted = wanted ≡ Ok x
+AnswersPlan (Err s) wanted = IsPlanStopOf wanted s
+
+-- the folder's fault only where its count of faults rose; the count never falls, and it is as it was where the text is all that decides
+abbrev pub BlamesFolder : {A : Type 0} → ℕ → ℕ → Result A PlanStop → Type 0
+BlamesFolder before now (Ok x) = now ≡ before
+BlamesFolder before now (Err (stop.Fault fault)) = now ≡ before
+BlamesFolder before now (Err stop.Folder) = (before ≤ now) × Rose before now
+BlamesFolder before now (Err stop.Memory) = before ≤ now

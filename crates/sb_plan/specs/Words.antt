@@ -1,0 +1,83 @@
+-- The words of plan files, and what they stand for.
+use Rattle.std.specs.Prelude.{codes, bytes_eq, ℕ, ℤ, if◌then◌else◌, List, Option, Some, None}
+use Rattle.std.specs.Option.{option_map}
+use Rattle.sb_record.specs.declared.item.TheConstants.{MAX_KEY}
+use Rattle.sb_pardo.specs.declared.operation.Field.{Field}
+use Rattle.sb_pardo.specs.declared.operation.Field.TheVariants as field
+use Rattle.sb_pardo.specs.declared.operation.Test.{Test}
+use Rattle.sb_pardo.specs.declared.operation.Test.TheVariants as test
+use Rattle.sb_pardo.specs.declared.operation.Change.{Change}
+use Rattle.sb_pardo.specs.declared.operation.Change.TheVariants as change
+use Rattle.sb_join.specs.declared.join.Combine.{Combine}
+use Rattle.sb_join.specs.declared.join.Combine.TheVariants as combine
+use Rattle.sb_plan.specs.declared.words.KindName.{KindName}
+use Rattle.sb_plan.specs.declared.words.KindName.TheVariants as kind
+use Rattle.sb_plan.specs.declared.words.ChangeName.{ChangeName}
+use Rattle.sb_plan.specs.declared.words.ChangeName.TheVariants as change_name
+use Rattle.sb_plan.specs.Keys.{number_between}
+
+-- the kinds of transforms
+unfoldable pub kind_named : List ℕ → Option KindName
+kind_named text =
+    if bytes_eq text (codes "filter") then Some kind.Filter
+    else if bytes_eq text (codes "map") then Some kind.Map
+    else if bytes_eq text (codes "expand") then Some kind.Expand
+    else if bytes_eq text (codes "lookup") then Some kind.Lookup
+    else if bytes_eq text (codes "count") then Some kind.Count
+    else if bytes_eq text (codes "sum") then Some kind.Sum
+    else if bytes_eq text (codes "min") then Some kind.Min
+    else if bytes_eq text (codes "max") then Some kind.Max
+    else if bytes_eq text (codes "distinct") then Some kind.Distinct
+    else if bytes_eq text (codes "top") then Some kind.Top
+    else if bytes_eq text (codes "join") then Some kind.Join
+    else None
+
+-- the fields of a record
+unfoldable pub field_named : List ℕ → Option Field
+field_named text =
+    if bytes_eq text (codes "time") then Some field.Time
+    else if bytes_eq text (codes "key") then Some field.Key
+    else if bytes_eq text (codes "value") then Some field.Value
+    else None
+
+-- how a field has to stand to a number
+unfoldable pub test_named : List ℕ → Option Test
+test_named text =
+    if bytes_eq text (codes "less") then Some test.Less
+    else if bytes_eq text (codes "at_most") then Some test.AtMost
+    else if bytes_eq text (codes "equal") then Some test.Equal
+    else if bytes_eq text (codes "at_least") then Some test.AtLeast
+    else if bytes_eq text (codes "more") then Some test.More
+    else None
+
+-- the changes of a field, without their number
+unfoldable pub change_named : List ℕ → Option ChangeName
+change_named text =
+    if bytes_eq text (codes "key_mod") then Some change_name.KeyMod
+    else if bytes_eq text (codes "key_div") then Some change_name.KeyDiv
+    else if bytes_eq text (codes "key_set") then Some change_name.KeySet
+    else if bytes_eq text (codes "value_add") then Some change_name.ValueAdd
+    else if bytes_eq text (codes "value_mul") then Some change_name.ValueMul
+    else if bytes_eq text (codes "value_set") then Some change_name.ValueSet
+    else None
+
+-- the change by a number: keys are divided by 1 to the greatest key, and set to 0 to the greatest key
+abbrev pub change_by : ChangeName → ℤ → Option Change
+change_by change_name.KeyMod number = option_map (λ n. change.KeyMod n) (number_between 1 MAX_KEY number)
+change_by change_name.KeyDiv number = option_map (λ n. change.KeyDiv n) (number_between 1 MAX_KEY number)
+change_by change_name.KeySet number = option_map (λ n. change.KeySet n) (number_between 0 MAX_KEY number)
+change_by change_name.ValueAdd number = Some (change.ValueAdd number)
+change_by change_name.ValueMul number = Some (change.ValueMul number)
+change_by change_name.ValueSet number = Some (change.ValueSet number)
+
+-- how the values of a pair are combined
+unfoldable pub combine_named : List ℕ → Option Combine
+combine_named text =
+    if bytes_eq text (codes "add") then Some combine.Add
+    else if bytes_eq text (codes "sub") then Some combine.Sub
+    else if bytes_eq text (codes "mul") then Some combine.Mul
+    else if bytes_eq text (codes "min") then Some combine.Min
+    else if bytes_eq text (codes "max") then Some combine.Max
+    else if bytes_eq text (codes "left") then Some combine.Left
+    else if bytes_eq text (codes "right") then Some combine.Right
+    else None
