@@ -2,7 +2,8 @@
 //! watermarks.
 //!
 //! What it gives is what the engine has to give, row for row. It is short enough to be read, so tests and benchmarks
-//! compare the engine with it.
+//! compare the engine with it. [`output`], what one transform gives for all that arrives at it, and the lists and the sort
+//! that it needs serve the core of the engine too.
 #![tactic(auto)]
 
 mod flow;
@@ -12,4 +13,6 @@ mod rows;
 #[cfg(test)]
 mod tests;
 
-pub use flow::slow_rows;
+pub use flow::{push_on_lane, slow_rows};
+pub use operate::{all_records, output};
+pub use rows::sort_below;

@@ -24,7 +24,7 @@ use std::alloc::{AllocError, Global};
 use std::collections::BTreeMap;
 
 /// What a transform gives for what arrives at its node.
-pub(crate) fn output(
+pub fn output(
     alloc: Global,
     kind: &Kind,
     elements: &[KeptRec],
@@ -51,7 +51,7 @@ pub(crate) fn output(
 }
 
 /// The records of all lanes, in order.
-pub(crate) fn all_records(alloc: Global, elements: &[KeptRec]) -> Result<Vec<Record>, NoMemory>
+pub fn all_records(alloc: Global, elements: &[KeptRec]) -> Result<Vec<Record>, NoMemory>
     ensures { IfOk result (λ records. records.items ≡ elements_spec.all_records elements.now) }
 {
     let mut records = Vec::new(alloc);

@@ -7,7 +7,7 @@ use sb_record::{NoMemory, Record};
 use std::alloc::AllocError;
 
 /// Keeps the rows with a time below the mark, and puts them in order.
-pub(crate) fn sort_below(rows: &mut Vec<Record>, mark: u64) -> Result<(), NoMemory>
+pub fn sort_below(rows: &mut Vec<Record>, mark: u64) -> Result<(), NoMemory>
     ensures { OnOk result (rows.new.items ≡ sorted (before mark rows.old.items)) }
 {
     keep_below(rows, mark);

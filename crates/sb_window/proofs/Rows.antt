@@ -146,7 +146,7 @@ in_open windows mark q after l =
     (λ r h. list_any-weaker (λ e. eqb e q.end) (λ e. nat_lt mark e) (λ x e. let is : x ≡ q.end = eqb-true x q.end e in lt-ltb mark x (omega arith)) (window_ends windows r.time) (and_second (eqb r.key q.key) _ h)) l
 
 -- no record lies in a window that ends at 0
-none_in_zero : (windows : Spacing) (q : KeyedWindow) → q.end ≡ 0 → (l : List Record) → filter (is_in windows q) l ≡ []
+pub none_in_zero : (windows : Spacing) (q : KeyedWindow) → q.end ≡ 0 → (l : List Record) → filter (is_in windows q) l ≡ []
 none_in_zero windows q z [] = refl
 none_in_zero windows q z (r ∷ l) = λ i. cond (never (is_in windows q r) refl i) (r ∷ none_in_zero windows q z l i) (none_in_zero windows q z l i)
   where
