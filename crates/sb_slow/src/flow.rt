@@ -111,7 +111,11 @@ fn arriving(alloc: Global, node: u32, sent: &[Sent]) -> Result<Vec<KeptRec>, NoM
 }
 
 /// Appends the records, on a lane.
-pub fn push_on_lane(lane: u32, records: &[Record], elements: &mut Vec<KeptRec>) -> Result<(), NoMemory>
+pub fn push_on_lane(
+    lane: u32,
+    records: &[Record],
+    elements: &mut Vec<KeptRec>,
+) -> Result<(), NoMemory>
     ensures { OnOk result (elements.new.items ≡ elements.old.items ++ on_lane lane records.now) }
 {
     for record in records {

@@ -24,11 +24,7 @@ use std::alloc::{AllocError, Global};
 use std::collections::BTreeMap;
 
 /// What a transform gives for what arrives at its node.
-pub fn output(
-    alloc: Global,
-    kind: &Kind,
-    elements: &[KeptRec],
-) -> Result<Vec<Record>, NoMemory>
+pub fn output(alloc: Global, kind: &Kind, elements: &[KeptRec]) -> Result<Vec<Record>, NoMemory>
     requires valid { IsValidKind kind.now }
     requires times { All (λ e. e.rec.time < END_MARK) elements.now }
     ensures { IfOk result (λ rows. rows.items ≡ operators.output (operators.operator_of kind.now) elements.now) }

@@ -1,0 +1,167 @@
+-- What the code finds for a closing that is to begin.
+use Rattle.std.proofs.Common.{◌≡◌, ℕ, zero, suc, ◌+◌, ◌≤◌, ◌<◌, Bool, true, false, not, cond, List, [], ◌∷◌, ◌++◌, length, get_or, Some, None, Option, is_some, sym, refl, ap, subst, ◌∙◌, arith, ⊎_elim, set as slice_set}
+use Rattle.std.specs.Prelude.{All, ◌||◌, ◌&&◌, ◌==◌, sum_by}
+use Rattle.std.specs.List.{slice_get, list_any, AllByRecursion}
+use Rattle.std.specs.Option.{option_map}
+use Rattle.std.proofs.lemmas.Option.{slice_get_past, slice_get_within, slice_get-get_or, get_or_from_slice_get}
+use Rattle.std.proofs.lemmas.Bool.{eq-eqb, ne_eqb, cases_lt}
+use Rattle.std.proofs.lemmas.List.Elements.{All-from_recursion}
+use Rattle.sb_record.specs.declared.item.TheConstants.{END_MARK}
+use Rattle.sb_record.specs.Reading.{◌>>=◌}
+use Rattle.sb_record.proofs.Elements.{every}
+use Rattle.sb_pipeline.specs.declared.transform.KeptRec.{KeptRec}
+use Rattle.sb_pipeline.specs.declared.transform.Kind.{Kind}
+use Rattle.sb_pipeline.specs.declared.transform.Kind.TheVariants.{Do, Group, Join}
+use Rattle.sb_pipeline.specs.declared.transform.Step.{Step}
+use Rattle.sb_pipeline.specs.Operators.{Operator, operator_at, operator_of, lanes_of}
+use Rattle.sb_pipeline.specs.Operators.Operator.{ParDo, Windowed, Sink}
+use Rattle.sb_pipeline.specs.Operators.WindowOperator.{Aggregated, Joined}
+use Rattle.sb_pipeline.specs.Plans.{IsPlan}
+use Rattle.sb_pipeline.specs.Shapes.{Shape}
+use Rattle.sb_core.specs.declared.begin.Closing.{Closing}
+use Rattle.sb_core.specs.declared.held.Held.TheVariants.{Close}
+use Rattle.sb_core.specs.declared.moment.Cont.{Cont}
+use Rattle.sb_core.specs.declared.moment.CoreLane.{CoreLane}
+use Rattle.sb_core.specs.declared.moment.Moment.{Moment}
+use Rattle.sb_core.specs.declared.moment.Node.{Node}
+use Rattle.sb_core.specs.Bounds.{bound_at}
+use Rattle.sb_core.specs.Choices.{is_empty, only_if, pulled}
+use Rattle.sb_core.specs.Beginnings.{IsBeginningOf}
+use Rattle.sb_core.specs.Closings.{collected, is_sink, kept_at, rows_at}
+use Rattle.sb_core.specs.Events.{after_begin}
+use Rattle.sb_core.specs.Finding.{IsFirst}
+use Rattle.sb_core.specs.Lanes.{closable, with_first_closing}
+use Rattle.sb_core.specs.Marks.{begun, closed}
+use Rattle.sb_core.specs.Moments.{is_close, no_node, node_at}
+use Rattle.sb_core.specs.Soundness.{IsSound, IsKeptAt}
+use Rattle.sb_core.proofs.TimeBounds.{bound-before_end}
+use Rattle.sb_core.proofs.InPlace.{then_some, lane-there}
+use Rattle.sb_core.proofs.InTime.{begun_within}
+use Rattle.sb_core.proofs.Lists.{cond_is_some, some_is}
+
+-- an element passes just where there is a first that does
+is_some-then : {A B : Type 0} (o : Option A) (f : A → B) → is_some (o >>= λ x. Some (f x)) ≡ is_some o
+is_some-then None f = refl
+is_some-then (Some x) f = refl
+
+any-pulled : {X : Type 0} (p : X → Bool) (xs : List X) → list_any p xs ≡ is_some (pulled p xs)
+any-pulled p [] = refl
+any-pulled {X} p (x ∷ xs) = by_case (p x) (any-pulled p xs)
+  where
+    by_case : (b : Bool) → list_any p xs ≡ is_some (pulled p xs) → (b || list_any p xs) ≡ is_some (cond {A = Option (X × List X)} b (Some (x, xs)) (pulled p xs >>= λ q. Some (q.0, x ∷ q.1)))
+    by_case true h = refl
+    by_case false h = h ∙ sym (is_some-then (pulled p xs) (λ q. (q.0, x ∷ q.1)))
+
+pub any-first : {X : Type 0} (p : X → Bool) (xs : List X) (place : Option ℕ) → IsFirst p xs place → list_any p xs ≡ is_some place
+any-first p xs None none = any-pulled p xs ∙ ap is_some none
+any-first p xs (Some i) first = any-pulled p xs ∙ ap is_some first.3
+
+-- the container that may close is the first
+pub closable-first : (epoch : ℕ) (cs : List Cont) (c : Cont) → closable epoch cs ≡ Some c → (rest : List Cont) × (cs ≡ c ∷ rest)
+closable-first epoch [] c h = cc
+closable-first epoch (x ∷ cs) c h =
+    let a = cond_is_some ((x.epoch == epoch) && (is_some x.mark && (is_empty x.waiting && is_empty x.out))) (Some x) c h in
+    (cs, ap (λ c. c ∷ cs) (some_is x c a.1))
+
+-- the container whose epoch the code found
+pub closable-found : (o : Option Cont) (epoch : ℕ) → Some epoch ≡ option_map (λ (c : Cont). c.epoch) o → (c : Cont) × (o ≡ Some c) × (epoch ≡ c.epoch)
+closable-found None epoch h = cc
+closable-found (Some c) epoch h = (c, refl, some_is epoch c.epoch h)
+
+lanes_of-most : (o : Operator) → lanes_of o ≤ 2
+lanes_of-most (ParDo op) = omega arith
+lanes_of-most (Windowed (Aggregated agg windows)) = omega arith
+lanes_of-most (Windowed (Joined combine windows)) = omega arith
+lanes_of-most Sink = omega arith
+
+kept-bounded : (o : Operator) (mark bound : ℕ) (e : KeptRec) → IsKeptAt o mark bound e → e.rec.time ≤ bound
+kept-bounded (ParDo op) mark bound e h = absurd h
+kept-bounded (Windowed grouping) mark bound e h = h.1
+kept-bounded Sink mark bound e h = h.1
+
+module _ (plan : Shape) (is_plan : IsPlan plan) (m : Moment) (sound : IsSound plan m) (k : ℕ) (node : Node) (at : slice_get m.nodes k ≡ Some node) where
+  node-is : node_at m k ≡ node
+  node-is = get_or_from_slice_get m.nodes k node no_node at
+
+  pub node-within : k ≤ length plan.steps
+  node-within = omega (arith, slice_get_within m.nodes k node at, sound.nodes)
+
+  pub kept-times : All (λ e. e.rec.time < END_MARK) node.kept
+  kept-times =
+      All-from_recursion (λ (e : KeptRec). e.rec.time < END_MARK) node.kept
+      (every (λ e h. let b : e.rec.time ≤ bound_at plan k = kept-bounded (operator_at (slice_get plan.steps k)) (closed (node_at m k).lanes) (bound_at plan k) e h in omega (arith, b, bound-before_end plan is_plan k)) node.kept
+      (subst (λ (n : Node). AllByRecursion (IsKeptAt (operator_at (slice_get plan.steps k)) (closed (node_at m k).lanes) (bound_at plan k)) n.kept) node-is (sound.kept k)))
+
+  pub lanes-few : length node.lanes ≤ 2
+  lanes-few = omega (arith, ap (λ (n : Node). length n.lanes) (sym node-is), sound.lanes_there k node-within, lanes_of-most (operator_at (slice_get plan.steps k)))
+
+  pub lanes-begun : All (λ lane. begun lane ≤ length lane.marks) node.lanes
+  lanes-begun i d within =
+      begun_within (bound_at plan k) (get_or node.lanes i d) (sound.lanes (record { node = k; lane = i }) (get_or node.lanes i d) (lane-there m k i node at (get_or node.lanes i d) (slice_get-get_or node.lanes i d within)))
+
+  pub begun-is : node.closings ≡ sum_by begun node.lanes
+  begun-is = subst (λ (n : Node). n.closings ≡ sum_by begun n.lanes) node-is (sound.closings k)
+
+-- a node with a Close begins no other
+pub begin-refused : (plan : Shape) (m : Moment) (k l : ℕ) (node : Node) (lane : CoreLane) (c : Cont) → slice_get m.nodes k ≡ Some node → slice_get node.lanes l ≡ Some lane → closable lane.ended lane.conts ≡ Some c
+    → list_any (is_close k) m.held ≡ true → after_begin plan m k l ≡ None
+begin-refused plan m k l node lane c at in_it closes busy =
+    then_some (slice_get m.nodes k) node _ at ∙ then_some (slice_get node.lanes l) lane _ in_it ∙ then_some (closable lane.ended lane.conts) c _ closes
+    ∙ refused (list_any (is_close k) m.held) _ busy
+  where
+    refused : (b : Bool) (o : Option Moment) → b ≡ true → only_if (not b) o ≡ None
+    refused b o e = ap (λ b. only_if (not b) o) e
+
+-- the node after the transforms is the sink
+pub sink-last : (steps : List Step) (k count : ℕ) → count ≡ length steps → k ≤ length steps → (k == count) ≡ is_sink (operator_at (slice_get steps k))
+sink-last steps k count e within = ⊎_elim
+    (λ (lt : k < length steps). let s = slice_get-there steps k lt in ne_eqb k count (λ same. omega (arith, lt, e, same)) ∙ sym (ap (λ (o : Option Step). is_sink (operator_at o)) s.1 ∙ no_sink s.0.kind))
+    (λ (le : length steps ≤ k). eq-eqb k count (omega (arith, le, e, within)) ∙ sym (ap (λ (o : Option Step). is_sink (operator_at o)) (slice_get_past steps k le))) (cases_lt k (length steps))
+  where
+    no_sink : (kind : Kind) → is_sink (operator_of kind) ≡ false
+    no_sink (Do op) = refl
+    no_sink (Group agg windows) = refl
+    no_sink (Join combine windows) = refl
+
+    slice_get-there : (steps : List Step) (k : ℕ) → k < length steps → (s : Step) × (slice_get steps k ≡ Some s)
+    slice_get-there [] k lt = absurd (omega (arith, lt))
+    slice_get-there (s ∷ steps) zero lt = (s, refl)
+    slice_get-there (s ∷ steps) (suc k) lt = slice_get-there steps k (omega (arith, lt))
+
+accepted : (b : Bool) (o : Option Moment) → b ≡ false → only_if (not b) o ≡ o
+accepted b o e = ap (λ b. only_if (not b) o) e
+
+module _ (plan : Shape) (m : Moment) (k l : ℕ) (closing : Closing) (found : IsBeginningOf plan m k l closing) where
+  abbrev lane : CoreLane
+  lane = found.lane
+
+  abbrev lanes : List CoreLane
+  lanes = slice_set found.node.lanes l (record lane { conts = with_first_closing lane.conts })
+
+  abbrev o : Operator
+  o = operator_at (slice_get plan.steps k)
+
+  rows_is : closing.rows ≡ rows_at o (closed found.node.lanes) (closed lanes) found.node.kept
+  rows_is = found.rows ∙ (λ i. rows_at o (found.floor i) (found.mark i) found.node.kept)
+
+  kept_is : closing.kept ≡ kept_at o (closed lanes) found.node.kept
+  kept_is = found.kept ∙ ap (λ w. kept_at o w found.node.kept) found.mark
+
+  collected_is : closing.collected ≡ collected o (closed lanes) found.node.kept
+  collected_is = found.collected ∙ ap (λ w. collected o w found.node.kept) found.mark
+
+  -- the moment after a closing that begins, by what was found for it
+  pub begin-done : after_begin plan m k l
+      ≡ Some (record m {
+        nodes = slice_set m.nodes k (record { lanes = slice_set found.node.lanes l (record found.lane { conts = with_first_closing found.lane.conts }); kept = closing.kept; closings = closing.serial + 1 });
+        held = m.held ++ Close k l closing.epoch closing.serial closing.floor closing.mark closing.rows closing.passed ∷ [];
+        rows = m.rows ++ closing.collected;
+      })
+  begin-done =
+      then_some (slice_get m.nodes k) found.node _ found.there ∙ then_some (slice_get found.node.lanes l) lane _ found.in_it ∙ then_some (closable lane.ended lane.conts) found.cont _ found.closes
+      ∙ accepted (list_any (is_close k) m.held) _ found.idle
+      ∙ sym (λ i. Some (record m {
+        nodes = slice_set m.nodes k (record { lanes = lanes; kept = kept_is i; closings = found.serial i + 1 });
+        held = m.held ++ Close k l (found.epoch i) (found.serial i) (found.floor i) (found.mark i) (rows_is i) (found.passed i) ∷ [];
+        rows = m.rows ++ collected_is i;
+      }))

@@ -1,0 +1,115 @@
+-- What the words on lists and lanes do to the records that wait.
+use Rattle.sb_record.proofs.Numbers.{bind_some}
+use Rattle.std.proofs.Common.{◌≡◌, ℕ, ◌+◌, Bool, true, false, cond, eqb, ltb, List, [], ◌∷◌, ◌++◌, Some, None, Option, sym, refl, ap, ◌∙◌, arith}
+use Rattle.std.specs.List.{sum_by, flat_map, list_any}
+use Rattle.std.proofs.lemmas.List.Sums.{sum_by-append, sum_by-cons}
+use Rattle.std.proofs.lemmas.List.Concat.{flat_map-append}
+use Rattle.sb_record.specs.declared.item.Record.{Record}
+use Rattle.sb_bundle.specs.declared.bundle.Bundle.{Bundle}
+use Rattle.sb_core.specs.declared.moment.Cont.{Cont}
+use Rattle.sb_record.specs.Reading.{◌>>=◌}
+use Rattle.sb_core.specs.Choices.{pulled}
+use Rattle.sb_core.specs.Lanes.{fresh, in_epoch, with_bundle, take_from}
+use Rattle.sb_record.proofs.Sums.{SameSums, sum_by-flat_map}
+
+pub cond_is_some : {X : Type 0} (b : Bool) (o : Option X) (x : X) → cond b o None ≡ Some x → (b ≡ true) × (o ≡ Some x)
+cond_is_some true o x h = (refl, h)
+cond_is_some false o x h = cc
+
+pub some_is : {X : Type 0} (x y : X) → Some x ≡ Some y → x ≡ y
+some_is x y h = cc
+
+pub swap_front : (a b n : ℕ) → a + (b + n) ≡ b + (a + n)
+swap_front a b n = omega arith
+
+-- what was pulled out, and the rest
+pub SameSums-pulled : {X : Type 0} (p : X → Bool) (xs : List X) (q : X × List X) → pulled p xs ≡ Some q → SameSums xs (q.0 ∷ q.1)
+SameSums-pulled p [] q h f = cc
+SameSums-pulled {X} p (y ∷ xs) q h f = by_case (p y) h (λ r e. SameSums-pulled p xs r e f)
+  where
+    by_case : (b : Bool) → cond {A = Option (X × List X)} b (Some (y, xs)) (pulled p xs >>= λ q. Some (q.0, y ∷ q.1)) ≡ Some q
+        → ((r : X × List X) → pulled p xs ≡ Some r → sum_by f xs ≡ sum_by f (r.0 ∷ r.1)) → sum_by f (y ∷ xs) ≡ sum_by f (q.0 ∷ q.1)
+    by_case true h ih = ap (λ (r : X × List X). sum_by f (r.0 ∷ r.1)) (some_is _ _ h)
+    by_case false h ih =
+        let b = bind_some (pulled p xs) (λ (q : X × List X). Some (q.0, y ∷ q.1)) q h in
+        let same : ◌≡◌ {A = X × List X} (b.0.0, y ∷ b.0.1) q = some_is _ _ b.2 in
+        sum_by-cons f y xs ∙ ap (λ n. f y + n) (ih b.0 b.1 ∙ sum_by-cons f b.0.0 b.0.1)
+        ∙ swap_front (f y) (f b.0.0) (sum_by f b.0.1) ∙ sym (ap (λ n. f b.0.0 + n) (sum_by-cons f y b.0.1)) ∙ sym (sum_by-cons f b.0.0 (y ∷ b.0.1))
+        ∙ ap (λ (r : X × List X). sum_by f (r.0 ∷ r.1)) same
+
+-- the records that wait in containers
+abbrev pub waiting_of : List Cont → List Record
+waiting_of conts = flat_map (λ c. flat_map (λ b. b.records) c.waiting) conts
+
+abbrev pub of_cont : Cont → List Record
+of_cont c = flat_map (λ b. b.records) c.waiting
+
+-- a change in an epoch that adds these records adds them to what waits
+pub waiting-in_epoch : (epoch floor : ℕ) (change : Cont → Cont) (more : List Record)
+    → ((c : Cont) → SameSums (of_cont (change c)) (more ++ of_cont c))
+    → (cs : List Cont) → SameSums (waiting_of (in_epoch epoch floor change cs)) (more ++ waiting_of cs)
+waiting-in_epoch epoch floor change more adds [] f =
+    sum_by-append f (of_cont (change (fresh epoch floor))) [] ∙ (λ i. adds (fresh epoch floor) f i + 0) ∙ omega arith
+waiting-in_epoch epoch floor change more adds (c ∷ cs) f = by_case (eqb c.epoch epoch) (ltb epoch c.epoch) (waiting-in_epoch epoch floor change more adds cs f)
+  where
+    added : (c : Cont) → sum_by f (of_cont (change c)) ≡ sum_by f more + sum_by f (of_cont c)
+    added c = adds c f ∙ sum_by-append f more (of_cont c)
+
+    exact : sum_by f (more ++ waiting_of (c ∷ cs)) ≡ sum_by f more + (sum_by f (of_cont c) + sum_by f (waiting_of cs))
+    exact = sum_by-append f more (waiting_of (c ∷ cs)) ∙ ap (λ n. sum_by f more + n) (sum_by-append f (of_cont c) (waiting_of cs))
+
+    here : sum_by f (waiting_of (change c ∷ cs)) ≡ sum_by f (more ++ waiting_of (c ∷ cs))
+    here = sum_by-append f (of_cont (change c)) (waiting_of cs) ∙ ap (λ n. n + sum_by f (waiting_of cs)) (added c) ∙ omega arith ∙ sym exact
+
+    new : sum_by f (waiting_of (change (fresh epoch floor) ∷ c ∷ cs)) ≡ sum_by f (more ++ waiting_of (c ∷ cs))
+    new =
+        sum_by-append f (of_cont (change (fresh epoch floor))) (waiting_of (c ∷ cs))
+        ∙ ap (λ n. n + sum_by f (waiting_of (c ∷ cs))) (added (fresh epoch floor)) ∙ omega arith ∙ sym (sum_by-append f more (waiting_of (c ∷ cs)))
+
+    on : sum_by f (waiting_of (in_epoch epoch floor change cs)) ≡ sum_by f (more ++ waiting_of cs) → sum_by f (waiting_of (c ∷ in_epoch epoch floor change cs)) ≡ sum_by f (more ++ waiting_of (c ∷ cs))
+    on h =
+        sum_by-append f (of_cont c) (waiting_of (in_epoch epoch floor change cs)) ∙ ap (λ n. sum_by f (of_cont c) + n) (h ∙ sum_by-append f more (waiting_of cs))
+        ∙ swap_front (sum_by f (of_cont c)) (sum_by f more) (sum_by f (waiting_of cs)) ∙ sym exact
+
+    by_case : (a b : Bool) → sum_by f (waiting_of (in_epoch epoch floor change cs)) ≡ sum_by f (more ++ waiting_of cs)
+        → sum_by f (waiting_of (cond a (change c ∷ cs) (cond b (change (fresh epoch floor) ∷ c ∷ cs) (c ∷ in_epoch epoch floor change cs)))) ≡ sum_by f (more ++ waiting_of (c ∷ cs))
+    by_case true b h = here
+    by_case false true h = new
+    by_case false false h = on h
+
+-- a bundle more
+pub waiting-with_bundle : (b : Bundle) (c : Cont) → SameSums (of_cont (with_bundle b c)) (b.records ++ of_cont c)
+waiting-with_bundle b c f =
+    ap (sum_by f) (flat_map-append (λ b. b.records) c.waiting (b ∷ []))
+    ∙ sum_by-append f (of_cont c) (b.records ++ []) ∙ ap (λ n. sum_by f (of_cont c) + n) (sum_by-append f b.records [])
+    ∙ omega arith ∙ sym (sum_by-append f b.records (of_cont c))
+
+assoc : (a b c : ℕ) → (a + b) + c ≡ a + (b + c)
+assoc a b c = omega arith
+
+-- a bundle is taken
+pub waiting-take_from : (number : ℕ) (cs : List Cont) (q : Bundle × List Cont) → take_from number cs ≡ Some q → SameSums (waiting_of cs) (q.0.records ++ waiting_of q.1)
+waiting-take_from number [] q h f = cc
+waiting-take_from number (c ∷ cs) q h f = by_case (list_any (λ b. eqb b.number number) c.waiting) h (λ r e. waiting-take_from number cs r e f)
+  where
+    by_case : (a : Bool)
+        → cond {A = Option (Bundle × List Cont)} a (pulled (λ b. eqb b.number number) c.waiting >>= λ q. Some (q.0, record c { waiting = q.1; out = c.out ++ number ∷ [] } ∷ cs)) (take_from number cs >>= λ q. Some (q.0, c ∷ q.1)) ≡ Some q
+        → ((r : Bundle × List Cont) → take_from number cs ≡ Some r → sum_by f (waiting_of cs) ≡ sum_by f (r.0.records ++ waiting_of r.1))
+        → sum_by f (waiting_of (c ∷ cs)) ≡ sum_by f (q.0.records ++ waiting_of q.1)
+    by_case true h ih =
+        let b = bind_some (pulled (λ b. eqb b.number number) c.waiting) _ q h in
+        let same : ◌≡◌ {A = Bundle × List Cont} (b.0.0, record c { waiting = b.0.1; out = c.out ++ number ∷ [] } ∷ cs) q = some_is _ _ b.2 in
+        let got = SameSums-pulled (λ b. eqb b.number number) c.waiting b.0 b.1 (λ b. sum_by f b.records) in
+        let one : sum_by f (of_cont c) ≡ sum_by f b.0.0.records + sum_by f (flat_map (λ b. b.records) b.0.1) =
+        sum_by-flat_map f (λ b. b.records) c.waiting ∙ got ∙ sum_by-cons (λ b. sum_by f b.records) b.0.0 b.0.1 ∙ ap (λ n. sum_by f b.0.0.records + n) (sym (sum_by-flat_map f (λ b. b.records) b.0.1)) in
+        sum_by-append f (of_cont c) (waiting_of cs) ∙ ap (λ n. n + sum_by f (waiting_of cs)) one
+        ∙ assoc (sum_by f b.0.0.records) _ _ ∙ ap (λ n. sum_by f b.0.0.records + n) (sym (sum_by-append f (flat_map (λ b. b.records) b.0.1) (waiting_of cs)))
+        ∙ sym (sum_by-append f b.0.0.records _)
+        ∙ ap (λ (r : Bundle × List Cont). sum_by f (r.0.records ++ waiting_of r.1)) same
+    by_case false h ih =
+        let b = bind_some (take_from number cs) _ q h in
+        let same : ◌≡◌ {A = Bundle × List Cont} (b.0.0, c ∷ b.0.1) q = some_is _ _ b.2 in
+        sum_by-append f (of_cont c) (waiting_of cs) ∙ ap (λ n. sum_by f (of_cont c) + n) (ih b.0 b.1 ∙ sum_by-append f b.0.0.records (waiting_of b.0.1))
+        ∙ swap_front (sum_by f (of_cont c)) (sum_by f b.0.0.records) (sum_by f (waiting_of b.0.1))
+        ∙ ap (λ n. sum_by f b.0.0.records + n) (sym (sum_by-append f (of_cont c) (waiting_of b.0.1))) ∙ sym (sum_by-append f b.0.0.records (waiting_of (c ∷ b.0.1)))
+        ∙ ap (λ (r : Bundle × List Cont). sum_by f (r.0.records ++ waiting_of r.1)) same

@@ -1,0 +1,5 @@
+use Rattle.sb_core.proofs.AfterSound.{events-keep_sound}
+use Rattle.sb_core.proofs.laws.events_keep_sound.Goals as goal
+
+pub returns : goal.returns
+returns c = events-keep_sound

@@ -1,0 +1,5 @@
+use Rattle.sb_core.proofs.OneNode.{one-node_changes}
+use Rattle.sb_core.proofs.laws.one_node_changes.Goals as goal
+
+pub returns : goal.returns
+returns c = one-node_changes

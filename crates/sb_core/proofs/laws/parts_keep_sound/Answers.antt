@@ -1,0 +1,5 @@
+use Rattle.sb_core.proofs.PartsLaw.{parts-keep_sound}
+use Rattle.sb_core.proofs.laws.parts_keep_sound.Goals as goal
+
+pub returns : goal.returns
+returns c = parts-keep_sound

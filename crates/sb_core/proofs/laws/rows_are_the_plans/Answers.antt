@@ -1,0 +1,5 @@
+use Rattle.sb_core.proofs.RowsAre.{rows-are_the_plans}
+use Rattle.sb_core.proofs.laws.rows_are_the_plans.Goals as goal
+
+pub returns : goal.returns
+returns c = rows-are_the_plans

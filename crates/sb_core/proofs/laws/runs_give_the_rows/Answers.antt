@@ -1,0 +1,5 @@
+use Rattle.sb_core.proofs.RowsAre.{runs-give_the_rows}
+use Rattle.sb_core.proofs.laws.runs_give_the_rows.Goals as goal
+
+pub returns : goal.returns
+returns c = runs-give_the_rows

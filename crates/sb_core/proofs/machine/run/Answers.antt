@@ -1,0 +1,30 @@
+use Rattle.std.proofs.Common.{◌≡◌, ◌+◌, [], ◌∷◌, ◌++◌, length, take, refl, sym, ap, subst, ◌∙◌}
+use Rattle.std.proofs.lemmas.Option.{slice_get_read}
+use Rattle.sb_core.specs.declared.event.Event.{Event}
+use Rattle.sb_core.specs.Events
+use Rattle.sb_core.specs.Exactness.{IsExact}
+use Rattle.sb_core.specs.Laws.{fed_by}
+use Rattle.sb_core.proofs.Nodewise.{take_more, take_whole}
+use Rattle.sb_core.proofs.Stepping.{run-more, fed_by-more}
+use Rattle.sb_core.proofs.machine.run.Goals as goal
+
+pub loop-at-preserved : goal.loop-at-preserved
+loop-at-preserved c =
+    let plan = c.args.plan.now in
+    let events = c.args.events.now in
+    let at = c.loop-at.at in
+    let event : Event = c.in-Ok.event in
+    let here = slice_get_read events (length events) at c.index-events-at.result refl c.loop-at-test.true c.index-events-at.is in
+    let taken : take (at + 1) events ≡ take at events ++ event ∷ [] = take_more events at c.index-events-at.result here ∙ ap (λ e. take at events ++ e ∷ []) (sym c.in-Ok.ensures) in
+    record {
+      done = ap (λ l. Events.run plan l c.args.moment.now) taken ∙ run-more plan (take at events) event c.args.moment.now c.loop-at.moment c.step.new.moment c.loop-at.invariant.done c.in_default.ensures.becomes;
+      sound = c.step.ensures.sound;
+      exact = λ fed exact.
+          subst (λ f. IsExact plan c.step.new.moment f) (sym (ap (λ l. fed_by l fed) taken ∙ fed_by-more (take at events) event fed))
+          (c.in_default.ensures.exact (fed_by (take at events) fed) (c.loop-at.invariant.exact fed exact));
+    }
+
+pub returns-clause-exact : goal.returns-clause-exact
+returns-clause-exact c =
+    λ fed exact.
+    subst (λ l. IsExact c.args.plan.now c.loop-at.moment (fed_by l fed)) (take_whole c.args.events.now c.loop-at.at c.loop-at-test.false) (c.loop-at.invariant.exact fed exact)

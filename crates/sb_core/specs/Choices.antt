@@ -1,0 +1,16 @@
+-- Words on options and lists.
+use Rattle.std.specs.Prelude.{Bool, true, false, if◌then◌else◌, List, [], ◌∷◌, Option, Some, None}
+use Rattle.sb_record.specs.Reading.{◌>>=◌}
+
+-- the value, where the test passes
+abbrev pub only_if : {X : Type 0} → Bool → Option X → Option X
+only_if test x = if test then x else None
+
+abbrev pub is_empty : {X : Type 0} → List X → Bool
+is_empty [] = true
+is_empty (x ∷ xs) = false
+
+-- the first element that passes, and the list without it
+abbrev pub pulled : {X : Type 0} → (X → Bool) → List X → Option (X × List X)
+pulled p [] = None
+pulled p (x ∷ xs) = if p x then Some (x, xs) else (pulled p xs >>= λ q. Some (q.0, x ∷ q.1))

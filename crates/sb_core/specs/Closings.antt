@@ -1,0 +1,57 @@
+-- What each operator does with a bundle, and at a closing.
+use Rattle.std.specs.Prelude.{ℕ, nat_lt, Bool, true, false, not, List, [], filter}
+use Rattle.std.specs.List.{flat_map, list_any}
+use Rattle.sb_record.specs.declared.item.Record.{Record}
+use Rattle.sb_record.specs.Records.{sorted, before, at_least}
+use Rattle.sb_window.specs.Windows.{window_ends}
+use Rattle.sb_pardo.specs.Outputs.{outputs_of}
+use Rattle.sb_pipeline.specs.declared.transform.KeptRec.{KeptRec}
+use Rattle.sb_pipeline.specs.Elements.{all_records}
+use Rattle.sb_pipeline.specs.Operators.{Operator, WindowOperator, grouped}
+use Rattle.sb_pipeline.specs.Operators.Operator.{ParDo, Windowed, Sink}
+use Rattle.sb_pipeline.specs.Operators.WindowOperator.{Aggregated, Joined}
+
+abbrev pub is_pardo : Operator → Bool
+is_pardo (ParDo op) = true
+is_pardo (Windowed grouping) = false
+is_pardo Sink = false
+
+abbrev pub is_sink : Operator → Bool
+is_sink (ParDo op) = false
+is_sink (Windowed grouping) = false
+is_sink Sink = true
+
+-- what a bundle gives below: only a ParDo gives its output before a closing
+abbrev pub delivery : Operator → List Record → List Record
+delivery (ParDo op) records = flat_map (outputs_of op) records
+delivery (Windowed grouping) records = []
+delivery Sink records = []
+
+-- what a node keeps of a finished bundle
+abbrev pub absorbed : Operator → List KeptRec → List KeptRec
+absorbed (ParDo op) elements = []
+absorbed (Windowed grouping) elements = elements
+absorbed Sink elements = elements
+
+-- the kept records that have a window with an end above the mark
+abbrev pub still_open : WindowOperator → ℕ → List KeptRec → List KeptRec
+still_open (Joined combine windows) mark elements = filter (λ e. list_any (λ end. nat_lt mark end) (window_ends windows e.rec.time)) elements
+still_open (Aggregated agg windows) mark elements = filter (λ e. list_any (λ end. nat_lt mark end) (window_ends windows e.rec.time)) elements
+
+-- what stays kept when a mark closes
+abbrev pub kept_at : Operator → ℕ → List KeptRec → List KeptRec
+kept_at (ParDo op) mark elements = elements
+kept_at (Windowed grouping) mark elements = still_open grouping mark elements
+kept_at Sink mark elements = filter (λ e. not (nat_lt e.rec.time mark)) elements
+
+-- the rows of a closing: those of the windows with an end above the floor and at most the mark, so with a time from the floor on and below the mark
+abbrev pub rows_at : Operator → ℕ → ℕ → List KeptRec → List Record
+rows_at (ParDo op) floor mark elements = []
+rows_at (Windowed grouping) floor mark elements = sorted (before mark (at_least floor (grouped grouping elements)))
+rows_at Sink floor mark elements = []
+
+-- what a closing of the sink adds to the rows
+abbrev pub collected : Operator → ℕ → List KeptRec → List Record
+collected (ParDo op) mark elements = []
+collected (Windowed grouping) mark elements = []
+collected Sink mark elements = sorted (before mark (all_records elements))

@@ -1,0 +1,18 @@
+-- What becomes of a single lane in a step.
+use Rattle.std.specs.Prelude.{◌≡◌, ℕ, Option, Some, None}
+use Rattle.sb_record.specs.Reading.{◌>>=◌}
+use Rattle.sb_bundle.specs.declared.bundle.Bundle.{Bundle}
+use Rattle.sb_pipeline.specs.declared.transform.Down.{Down}
+use Rattle.sb_core.specs.declared.moment.CoreLane.{CoreLane}
+use Rattle.sb_core.specs.declared.moment.Moment.{Moment}
+use Rattle.sb_core.specs.Lanes.{take_from, with_seal}
+use Rattle.sb_core.specs.Moments.{lane_at, with_lane}
+
+-- the waiting bundle of the number is out, or there is none and the lane is as before
+abbrev pub TakesOut : ℕ → CoreLane → CoreLane → Option Bundle → Type 0
+TakesOut number old new (Some bundle) = (take_from number old.conts ≡ Some (bundle, new.conts)) × (new ≡ record old { conts = new.conts })
+TakesOut number old new None = (take_from number old.conts ≡ None) × (new ≡ old)
+
+-- the moment with the next epoch of a lane sealed
+abbrev pub sealed_at : Down → ℕ → Moment → Option Moment
+sealed_at d mark m = lane_at m d >>= λ lane. with_lane d (with_seal mark lane) m

@@ -1,0 +1,163 @@
+//! What workers do with bundles: they take one, deliver what it gives, and finish it.
+
+ghost use Rattle.std.specs.Prelude.{◌≡◌, ℕ, Bool, true, List};
+ghost use Rattle.sb_record.specs.declared.item.Record.{Record};
+ghost use Rattle.sb_core.specs.Events.{after_take};
+ghost use Rattle.sb_core.specs.HeldSteps.{bundle_delivered, bundle_finished};
+ghost use Rattle.sb_core.specs.Soundness.{IsSound};
+ghost use Rattle.sb_core.specs.Steps.{Becomes};
+
+use crate::feeding::put_at;
+use crate::held::Held;
+use crate::hold::find_work;
+use crate::lanes;
+use crate::machine::StepStop;
+use crate::moment::Moment;
+use crate::operate::{absorb, delivery};
+use sb_pipeline::Plan;
+use sb_record::Sequence;
+use std::alloc::Global;
+
+/// A worker takes a waiting bundle.
+pub(crate) fn take(moment: &mut Moment, node: u32, lane: u32, number: u64) -> Result<(), StepStop>
+    ensures { Becomes (after_take moment.old (record { node = node; lane = lane }) number) moment.old moment.new result }
+{
+    if moment.held.items.reserve(1).is_err() {
+        return Err(StepStop::Memory);
+    }
+    let nodes = &mut moment.nodes;
+    let Some(there) = nodes.items.get_mut(node as usize) else {
+        return Err(StepStop::NotNow);
+    };
+    let Some(from) = there.lanes.items.get_mut(lane as usize) else {
+        return Err(StepStop::NotNow);
+    };
+    let Some(bundle) = lanes::take(from, number)? else {
+        return Err(StepStop::NotNow);
+    };
+    moment.held.items.push_reserved(Held::Work {
+        node,
+        lane,
+        epoch: bundle.epoch,
+        floor: bundle.floor,
+        number,
+        records: bundle.records,
+        delivered: false,
+    });
+    Ok(())
+}
+
+/// The bundle, delivered.
+fn delivered(work: Held) -> Held
+    ensures { (k l e f n : ℕ) (rs : List Record) (b : Bool) → work ≡ Held.Work k l e f n rs b → result ≡ Held.Work k l e f n rs true }
+{
+    match work {
+        Held::Work {
+            node,
+            lane,
+            epoch,
+            floor,
+            number,
+            records,
+            delivered: _,
+        } => Held::Work {
+            node,
+            lane,
+            epoch,
+            floor,
+            number,
+            records,
+            delivered: true,
+        },
+        close => close,
+    }
+}
+
+/// What the bundle of a ParDo gives is put below.
+pub(crate) fn deliver(
+    alloc: Global,
+    plan: &Plan,
+    moment: &mut Moment,
+    node: u32,
+    lane: u32,
+    number: u64,
+) -> Result<(), StepStop>
+    ensures { Becomes (bundle_delivered plan.now moment.old node lane number) moment.old moment.new result }
+{
+    let Some(place) = find_work(moment.held.as_slice(), node, lane, number) else {
+        return Err(StepStop::NotNow);
+    };
+    let Held::Work {
+        epoch,
+        floor,
+        records,
+        delivered: was_delivered,
+        ..
+    } = &moment.held.as_slice()[place]
+    else {
+        return Err(StepStop::NotNow);
+    };
+    if *was_delivered || node >= plan.transforms() {
+        return Err(StepStop::NotNow);
+    }
+    let (epoch, floor) = (*epoch, *floor);
+    let given = delivery(alloc, plan, node, records.as_slice())?;
+    if given.is_empty() {
+        return Err(StepStop::NotNow);
+    }
+    put_at(
+        alloc,
+        moment,
+        plan.down(node),
+        epoch,
+        floor,
+        Sequence::new(given),
+    )?;
+    let work = moment.held.items.remove(place);
+    moment.held.items.push_reserved(delivered(work));
+    Ok(())
+}
+
+/// A worker has done with a bundle.
+pub(crate) fn finish(
+    alloc: Global,
+    plan: &Plan,
+    moment: &mut Moment,
+    node: u32,
+    lane: u32,
+    number: u64,
+) -> Result<(), StepStop>
+    requires { IsSound plan.now moment.old }
+    ensures { Becomes (bundle_finished plan.now moment.old node lane number) moment.old moment.new result }
+{
+    let Some(place) = find_work(moment.held.as_slice(), node, lane, number) else {
+        return Err(StepStop::NotNow);
+    };
+    let Held::Work {
+        epoch,
+        records,
+        delivered: was_delivered,
+        ..
+    } = &moment.held.as_slice()[place]
+    else {
+        return Err(StepStop::NotNow);
+    };
+    let epoch = *epoch;
+    if !*was_delivered && !delivery(alloc, plan, node, records.as_slice())?.is_empty() {
+        return Err(StepStop::NotNow);
+    }
+    let nodes = &mut moment.nodes;
+    let there = &mut nodes.items[node as usize];
+    absorb(
+        alloc,
+        plan,
+        node,
+        lane,
+        records.as_slice(),
+        &mut there.kept.items,
+    )?;
+    let lanes = &mut there.lanes;
+    lanes::finish(&mut lanes.items[lane as usize], epoch, number);
+    let _ = moment.held.items.remove(place);
+    Ok(())
+}

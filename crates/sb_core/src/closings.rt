@@ -1,0 +1,187 @@
+//! Closings: the oldest container of a lane is closed, its rows are delivered, and its watermark is passed.
+
+ghost use Rattle.std.specs.Prelude.{◌≡◌, ℕ, Bool, true, List, drop};
+ghost use Rattle.sb_pipeline.specs.Shapes.{Shape};
+ghost use Rattle.sb_record.specs.declared.item.Record.{Record as ARecord};
+ghost use Rattle.sb_core.specs.HeldSteps.{rows_delivered, mark_passed, closing_ended};
+ghost use Rattle.sb_core.specs.Soundness.{IsSound};
+ghost use Rattle.sb_core.specs.Steps.{Becomes};
+
+use crate::feeding::{put_at, seal_at};
+use crate::held::Held;
+use crate::hold::{find_close, find_close_of};
+use crate::lanes;
+use crate::machine::StepStop;
+use crate::moment::Moment;
+use sb_pipeline::Plan;
+use sb_record::Sequence;
+use std::alloc::Global;
+
+/// The closing, with the first rows gone.
+fn without_rows(close: Held, count: usize) -> Held
+    ensures { (k l e s f m : ℕ) (rows : List ARecord) (p : Bool) → close ≡ Held.Close k l e s f m rows p → result ≡ Held.Close k l e s f m (drop count rows) p }
+{
+    match close {
+        Held::Close {
+            node,
+            lane,
+            epoch,
+            serial,
+            floor,
+            mark,
+            mut rows,
+            passed,
+        } => {
+            let count = count.min(rows.items.len());
+            rows.items.rotate_left(count);
+            let left = rows.items.len() - count;
+            rows.items.truncate(left);
+            Held::Close {
+                node,
+                lane,
+                epoch,
+                serial,
+                floor,
+                mark,
+                rows,
+                passed,
+            }
+        }
+        work => work,
+    }
+}
+
+/// The closing, with its watermark passed.
+fn passed(close: Held) -> Held
+    ensures { (k l e s f m : ℕ) (rows : List ARecord) (p : Bool) → close ≡ Held.Close k l e s f m rows p → result ≡ Held.Close k l e s f m rows true }
+{
+    match close {
+        Held::Close {
+            node,
+            lane,
+            epoch,
+            serial,
+            floor,
+            mark,
+            rows,
+            passed: _,
+        } => Held::Close {
+            node,
+            lane,
+            epoch,
+            serial,
+            floor,
+            mark,
+            rows,
+            passed: true,
+        },
+        work => work,
+    }
+}
+
+/// The next rows of a closing are put below.
+pub(crate) fn deliver(
+    alloc: Global,
+    plan: &Plan,
+    moment: &mut Moment,
+    node: u32,
+    lane: u32,
+) -> Result<(), StepStop>
+    ensures { Becomes (rows_delivered plan.now moment.old node lane) moment.old moment.new result }
+{
+    let Some(place) = find_close_of(moment.held.as_slice(), node, lane) else {
+        return Err(StepStop::NotNow);
+    };
+    let Held::Close {
+        serial,
+        floor,
+        rows,
+        ..
+    } = &moment.held.as_slice()[place]
+    else {
+        return Err(StepStop::NotNow);
+    };
+    if rows.as_slice().is_empty() || node >= plan.transforms() {
+        return Err(StepStop::NotNow);
+    }
+    let (serial, floor) = (*serial, *floor);
+    let most = moment.bundle as usize;
+    let count = rows.as_slice().len().min(most);
+    let mut next = Vec::new(alloc);
+    if next.extend_from_slice(&rows.as_slice()[..count]).is_err() {
+        return Err(StepStop::Memory);
+    }
+    put_at(
+        alloc,
+        moment,
+        plan.down(node),
+        serial,
+        floor,
+        Sequence::new(next),
+    )?;
+    let close = moment.held.items.remove(place);
+    moment.held.items.push_reserved(without_rows(close, most));
+    Ok(())
+}
+
+/// The watermark of a closing is passed below.
+pub(crate) fn pass(
+    alloc: Global,
+    plan: &Plan,
+    moment: &mut Moment,
+    node: u32,
+) -> Result<(), StepStop>
+    ensures { Becomes (mark_passed plan.now moment.old node) moment.old moment.new result }
+{
+    let Some(place) = find_close(moment.held.as_slice(), node) else {
+        return Err(StepStop::NotNow);
+    };
+    let Held::Close {
+        mark,
+        rows,
+        passed: was_passed,
+        ..
+    } = &moment.held.as_slice()[place]
+    else {
+        return Err(StepStop::NotNow);
+    };
+    if *was_passed || !rows.as_slice().is_empty() || node >= plan.transforms() {
+        return Err(StepStop::NotNow);
+    }
+    let mark = *mark;
+    seal_at(alloc, moment, plan.down(node), mark)?;
+    let close = moment.held.items.remove(place);
+    moment.held.items.push_reserved(passed(close));
+    Ok(())
+}
+
+/// A closing that has passed its watermark ends.
+pub(crate) fn end(moment: &mut Moment, node: u32) -> Result<(), StepStop>
+    requires { (plan : Shape) × IsSound plan moment.old }
+    ensures { Becomes (closing_ended moment.old node) moment.old moment.new result }
+{
+    let Some(place) = find_close(moment.held.as_slice(), node) else {
+        return Err(StepStop::NotNow);
+    };
+    let Held::Close {
+        lane,
+        passed: was_passed,
+        ..
+    } = &moment.held.as_slice()[place]
+    else {
+        return Err(StepStop::NotNow);
+    };
+    if !*was_passed {
+        return Err(StepStop::NotNow);
+    }
+    let lane = *lane;
+    let nodes = &mut moment.nodes;
+    let lanes = &mut nodes.items[node as usize].lanes;
+    let at = &mut lanes.items[lane as usize];
+    // Each epoch that has ended has a mark.
+    let have_marks = at.ended <= at.marks.as_slice().len() as u64;
+    prove!(have_marks);
+    lanes::end(at);
+    let _ = moment.held.items.remove(place);
+    Ok(())
+}

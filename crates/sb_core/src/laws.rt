@@ -1,0 +1,77 @@
+//! The laws of the engine, over every plan, every moment and every list of events. Each function has its law for a
+//! contract, and does nothing.
+
+ghost use Rattle.sb_core.specs.Laws as law;
+ghost use Rattle.sb_core.specs.Parts as part;
+
+/// Each event whose condition holds keeps a moment sound, and exact for what was fed with what the event feeds.
+pub fn events_keep_sound()
+    ensures { law.EventsKeepSound }
+{}
+
+/// From the first moment of a plan every list of events leads to a sound moment that is exact for what was fed.
+pub fn runs_are_sound()
+    ensures { law.RunsAreSound }
+{}
+
+/// The rows of a sound and exact moment are the plan's rows below the watermark up to which the sink has closed,
+/// whatever still comes.
+pub fn rows_are_the_plans()
+    ensures { law.RowsAreThePlans }
+{}
+
+/// Where each stream is sealed with the last watermark and no container is left, the rows are all of the plan's.
+pub fn rows_are_all()
+    ensures { law.RowsAreAll }
+{}
+
+/// The rows after every list of events from the first moment: those of the plan below the sink's watermark for every
+/// continuation, and all of them at the end.
+pub fn runs_give_the_rows()
+    ensures { law.RunsGiveTheRows }
+{}
+
+/// What workers have in hand may stand in any order.
+pub fn held_in_any_order()
+    ensures { law.HeldInAnyOrder }
+{}
+
+/// An event of the bundle or closing at the head of what is held leaves there what becomes of it.
+pub fn events_at_the_head()
+    ensures { law.EventsAtTheHead }
+{}
+
+/// A bundle that is taken and a closing that begins may come to the head of what is held.
+pub fn new_at_the_head()
+    ensures { law.NewAtTheHead }
+{}
+
+/// An event changes one node, that of its place.
+pub fn one_node_changes()
+    ensures { law.OneNodeChanges }
+{}
+
+/// Where no lane of a node is closing, no closing of the node is held.
+pub fn idle_by_its_lanes()
+    ensures { law.IdleByItsLanes }
+{}
+
+/// An event that concerns nothing that is held does to a sound moment what it does to the part of its node.
+pub fn parts_are_events()
+    ensures { part.PartsAreEvents }
+{}
+
+/// So does an event of the bundle or closing at the head of what is held.
+pub fn held_parts_are_events()
+    ensures { part.HeldPartsAreEvents }
+{}
+
+/// The law of an event by the part of its node alone, where it concerns nothing that is held.
+pub fn parts_keep_sound()
+    ensures { part.PartsKeepSound }
+{}
+
+/// The law of an event of the bundle or closing at the head of what is held, by the part of its node alone.
+pub fn held_parts_keep_sound()
+    ensures { part.HeldPartsKeepSound }
+{}

@@ -1,0 +1,28 @@
+//! The pure core of the engine: its state between two events, the events that change it, and their laws.
+//!
+//! A [`Moment`] has, for each transform and for the sink, lanes of containers, one per epoch in progress, and what workers
+//! have in hand. An [`Event`] is a single change: a bundle or a watermark comes, a worker takes a bundle, delivers what it
+//! gives, finishes it, begins the closing of a container, passes its watermark, or ends it. [`laws`] states what holds of
+//! every list of events, in whatever order workers make them: no record is lost and none counts twice.
+#![tactic(auto)]
+
+mod begin;
+mod bundles;
+mod closings;
+mod event;
+mod feeding;
+mod held;
+mod hold;
+mod lanes;
+pub mod laws;
+mod machine;
+mod marks;
+mod moment;
+mod operate;
+#[cfg(test)]
+mod tests;
+
+pub use event::Event;
+pub use held::Held;
+pub use machine::{RunStop, StepStop, first, run, step};
+pub use moment::{Cont, CoreLane, Moment, Node};

@@ -1,0 +1,185 @@
+//! What a node does with a bundle, and at a closing.
+
+ghost use Rattle.std.specs.Prelude.{◌≡◌, ◌≤◌, ◌<◌, ◌++◌, All, length, nat_lt, slice_get, filter, not, OnOk, OnErr, IfOk};
+ghost use Rattle.std.specs.List.{list_any};
+ghost use Rattle.sb_record.specs.Records.{at_least};
+ghost use Rattle.sb_pipeline.specs.Elements.{on_lane};
+ghost use Rattle.sb_pipeline.specs.Operators.{operator_at};
+ghost use Rattle.sb_window.specs.Windows.{window_ends};
+ghost use Rattle.sb_core.specs.Closings as spec;
+
+use sb_pardo::apply;
+use sb_pipeline::{KeptRec, Kind, Plan};
+use sb_record::{END_MARK, NoMemory, Record};
+use sb_slow::{all_records, output, push_on_lane, sort_below};
+use sb_window::Windows;
+use std::alloc::Global;
+
+/// What a bundle gives below before a closing.
+pub(crate) fn delivery(
+    alloc: Global,
+    plan: &Plan,
+    node: u32,
+    records: &[Record],
+) -> Result<Vec<Record>, NoMemory>
+    requires { node ≤ length plan.now.steps }
+    ensures { IfOk result (λ given. given.items ≡ spec.delivery (operator_at (slice_get plan.now.steps node)) records.now) }
+{
+    let mut given = Vec::new(alloc);
+    if node < plan.transforms() {
+        if let Kind::Do(op) = plan.kind(node) {
+            apply(op, records, &mut given)?;
+        }
+    }
+    Ok(given)
+}
+
+/// Whether the node is a ParDo.
+fn is_pardo(plan: &Plan, node: u32) -> bool
+    requires { node ≤ length plan.now.steps }
+    ensures { result ≡ spec.is_pardo (operator_at (slice_get plan.now.steps node)) }
+{
+    node < plan.transforms() && matches!(plan.kind(node), Kind::Do(_))
+}
+
+/// Appends what a node keeps of a finished bundle.
+pub(crate) fn absorb(
+    alloc: Global,
+    plan: &Plan,
+    node: u32,
+    lane: u32,
+    records: &[Record],
+    kept: &mut Vec<KeptRec>,
+) -> Result<(), NoMemory>
+    requires { node ≤ length plan.now.steps }
+    ensures ok { OnOk result (kept.new.items ≡ kept.old.items ++ spec.absorbed (operator_at (slice_get plan.now.steps node)) (on_lane lane records.now)) }
+    ensures err { OnErr result (kept.new.items ≡ kept.old.items) }
+{
+    if is_pardo(plan, node) {
+        return Ok(());
+    }
+    let mut elements = Vec::new(alloc);
+    push_on_lane(lane, records, &mut elements)?;
+    if kept.append(&mut elements).is_err() {
+        return Err(NoMemory);
+    }
+    Ok(())
+}
+
+/// Whether a time has a window with an end above the mark.
+fn is_open(windows: &Windows, time: u64, mark: u64) -> bool
+    requires { time < END_MARK }
+    ensures { result ≡ list_any (λ end. nat_lt mark end) (window_ends windows.now time) }
+{
+    for end in windows.ends(time) {
+        if mark < end {
+            return true;
+        }
+    }
+    false
+}
+
+/// The elements that have a window with an end above the mark.
+fn still_open(
+    alloc: Global,
+    windows: &Windows,
+    mark: u64,
+    kept: &[KeptRec],
+) -> Result<Vec<KeptRec>, NoMemory>
+    requires { All (λ e. e.rec.time < END_MARK) kept.now }
+    ensures { IfOk result (λ open_. open_.items ≡ filter (λ e. list_any (λ end. nat_lt mark end) (window_ends windows.now e.rec.time)) kept.now) }
+{
+    let mut left = Vec::new(alloc);
+    for element in kept {
+        if is_open(windows, element.rec.time, mark) {
+            left.push(*element).map_err(|_| NoMemory)?;
+        }
+    }
+    Ok(left)
+}
+
+/// The elements with a time from the mark on.
+fn from_mark(alloc: Global, mark: u64, kept: &[KeptRec]) -> Result<Vec<KeptRec>, NoMemory>
+    ensures { IfOk result (λ left. left.items ≡ filter (λ e. not (nat_lt e.rec.time mark)) kept.now) }
+{
+    let mut left = Vec::new(alloc);
+    for element in kept {
+        if element.rec.time >= mark {
+            left.push(*element).map_err(|_| NoMemory)?;
+        }
+    }
+    Ok(left)
+}
+
+/// What a node still keeps when a mark closes.
+pub(crate) fn kept_at(
+    alloc: Global,
+    plan: &Plan,
+    node: u32,
+    mark: u64,
+    kept: &[KeptRec],
+) -> Result<Vec<KeptRec>, NoMemory>
+    requires node { node ≤ length plan.now.steps }
+    requires times { All (λ e. e.rec.time < END_MARK) kept.now }
+    ensures { IfOk result (λ left. left.items ≡ spec.kept_at (operator_at (slice_get plan.now.steps node)) mark kept.now) }
+{
+    if node == plan.transforms() {
+        return from_mark(alloc, mark, kept);
+    }
+    match plan.kind(node) {
+        Kind::Do(_) => {
+            let mut left = Vec::new(alloc);
+            left.extend_from_slice(kept).map_err(|_| NoMemory)?;
+            Ok(left)
+        }
+        Kind::Group(_, windows) | Kind::Join(_, windows) => still_open(alloc, windows, mark, kept),
+    }
+}
+
+/// Keeps the rows with a time from the floor on.
+fn keep_from(rows: &mut Vec<Record>, floor: u64)
+    ensures { rows.new.items ≡ at_least floor rows.old.items }
+{
+    rows.retain(|row| row.time >= floor);
+}
+
+/// The rows that a closing from a floor to a mark gives below.
+pub(crate) fn rows_at(
+    alloc: Global,
+    plan: &Plan,
+    node: u32,
+    floor: u64,
+    mark: u64,
+    kept: &[KeptRec],
+) -> Result<Vec<Record>, NoMemory>
+    requires node { node ≤ length plan.now.steps }
+    requires times { All (λ e. e.rec.time < END_MARK) kept.now }
+    ensures { IfOk result (λ rows. rows.items ≡ spec.rows_at (operator_at (slice_get plan.now.steps node)) floor mark kept.now) }
+{
+    if node == plan.transforms() || is_pardo(plan, node) {
+        return Ok(Vec::new(alloc));
+    }
+    let mut rows = output(alloc, plan.kind(node), kept)?;
+    keep_from(&mut rows, floor);
+    sort_below(&mut rows, mark)?;
+    Ok(rows)
+}
+
+/// What a closing of the sink adds to the rows.
+pub(crate) fn collected(
+    alloc: Global,
+    plan: &Plan,
+    node: u32,
+    mark: u64,
+    kept: &[KeptRec],
+) -> Result<Vec<Record>, NoMemory>
+    requires { node ≤ length plan.now.steps }
+    ensures { IfOk result (λ rows. rows.items ≡ spec.collected (operator_at (slice_get plan.now.steps node)) mark kept.now) }
+{
+    if node < plan.transforms() {
+        return Ok(Vec::new(alloc));
+    }
+    let mut rows = all_records(alloc, kept)?;
+    sort_below(&mut rows, mark)?;
+    Ok(rows)
+}
