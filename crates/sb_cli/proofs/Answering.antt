@@ -18,16 +18,19 @@ use Rattle.sb_record.proofs.InputLemmas.{accepted-in_range, low_watermark-in_ran
 use Rattle.sb_pipeline.specs.Shapes.{Shape, streams_of}
 use Rattle.sb_pipeline.specs.Results.{output_of}
 use Rattle.sb_outside.specs.Lines.{lines}
+use Rattle.sb_outside.specs.Sources.{Rose}
 use Rattle.sb_outside.specs.Sinks.{AppendsPrefix}
 use Rattle.std.proofs.KnownBytes.{Appends-nil}
 use Rattle.sb_outside.proofs.Appending.{prefix_of_all, prefix_of_more}
 use Rattle.sb_cli.specs.declared.status.Status.{Status}
-use Rattle.sb_cli.specs.declared.status.Status.TheVariants.{Done, Words, Line, Input, Output, Memory}
+use Rattle.sb_cli.specs.declared.status.Status.TheVariants.{Done, Words, Plan, Line, Input, Output, Folder, Memory}
 use Rattle.sb_cli.specs.Statuses.{status_of}
-use Rattle.sb_cli.specs.declared.words.Request.{Request}
+use Rattle.sb_outside.specs.Folders.{Files}
+use Rattle.sb_cli.specs.Words.{Asked}
+use Rattle.sb_cli.specs.Words.Asked.{Sum, Run, Slow}
 use Rattle.sb_cli.specs.Given.{items_of, stop_at}
-use Rattle.sb_cli.specs.Pipelines.{plan_of, streams_in, all_rows}
-use Rattle.sb_cli.specs.Answers.{due_mark, due_rows, Wrote, WrotePrefix, HasWritten, IsAnswer, HasCause, IsToldOf, IsWordsOrMemory, IsDoneOrMemory, NothingFails}
+use Rattle.sb_cli.specs.Pipelines.{plan_in, IsPlanFor, TellsPlan, streams_in, all_rows}
+use Rattle.sb_cli.specs.Answers.{due_mark, due_rows, Wrote, WrotePrefix, HasWritten, HasNoPlan, IsAnswer, IsAnswerOf, HasCause, IsRead, IsUnread, IsToldOf, IsWordsOrMemory, IsDoneOrMemory, NothingFails}
 
 -- writing went well
 pub has_written : (plan : Shape) (stop : Stop) (items : List Item) (taken taken' : Option (List ℕ)) → Wrote taken taken' (due_rows plan stop items) → HasWritten plan stop items taken taken' (status_of stop)
@@ -90,6 +93,8 @@ written_at_memory plan stop items taken taken' status range = by_status status
     by_status Output written = written
     by_status Memory written = written
     by_status Words written = absurd written
+    by_status (Plan fault) written = absurd written
+    by_status Folder written = absurd written
 
 -- the rows below the watermark are those that are due
 pub rows_are_due : (plan : Shape) (below low : ℕ) (stop : Stop) (items items' : List Item) (rows : List Record) → rows ≡ sorted (before below (output_of plan (streams_in items')))
@@ -98,29 +103,78 @@ rows_are_due plan below low stop items items' rows are same at is_low =
     are ∙ (λ i. sorted (before ((at ∙ ap (due_mark stop) is_low) i) (output_of plan (streams_in (same i)))))
 
 -- what is told of a status answers as well as the status
-pub told_answer : (request : Request) (left left' taken taken' : Option (List ℕ)) (status told : Status) → IsToldOf status told
-    → IsAnswer (plan_of request) left left' taken taken' status → IsAnswer (plan_of request) left left' taken taken' told
-told_answer request left left' taken taken' status told (inl same) is = subst (λ s. IsAnswer (plan_of request) left left' taken taken' s) (sym same) is
-told_answer request left left' taken taken' status told (inr memory) (given, written) =
-    subst (λ s. IsAnswer (plan_of request) left left' taken taken' s) (sym memory) (
-      given,
-      written_at_memory (plan_of request) (stop_at (streams_of (plan_of request)) given) (items_of (streams_of (plan_of request)) given) taken taken' status (accepted-in_range (streams_of (plan_of request)) (lines given.ended given.bytes)) written,
-    )
+told_answer_of : (plan : Shape) (left left' taken taken' : Option (List ℕ)) (status : Status) → IsAnswerOf plan left left' taken taken' status → IsAnswerOf plan left left' taken taken' Memory
+told_answer_of plan left left' taken taken' status (given, written) =
+    (given, written_at_memory plan (stop_at (streams_of plan) given) (items_of (streams_of plan) given) taken taken' status (accepted-in_range (streams_of plan) (lines given.ended given.bytes)) written)
 
-pub told_cause : (reads reads' writes writes' : ℕ) (status told : Status) → IsToldOf status told → HasCause reads reads' writes writes' status → HasCause reads reads' writes writes' told
-told_cause reads reads' writes writes' status told (inl same) cause = subst (λ s. HasCause reads reads' writes writes' s) (sym same) cause
-told_cause reads reads' writes writes' status told (inr memory) cause = subst (λ s. HasCause reads reads' writes writes' s) (sym memory) tt
+told_at_memory : (folder : Option Files) (wanted : Asked) (left left' taken taken' : Option (List ℕ)) (status : Status) → IsAnswer folder wanted left left' taken taken' status → IsAnswer folder wanted left left' taken taken' Memory
+told_at_memory folder wanted left left' taken taken' status (inl none) = inl (tt, none.1, none.2)
+told_at_memory folder wanted left left' taken taken' status (inr found) = inr (found.0, found.1, told_answer_of found.0 left left' taken taken' status found.2)
+
+pub told_answer : (folder : Option Files) (wanted : Asked) (left left' taken taken' : Option (List ℕ)) (status told : Status) → IsToldOf status told
+    → IsAnswer folder wanted left left' taken taken' status → IsAnswer folder wanted left left' taken taken' told
+told_answer folder wanted left left' taken taken' status told (inl same) is = subst (λ s. IsAnswer folder wanted left left' taken taken' s) (sym same) is
+told_answer folder wanted left left' taken taken' status told (inr memory) is = subst (λ s. IsAnswer folder wanted left left' taken taken' s) (sym memory) (told_at_memory folder wanted left left' taken taken' status is)
+
+pub told_cause : (reads reads' writes writes' loads loads' : ℕ) (status told : Status) → IsToldOf status told → HasCause reads reads' writes writes' loads loads' status → HasCause reads reads' writes writes' loads loads' told
+told_cause reads reads' writes writes' loads loads' status told (inl same) cause = subst (λ s. HasCause reads reads' writes writes' loads loads' s) (sym same) cause
+told_cause reads reads' writes writes' loads loads' status told (inr memory) cause = subst (λ s. HasCause reads reads' writes writes' loads loads' s) (sym memory) tt
 
 pub told_words : (status told : Status) → IsToldOf status told → status ≡ Words → IsWordsOrMemory told
 told_words status told (inl same) is = inl (same ∙ is)
 told_words status told (inr memory) is = inr memory
 
+-- where the input is told as unread, it was not read
+pub told_unread : (status told : Status) → IsToldOf status told → IsUnread told → IsUnread status
+told_unread status told (inl same) unread = subst IsUnread same unread
+told_unread status told (inr memory) unread = absurd (subst IsUnread memory unread)
+
+-- an input that was read is not unread
+pub read-unread : (status : Status) → IsRead status → IsUnread status → ⊥
+read-unread Done read unread = unread
+read-unread Words read unread = read
+read-unread (Plan fault) read unread = read
+read-unread (Line refusal) read unread = unread
+read-unread Input read unread = unread
+read-unread Output read unread = unread
+read-unread Folder read unread = read
+read-unread Memory read unread = unread
+
 -- where nothing fails the run is done
-pub is_complete : (request : Request) (left left' taken taken' : Option (List ℕ)) (reads reads' writes writes' : ℕ) (status : Status) → IsAnswer (plan_of request) left left' taken taken' status
-    → HasCause reads reads' writes writes' status → NothingFails (plan_of request) left left' reads reads' writes writes' → IsDoneOrMemory status
-is_complete request left left' taken taken' reads reads' writes writes' Done is cause fine = inl refl
-is_complete request left left' taken taken' reads reads' writes writes' Words is cause fine = absurd is.1
-is_complete request left left' taken taken' reads reads' writes writes' (Line refusal) is cause fine = absurd (fine.no_refusal is.0 refusal is.1.0)
-is_complete request left left' taken taken' reads reads' writes writes' Input is cause fine = absurd (fine.no_read_failed cause)
-is_complete request left left' taken taken' reads reads' writes writes' Output is cause fine = absurd (fine.no_write_failed cause)
-is_complete request left left' taken taken' reads reads' writes writes' Memory is cause fine = inr refl
+complete_for : (plan : Shape) (left left' taken taken' : Option (List ℕ)) (reads reads' writes writes' loads loads' : ℕ) (status : Status) → IsAnswerOf plan left left' taken taken' status
+    → HasCause reads reads' writes writes' loads loads' status → NothingFails plan left left' reads reads' writes writes' loads loads' → IsDoneOrMemory status
+complete_for plan left left' taken taken' reads reads' writes writes' loads loads' Done is cause fine = inl refl
+complete_for plan left left' taken taken' reads reads' writes writes' loads loads' Words is cause fine = absurd is.1
+complete_for plan left left' taken taken' reads reads' writes writes' loads loads' (Plan fault) is cause fine = absurd is.1
+complete_for plan left left' taken taken' reads reads' writes writes' loads loads' (Line refusal) is cause fine = absurd (fine.no_refusal is.0 refusal is.1.0)
+complete_for plan left left' taken taken' reads reads' writes writes' loads loads' Input is cause fine = absurd (fine.no_read_failed cause)
+complete_for plan left left' taken taken' reads reads' writes writes' loads loads' Output is cause fine = absurd (fine.no_write_failed cause)
+complete_for plan left left' taken taken' reads reads' writes writes' loads loads' Folder is cause fine = absurd is.1
+complete_for plan left left' taken taken' reads reads' writes writes' loads loads' Memory is cause fine = inr refl
+
+-- the plan that is answered for is the one that the folder tells
+one_plan : (folder : Option Files) (wanted : Asked) (plan told : Shape) → IsPlanFor folder wanted plan → TellsPlan folder wanted told → plan ≡ told
+one_plan folder (Sum size) plan told is tells = is ∙ sym tells
+one_plan folder (Run name) plan told is tells = let same = sym (is.1 tells.0 tells.1) ∙ tells.2 in cc
+one_plan folder (Slow name) plan told is tells = let same = sym (is.1 tells.0 tells.1) ∙ tells.2 in cc
+
+-- where the folder tells a plan there is no fault in it
+plan_is_had : (folder : Option Files) (wanted : Asked) (plan : Shape) (reads reads' writes writes' loads loads' : ℕ) (status : Status) → HasNoPlan folder wanted status → TellsPlan folder wanted plan
+    → HasCause reads reads' writes writes' loads loads' status → (Rose loads loads' → ⊥) → IsDoneOrMemory status
+plan_is_had folder wanted plan reads reads' writes writes' loads loads' Memory none tells cause fine = inr refl
+plan_is_had folder wanted plan reads reads' writes writes' loads loads' Folder none tells cause fine = absurd (fine cause)
+plan_is_had folder (Sum size) plan reads reads' writes writes' loads loads' (Plan fault) none tells cause fine = absurd none
+plan_is_had folder (Run name) plan reads reads' writes writes' loads loads' (Plan fault) none tells cause fine = let same = sym (none tells.0 tells.1) ∙ tells.2 in cc
+plan_is_had folder (Slow name) plan reads reads' writes writes' loads loads' (Plan fault) none tells cause fine = let same = sym (none tells.0 tells.1) ∙ tells.2 in cc
+plan_is_had folder wanted plan reads reads' writes writes' loads loads' Done none tells cause fine = absurd none
+plan_is_had folder wanted plan reads reads' writes writes' loads loads' Words none tells cause fine = absurd none
+plan_is_had folder wanted plan reads reads' writes writes' loads loads' (Line refusal) none tells cause fine = absurd none
+plan_is_had folder wanted plan reads reads' writes writes' loads loads' Input none tells cause fine = absurd none
+plan_is_had folder wanted plan reads reads' writes writes' loads loads' Output none tells cause fine = absurd none
+
+pub is_complete : (folder : Option Files) (wanted : Asked) (plan : Shape) (left left' taken taken' : Option (List ℕ)) (reads reads' writes writes' loads loads' : ℕ) (status : Status) → IsAnswer folder wanted left left' taken taken' status
+    → HasCause reads reads' writes writes' loads loads' status → TellsPlan folder wanted plan → NothingFails plan left left' reads reads' writes writes' loads loads' → IsDoneOrMemory status
+is_complete folder wanted plan left left' taken taken' reads reads' writes writes' loads loads' status (inl none) cause tells fine = plan_is_had folder wanted plan reads reads' writes writes' loads loads' status none.0 tells cause fine.no_load_failed
+is_complete folder wanted plan left left' taken taken' reads reads' writes writes' loads loads' status (inr found) cause tells fine =
+    let same : found.0 ≡ plan = one_plan folder wanted found.0 plan found.1 tells in
+    complete_for plan left left' taken taken' reads reads' writes writes' loads loads' status (subst (λ p. IsAnswerOf p left left' taken taken' status) same found.2) cause fine

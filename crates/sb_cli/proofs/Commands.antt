@@ -1,10 +1,10 @@
 -- Which words are a command.
-use Rattle.std.proofs.Common.{◌≡◌, ◌↔◌, ℕ, ◌+◌, ◌<◌, ◌≤◌, List, [], ◌∷◌, length, get_or, Some, None, Option, sym, ap, subst, ◌∙◌, arith, refl}
+use Rattle.std.proofs.Common.{◌≡◌, ◌↔◌, ℕ, ◌+◌, ◌<◌, ◌≤◌, List, [], ◌∷◌, length, get_or, Some, None, Option, sym, ap, subst, ◌∙◌, arith, refl, rules}
 use Rattle.std.specs.Prelude.{decimal, codes}
 use Rattle.std.specs.Option.{unwrap_or}
-use Rattle.sb_cli.specs.declared.words.Request.{Request}
 use Rattle.sb_cli.specs.declared.words.TheConstants.{MAX_SIZE}
-use Rattle.sb_cli.specs.Words.{IsSize, IsCommand}
+use Rattle.sb_cli.specs.Words.{Asked, IsCommand}
+use Rattle.sb_cli.specs.Words.Asked.{Sum, Run, Slow}
 
 pub some_value : {A : Type 0} (x y : A) → ◌≡◌ {A = Option A} (Some x) (Some y) → x ≡ y
 some_value {A} x y e = ap (λ (r : Option A). unwrap_or r x) e
@@ -27,27 +27,40 @@ pair_of (x ∷ []) a b low high ea eb = absurd (omega arith)
 pair_of (x ∷ y ∷ []) a b low high ea eb = λ i. sym ea i ∷ sym eb i ∷ []
 pair_of (x ∷ y ∷ z ∷ xs) a b low high ea eb = absurd (omega arith)
 
--- a command and a size are the request for the sums of windows of this size, and for no other
-pub is_sum : (words : List (List ℕ)) (command text : List ℕ) (size : ℕ) → words ≡ command ∷ text ∷ [] → command ≡ codes "sum"
-    → ((n : ℕ) → (◌≡◌ {A = Option ℕ} (Some size) (Some n)) ↔ ((1 ≤ n) × (n ≤ MAX_SIZE) × (text ≡ decimal n)))
-    → (r : Request) → (◌≡◌ {A = Option Request} (Some (record { size = size })) (Some r)) ↔ IsCommand r words
-is_sum words command text size are sum exact r = (
+-- the first word
+abbrev first_of : List ℕ → List (List ℕ) → List ℕ
+first_of d (x ∷ xs) = x
+first_of d xs = d
+
+-- a command and a size ask for the sums of windows of this size, and for nothing else
+pub is_sum : (command text : List ℕ) (size : ℕ) → command ≡ codes "sum" → ((n : ℕ) → (◌≡◌ {A = Option ℕ} (Some size) (Some n)) ↔ ((1 ≤ n) × (n ≤ MAX_SIZE) × (text ≡ decimal n)))
+    → (wanted : Asked) → (◌≡◌ {A = Option Asked} (Some (Sum size)) (Some wanted)) ↔ IsCommand wanted (command ∷ text ∷ [])
+is_sum command text size sum exact (Sum n) = (
   λ e.
-      let is = (exact r.size).0 (ap (size_in r.size) e) in
-      ((is.0, is.1), are ∙ (λ i. sum i ∷ is.2 i ∷ [])),
+      let same : size ≡ n = ap (size_in n) e in
+      let is = (exact n).0 (ap (λ k. Some k) same) in
+      ((is.0, is.1), λ i. sum i ∷ is.2 i ∷ []),
   λ is.
-      let spelled : text ≡ decimal r.size = ap (second text) (sym are ∙ is.1) in
-      ap (λ (o : Option ℕ). request_in o) ((exact r.size).1 (is.0.0, is.0.1, spelled)),
+      let spelled : text ≡ decimal n = ap (second text) is.1 in
+      ap (λ (o : Option ℕ). wanted_in o) ((exact n).1 (is.0.0, is.0.1, spelled)),
 )
   where
-    size_in : ℕ → Option Request → Option ℕ
-    size_in d None = Some d
-    size_in d (Some r) = Some r.size
+    size_in : ℕ → Option Asked → ℕ
+    size_in d (Some (Sum n)) = n
+    size_in d _ = d
 
-    request_in : Option ℕ → Option Request
-    request_in None = None
-    request_in (Some n) = Some (record { size = n })
+    wanted_in : Option ℕ → Option Asked
+    wanted_in None = None
+    wanted_in (Some n) = Some (Sum n)
 
     second : List ℕ → List (List ℕ) → List ℕ
     second d (x ∷ y ∷ xs) = y
     second d xs = d
+is_sum command text size sum exact (Run name) = (λ e. cc, λ is. absurd (other_word (sym sum ∙ ap (first_of command) is.1)))
+  where
+    other_word : codes "sum" ≡ codes "run" → ⊥
+    other_word e = search (rules, e)
+is_sum command text size sum exact (Slow name) = (λ e. cc, λ is. absurd (other_word (sym sum ∙ ap (first_of command) is.1)))
+  where
+    other_word : codes "sum" ≡ codes "slow" → ⊥
+    other_word e = search (rules, e)

@@ -3,3 +3,4 @@ pub mod Reading
 pub mod Takings
 pub mod Printing
 pub mod Answering
+pub mod PlanNotes

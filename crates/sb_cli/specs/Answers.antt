@@ -13,9 +13,11 @@ use Rattle.sb_pipeline.specs.Shapes.{Shape, streams_of}
 use Rattle.sb_outside.specs.Sources.{Rose}
 use Rattle.sb_outside.specs.Sinks.{AppendsPrefix}
 use Rattle.sb_cli.specs.declared.status.Status.{Status}
-use Rattle.sb_cli.specs.declared.status.Status.TheVariants.{Done, Words, Line, Input, Output, Memory}
+use Rattle.sb_cli.specs.declared.status.Status.TheVariants.{Done, Words, Plan, Line, Input, Output, Folder, Memory}
 use Rattle.sb_cli.specs.Given.{Given, items_of, stop_at}
-use Rattle.sb_cli.specs.Pipelines.{rows_below, all_rows}
+use Rattle.sb_outside.specs.Folders.{Files}
+use Rattle.sb_cli.specs.Words.{Asked}
+use Rattle.sb_cli.specs.Pipelines.{IsPlanFor, IsFaultFor, AsksForFile, rows_below, all_rows}
 
 -- the watermark below which rows are due where reading stopped: above all of them at the end, else the low watermark
 abbrev pub due_mark : Stop → ℕ → ℕ
@@ -43,30 +45,52 @@ HasWritten plan stop items taken taken' Input = (stop ≡ Fault) × Wrote taken 
 HasWritten plan stop items taken taken' Output = WrotePrefix taken taken' (all_rows plan items)
 HasWritten plan stop items taken taken' Memory = WrotePrefix taken taken' (all_rows plan items)
 HasWritten plan stop items taken taken' Words = ⊥
+HasWritten plan stop items taken taken' (Plan fault) = ⊥
+HasWritten plan stop items taken taken' Folder = ⊥
 
--- the answer to what the source gave
-abbrev pub IsAnswer : Shape → Option (List ℕ) → Option (List ℕ) → Option (List ℕ) → Option (List ℕ) → Status → Type 0
-IsAnswer plan left left' taken taken' status =
+-- the answer to what the source gave, for a plan
+abbrev pub IsAnswerOf : Shape → Option (List ℕ) → Option (List ℕ) → Option (List ℕ) → Option (List ℕ) → Status → Type 0
+IsAnswerOf plan left left' taken taken' status =
     (given : Given left left') × HasWritten plan (stop_at (streams_of plan) given) (items_of (streams_of plan) given) taken taken' status
 
+-- why there is no plan
+abbrev pub HasNoPlan : Option Files → Asked → Status → Type 0
+HasNoPlan folder wanted (Plan fault) = IsFaultFor folder wanted fault
+HasNoPlan folder wanted Folder = AsksForFile wanted
+HasNoPlan folder wanted Memory = ⊤
+HasNoPlan folder wanted Done = ⊥
+HasNoPlan folder wanted Words = ⊥
+HasNoPlan folder wanted (Line refusal) = ⊥
+HasNoPlan folder wanted Input = ⊥
+HasNoPlan folder wanted Output = ⊥
+
+-- the answer to what is asked for: there is no plan, and nothing was read or written, or it is the answer for the plan
+abbrev pub IsAnswer : Option Files → Asked → Option (List ℕ) → Option (List ℕ) → Option (List ℕ) → Option (List ℕ) → Status → Type 0
+IsAnswer folder wanted left left' taken taken' status =
+    (HasNoPlan folder wanted status × (left' ≡ left) × (taken' ≡ taken))
+    ⊎ ((plan : Shape) × IsPlanFor folder wanted plan × IsAnswerOf plan left left' taken taken' status)
+
 -- a fault is answered only where the count of faults of what failed rose
-abbrev pub HasCause : ℕ → ℕ → ℕ → ℕ → Status → Type 0
-HasCause reads reads' writes writes' Input = Rose reads reads'
-HasCause reads reads' writes writes' Output = Rose writes writes'
-HasCause reads reads' writes writes' Done = ⊤
-HasCause reads reads' writes writes' Words = ⊤
-HasCause reads reads' writes writes' (Line refusal) = ⊤
-HasCause reads reads' writes writes' Memory = ⊤
+abbrev pub HasCause : ℕ → ℕ → ℕ → ℕ → ℕ → ℕ → Status → Type 0
+HasCause reads reads' writes writes' loads loads' Input = Rose reads reads'
+HasCause reads reads' writes writes' loads loads' Output = Rose writes writes'
+HasCause reads reads' writes writes' loads loads' Folder = Rose loads loads'
+HasCause reads reads' writes writes' loads loads' Done = ⊤
+HasCause reads reads' writes writes' loads loads' Words = ⊤
+HasCause reads reads' writes writes' loads loads' (Plan fault) = ⊤
+HasCause reads reads' writes writes' loads loads' (Line refusal) = ⊤
+HasCause reads reads' writes writes' loads loads' Memory = ⊤
 
 -- the run was done, or memory was wanting
 abbrev pub IsDoneOrMemory : Status → Type 0
 IsDoneOrMemory status = (status ≡ Done) ⊎ (status ≡ Memory)
 
 -- no line of what the source gave is refused, and no count of faults rose
-pub record NothingFails (plan : Shape) (left left' : Option (List ℕ)) (reads reads' writes writes' : ℕ) : Type 0 where
+pub record NothingFails (plan : Shape) (left left' : Option (List ℕ)) (reads reads' writes writes' loads loads' : ℕ) : Type 0 where
   pub no_refusal : (given : Given left left') (refusal : Refusal) → stop_at (streams_of plan) given ≡ Refused refusal → ⊥
   pub no_read_failed : Rose reads reads' → ⊥
   pub no_write_failed : Rose writes writes' → ⊥
+  pub no_load_failed : Rose loads loads' → ⊥
 
 -- the notes took their text, or a prefix of it where their own count rose; nothing is said where memory was wanting
 abbrev pub HasNoted : Option (List ℕ) → Option (List ℕ) → ℕ → ℕ → List ℕ → Status → Type 0
@@ -80,3 +104,25 @@ IsWordsOrMemory status = (status ≡ Words) ⊎ (status ≡ Memory)
 -- the status is told as it is, or memory was wanting
 abbrev pub IsToldOf : Status → Status → Type 0
 IsToldOf status told = (told ≡ status) ⊎ (told ≡ Memory)
+
+-- a status at which the input was not read
+abbrev pub IsUnread : Status → Type 0
+IsUnread Words = ⊤
+IsUnread (Plan fault) = ⊤
+IsUnread Folder = ⊤
+IsUnread Done = ⊥
+IsUnread (Line refusal) = ⊥
+IsUnread Input = ⊥
+IsUnread Output = ⊥
+IsUnread Memory = ⊥
+
+-- a status at which the input was read, or memory was wanting
+abbrev pub IsRead : Status → Type 0
+IsRead Words = ⊥
+IsRead (Plan fault) = ⊥
+IsRead Folder = ⊥
+IsRead Done = ⊤
+IsRead (Line refusal) = ⊤
+IsRead Input = ⊤
+IsRead Output = ⊤
+IsRead Memory = ⊤

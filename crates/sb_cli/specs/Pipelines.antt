@@ -1,16 +1,50 @@
--- What a request asks of an input.
-use Rattle.std.specs.Prelude.{ℕ, List}
+-- What is asked of an input.
+use Rattle.std.specs.Prelude.{◌≡◌, ℕ, ◌+◌, List, [], take, Option, Some, unwrap_or, Result, Ok, Err}
 use Rattle.sb_record.specs.declared.item.Item.{Item}
 use Rattle.sb_record.specs.declared.item.Record.{Record}
 use Rattle.sb_record.specs.declared.item.Stream.{Stream}
 use Rattle.sb_record.specs.Streams.{records_of}
+use Rattle.sb_outside.specs.Folders.{Files}
+use Rattle.sb_pipeline.specs.Plans.{IsPlan}
 use Rattle.sb_pipeline.specs.Shapes.{Shape, sum_shape}
 use Rattle.sb_pipeline.specs.Results as result
-use Rattle.sb_cli.specs.declared.words.Request.{Request}
+use Rattle.sb_plan.specs.declared.fault.PlanFault.{PlanFault}
+use Rattle.sb_plan.specs.declared.TheConstants.{MAX_PLAN_BYTES}
+use Rattle.sb_plan.specs.PlanFiles.{plan_of}
+use Rattle.sb_cli.specs.Words.{Asked}
+use Rattle.sb_cli.specs.Words.Asked.{Sum, Run, Slow}
 
--- the plan that is asked for: the sums of stream a over fixed windows
-abbrev pub plan_of : Request → Shape
-plan_of request = sum_shape request.size
+-- the plan in a file, or its first fault. One byte more than a plan may have shows that it is too long. A file that is not there counts as empty: who reads it meets the folder's fault
+abbrev pub plan_in : Files → List ℕ → Result Shape PlanFault
+plan_in files name = plan_of files (take (MAX_PLAN_BYTES + 1) (unwrap_or (files name) []))
+
+-- the file is where the folder tells its files; in one that tells nothing it may be any
+abbrev pub GivesPlan : Option Files → List ℕ → Result Shape PlanFault → Type 0
+GivesPlan folder name found = (files : Files) → folder ≡ Some files → plan_in files name ≡ found
+
+-- this is the plan that is asked for
+abbrev pub IsPlanFor : Option Files → Asked → Shape → Type 0
+IsPlanFor folder (Sum size) plan = plan ≡ sum_shape size
+IsPlanFor folder (Run name) plan = IsPlan plan × GivesPlan folder name (Ok plan)
+IsPlanFor folder (Slow name) plan = IsPlan plan × GivesPlan folder name (Ok plan)
+
+-- there is no such plan: this is the first fault of its file
+abbrev pub IsFaultFor : Option Files → Asked → PlanFault → Type 0
+IsFaultFor folder (Sum size) fault = ⊥
+IsFaultFor folder (Run name) fault = GivesPlan folder name (Err fault)
+IsFaultFor folder (Slow name) fault = GivesPlan folder name (Err fault)
+
+-- a file is asked for
+abbrev pub AsksForFile : Asked → Type 0
+AsksForFile (Sum size) = ⊥
+AsksForFile (Run name) = Unit {0}
+AsksForFile (Slow name) = Unit {0}
+
+-- the folder tells its files, where one is asked for, and that gives this plan
+abbrev pub TellsPlan : Option Files → Asked → Shape → Type 0
+TellsPlan folder (Sum size) plan = plan ≡ sum_shape size
+TellsPlan folder (Run name) plan = (files : Files) × (folder ≡ Some files) × (plan_in files name ≡ Ok plan)
+TellsPlan folder (Slow name) plan = (files : Files) × (folder ≡ Some files) × (plan_in files name ≡ Ok plan)
 
 -- the records of each stream among the items
 abbrev pub streams_in : List Item → Stream → List Record

@@ -1,19 +1,27 @@
 -- What each status is for a caller of the program, and for its user.
-use Rattle.std.specs.Prelude.{ℕ, List, [], ◌∷◌, ◌++◌, decimal, codes}
+use Rattle.std.specs.Prelude.{ℕ, ◌==◌, if◌then◌else◌, List, [], ◌∷◌, ◌++◌, decimal, codes}
 use Rattle.sb_record.specs.declared.intake.Refusal.{Refusal}
 use Rattle.sb_record.specs.declared.intake.Refusal.TheVariants.{TooMany, TooLong, Malformed, WrongStream, Late, Back}
 use Rattle.sb_record.specs.declared.intake.Stop.{Stop}
 use Rattle.sb_record.specs.declared.intake.Stop.TheVariants.{End, Refused, Fault}
+use Rattle.sb_pardo.specs.declared.table_file.RowFault.{RowFault}
+use Rattle.sb_pardo.specs.declared.table_file.RowFault.TheVariants as row
+use Rattle.sb_plan.specs.declared.fault.PlanCause.{PlanCause}
+use Rattle.sb_plan.specs.declared.fault.PlanCause.TheVariants as cause
+use Rattle.sb_plan.specs.declared.fault.PlanFault.{PlanFault}
+use Rattle.sb_plan.specs.Keys.{key_text}
 use Rattle.sb_cli.specs.declared.status.Status.{Status}
-use Rattle.sb_cli.specs.declared.status.Status.TheVariants.{Done, Words, Line, Input, Output, Memory}
+use Rattle.sb_cli.specs.declared.status.Status.TheVariants.{Done, Words, Plan, Line, Input, Output, Folder, Memory}
 
 -- the exit code
 abbrev pub code_of : Status → ℕ
 code_of Done = 0
 code_of Words = 1
+code_of (Plan fault) = 2
 code_of (Line refusal) = 3
 code_of Input = 4
 code_of Output = 5
+code_of Folder = 6
 code_of Memory = 7
 
 -- the status of a run whose output went well
@@ -39,11 +47,48 @@ refusal_text (WrongStream line) = at_line line ++ codes "stream not in the plan"
 refusal_text (Late line time mark) = with_times (at_line line ++ codes "late record") time mark
 refusal_text (Back line time mark) = with_times (at_line line ++ codes "watermark goes back") time mark
 
+-- what is wrong with a row of a table
+abbrev pub row_fault_text : RowFault → List ℕ
+row_fault_text row.TooMany = codes "too many rows"
+row_fault_text row.Width = codes "not two columns"
+row_fault_text row.Key = codes "bad key"
+row_fault_text row.Image = codes "bad image"
+row_fault_text row.Repeated = codes "repeated key"
+
+-- what is wrong with a plan file
+abbrev pub plan_cause_text : PlanCause → List ℕ
+plan_cause_text cause.TooLong = codes "file too long"
+plan_cause_text cause.NotToml = codes "not TOML"
+plan_cause_text cause.UnknownField = codes "unknown field"
+plan_cause_text (cause.Missing key) = key_text key ++ codes ": missing"
+plan_cause_text (cause.WrongType key) = key_text key ++ codes ": wrong type"
+plan_cause_text (cause.OutOfRange key) = key_text key ++ codes ": out of range"
+plan_cause_text cause.TooMany = codes "too many transforms"
+plan_cause_text cause.NameTaken = codes "name taken"
+plan_cause_text cause.UnknownKind = codes "unknown kind"
+plan_cause_text cause.TableTooLong = codes "table too long"
+plan_cause_text (cause.TableRow fault) = codes "table row " ++ decimal fault.row ++ codes ": " ++ row_fault_text fault.what
+plan_cause_text (cause.UnknownFrom key) = key_text key ++ codes ": unknown"
+plan_cause_text (cause.UsedTwice key) = key_text key ++ codes ": used twice"
+plan_cause_text cause.TwoJoins = codes "second join"
+plan_cause_text cause.Unused = codes "not used"
+plan_cause_text cause.NoWindow = codes "no window"
+
+-- `plan: `, and `transform N: ` where the fault is one of a transform
+abbrev pub at_transform : ℕ → List ℕ
+at_transform place = if place == 0 then codes "plan: " else codes "plan: transform " ++ decimal place ++ codes ": "
+
+-- what a user is told of a plan that is refused
+abbrev pub plan_text : PlanFault → List ℕ
+plan_text fault = at_transform fault.at ++ plan_cause_text fault.what
+
 -- what a user is told of how the run ended, as a line
 abbrev pub note_text : Status → List ℕ
 note_text Done = []
 note_text Words = codes "words not understood" ++ 10 ∷ []
+note_text (Plan fault) = plan_text fault ++ 10 ∷ []
 note_text (Line refusal) = refusal_text refusal ++ 10 ∷ []
 note_text Input = codes "input failed" ++ 10 ∷ []
 note_text Output = codes "output failed" ++ 10 ∷ []
+note_text Folder = codes "file failed" ++ 10 ∷ []
 note_text Memory = codes "out of memory" ++ 10 ∷ []

@@ -1,24 +1,45 @@
 -- The words that ask for something.
-use Rattle.std.specs.Prelude.{◌≡◌, ◌≤◌, ℕ, List, [], ◌∷◌, decimal, codes}
+use Rattle.std.specs.Prelude.{◌≡◌, ◌≢◌, ◌≤◌, ℕ, List, [], ◌∷◌, decimal, codes}
 use Rattle.sb_cli.specs.declared.words.Request.{Request}
+use Rattle.sb_cli.specs.declared.words.Request.TheVariants as request
 use Rattle.sb_cli.specs.declared.words.TheConstants.{MAX_SIZE}
+
+-- what users may ask for: sums over windows of a size, or the rows of a plan from a file, by the engine or by the plain program
+pub data Asked : Type 0 where
+  Sum : (size : ℕ) → Asked
+  Run : (name : List ℕ) → Asked
+  Slow : (name : List ℕ) → Asked
+
+abbrev pub asked : Request → Asked
+asked (request.Sum size) = Sum size
+asked (request.Run name) = Run name.now
+asked (request.Slow name) = Slow name.now
 
 -- a size of windows that users may ask for
 abbrev pub IsSize : ℕ → Type 0
 IsSize size = (1 ≤ size) × (size ≤ MAX_SIZE)
 
+-- the name of a file, which is no option: it has at least one byte, and does not begin with `-`
+abbrev pub IsFileName : List ℕ → Type 0
+IsFileName [] = ⊥
+IsFileName (byte ∷ bytes) = byte ≢ 45
+
 -- what users may ask for
-abbrev pub IsValid : Request → Type 0
-IsValid request = IsSize request.size
+abbrev pub IsValid : Asked → Type 0
+IsValid (Sum size) = IsSize size
+IsValid (Run name) = IsFileName name
+IsValid (Slow name) = IsFileName name
 
 -- the words that ask for it
-abbrev pub words_of : Request → List (List ℕ)
-words_of request = codes "sum" ∷ decimal request.size ∷ []
+abbrev pub words_of : Asked → List (List ℕ)
+words_of (Sum size) = codes "sum" ∷ decimal size ∷ []
+words_of (Run name) = codes "run" ∷ name ∷ []
+words_of (Slow name) = codes "slow" ∷ name ∷ []
 
--- the words are the command for this request
-abbrev pub IsCommand : Request → List (List ℕ) → Type 0
-IsCommand request words = IsValid request × (words ≡ words_of request)
+-- the words are the command for this
+abbrev pub IsCommand : Asked → List (List ℕ) → Type 0
+IsCommand wanted words = IsValid wanted × (words ≡ words_of wanted)
 
 -- the words are no command
 abbrev pub IsNoCommand : List (List ℕ) → Type 0
-IsNoCommand words = (request : Request) → IsCommand request words → ⊥
+IsNoCommand words = (wanted : Asked) → IsCommand wanted words → ⊥

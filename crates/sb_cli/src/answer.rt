@@ -1,40 +1,78 @@
 //! The answer to a request: an input is read whole, and then its rows are written.
 
-ghost use Rattle.std.specs.Prelude.{◌≡◌};
+ghost use Rattle.std.specs.Prelude.{◌≡◌, ℕ, Some};
 ghost use Rattle.std.specs.List.{AllByRecursion};
 ghost use Rattle.sb_record.specs.Lines.{IsItemInRange};
 ghost use Rattle.sb_record.specs.Streams.{low_watermark};
+ghost use Rattle.sb_outside.specs.Folders.{Files};
 ghost use Rattle.sb_outside.specs.Sources.{Rose};
-ghost use Rattle.sb_pipeline.specs.Shapes.{streams_of};
+ghost use Rattle.sb_pipeline.specs.Plans.{IsPlan};
+ghost use Rattle.sb_pipeline.specs.Shapes.{streams_of, sum_shape};
+ghost use Rattle.sb_plan.specs.PlanFiles.{AnswersPlan, BlamesFolder};
 ghost use Rattle.sb_cli.specs.Answers as spec;
-ghost use Rattle.sb_cli.specs.Answers.{IsAnswer, HasCause, HasWritten};
-ghost use Rattle.sb_cli.specs.Pipelines.{plan_of};
-ghost use Rattle.sb_cli.specs.Words.{IsValid};
+ghost use Rattle.sb_cli.specs.Answers.{IsAnswer, IsAnswerOf, IsRead, IsUnread, HasCause, HasWritten};
+ghost use Rattle.sb_cli.specs.Pipelines.{plan_in};
+ghost use Rattle.sb_cli.specs.Words.{IsSize};
+ghost use Rattle.sb_cli.specs.Words.Asked.{Run};
 
 use crate::input::{Input, read_input};
 use crate::output::write_rows;
 use crate::status::Status;
-use crate::words::Request;
-use sb_outside::{Sink, SinkFault, Source};
+use sb_outside::{Folder, FolderFault, Sink, SinkFault, Source};
 use sb_pipeline::{Plan, sum_plan};
+use sb_plan::{MAX_PLAN_BYTES, PlanStop, plan_of};
 use sb_record::{END_MARK, NoMemory, Stop};
 use sb_slow::slow_rows;
 use std::alloc::Global;
 
-/// Answers a request.
-pub(crate) fn answer<S: Source, K: Sink>(
+/// The plan in a file.
+fn load_plan<F: Folder>(alloc: Global, name: &str, folder: &mut F) -> Result<Plan, PlanStop>
+    ensures exact { (files : Files) → F.files folder.old ≡ Some files → AnswersPlan result (plan_in files name.now) }
+    ensures cause { BlamesFolder (F.folder_faults folder.old) (F.folder_faults folder.new) result }
+{
+    let mut text = Vec::new(alloc);
+    match folder.load(name, MAX_PLAN_BYTES + 1, &mut text) {
+        Ok(()) => plan_of(alloc, &text, folder),
+        Err(FolderFault::Failed) => Err(PlanStop::Folder),
+        Err(FolderFault::Memory) => Err(PlanStop::Memory),
+    }
+}
+
+/// Answers with the sums over windows of a size.
+pub(crate) fn answer_sum<S: Source, K: Sink>(
     alloc: Global,
-    request: Request,
+    size: u64,
     source: &mut S,
     out: &mut K,
 ) -> Status
-    requires { IsValid request }
-    ensures answer { IsAnswer (plan_of request) (S.left source.old) (S.left source.new) (K.taken out.old) (K.taken out.new) result }
-    ensures cause { HasCause (S.faults source.old) (S.faults source.new) (K.sink_faults out.old) (K.sink_faults out.new) result }
+    requires { IsSize size }
+    ensures answer { IsAnswerOf (sum_shape size) (S.left source.old) (S.left source.new) (K.taken out.old) (K.taken out.new) result }
+    ensures read { IsRead result }
+    ensures cause { (loads loads' : ℕ) → HasCause (S.faults source.old) (S.faults source.new) (K.sink_faults out.old) (K.sink_faults out.new) loads loads' result }
 {
-    match sum_plan(alloc, request.size) {
+    match sum_plan(alloc, size) {
         Ok(plan) => answer_plan(alloc, &plan, source, out),
         Err(NoMemory) => Status::Memory,
+    }
+}
+
+/// Answers with the rows of the plan in a file.
+pub(crate) fn answer_file<S: Source, K: Sink, F: Folder>(
+    alloc: Global,
+    name: &str,
+    source: &mut S,
+    out: &mut K,
+    folder: &mut F,
+) -> Status
+    ensures answer { IsAnswer (F.files folder.old) (Run name.now) (S.left source.old) (S.left source.new) (K.taken out.old) (K.taken out.new) result }
+    ensures unread { IsUnread result → (source.new ≡ source.old) × (out.new ≡ out.old) }
+    ensures cause { HasCause (S.faults source.old) (S.faults source.new) (K.sink_faults out.old) (K.sink_faults out.new) (F.folder_faults folder.old) (F.folder_faults folder.new) result }
+{
+    match load_plan(alloc, name, folder) {
+        Ok(plan) => answer_plan(alloc, &plan, source, out),
+        Err(PlanStop::Fault(fault)) => Status::Plan(fault),
+        Err(PlanStop::Folder) => Status::Folder,
+        Err(PlanStop::Memory) => Status::Memory,
     }
 }
 
@@ -45,8 +83,10 @@ fn answer_plan<S: Source, K: Sink>(
     source: &mut S,
     out: &mut K,
 ) -> Status
-    ensures answer { IsAnswer plan.now (S.left source.old) (S.left source.new) (K.taken out.old) (K.taken out.new) result }
-    ensures cause { HasCause (S.faults source.old) (S.faults source.new) (K.sink_faults out.old) (K.sink_faults out.new) result }
+    ensures answer { IsAnswerOf plan.now (S.left source.old) (S.left source.new) (K.taken out.old) (K.taken out.new) result }
+    ensures plan { IsPlan plan.now }
+    ensures read { IsRead result }
+    ensures cause { (loads loads' : ℕ) → HasCause (S.faults source.old) (S.faults source.new) (K.sink_faults out.old) (K.sink_faults out.new) loads loads' result }
 {
     match read_input(alloc, plan.streams(), source) {
         Ok(input) => write_due(alloc, plan, &input, out),

@@ -9,6 +9,8 @@ mod command;
 mod input;
 mod note;
 mod output;
+#[cfg(test)]
+mod plan_tests;
 mod status;
 #[cfg(test)]
 mod tests;

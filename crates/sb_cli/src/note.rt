@@ -1,9 +1,12 @@
 //! What a user is told of how a run ended.
 
 ghost use Rattle.std.specs.Prelude.{◌≡◌, ◌≤◌, ◌+◌, ◌++◌, length};
+ghost use Rattle.sb_plan.specs.Keys.{key_text};
 ghost use Rattle.sb_cli.specs.Statuses as spec;
 
 use crate::status::Status;
+use sb_pardo::{RowFault, TableFault};
+use sb_plan::{PlanCause, PlanFault, PlanKey};
 use sb_record::{Refusal, TextBuf};
 
 /// The text of a note: it takes no memory.
@@ -74,6 +77,84 @@ fn refusal_note(refusal: Refusal) -> Note
     }
 }
 
+/// `plan: `, and the transform where it is one.
+fn at_transform(place: u32) -> Note
+    ensures text { result ≡ spec.at_transform place }
+    ensures short { length result ≤ 38 }
+{
+    let mut note = Note::new();
+    note.push(b"plan: ");
+    if place > 0 {
+        note.push(b"transform ");
+        note.push_number(u64::from(place));
+        note.push(b": ");
+    }
+    note
+}
+
+/// What is wrong with a row of a table.
+fn row_fault_text(what: RowFault) -> &'static [u8]
+    ensures text { result.now ≡ spec.row_fault_text what }
+    ensures short { length result.now ≤ 15 }
+{
+    match what {
+        RowFault::TooMany => b"too many rows",
+        RowFault::Width => b"not two columns",
+        RowFault::Key => b"bad key",
+        RowFault::Image => b"bad image",
+        RowFault::Repeated => b"repeated key",
+    }
+}
+
+/// A key of a plan file, and what is wrong with it.
+fn push_key(note: &mut Note, key: PlanKey, what: &[u8])
+    requires { (length note.old ≤ 38) × (length what.now ≤ 14) }
+    ensures text { note.new ≡ note.old ++ (key_text key ++ what.now) }
+    ensures short { length note.new ≤ length note.old + 23 }
+{
+    note.push(key.text().as_bytes());
+    note.push(what);
+}
+
+/// A faulty row of a table.
+fn push_row(note: &mut Note, fault: TableFault)
+    requires { length note.old ≤ 38 }
+    ensures text { note.new ≡ note.old ++ spec.plan_cause_text (PlanCause.TableRow fault) }
+    ensures short { length note.new ≤ length note.old + 47 }
+{
+    note.push(b"table row ");
+    note.push_number(u64::from(fault.row));
+    note.push(b": ");
+    note.push(row_fault_text(fault.what));
+}
+
+/// What is wrong with a plan.
+fn plan_note(fault: PlanFault) -> Note
+    ensures text { result ≡ spec.plan_text fault }
+    ensures short { length result ≤ 127 }
+{
+    let mut note = at_transform(fault.at);
+    match fault.what {
+        PlanCause::TooLong => note.push(b"file too long"),
+        PlanCause::NotToml => note.push(b"not TOML"),
+        PlanCause::UnknownField => note.push(b"unknown field"),
+        PlanCause::Missing(key) => push_key(&mut note, key, b": missing"),
+        PlanCause::WrongType(key) => push_key(&mut note, key, b": wrong type"),
+        PlanCause::OutOfRange(key) => push_key(&mut note, key, b": out of range"),
+        PlanCause::TooMany => note.push(b"too many transforms"),
+        PlanCause::NameTaken => note.push(b"name taken"),
+        PlanCause::UnknownKind => note.push(b"unknown kind"),
+        PlanCause::TableTooLong => note.push(b"table too long"),
+        PlanCause::TableRow(fault) => push_row(&mut note, fault),
+        PlanCause::UnknownFrom(key) => push_key(&mut note, key, b": unknown"),
+        PlanCause::UsedTwice(key) => push_key(&mut note, key, b": used twice"),
+        PlanCause::TwoJoins => note.push(b"second join"),
+        PlanCause::Unused => note.push(b"not used"),
+        PlanCause::NoWindow => note.push(b"no window"),
+    }
+    note
+}
+
 /// The line that a user is told; none where all went well.
 pub(crate) fn note_of(status: Status) -> Note
     ensures { result ≡ spec.note_text status }
@@ -81,12 +162,14 @@ pub(crate) fn note_of(status: Status) -> Note
     let mut note = match status {
         Status::Done => return Note::new(),
         Status::Line(refusal) => refusal_note(refusal),
+        Status::Plan(fault) => plan_note(fault),
         _ => Note::new(),
     };
     match status {
         Status::Words => note.push(b"words not understood"),
         Status::Input => note.push(b"input failed"),
         Status::Output => note.push(b"output failed"),
+        Status::Folder => note.push(b"file failed"),
         Status::Memory => note.push(b"out of memory"),
         _ => {}
     }

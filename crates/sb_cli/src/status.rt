@@ -3,6 +3,7 @@
 ghost use Rattle.std.specs.Prelude.{◌≡◌};
 ghost use Rattle.sb_cli.specs.Statuses as spec;
 
+use sb_plan::PlanFault;
 use sb_record::{Refusal, Stop};
 
 /// How a run ends.
@@ -12,12 +13,16 @@ pub enum Status {
     Done,
     /// The words are no command.
     Words,
+    /// The plan is refused: its first fault.
+    Plan(PlanFault),
     /// A line of the input is refused: the first one that is.
     Line(Refusal),
     /// Reading the input failed.
     Input,
     /// Writing the rows failed.
     Output,
+    /// The plan file, or a table that it names, could not be loaded.
+    Folder,
     /// There was no memory.
     Memory,
 }
@@ -30,9 +35,11 @@ impl Status {
         match self {
             Status::Done => 0,
             Status::Words => 1,
+            Status::Plan(_) => 2,
             Status::Line(_) => 3,
             Status::Input => 4,
             Status::Output => 5,
+            Status::Folder => 6,
             Status::Memory => 7,
         }
     }

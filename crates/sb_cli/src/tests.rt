@@ -3,9 +3,10 @@
 ghost use Rattle.std.specs.Prelude.{◌≤◌, All, IfOk};
 
 use crate::{Status, streambox};
-use sb_outside::{MemSink, MemSource};
+use sb_outside::{MemFolder, MemSink, MemSource};
 use sb_record::Refusal;
 use std::alloc::{AllocError, Global};
+use std::collections::BTreeMap;
 use std::test::Fail;
 
 /// What a run gave: its status, the rows and the notes.
@@ -40,7 +41,8 @@ fn run(
 ) -> Result<Ran, AllocError> {
     let words = strings_of(alloc, words)?;
     let mut notes = MemSink::new(alloc, Vec::new(alloc), Vec::new(alloc));
-    let status = streambox(alloc, &words, input, out, &mut notes);
+    let mut folder = MemFolder::new(BTreeMap::new(alloc), Vec::new(alloc));
+    let status = streambox(alloc, &words, input, out, &mut notes, &mut folder);
     Ok(Ran {
         status,
         rows: Vec::from_slice(alloc, out.taken())?,
@@ -220,7 +222,7 @@ fn a_line_has_at_most_128_bytes(rt: HostRuntime) -> Result<(), Fail> {
 
 #[test]
 fn words_outside_the_grammar_are_not_understood(rt: HostRuntime) -> Result<(), Fail> {
-    let faulty: [&[&str]; 10] = [
+    let faulty: [&[&str]; 15] = [
         &[],
         &["sum"],
         &["sum", "0"],
@@ -231,6 +233,11 @@ fn words_outside_the_grammar_are_not_understood(rt: HostRuntime) -> Result<(), F
         &["--help"],
         &["Sum", "10"],
         &["10", "sum"],
+        &["run"],
+        &["run", ""],
+        &["run", "-p.toml"],
+        &["slow", "--help"],
+        &["run", "p.toml", "x"],
     ];
     for words in faulty {
         let ran = run_in_pieces(rt.alloc(), words, FIRST, 7)?;
@@ -289,7 +296,8 @@ fn notes_that_fail_change_no_status(rt: HostRuntime) -> Result<(), Fail> {
     let mut out = MemSink::new(alloc, Vec::new(alloc), Vec::new(alloc));
     let mut notes = MemSink::new(alloc, vec![in alloc; 6]?, vec![in alloc; 2]?);
     let words = strings_of(alloc, &["sum", "10"])?;
-    let status = streambox(alloc, &words, &mut input, &mut out, &mut notes);
+    let mut folder = MemFolder::new(BTreeMap::new(alloc), Vec::new(alloc));
+    let status = streambox(alloc, &words, &mut input, &mut out, &mut notes, &mut folder);
     assert_eq!(rt; status, Status::Line(Refusal::Malformed { line: 1 }));
     assert_eq!(rt; notes.taken(), b"line 1".as_slice());
     Ok(())

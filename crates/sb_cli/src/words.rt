@@ -2,23 +2,31 @@
 //!
 //! | Words | What they ask for |
 //! |---|---|
-//! | `sum SIZE` | the sums over windows of that size, 1 to 10^12 |
+//! | `sum SIZE` | the sums of stream a over windows of that size, 1 to 10^12 |
+//! | `run PLAN` | the rows of the plan in that file |
+//! | `slow PLAN` | the same rows, by the plain program |
 //!
-//! A number is decimal digits, without a sign and without leading zeros.
+//! A number is decimal digits, without a sign and without leading zeros. A PLAN has at least one byte and does not begin
+//! with `-`.
 
-ghost use Rattle.std.specs.Prelude.{◌≡◌, ◌≤◌, ◌↔◌, ℕ, Some, IfSome, map, string_bytes, decimal};
-ghost use Rattle.sb_cli.specs.declared.words.Request.{Request};
-ghost use Rattle.sb_cli.specs.Words.{IsCommand, IsValid};
+ghost use Rattle.std.specs.Prelude.{◌≡◌, ◌≤◌, ◌↔◌, ◌∷◌, [], ℕ, Some, IsTrue, IfSome, map, string_bytes, decimal};
+ghost use Rattle.std.specs.Option.{option_map};
+ghost use Rattle.sb_cli.specs.Words.{Asked, IsCommand, IsFileName, IsValid, asked};
 
 use sb_record::read_number;
 
 /// The greatest size of a window.
 const MAX_SIZE: u64 = 1_000_000_000_000;
 
-/// What words ask for: the sums of stream a over windows of this size.
+/// What words ask for.
 #[derive(Clone, Copy, Debug, PartialEq, Eq)]
-pub struct Request {
-    pub size: u64,
+pub enum Request<'a> {
+    /// The sums of stream a over windows of this size.
+    Sum(u64),
+    /// The rows of the plan in the file of this name.
+    Run(&'a str),
+    /// The same rows, by the plain program.
+    Slow(&'a str),
 }
 
 /// The size of a window, as users spell it.
@@ -29,17 +37,44 @@ fn read_size(text: &[u8]) -> Option<u64>
     if size == 0 { None } else { Some(size) }
 }
 
-/// What the words ask for, if they are a command.
-pub fn read_words(words: &[String]) -> Option<Request>
-    ensures exact { (r : Request) → (result ≡ Some r) ↔ IsCommand r (map (λ w. string_bytes w) words.now) }
-    ensures valid { IfSome result IsValid }
+/// Whether a word is the name of a file, and no option.
+fn is_file_name(word: &str) -> bool
+    ensures { IsTrue result ↔ IsFileName word.now }
 {
-    let [command, size] = words else {
+    match word.as_bytes().first() {
+        Some(byte) => *byte != b'-',
+        None => false,
+    }
+}
+
+/// What the words ask for, if they are a command.
+pub fn read_words(words: &[String]) -> Option<Request<'_>>
+    ensures exact { (wanted : Asked) → (option_map asked result ≡ Some wanted) ↔ IsCommand wanted (map (λ w. string_bytes w) words.now) }
+    ensures valid { IfSome result (λ request. IsValid (asked request)) }
+{
+    let [command, argument] = words else {
         return None;
     };
-    if command.as_str() != "sum" {
+    read_command(command.as_str(), argument.as_str())
+}
+
+/// What a command and its argument ask for.
+fn read_command<'a>(command: &str, argument: &'a str) -> Option<Request<'a>>
+    ensures exact { (wanted : Asked) → (option_map asked result ≡ Some wanted) ↔ IsCommand wanted (command.now ∷ argument.now ∷ []) }
+    ensures valid { IfSome result (λ request. IsValid (asked request)) }
+{
+    if command == "sum" {
+        let size = read_size(argument.as_bytes())?;
+        return Some(Request::Sum(size));
+    }
+    if !is_file_name(argument) {
         return None;
     }
-    let size = read_size(size.as_bytes())?;
-    Some(Request { size })
+    if command == "run" {
+        return Some(Request::Run(argument));
+    }
+    if command == "slow" {
+        return Some(Request::Slow(argument));
+    }
+    None
 }

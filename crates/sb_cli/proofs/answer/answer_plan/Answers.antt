@@ -17,5 +17,5 @@ write_due-requires-clause-range g c = λ κs outlives.
 
 pub returns-in-Ok-clause-answer : goal.returns-in-Ok-clause-answer
 returns-in-Ok-clause-answer g c =
-    let (given, is) = rw c.streams.ensures at c.in-Ok.ensures.reads in
+    let (given, is) = rw c.streams.ensures.value at c.in-Ok.ensures.reads in
     (given, rw (← is.stop, ← is.items) c.write_due.ensures.written)

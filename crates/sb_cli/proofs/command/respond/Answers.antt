@@ -1,10 +1,18 @@
-use Rattle.std.proofs.Common.{subst}
+use Rattle.std.proofs.Common.{◌≡◌, Option, Some, inr, refl, sym, ap, ◌∙◌, subst}
+use Rattle.sb_pipeline.specs.Shapes.{sum_shape}
 use Rattle.sb_cli.specs.Answers.{IsAnswer}
-use Rattle.sb_cli.specs.Pipelines.{plan_of}
+use Rattle.sb_cli.specs.Words.{Asked, asked}
+use Rattle.sb_cli.specs.Words.Asked.{Sum}
 use Rattle.sb_cli.proofs.Commands.{some_value}
 use Rattle.sb_cli.proofs.command.respond.Goals as goal
 
-pub returns-in-Some-clause-answer : goal.returns-in-Some-clause-answer
-returns-in-Some-clause-answer g c = λ request is.
-    let same = some_value c.in-Some.request request ((c.in-Some.ensures.exact request).1 is) in
-    subst (λ r. IsAnswer (plan_of r) (g.S.Source.left c.args.input.now) (g.S.Source.left c.answer.new.source) (g.K.Sink.taken c.args.out.now) (g.K.Sink.taken c.answer.new.out) c.answer.result) same c.answer.ensures.answer
+pub returns-in-Some-Sum-clause-answer : goal.returns-in-Some-Sum-clause-answer
+returns-in-Some-Sum-clause-answer g c = λ wanted is.
+    let size = c.in-Some-Sum.size in
+    let found = some_value _ wanted ((c.in-Some-Sum.ensures.exact wanted).1 is) in
+    let same : Sum c.in-Some-Sum.size ≡ wanted = sym (ap asked c.in-Some-Sum.field-0-is) ∙ found in
+    subst (λ w. IsAnswer (g.F.Folder.files c.args.folder.now) w (g.S.Source.left c.args.input.now) (g.S.Source.left c.answer_sum.new.source) (g.K.Sink.taken c.args.out.now) (g.K.Sink.taken c.answer_sum.new.out) c.answer_sum.result) same
+    (inr (sum_shape size, refl, c.answer_sum.ensures.answer))
+
+pub returns-in-Some-Sum-clause-cause : goal.returns-in-Some-Sum-clause-cause
+returns-in-Some-Sum-clause-cause g c = c.answer_sum.ensures.cause (g.F.Folder.folder_faults c.args.folder.now) (g.F.Folder.folder_faults c.args.folder.now)
