@@ -5,6 +5,8 @@ use Rattle.sb_outside.specs.Folders.{Files}
 use Rattle.sb_plan.specs.declared.fault.PlanCause.{PlanCause}
 use Rattle.sb_plan.specs.declared.wiring.Wiring.{Wiring}
 use Rattle.sb_plan.specs.declared.entry.Entry.{Entry}
+use Rattle.sb_plan.specs.Failures.{by_text}
+use Rattle.sb_plan.specs.Failures.Failure.{Fails}
 use Rattle.sb_plan.specs.Entries.{entry_at}
 use Rattle.sb_plan.specs.Wiring.{connected}
 use Rattle.std.proofs.lemmas.List.{drop_all}
@@ -18,13 +20,13 @@ pub takes_passed : (files : Files) (place : ℕ) (old new : Wiring) (value : Dat
 unfolding wired_from
 takes_passed files place old new value rest h = rw h refl
 
-pub takes_refused : (files : Files) (place : ℕ) (old : Wiring) (value : Data) (rest : Items) (cause : PlanCause) → element_wired files old value ≡ Err cause
-    → wired_from files place old (item value rest) ≡ Err (fault_at place cause)
+pub takes_refused : (files : Files) (place : ℕ) (old : Wiring) (value : Data) (rest : Items) (cause : PlanCause) → element_wired files old value ≡ Err (Fails cause)
+    → wired_from files place old (item value rest) ≡ Err (Fails (fault_at place cause))
 unfolding wired_from
 takes_refused files place old value rest cause h = rw h refl
 
 pub element_wired-entry : (files : Files) (wiring : Wiring) (value : Data) (table : Members) (entry : Entry) → as_table value ≡ Some table → entry_at files wiring.parts table ≡ Ok entry
-    → element_wired files wiring value ≡ connected entry wiring
+    → element_wired files wiring value ≡ by_text (connected entry wiring)
 unfolding element_wired
 element_wired-entry files wiring value table entry is h = rw is (rw h refl)
 

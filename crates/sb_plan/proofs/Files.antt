@@ -7,6 +7,7 @@ use Rattle.toml.specs.Data.{Members, as_str}
 use Rattle.sb_outside.specs.Folders.{Files}
 use Rattle.sb_plan.specs.declared.fault.PlanKey.TheVariants as key
 use Rattle.sb_plan.specs.declared.TheConstants.{MAX_TABLE_BYTES}
+use Rattle.sb_plan.specs.Failures.{by_text}
 use Rattle.sb_plan.specs.Keys.{typed_at, word_at}
 use Rattle.sb_plan.specs.Kinds.{lookup_at, lookup_in}
 
@@ -28,7 +29,7 @@ lookup-cut bytes = elim (cut MAX_TABLE_BYTES bytes) [
 
 -- the look-up in the file that was read
 pub lookup-read : (files : Files) (table : Members) (name bytes read : List ℕ) → typed_at as_str key.Table table ≡ Ok name → 1 ≤ length name → files name ≡ Some bytes
-    → read ≡ take (MAX_TABLE_BYTES + 1) bytes → lookup_at files table ≡ lookup_in read
+    → read ≡ take (MAX_TABLE_BYTES + 1) bytes → lookup_at files table ≡ by_text (lookup_in read)
 unfolding lookup_at word_at
 lookup-read files table [] bytes read typed some found cut_off = absurd (omega arith)
-lookup-read files table (c ∷ cs) bytes read typed some found cut_off = rw typed (rw found (sym (ap lookup_in cut_off ∙ lookup-cut bytes)))
+lookup-read files table (c ∷ cs) bytes read typed some found cut_off = rw typed (rw found (ap by_text (sym (ap lookup_in cut_off ∙ lookup-cut bytes))))

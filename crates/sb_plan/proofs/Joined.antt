@@ -19,7 +19,9 @@ use Rattle.sb_plan.specs.declared.fault.PlanKey.TheVariants as key
 use Rattle.sb_plan.specs.declared.fault.PlanCause.{PlanCause}
 use Rattle.sb_plan.specs.declared.fault.PlanCause.TheVariants as cause
 use Rattle.sb_plan.specs.declared.stop.Stop.{Stop}
+use Rattle.sb_plan.proofs.OfKinds.{of_text}
 use Rattle.sb_plan.specs.Answers.{ChangesTo}
+use Rattle.sb_plan.specs.Failures.{by_text}
 use Rattle.sb_plan.specs.Wiring.{input_sent, right_sent, inputs_sent, is_second_join, with_part, connected}
 use Rattle.sb_plan.specs.Soundness.{IsSound, IsValidEntry, IsLane, lanes_in, goes, fed_by}
 use Rattle.sb_plan.proofs.Sent.{Sent, sent_none, sent_more, new_at, kind_of}
@@ -232,7 +234,7 @@ connected_sound entry w u h valid is = by_single (is_second_join entry.kind w.pa
     by_single false e g = by_sent e (inputs_sent (length w.parts) entry w) refl g
 
 -- the same of an answer that may want memory
-pub connects_sound : {A : Type 0} (entry : Entry) (w u : Wiring) (r : Result A Stop) → ChangesTo r (connected entry w) u → IsValidEntry entry → IsSound w
+pub connects_sound : {A : Type 0} (entry : Entry) (w u : Wiring) (r : Result A Stop) → ChangesTo r (by_text (connected entry w)) u → IsValidEntry entry → IsSound w
     → OnOk r (IsSound u × (length u.parts ≡ length w.parts + 1))
-connects_sound entry w u (Ok x) h valid is = connected_sound entry w u h valid is
+connects_sound entry w u (Ok x) h valid is = connected_sound entry w u (of_text (connected entry w) u h) valid is
 connects_sound entry w u (Err s) h valid is = tt

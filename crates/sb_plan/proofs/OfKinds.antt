@@ -39,9 +39,11 @@ use Rattle.sb_plan.specs.declared.words.KindName.{KindName}
 use Rattle.sb_plan.specs.declared.words.KindName.TheVariants as kind
 use Rattle.sb_plan.specs.declared.words.ChangeName.{ChangeName}
 use Rattle.sb_plan.specs.declared.words.ChangeName.TheVariants as change_name
+use Rattle.sb_plan.specs.Failures.{Failure, by_text, in_file, in_place_of}
+use Rattle.sb_plan.specs.Failures.Failure.{Fails}
 use Rattle.sb_plan.specs.Keys.{key_text, typed_at, word_at, number_at, number_between}
 use Rattle.sb_plan.specs.Words.{change_by, change_named, combine_named, field_named, test_named}
-use Rattle.sb_plan.specs.Kinds.{file_name, as_integers, filter_at, map_at, expand_at, windows_every, windows_at, group_at, top_at, join_at, lookup_in, lookup_at, transform_at, in_place_of}
+use Rattle.sb_plan.specs.Kinds.{file_name, as_integers, filter_at, map_at, expand_at, windows_every, windows_at, group_at, top_at, join_at, lookup_in, lookup_at, transform_at}
 use Rattle.sb_plan.specs.declared.stop.Stop.{Stop}
 use Rattle.sb_plan.specs.Answers.{AnswersTests}
 use Rattle.sb_plan.specs.Soundness.{IsOfKind, names_join}
@@ -50,6 +52,20 @@ use Rattle.sb_plan.specs.Soundness.{IsOfKind, names_join}
 pub passed : {A B E : Type 0} (r : Result A E) (f : A → Result B E) (b : B) → then_test r f ≡ Ok b → (a : A) × (r ≡ Ok a) × (f a ≡ Ok b)
 passed (Ok a) f b h = (a, refl, h)
 passed (Err e) f b h = cc
+
+-- the same where the first test is of the text alone
+pub of_text : {A E : Type 0} (r : Result A E) (a : A) → by_text r ≡ Ok a → r ≡ Ok a
+of_text (Ok x) a h = cc
+of_text (Err e) a h = cc
+
+pub passed_text : {A B E : Type 0} (r : Result A E) (f : A → Result B (Failure E)) (b : B) → then_test (by_text r) f ≡ Ok b → (a : A) × (r ≡ Ok a) × (f a ≡ Ok b)
+passed_text (Ok a) f b h = (a, refl, h)
+passed_text (Err e) f b h = cc
+
+-- a file that gives anything is there
+is_there : {A E : Type 0} (read : List ℕ → Result A (Failure E)) (file : Option (List ℕ)) (a : A) → in_file read file ≡ Ok a → (bytes : List ℕ) × (read bytes ≡ Ok a)
+is_there read (Some bytes) a h = (bytes, h)
+is_there read None a h = cc
 
 pub found : {A E : Type 0} (e : E) (o : Option A) (a : A) → or_fault e o ≡ Ok a → o ≡ Some a
 found e (Some x) a h = cc
@@ -237,29 +253,30 @@ lookup-valid bytes t h = by_case (nat_lt MAX_TABLE_BYTES (length bytes)) h
 lookup_file-valid : (files : Files) (table : Members) (t : Kind) → lookup_at files table ≡ Ok t → IsOfKind kind.Lookup t
 unfolding lookup_at
 lookup_file-valid files table t h =
-    let name = passed (word_at file_name key.Table table) _ t h in
-    lookup-valid (unwrap_or (files name.0) []) t name.2
+    let name = passed_text (word_at file_name key.Table table) _ t h in
+    let file = is_there (λ bytes. by_text (lookup_in bytes)) (files name.0) t name.2 in
+    lookup-valid file.0 t (of_text (lookup_in file.0) t file.1)
 
 -- the transform of a kind
 pub transform-valid : (files : Files) (name : KindName) (table : Members) (t : Kind) → transform_at files name table ≡ Ok t → IsOfKind name t
 unfolding transform_at
-transform-valid files kind.Filter table t h = filter-valid table t h
-transform-valid files kind.Map table t h = map-valid table t h
-transform-valid files kind.Expand table t h = expand-valid table t h
+transform-valid files kind.Filter table t h = filter-valid table t (of_text (filter_at table) t h)
+transform-valid files kind.Map table t h = map-valid table t (of_text (map_at table) t h)
+transform-valid files kind.Expand table t h = expand-valid table t (of_text (expand_at table) t h)
 transform-valid files kind.Lookup table t h = lookup_file-valid files table t h
-transform-valid files kind.Count table t h = group-valid Count kind.Count table t tt refl h
-transform-valid files kind.Sum table t h = group-valid Sum kind.Sum table t tt refl h
-transform-valid files kind.Min table t h = group-valid Min kind.Min table t tt refl h
-transform-valid files kind.Max table t h = group-valid Max kind.Max table t tt refl h
-transform-valid files kind.Distinct table t h = group-valid Distinct kind.Distinct table t tt refl h
-transform-valid files kind.Top table t h = top-valid table t h
-transform-valid files kind.Join table t h = join-valid table t h
+transform-valid files kind.Count table t h = group-valid Count kind.Count table t tt refl (of_text (group_at Count table) t h)
+transform-valid files kind.Sum table t h = group-valid Sum kind.Sum table t tt refl (of_text (group_at Sum table) t h)
+transform-valid files kind.Min table t h = group-valid Min kind.Min table t tt refl (of_text (group_at Min table) t h)
+transform-valid files kind.Max table t h = group-valid Max kind.Max table t tt refl (of_text (group_at Max table) t h)
+transform-valid files kind.Distinct table t h = group-valid Distinct kind.Distinct table t tt refl (of_text (group_at Distinct table) t h)
+transform-valid files kind.Top table t h = top-valid table t (of_text (top_at table) t h)
+transform-valid files kind.Join table t h = join-valid table t (of_text (join_at table) t h)
 
 -- the same of answers that may want memory
-pub expanded-valid : (table : Members) (r : Result Kind Stop) → AnswersTests r (expand_at table) → IfOk r (IsOfKind kind.Expand)
-expanded-valid table (Ok t) h = expand-valid table t h
+pub expanded-valid : (table : Members) (r : Result Kind Stop) → AnswersTests r (by_text (expand_at table)) → IfOk r (IsOfKind kind.Expand)
+expanded-valid table (Ok t) h = expand-valid table t (of_text (expand_at table) t h)
 expanded-valid table (Err s) h = tt
 
-pub looked_up-valid : (bytes : List ℕ) (r : Result Kind Stop) → AnswersTests r (lookup_in bytes) → IfOk r (IsOfKind kind.Lookup)
-looked_up-valid bytes (Ok t) h = lookup-valid bytes t h
+pub looked_up-valid : (bytes : List ℕ) (r : Result Kind Stop) → AnswersTests r (by_text (lookup_in bytes)) → IfOk r (IsOfKind kind.Lookup)
+looked_up-valid bytes (Ok t) h = lookup-valid bytes t (of_text (lookup_in bytes) t h)
 looked_up-valid bytes (Err s) h = tt

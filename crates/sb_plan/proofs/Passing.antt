@@ -20,19 +20,23 @@ use Rattle.sb_plan.specs.declared.wiring.Wiring.{Wiring}
 use Rattle.sb_plan.specs.declared.words.KindName.{KindName}
 use Rattle.sb_plan.specs.declared.words.KindName.TheVariants as kind
 use Rattle.sb_plan.specs.declared.TheConstants.{MAX_PLAN_BYTES}
+use Rattle.sb_plan.specs.Failures.{Failure, by_text}
+use Rattle.sb_plan.specs.Failures.Failure.{Fails, NoFile}
 use Rattle.sb_plan.specs.Keys.{typed_at}
 use Rattle.sb_plan.specs.Kinds.{transform_at}
 use Rattle.sb_plan.specs.Entries.{all_keys, entry_at, is_key_of, kind_at, name_at, right_at}
+use Rattle.sb_plan.specs.Wiring.{connected}
 use Rattle.sb_plan.specs.Soundness.{IsOfKind, IsSound, IsValidEntry, names_join}
 use Rattle.sb_plan.specs.PlanFiles.{at_place, document_of, element_wired, fault_at, finished, first_unused, is_document_key, item_count, plan_of, shape_of, transforms_of, unwired, used_by, wired_from}
-use Rattle.sb_plan.proofs.OfKinds.{passed, transform-valid}
+use Rattle.sb_plan.proofs.OfKinds.{of_text, passed, passed_text, transform-valid}
 use Rattle.sb_plan.proofs.Joined.{connected_sound}
 use Rattle.sb_plan.proofs.Finishing.{is_plan}
 
 -- the tests after a place's pass where all do
-passed_place : {A B : Type 0} (place : ℕ) (r : Result A PlanCause) (f : A → Result B PlanFault) (b : B) → at_place place r f ≡ Ok b → (a : A) × (r ≡ Ok a) × (f a ≡ Ok b)
+passed_place : {A B : Type 0} (place : ℕ) (r : Result A (Failure PlanCause)) (f : A → Result B (Failure PlanFault)) (b : B) → at_place place r f ≡ Ok b → (a : A) × (r ≡ Ok a) × (f a ≡ Ok b)
 passed_place place (Ok a) f b h = (a, refl, h)
-passed_place place (Err c) f b h = cc
+passed_place place (Err (Fails c)) f b h = cc
+passed_place place (Err NoFile) f b h = cc
 
 -- a test that is made by a condition passed
 passed_if : {B E : Type 0} (c : Bool) (e : E) (r : Result B E) (b : B) → cond c r (Err e) ≡ Ok b → (c ≡ true) × (r ≡ Ok b)
@@ -64,12 +68,12 @@ right-valid kind.Top table right h = let same : None ≡ right = cc in ap is_som
 entry-valid : (files : Files) (parts : List Part) (table : Members) (entry : Entry) → entry_at files parts table ≡ Ok entry → IsValidEntry entry
 unfolding entry_at
 entry-valid files parts table entry h =
-    let name = passed (name_at parts table) _ entry h in
-    let kind_name = passed (kind_at table) _ entry name.2 in
-    let known = passed_if (all_keys (is_key_of kind_name.0) table) cause.UnknownField _ entry kind_name.2 in
-    let left = passed (typed_at as_str key.From table) _ entry known.1 in
+    let name = passed_text (name_at parts table) _ entry h in
+    let kind_name = passed_text (kind_at table) _ entry name.2 in
+    let known = passed_if (all_keys (is_key_of kind_name.0) table) (Fails cause.UnknownField) _ entry kind_name.2 in
+    let left = passed_text (typed_at as_str key.From table) _ entry known.1 in
     let transform = passed (transform_at files kind_name.0 table) _ entry left.2 in
-    let right = passed (right_at kind_name.0 table) _ entry transform.2 in
+    let right = passed_text (right_at kind_name.0 table) _ entry transform.2 in
     let of_kind : IsOfKind kind_name.0 transform.0 = transform-valid files kind_name.0 table transform.0 transform.1 in
     let same : record { name = name.0; kind = transform.0; left = left.0; right = right.0 } ≡ entry = cc in
     subst IsValidEntry same (of_kind.0, right-valid kind_name.0 table right.0 right.1 ∙ sym of_kind.1)
@@ -82,9 +86,9 @@ wired_sound files place w u no_items is h =
     subst (λ x. IsSound x × (length x.parts ≡ length w.parts + 0)) same (is, omega arith)
 wired_sound files place w u (item value rest) is h =
     let more = passed_place place (element_wired files w value) _ u h in
-    let table = passed (or_fault (cause.WrongType key.Transform) (as_table value)) _ more.0 more.1 in
+    let table = passed_text (or_fault (cause.WrongType key.Transform) (as_table value)) _ more.0 more.1 in
     let entry = passed (entry_at files w.parts table.0) _ more.0 table.2 in
-    let one = connected_sound entry.0 w more.0 entry.2 (entry-valid files w.parts table.0 entry.0 entry.1) is in
+    let one = connected_sound entry.0 w more.0 (of_text (connected entry.0 w) more.0 entry.2) (entry-valid files w.parts table.0 entry.0 entry.1) is in
     let all = wired_sound files (place + 1) more.0 u rest one.0 more.2 in
     (all.0, omega (arith, all.1, one.1))
 
@@ -103,13 +107,13 @@ unwired_sound = record {
 elements_plan : (files : Files) (items : Items) (plan : Shape) → transforms_of files items ≡ Ok plan → IsPlan plan
 unfolding transforms_of finished
 elements_plan files items plan h =
-    let some = passed_unless (item_count items == 0) (fault_at 0 (cause.OutOfRange key.Transform)) _ plan h in
-    let most = passed_unless (nat_lt MAX_TRANSFORMS (item_count items)) (fault_at 0 cause.TooMany) _ plan some.1 in
+    let some = passed_unless (item_count items == 0) (Fails (fault_at 0 (cause.OutOfRange key.Transform))) _ plan h in
+    let most = passed_unless (nat_lt MAX_TRANSFORMS (item_count items)) (Fails (fault_at 0 cause.TooMany)) _ plan some.1 in
     let wired = passed (wired_from files 1 unwired items) _ plan most.1 in
     let sound = wired_sound files 1 unwired wired.0 items unwired_sound wired.1 in
     let one : 1 ≤ item_count items = let e = some.0 in grind (arith, nat_tests) in
     let twelve : item_count items ≤ MAX_TRANSFORMS = ltb-false MAX_TRANSFORMS (item_count items) most.0 in
-    by_used wired.0 sound.0 (omega (arith, sound.1, one)) (omega (arith, sound.1, twelve)) (first_unused wired.0.parts) refl wired.2
+    by_used wired.0 sound.0 (omega (arith, sound.1, one)) (omega (arith, sound.1, twelve)) (first_unused wired.0.parts) refl (of_text (finished wired.0) plan wired.2)
   where
     by_used : (w : Wiring) → IsSound w → 1 ≤ length w.parts → length w.parts ≤ MAX_TRANSFORMS → (o : Option ℕ) → first_unused w.parts ≡ o → used_by o w ≡ Ok plan → IsPlan plan
     by_used w is one twelve (Some k) e g = cc
@@ -122,8 +126,8 @@ elements_plan files items plan h =
 pub text_plan : (files : Files) (text : List ℕ) (plan : Shape) → plan_of files text ≡ Ok plan → IsPlan plan
 unfolding plan_of
 text_plan files text plan h =
-    let short = passed_unless (nat_lt MAX_PLAN_BYTES (length text)) (fault_at 0 cause.TooLong) _ plan h in
-    let document = passed_place 0 (or_fault cause.NotToml (document_of text)) _ plan short.1 in
-    let known = passed_if (all_keys is_document_key document.0) (fault_at 0 cause.UnknownField) _ plan document.2 in
-    let items = passed_place 0 (typed_at as_array key.Transform document.0) _ plan known.1 in
+    let short = passed_unless (nat_lt MAX_PLAN_BYTES (length text)) (Fails (fault_at 0 cause.TooLong)) _ plan h in
+    let document = passed_place 0 (by_text (or_fault cause.NotToml (document_of text))) _ plan short.1 in
+    let known = passed_if (all_keys is_document_key document.0) (Fails (fault_at 0 cause.UnknownField)) _ plan document.2 in
+    let items = passed_place 0 (by_text (typed_at as_array key.Transform document.0)) _ plan known.1 in
     elements_plan files items.0 plan items.2

@@ -8,21 +8,23 @@ use Rattle.sb_plan.specs.declared.fault.PlanStop.{PlanStop}
 use Rattle.sb_plan.specs.declared.stop.Stop.{Stop}
 use Rattle.sb_plan.specs.declared.stop.Stop.TheVariants as stop
 use Rattle.sb_plan.specs.declared.wiring.Wiring.{Wiring}
+use Rattle.sb_plan.specs.Failures.{Failure}
+use Rattle.sb_plan.specs.Failures.Failure.{Fails}
 use Rattle.sb_plan.specs.PlanFiles.{IsPlanStopOf, wired_from}
 
 -- the test that failed is the first that fails; nothing is said where the folder failed or memory was wanting
-abbrev pub IsStopOf : {A : Type 0} → Result A PlanCause → Stop → Type 0
-IsStopOf wanted (stop.Cause cause) = wanted ≡ Err cause
+abbrev pub IsStopOf : {A : Type 0} → Result A (Failure PlanCause) → Stop → Type 0
+IsStopOf wanted (stop.Cause cause) = wanted ≡ Err (Fails cause)
 IsStopOf wanted stop.Folder = ⊤
 IsStopOf wanted stop.Memory = ⊤
 
 -- the answer is what is wanted, or the first test that fails
-abbrev pub AnswersTests : {A : Type 0} → Result A Stop → Result A PlanCause → Type 0
+abbrev pub AnswersTests : {A : Type 0} → Result A Stop → Result A (Failure PlanCause) → Type 0
 AnswersTests (Ok x) wanted = wanted ≡ Ok x
 AnswersTests (Err s) wanted = IsStopOf wanted s
 
 -- the same of a call that changes a value into what is wanted
-abbrev pub ChangesTo : {A S : Type 0} → Result A Stop → Result S PlanCause → S → Type 0
+abbrev pub ChangesTo : {A S : Type 0} → Result A Stop → Result S (Failure PlanCause) → S → Type 0
 ChangesTo (Ok x) wanted new = wanted ≡ Ok new
 ChangesTo (Err s) wanted new = IsStopOf wanted s
 

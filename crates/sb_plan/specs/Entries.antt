@@ -13,6 +13,8 @@ use Rattle.sb_plan.specs.declared.fault.PlanCause.TheVariants.{NameTaken, Unknow
 use Rattle.sb_plan.specs.declared.words.KindName.{KindName}
 use Rattle.sb_plan.specs.declared.words.KindName.TheVariants as kind
 use Rattle.sb_plan.specs.declared.TheConstants.{MAX_NAME_BYTES}
+use Rattle.sb_plan.specs.Failures.{Failure, by_text}
+use Rattle.sb_plan.specs.Failures.Failure.{Fails}
 use Rattle.sb_plan.specs.Keys.{key_text, typed_at, word_at}
 use Rattle.sb_plan.specs.Words.{kind_named}
 use Rattle.sb_plan.specs.Kinds.{transform_at}
@@ -80,13 +82,13 @@ right_at kind.Join table = then_test (typed_at as_str key.With table) (λ input.
 right_at _ table = Ok None
 
 -- all that the table says by itself, where the transforms before it are these
-unfoldable pub entry_at : Files → List Part → Members → Result Entry PlanCause
+unfoldable pub entry_at : Files → List Part → Members → Result Entry (Failure PlanCause)
 entry_at files parts table =
-    then_test (name_at parts table) (λ name.
-    then_test (kind_at table) (λ kind_name.
+    then_test (by_text (name_at parts table)) (λ name.
+    then_test (by_text (kind_at table)) (λ kind_name.
     if all_keys (is_key_of kind_name) table
-    then then_test (typed_at as_str key.From table) (λ left.
+    then then_test (by_text (typed_at as_str key.From table)) (λ left.
     then_test (transform_at files kind_name table) (λ transform.
-    then_test (right_at kind_name table) (λ right.
+    then_test (by_text (right_at kind_name table)) (λ right.
     Ok (record { name = name; kind = transform; left = left; right = right }))))
-    else Err UnknownField))
+    else Err (Fails UnknownField)))

@@ -1,5 +1,5 @@
 -- What a table says of its transform, by the keys of its kind.
-use Rattle.std.specs.Prelude.{nat_lt, nat_le, ◌&&◌, if◌then◌else◌, unwrap_or, option_and_then, ℕ, ℤ, ◌∷◌, [], List, length, Option, Some, None, is_some, Result, Ok, Err}
+use Rattle.std.specs.Prelude.{nat_lt, nat_le, ◌&&◌, if◌then◌else◌, option_and_then, ℕ, ℤ, ◌∷◌, [], List, length, Option, Some, None, is_some, Result, Ok, Err}
 use Rattle.toml.specs.Data.{Data, Items, no_items, item, Members, get_member, as_array, as_integer}
 use Rattle.sb_outside.specs.Folders.{Files}
 use Rattle.sb_window.specs.declared.windows.TheConstants.{MAX_SIZE}
@@ -19,13 +19,9 @@ use Rattle.sb_plan.specs.declared.fault.PlanCause.TheVariants.{OutOfRange, Table
 use Rattle.sb_plan.specs.declared.words.KindName.{KindName}
 use Rattle.sb_plan.specs.declared.words.KindName.TheVariants as kind
 use Rattle.sb_plan.specs.declared.TheConstants.{MAX_TABLE_BYTES}
+use Rattle.sb_plan.specs.Failures.{Failure, by_text, in_file, in_place_of}
 use Rattle.sb_plan.specs.Keys.{key_text, typed_at, word_at, number_at}
 use Rattle.sb_plan.specs.Words.{field_named, test_named, change_named, change_by, combine_named}
-
--- the fault stands for each of another kind
-abbrev pub in_place_of : {A E F : Type 0} → (F → E) → Result A F → Result A E
-in_place_of fault (Ok x) = Ok x
-in_place_of fault (Err f) = Err (fault f)
 
 -- a filter: `field`, `test`, `number`
 unfoldable pub filter_at : Members → Result Kind PlanCause
@@ -102,20 +98,22 @@ lookup_in bytes =
     if nat_lt MAX_TABLE_BYTES (length bytes) then Err TableTooLong
     else then_test (in_place_of (λ fault. TableRow fault) (table_of bytes)) (λ table. Ok (Do (Lookup table)))
 
--- a look-up: `table`, a file. One that is not there counts as empty: who reads it meets the folder's fault
-unfoldable pub lookup_at : Files → Members → Result Kind PlanCause
-lookup_at files table = then_test (word_at file_name key.Table table) (λ name. lookup_in (unwrap_or (files name) []))
+-- a look-up: `table`, a file of the folder
+unfoldable pub lookup_at : Files → Members → Result Kind (Failure PlanCause)
+lookup_at files table =
+    then_test (by_text (word_at file_name key.Table table)) (λ name.
+    in_file (λ bytes. by_text (lookup_in bytes)) (files name))
 
 -- the transform of a kind
-unfoldable pub transform_at : Files → KindName → Members → Result Kind PlanCause
-transform_at files kind.Filter table = filter_at table
-transform_at files kind.Map table = map_at table
-transform_at files kind.Expand table = expand_at table
+unfoldable pub transform_at : Files → KindName → Members → Result Kind (Failure PlanCause)
+transform_at files kind.Filter table = by_text (filter_at table)
+transform_at files kind.Map table = by_text (map_at table)
+transform_at files kind.Expand table = by_text (expand_at table)
 transform_at files kind.Lookup table = lookup_at files table
-transform_at files kind.Count table = group_at Count table
-transform_at files kind.Sum table = group_at Sum table
-transform_at files kind.Min table = group_at Min table
-transform_at files kind.Max table = group_at Max table
-transform_at files kind.Distinct table = group_at Distinct table
-transform_at files kind.Top table = top_at table
-transform_at files kind.Join table = join_at table
+transform_at files kind.Count table = by_text (group_at Count table)
+transform_at files kind.Sum table = by_text (group_at Sum table)
+transform_at files kind.Min table = by_text (group_at Min table)
+transform_at files kind.Max table = by_text (group_at Max table)
+transform_at files kind.Distinct table = by_text (group_at Distinct table)
+transform_at files kind.Top table = by_text (top_at table)
+transform_at files kind.Join table = by_text (join_at table)

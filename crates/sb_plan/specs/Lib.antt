@@ -1,5 +1,6 @@
 pub mod Keys
 pub mod Words
+pub mod Failures
 pub mod Kinds
 pub mod Entries
 pub mod Wiring

@@ -1,4 +1,4 @@
--- The plan that a text describes, or the first test that it fails.
+-- The plan that a text describes, or the first test that it fails, or that a file of it is not there.
 use Rattle.std.specs.Prelude.{◌≡◌, ◌≤◌, ⊤, bytes_eq, ℕ, ◌+◌, ◌-◌, ◌==◌, nat_lt, take, Bool, if◌then◌else◌, List, [], map, length, Option, Some, None, is_none, unwrap_or, Result, Ok, Err}
 use Rattle.std.specs.List.{list_any, position}
 use Rattle.std.specs.Str.{is_utf8}
@@ -21,6 +21,8 @@ use Rattle.sb_plan.specs.declared.fault.PlanStop.TheVariants as stop
 use Rattle.sb_plan.specs.declared.TheConstants.{MAX_PLAN_BYTES}
 use Rattle.sb_plan.specs.declared.wiring.Part.{Part}
 use Rattle.sb_plan.specs.declared.wiring.Wiring.{Wiring}
+use Rattle.sb_plan.specs.Failures.{Failure, by_text}
+use Rattle.sb_plan.specs.Failures.Failure.{Fails, NoFile}
 use Rattle.sb_plan.specs.Keys.{key_text, typed_at}
 use Rattle.sb_plan.specs.Entries.{all_keys, entry_at}
 use Rattle.sb_plan.specs.Wiring.{connected}
@@ -34,19 +36,20 @@ abbrev pub fault_at : ℕ → PlanCause → PlanFault
 fault_at place cause = record { at = place; what = cause }
 
 -- the next tests, where those at this place passed
-abbrev pub at_place : {A B : Type 0} → ℕ → Result A PlanCause → (A → Result B PlanFault) → Result B PlanFault
+abbrev pub at_place : {A B : Type 0} → ℕ → Result A (Failure PlanCause) → (A → Result B (Failure PlanFault)) → Result B (Failure PlanFault)
 at_place place (Ok x) next = next x
-at_place place (Err cause) next = Err (fault_at place cause)
+at_place place (Err (Fails cause)) next = Err (Fails (fault_at place cause))
+at_place place (Err NoFile) next = Err NoFile
 
 -- one element of the array: a table, whose transform is connected with the earlier ones
-unfoldable pub element_wired : Files → Wiring → Data → Result Wiring PlanCause
+unfoldable pub element_wired : Files → Wiring → Data → Result Wiring (Failure PlanCause)
 element_wired files wiring value =
-    then_test (or_fault (WrongType key.Transform) (as_table value)) (λ table.
+    then_test (by_text (or_fault (WrongType key.Transform) (as_table value))) (λ table.
     then_test (entry_at files wiring.parts table) (λ entry.
-    connected entry wiring))
+    by_text (connected entry wiring)))
 
 -- the elements from this place on, after the earlier ones
-unfoldable pub wired_from : Files → ℕ → Wiring → Items → Result Wiring PlanFault
+unfoldable pub wired_from : Files → ℕ → Wiring → Items → Result Wiring (Failure PlanFault)
 wired_from files place wiring no_items = Ok wiring
 wired_from files place wiring (item value rest) = at_place place (element_wired files wiring value) (λ more. wired_from files (place + 1) more rest)
 
@@ -90,33 +93,33 @@ item_count no_items = 0
 item_count (item value rest) = item_count rest + 1
 
 -- 1 to 12 elements, and then the tests of each, and of the whole
-unfoldable pub transforms_of : Files → Items → Result Shape PlanFault
+unfoldable pub transforms_of : Files → Items → Result Shape (Failure PlanFault)
 transforms_of files items =
-    if item_count items == 0 then Err (fault_at 0 (OutOfRange key.Transform))
-    else if nat_lt MAX_TRANSFORMS (item_count items) then Err (fault_at 0 TooMany)
-    else then_test (wired_from files 1 unwired items) finished
+    if item_count items == 0 then Err (Fails (fault_at 0 (OutOfRange key.Transform)))
+    else if nat_lt MAX_TRANSFORMS (item_count items) then Err (Fails (fault_at 0 TooMany))
+    else then_test (wired_from files 1 unwired items) (λ wiring. by_text (finished wiring))
 
 -- the one key of a document
 abbrev pub is_document_key : List ℕ → Bool
 is_document_key text = bytes_eq text (key_text key.Transform)
 
--- the plan of a text, where the files of the folder are these; or the first test that it fails
-unfoldable pub plan_of : Files → List ℕ → Result Shape PlanFault
+-- the plan of a text, where the files of the folder are these; or the first test that it fails, or that a file is not there
+unfoldable pub plan_of : Files → List ℕ → Result Shape (Failure PlanFault)
 plan_of files text =
-    if nat_lt MAX_PLAN_BYTES (length text) then Err (fault_at 0 TooLong)
-    else at_place 0 (or_fault NotToml (document_of text)) (λ document.
+    if nat_lt MAX_PLAN_BYTES (length text) then Err (Fails (fault_at 0 TooLong))
+    else at_place 0 (by_text (or_fault NotToml (document_of text))) (λ document.
     if all_keys is_document_key document
-    then at_place 0 (typed_at as_array key.Transform document) (transforms_of files)
-    else Err (fault_at 0 UnknownField))
+    then at_place 0 (by_text (typed_at as_array key.Transform document)) (transforms_of files)
+    else Err (Fails (fault_at 0 UnknownField)))
 
 -- the fault is the first one of the text; nothing is said where the folder failed or memory was wanting
-abbrev pub IsPlanStopOf : {A : Type 0} → Result A PlanFault → PlanStop → Type 0
-IsPlanStopOf wanted (stop.Fault fault) = wanted ≡ Err fault
+abbrev pub IsPlanStopOf : {A : Type 0} → Result A (Failure PlanFault) → PlanStop → Type 0
+IsPlanStopOf wanted (stop.Fault fault) = wanted ≡ Err (Fails fault)
 IsPlanStopOf wanted stop.Folder = ⊤
 IsPlanStopOf wanted stop.Memory = ⊤
 
 -- the answer for a whole text is the plan that is wanted, or the first fault
-abbrev pub AnswersPlan : {A : Type 0} → Result A PlanStop → Result A PlanFault → Type 0
+abbrev pub AnswersPlan : {A : Type 0} → Result A PlanStop → Result A (Failure PlanFault) → Type 0
 AnswersPlan (Ok x) wanted = wanted ≡ Ok x
 AnswersPlan (Err s) wanted = IsPlanStopOf wanted s
 

@@ -3,6 +3,7 @@
 ghost use Rattle.std.specs.Prelude.{◌≡◌, ℕ, IfOk};
 ghost use Rattle.toml.specs.View.{array_view, table_view};
 ghost use Rattle.sb_plan.specs.Answers.{AnswersTests, BlamesInTests};
+ghost use Rattle.sb_plan.specs.Failures.{by_text};
 ghost use Rattle.sb_plan.specs.Kinds as kinds;
 
 use crate::fault::{PlanCause, PlanKey};
@@ -18,7 +19,7 @@ use toml::value::Array;
 /// The expansion of a table's `addends`.
 #[tactic(auto, unfolding(crate::specs::Kinds::expand_at))]
 pub(crate) fn expand_at(alloc: Global, table: &Table) -> Result<Kind, Stop>
-    ensures exact { AnswersTests result (kinds.expand_at (table_view table.now)) }
+    ensures exact { AnswersTests result (by_text (kinds.expand_at (table_view table.now))) }
     ensures blames { (count : ℕ) → BlamesInTests count count result }
 {
     let array = array_at(table, PlanKey::Addends)?;

@@ -4,6 +4,7 @@ ghost use Rattle.std.specs.Prelude.{◌≡◌, ◌≤◌, ◌-◌, ℕ, length, 
 ghost use Rattle.std.specs.Option.{option_map};
 ghost use Rattle.std.specs.List.{list_any, position};
 ghost use Rattle.sb_pipeline.specs.Plans.{has_windows};
+ghost use Rattle.sb_plan.specs.Failures.{by_text};
 ghost use Rattle.sb_plan.specs.PlanFiles.{AnswersPlan, BlamesFolder};
 ghost use Rattle.sb_plan.specs.PlanFiles as spec;
 ghost use Rattle.sb_plan.specs.Soundness.{IsSound};
@@ -20,7 +21,7 @@ pub(crate) fn finish(alloc: Global, wiring: Wiring) -> Result<Plan, PlanStop>
     requires some { 1 ≤ length wiring.parts }
     requires most { length wiring.parts ≤ MAX_TRANSFORMS }
     requires sound { IsSound wiring }
-    ensures exact { AnswersPlan result (spec.finished wiring) }
+    ensures exact { AnswersPlan result (by_text (spec.finished wiring)) }
     ensures cause { (count : ℕ) → BlamesFolder count count result }
 {
     let parts = wiring.parts.as_slice();

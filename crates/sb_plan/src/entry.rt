@@ -6,6 +6,7 @@ ghost use Rattle.std.specs.BTreeMap.{keys};
 ghost use Rattle.toml.specs.View.{table_view};
 ghost use Rattle.sb_outside.specs.Folders.{Files};
 ghost use Rattle.sb_plan.specs.Answers.{AnswersTests, BlamesInTests};
+ghost use Rattle.sb_plan.specs.Failures.{by_text};
 ghost use Rattle.sb_plan.specs.Keys.{key_text};
 ghost use Rattle.sb_plan.specs.Entries as entries;
 ghost use Rattle.sb_plan.specs.Soundness.{IsValidEntry, names_join};
@@ -77,7 +78,7 @@ fn kind_at(table: &Table) -> Result<KindName, PlanCause>
 /// The right input, which only a join has.
 #[tactic(auto, unfolding(crate::specs::Entries::right_at))]
 fn right_at(alloc: Global, table: &Table, kind: KindName) -> Result<Option<Name>, Stop>
-    ensures exact { AnswersTests result (entries.right_at kind (table_view table.now)) }
+    ensures exact { AnswersTests result (by_text (entries.right_at kind (table_view table.now))) }
     ensures two { IfOk result (λ right. is_some right ≡ names_join kind) }
     ensures blames { (count : ℕ) → BlamesInTests count count result }
 {

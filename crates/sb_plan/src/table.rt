@@ -4,6 +4,7 @@ ghost use Rattle.std.specs.Prelude.{◌≡◌, ◌+◌, ℕ, List, Some, IfOk, t
 ghost use Rattle.toml.specs.View.{table_view};
 ghost use Rattle.sb_outside.specs.Folders.{Files};
 ghost use Rattle.sb_plan.specs.Answers.{AnswersTests, BlamesInTests, IsNoFault};
+ghost use Rattle.sb_plan.specs.Failures.{by_text};
 ghost use Rattle.sb_plan.specs.Kinds as kinds;
 ghost use Rattle.sb_plan.specs.Soundness.{IsOfKind};
 
@@ -57,7 +58,7 @@ fn load<F: Folder>(alloc: Global, name: &str, folder: &mut F) -> Result<Vec<u8>,
 /// The look-up in the table of a text.
 #[tactic(auto, unfolding(crate::specs::Kinds::lookup_in))]
 fn lookup_in(alloc: Global, bytes: &[u8]) -> Result<Kind, Stop>
-    ensures exact { AnswersTests result (kinds.lookup_in bytes.now) }
+    ensures exact { AnswersTests result (by_text (kinds.lookup_in bytes.now)) }
     ensures blames { (count : ℕ) → BlamesInTests count count result }
 {
     if bytes.len() > MAX_TABLE_BYTES {

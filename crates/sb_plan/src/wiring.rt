@@ -4,6 +4,7 @@ ghost use Rattle.std.specs.Prelude.{◌≡◌, ◌<◌, ◌+◌, bytes_eq, ℕ, 
 ghost use Rattle.std.specs.List.{list_any, position};
 ghost use Rattle.sb_pipeline.specs.Plans.{is_join};
 ghost use Rattle.sb_plan.specs.Answers.{BlamesInTests, ChangesTo};
+ghost use Rattle.sb_plan.specs.Failures.{by_text};
 ghost use Rattle.sb_plan.specs.Soundness.{IsSound, IsValidEntry};
 ghost use Rattle.sb_plan.specs.Wiring as spec;
 
@@ -38,7 +39,7 @@ pub(crate) struct Wiring {
 #[tactic(auto, unfolding(crate::specs::Wiring::connected))]
 pub(crate) fn connect(entry: Entry, wiring: &mut Wiring) -> Result<(), Stop>
     requires { length wiring.old.parts < MAX_TRANSFORMS }
-    ensures exact { ChangesTo result (spec.connected entry wiring.old) wiring.new }
+    ensures exact { ChangesTo result (by_text (spec.connected entry wiring.old)) wiring.new }
     ensures sound { IsValidEntry entry → IsSound wiring.old → OnOk result (IsSound wiring.new × (length wiring.new.parts ≡ length wiring.old.parts + 1)) }
     ensures blames { (count : ℕ) → BlamesInTests count count result }
 {
