@@ -30,7 +30,7 @@ use Rattle.sb_cli.specs.Words.{Asked}
 use Rattle.sb_cli.specs.Words.Asked.{Sum, Run, Slow}
 use Rattle.sb_cli.specs.Given.{items_of, stop_at}
 use Rattle.sb_cli.specs.Pipelines.{plan_in, IsPlanFor, TellsPlan, streams_in, all_rows}
-use Rattle.sb_cli.specs.Answers.{due_mark, due_rows, Wrote, WrotePrefix, HasWritten, HasNoPlan, IsAnswer, IsAnswerOf, HasCause, IsRead, IsUnread, IsToldOf, IsWordsOrMemory, IsDoneOrMemory, NothingFails}
+use Rattle.sb_cli.specs.Answers.{due_mark, due_rows, Wrote, WrotePrefix, HasWritten, HasNoPlan, IsAnswer, IsAnswerOf, HasCause, HidesNoFault, IsRead, IsUnread, IsToldOf, IsWordsOrMemory, IsDoneOrMemory, NothingFails}
 
 -- writing went well
 pub has_written : (plan : Shape) (stop : Stop) (items : List Item) (taken taken' : Option (List ℕ)) → Wrote taken taken' (due_rows plan stop items) → HasWritten plan stop items taken taken' (status_of stop)
@@ -119,6 +119,10 @@ told_answer folder wanted left left' taken taken' status told (inr memory) is = 
 pub told_cause : (reads reads' writes writes' loads loads' : ℕ) (status told : Status) → IsToldOf status told → HasCause reads reads' writes writes' loads loads' status → HasCause reads reads' writes writes' loads loads' told
 told_cause reads reads' writes writes' loads loads' status told (inl same) cause = subst (λ s. HasCause reads reads' writes writes' loads loads' s) (sym same) cause
 told_cause reads reads' writes writes' loads loads' status told (inr memory) cause = subst (λ s. HasCause reads reads' writes writes' loads loads' s) (sym memory) tt
+
+pub told_hidden : (reads reads' loads loads' : ℕ) (status told : Status) → IsToldOf status told → HidesNoFault reads reads' loads loads' status → HidesNoFault reads reads' loads loads' told
+told_hidden reads reads' loads loads' status told (inl same) hides = subst (λ s. HidesNoFault reads reads' loads loads' s) (sym same) hides
+told_hidden reads reads' loads loads' status told (inr memory) hides = subst (λ s. HidesNoFault reads reads' loads loads' s) (sym memory) tt
 
 pub told_words : (status told : Status) → IsToldOf status told → status ≡ Words → IsWordsOrMemory told
 told_words status told (inl same) is = inl (same ∙ is)

@@ -81,6 +81,17 @@ HasCause reads reads' writes writes' loads loads' (Plan fault) = ⊤
 HasCause reads reads' writes writes' loads loads' (Line refusal) = ⊤
 HasCause reads reads' writes writes' loads loads' Memory = ⊤
 
+-- no failed read or load is passed over: where another status is answered, the count is as it was. At Output a read may have failed before; where memory was wanting nothing is said
+abbrev pub HidesNoFault : ℕ → ℕ → ℕ → ℕ → Status → Type 0
+HidesNoFault reads reads' loads loads' Done = (reads' ≡ reads) × (loads' ≡ loads)
+HidesNoFault reads reads' loads loads' Words = (reads' ≡ reads) × (loads' ≡ loads)
+HidesNoFault reads reads' loads loads' (Plan fault) = (reads' ≡ reads) × (loads' ≡ loads)
+HidesNoFault reads reads' loads loads' (Line refusal) = (reads' ≡ reads) × (loads' ≡ loads)
+HidesNoFault reads reads' loads loads' Input = loads' ≡ loads
+HidesNoFault reads reads' loads loads' Output = loads' ≡ loads
+HidesNoFault reads reads' loads loads' Folder = reads' ≡ reads
+HidesNoFault reads reads' loads loads' Memory = ⊤
+
 -- the run was done, or memory was wanting
 abbrev pub IsDoneOrMemory : Status → Type 0
 IsDoneOrMemory status = (status ≡ Done) ⊎ (status ≡ Memory)

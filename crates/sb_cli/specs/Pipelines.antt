@@ -1,5 +1,5 @@
 -- What is asked of an input.
-use Rattle.std.specs.Prelude.{◌≡◌, ℕ, ◌+◌, List, [], take, Option, Some, unwrap_or, Result, Ok, Err}
+use Rattle.std.specs.Prelude.{◌≡◌, ℕ, ◌+◌, List, take, Option, Some, Result, Ok, Err}
 use Rattle.sb_record.specs.declared.item.Item.{Item}
 use Rattle.sb_record.specs.declared.item.Record.{Record}
 use Rattle.sb_record.specs.declared.item.Stream.{Stream}
@@ -10,16 +10,18 @@ use Rattle.sb_pipeline.specs.Shapes.{Shape, sum_shape}
 use Rattle.sb_pipeline.specs.Results as result
 use Rattle.sb_plan.specs.declared.fault.PlanFault.{PlanFault}
 use Rattle.sb_plan.specs.declared.TheConstants.{MAX_PLAN_BYTES}
+use Rattle.sb_plan.specs.Failures.{Failure, in_file}
+use Rattle.sb_plan.specs.Failures.Failure.{Fails}
 use Rattle.sb_plan.specs.PlanFiles.{plan_of}
 use Rattle.sb_cli.specs.Words.{Asked}
 use Rattle.sb_cli.specs.Words.Asked.{Sum, Run, Slow}
 
--- the plan in a file, or its first fault. One byte more than a plan may have shows that it is too long. A file that is not there counts as empty: who reads it meets the folder's fault
-abbrev pub plan_in : Files → List ℕ → Result Shape PlanFault
-plan_in files name = plan_of files (take (MAX_PLAN_BYTES + 1) (unwrap_or (files name) []))
+-- the plan in a file, or its first fault, or that the file or one that it names is not there. One byte more than a plan may have shows that it is too long
+abbrev pub plan_in : Files → List ℕ → Result Shape (Failure PlanFault)
+plan_in files name = in_file (λ bytes. plan_of files (take (MAX_PLAN_BYTES + 1) bytes)) (files name)
 
 -- the file is where the folder tells its files; in one that tells nothing it may be any
-abbrev pub GivesPlan : Option Files → List ℕ → Result Shape PlanFault → Type 0
+abbrev pub GivesPlan : Option Files → List ℕ → Result Shape (Failure PlanFault) → Type 0
 GivesPlan folder name found = (files : Files) → folder ≡ Some files → plan_in files name ≡ found
 
 -- this is the plan that is asked for
@@ -31,8 +33,8 @@ IsPlanFor folder (Slow name) plan = IsPlan plan × GivesPlan folder name (Ok pla
 -- there is no such plan: this is the first fault of its file
 abbrev pub IsFaultFor : Option Files → Asked → PlanFault → Type 0
 IsFaultFor folder (Sum size) fault = ⊥
-IsFaultFor folder (Run name) fault = GivesPlan folder name (Err fault)
-IsFaultFor folder (Slow name) fault = GivesPlan folder name (Err fault)
+IsFaultFor folder (Run name) fault = GivesPlan folder name (Err (Fails fault))
+IsFaultFor folder (Slow name) fault = GivesPlan folder name (Err (Fails fault))
 
 -- a file is asked for
 abbrev pub AsksForFile : Asked → Type 0

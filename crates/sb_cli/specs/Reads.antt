@@ -64,8 +64,8 @@ abbrev pub TakesNext : {S : Type 0} → (S → Option (List ℕ)) → Reading S 
 TakesNext left old new p p' (Ok item) = TakesItem left old new p p' item
 TakesNext left old new p p' (Err stop) = StopsReading left old new p p' stop
 
--- a fault of the source stops reading only where its count rose
+-- a fault of the source stops reading only where its count rose, and where another cause does the count is as it was
 abbrev pub FaultCause : ℕ → ℕ → Stop → Type 0
 FaultCause before now Fault = Rose before now
-FaultCause before now End = ⊤
-FaultCause before now (Refused refusal) = ⊤
+FaultCause before now End = now ≡ before
+FaultCause before now (Refused refusal) = now ≡ before

@@ -10,7 +10,7 @@ ghost use Rattle.sb_pipeline.specs.Plans.{IsPlan};
 ghost use Rattle.sb_pipeline.specs.Shapes.{streams_of, sum_shape};
 ghost use Rattle.sb_plan.specs.PlanFiles.{AnswersPlan, BlamesFolder};
 ghost use Rattle.sb_cli.specs.Answers as spec;
-ghost use Rattle.sb_cli.specs.Answers.{IsAnswer, IsAnswerOf, IsRead, IsUnread, HasCause, HasWritten};
+ghost use Rattle.sb_cli.specs.Answers.{IsAnswer, IsAnswerOf, IsRead, IsUnread, HasCause, HasWritten, HidesNoFault};
 ghost use Rattle.sb_cli.specs.Pipelines.{plan_in};
 ghost use Rattle.sb_cli.specs.Words.{IsSize};
 ghost use Rattle.sb_cli.specs.Words.Asked.{Run};
@@ -49,6 +49,7 @@ pub(crate) fn answer_sum<S: Source, K: Sink>(
     ensures answer { IsAnswerOf (sum_shape size) (S.left source.old) (S.left source.new) (K.taken out.old) (K.taken out.new) result }
     ensures read { IsRead result }
     ensures cause { (loads loads' : ℕ) → HasCause (S.faults source.old) (S.faults source.new) (K.sink_faults out.old) (K.sink_faults out.new) loads loads' result }
+    ensures no_fault_hidden { (loads : ℕ) → HidesNoFault (S.faults source.old) (S.faults source.new) loads loads result }
 {
     match sum_plan(alloc, size) {
         Ok(plan) => answer_plan(alloc, &plan, source, out),
@@ -67,6 +68,7 @@ pub(crate) fn answer_file<S: Source, K: Sink, F: Folder>(
     ensures answer { IsAnswer (F.files folder.old) (Run name.now) (S.left source.old) (S.left source.new) (K.taken out.old) (K.taken out.new) result }
     ensures unread { IsUnread result → (source.new ≡ source.old) × (out.new ≡ out.old) }
     ensures cause { HasCause (S.faults source.old) (S.faults source.new) (K.sink_faults out.old) (K.sink_faults out.new) (F.folder_faults folder.old) (F.folder_faults folder.new) result }
+    ensures no_fault_hidden { HidesNoFault (S.faults source.old) (S.faults source.new) (F.folder_faults folder.old) (F.folder_faults folder.new) result }
 {
     match load_plan(alloc, name, folder) {
         Ok(plan) => answer_plan(alloc, &plan, source, out),
@@ -87,6 +89,7 @@ fn answer_plan<S: Source, K: Sink>(
     ensures plan { IsPlan plan.now }
     ensures read { IsRead result }
     ensures cause { (loads loads' : ℕ) → HasCause (S.faults source.old) (S.faults source.new) (K.sink_faults out.old) (K.sink_faults out.new) loads loads' result }
+    ensures no_fault_hidden { (loads : ℕ) → HidesNoFault (S.faults source.old) (S.faults source.new) loads loads result }
 {
     match read_input(alloc, plan.streams(), source) {
         Ok(input) => write_due(alloc, plan, &input, out),

@@ -2,7 +2,7 @@
 
 ghost use Rattle.std.specs.Prelude.{◌≡◌, map, string_bytes};
 ghost use Rattle.sb_pipeline.specs.Shapes.{Shape};
-ghost use Rattle.sb_cli.specs.Answers.{IsAnswer, HasCause, HasNoted, IsDoneOrMemory, IsToldOf, IsUnread, IsWordsOrMemory, NothingFails};
+ghost use Rattle.sb_cli.specs.Answers.{IsAnswer, HasCause, HasNoted, HidesNoFault, IsDoneOrMemory, IsToldOf, IsUnread, IsWordsOrMemory, NothingFails};
 ghost use Rattle.sb_cli.specs.Pipelines.{TellsPlan};
 ghost use Rattle.sb_cli.specs.Statuses.{note_text};
 ghost use Rattle.sb_cli.specs.Words.{Asked, IsCommand, IsNoCommand};
@@ -40,8 +40,9 @@ pub fn streambox<S: Source, K: Sink, N: Sink, F: Folder>(
     ensures unread { IsUnread result → (input.new ≡ input.old) × (out.new ≡ out.old) }
     ensures untouched { IsNoCommand (map (λ w. string_bytes w) words.now) → (input.new ≡ input.old) × (out.new ≡ out.old) × (folder.new ≡ folder.old) }
 
-    // Faults come from where they say, and a run in which nothing fails is done.
+    // Faults come from where they say, none is passed over, and a run in which nothing fails is done.
     ensures cause { HasCause (S.faults input.old) (S.faults input.new) (K.sink_faults out.old) (K.sink_faults out.new) (F.folder_faults folder.old) (F.folder_faults folder.new) result }
+    ensures no_fault_hidden { HidesNoFault (S.faults input.old) (S.faults input.new) (F.folder_faults folder.old) (F.folder_faults folder.new) result }
     ensures complete { (wanted : Asked) (plan : Shape) → IsCommand wanted (map (λ w. string_bytes w) words.now) → TellsPlan (F.files folder.old) wanted plan
         → NothingFails plan (S.left input.old) (S.left input.new) (S.faults input.old) (S.faults input.new) (K.sink_faults out.old) (K.sink_faults out.new) (F.folder_faults folder.old) (F.folder_faults folder.new)
         → IsDoneOrMemory result }
@@ -66,6 +67,7 @@ fn respond<S: Source, K: Sink, F: Folder>(
     ensures no_command { IsNoCommand (map (λ w. string_bytes w) words.now) → (result ≡ Status.Words) × (input.new ≡ input.old) × (out.new ≡ out.old) × (folder.new ≡ folder.old) }
     ensures unread { IsUnread result → (input.new ≡ input.old) × (out.new ≡ out.old) }
     ensures cause { HasCause (S.faults input.old) (S.faults input.new) (K.sink_faults out.old) (K.sink_faults out.new) (F.folder_faults folder.old) (F.folder_faults folder.new) result }
+    ensures no_fault_hidden { HidesNoFault (S.faults input.old) (S.faults input.new) (F.folder_faults folder.old) (F.folder_faults folder.new) result }
 {
     match read_words(words) {
         Some(Request::Sum(size)) => answer_sum(alloc, size, input, out),

@@ -1,4 +1,4 @@
-use Rattle.sb_cli.proofs.Answering.{told_answer, told_cause, told_words, told_unread, is_complete}
+use Rattle.sb_cli.proofs.Answering.{told_answer, told_cause, told_hidden, told_words, told_unread, is_complete}
 use Rattle.sb_cli.proofs.command.streambox.Goals as goal
 
 pub returns-clause-answer : goal.returns-clause-answer
@@ -10,6 +10,11 @@ pub returns-clause-cause : goal.returns-clause-cause
 returns-clause-cause g c =
     told_cause (g.S.Source.faults c.args.input.now) (g.S.Source.faults c.respond-status.new.input) (g.K.Sink.sink_faults c.args.out.now) (g.K.Sink.sink_faults c.respond-status.new.out) (g.F.Folder.folder_faults c.args.folder.now) (g.F.Folder.folder_faults c.respond-status.new.folder)
     c.respond-status.result c.tell.result c.tell.ensures.status c.respond-status.ensures.cause
+
+pub returns-clause-no_fault_hidden : goal.returns-clause-no_fault_hidden
+returns-clause-no_fault_hidden g c =
+    told_hidden (g.S.Source.faults c.args.input.now) (g.S.Source.faults c.respond-status.new.input) (g.F.Folder.folder_faults c.args.folder.now) (g.F.Folder.folder_faults c.respond-status.new.folder)
+    c.respond-status.result c.tell.result c.tell.ensures.status c.respond-status.ensures.no_fault_hidden
 
 pub returns-clause-no_command : goal.returns-clause-no_command
 returns-clause-no_command g c = λ none. told_words c.respond-status.result c.tell.result c.tell.ensures.status (c.respond-status.ensures.no_command none).0
