@@ -574,15 +574,59 @@ fn elements_that_do_not_go_together(rt: HostRuntime) -> Result<(), AllocError> {
     Ok(())
 }
 
+/// Elements of the array of transforms where `none.csv` is not in the folder: the first test that fails, or none where
+/// the file's turn comes before it.
+const NO_FILE: [(&str, Option<(u32, PlanCause)>); 7] = [
+    (
+        "{name = \"x\", kind = \"lookup\", from = \"a\", table = \"none.csv\"}",
+        None,
+    ),
+    (
+        "{name = \"x\", kind = \"lookup\", from = \"y\", table = \"none.csv\"}",
+        None,
+    ),
+    (
+        "{name = \"x\", kind = \"lookup\", from = \"a\", table = \"none.csv\"}, 1",
+        None,
+    ),
+    (
+        "1, {name = \"x\", kind = \"lookup\", from = \"a\", table = \"none.csv\"}",
+        Some((1, PlanCause::WrongType(PlanKey::Transform))),
+    ),
+    (
+        "{name = \"x\", kind = \"lookup\", from = 1, table = \"none.csv\"}",
+        Some((1, PlanCause::WrongType(PlanKey::From))),
+    ),
+    (
+        "{name = \"x\", kind = \"lookup\", from = \"a\", table = \"none.csv\", size = 1}",
+        Some((1, PlanCause::UnknownField)),
+    ),
+    (
+        "{name = \"x\", kind = \"lookup\", from = \"a\", table = \"ads.csv\"}, {name = \"y\", kind = \"lookup\", from = \"x\", table = \"none.csv\"}",
+        None,
+    ),
+];
+
 #[test]
-fn folders_that_do_not_load(rt: HostRuntime) -> Result<(), AllocError> {
+fn files_that_are_not_there(rt: HostRuntime) -> Result<(), AllocError> {
     let alloc = rt.alloc();
-    let element = "{name = \"x\", kind = \"lookup\", from = \"y\", table = \"none.csv\"}";
-    let text = format!(in alloc; "transform = [{element}]")?;
-    let mut folder = tables(alloc, Vec::new(alloc))?;
-    let stop = stop_of(alloc, text.as_bytes(), &mut folder);
-    assert_eq!(rt; stop, Some(PlanStop::Folder), "no such file");
-    assert_eq!(rt; folder.faults(), 1);
+    for (elements, first) in &NO_FILE {
+        let mut folder = tables(alloc, Vec::new(alloc))?;
+        let text = format!(in alloc; "transform = [{elements}]")?;
+        let stop = stop_of(alloc, text.as_bytes(), &mut folder);
+        let (wanted, faults) = match first {
+            Some((at, what)) => (fault(*at, *what), 0),
+            None => (Some(PlanStop::Folder), 1),
+        };
+        assert_eq!(rt; stop, wanted, "{elements}");
+        assert_eq!(rt; folder.faults(), faults, "{elements}");
+    }
+    Ok(())
+}
+
+#[test]
+fn loads_that_fail(rt: HostRuntime) -> Result<(), AllocError> {
+    let alloc = rt.alloc();
     let mut folder = tables(alloc, vec![in alloc; 1]?)?;
     let element = "{name = \"x\", kind = \"lookup\", from = \"a\", table = \"full.csv\"}";
     let text = format!(in alloc; "transform = [{element}]")?;
