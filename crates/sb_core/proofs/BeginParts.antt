@@ -97,7 +97,7 @@ module _ (plan : Shape) (is_plan : IsPlan plan) (m : Moment) (sound : IsSound pl
 
   pub lanes-begun : All (λ lane. begun lane ≤ length lane.marks) node.lanes
   lanes-begun i d within =
-      begun_within (bound_at plan k) (get_or node.lanes i d) (sound.lanes (record { node = k; lane = i }) (get_or node.lanes i d) (lane-there m k i node at (get_or node.lanes i d) (slice_get-get_or node.lanes i d within)))
+      begun_within (bound_at plan k) (get_or node.lanes i d) (sound.lanes (record { node = k; lane = i }) (get_or node.lanes i d) (lane-there m k node at i (get_or node.lanes i d) (slice_get-get_or node.lanes i d within)))
 
   pub begun-is : node.closings ≡ sum_by begun node.lanes
   begun-is = subst (λ (n : Node). n.closings ≡ sum_by begun n.lanes) node-is (sound.closings k)

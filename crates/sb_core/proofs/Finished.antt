@@ -1,5 +1,5 @@
 -- The finish of a Work that code finds among what is held.
-use Rattle.std.proofs.Common.{◌≡◌, ℕ, ◌≤◌, Bool, true, false, cond, List, ◌++◌, length, Some, None, ap, ◌∙◌, arith}
+use Rattle.std.proofs.Common.{◌≡◌, ℕ, ◌≤◌, Bool, true, false, cond, List, ◌++◌, length, Some, None, refl, ap, ◌∙◌, arith}
 use Rattle.std.specs.Prelude.{◌||◌}
 use Rattle.std.specs.List.{slice_get}
 use Rattle.sb_record.specs.declared.item.Record.{Record}
@@ -19,9 +19,8 @@ use Rattle.sb_core.specs.Lanes.{finish_in}
 use Rattle.sb_core.specs.Moments.{lane_at, set_lane, set_node, with_held, is_work}
 use Rattle.sb_core.specs.Soundness.{IsSound}
 use Rattle.sb_core.proofs.Carried.{then_never}
-use Rattle.sb_core.proofs.InPlace.{then_some, place}
+use Rattle.sb_core.proofs.InPlace.{then_some, place, node_within}
 use Rattle.sb_core.proofs.LaneLaws.{All-pulled}
-use Rattle.sb_core.proofs.Placed.{node_within}
 
 module _ (plan : Shape) (m : Moment) (k l number epoch floor : ℕ) (records : List Record) (delivered : Bool) (others : List Held)
     (found : pulled (is_work k l number) m.held ≡ Some (Work k l epoch floor number records delivered, others)) where
@@ -53,4 +52,4 @@ module _ (plan : Shape) (m : Moment) (k l number epoch floor : ℕ) (records : L
         (work.lane, work.there)
 
     pub node-of_work : k ≤ length plan.steps
-    node-of_work = omega (arith, node_within m (place k l) lane-of_work.0 lane-of_work.1, sound.nodes)
+    node-of_work = omega (arith, node_within m (place k l) lane-of_work.1 {nodes = m.nodes} refl, sound.nodes)

@@ -20,7 +20,6 @@ use Rattle.sb_core.specs.Soundness.{IsSound}
 use Rattle.sb_core.proofs.InPlace.{then_some, place, lane-there}
 use Rattle.sb_core.proofs.LaneLaws.{All-pulled}
 use Rattle.sb_core.proofs.Ordered.{and_is}
-use Rattle.sb_core.proofs.Placed.{with_lane-of}
 use Rattle.sb_core.proofs.TidyLanes.{pulled-passes}
 
 -- what code reads at the place that it found
@@ -67,9 +66,9 @@ module _ (m : Moment) (k l epoch serial floor mark : ℕ) (rows : List Record) (
       → closing_ended m k ≡ Some (set_node k (set_lane l (record lane { conts = drop 1 lane.conts; ended = lane.ended + 1 }) node) (with_held others m))
   end-done node lane at in_it is =
       then_some (pulled (is_close k) m.held) (Close k l epoch serial floor mark rows passed, others) _ found
-      ∙ then_some (lane_at m (place k l)) lane _ (lane-there m k l node at lane in_it)
+      ∙ then_some (lane_at m (place k l)) lane _ (lane-there m k node at l lane in_it)
       ∙ ap (λ b. cond b (with_lane (place k l) (record lane { conts = drop 1 lane.conts; ended = lane.ended + 1 }) (with_held others m)) None) is
-      ∙ with_lane-of (with_held others m) (place k l) node (record lane { conts = drop 1 lane.conts; ended = lane.ended + 1 }) at
+      ∙ then_some (slice_get m.nodes k) node _ at
 
   -- in a sound moment the lane is there
   pub lane-of_close : (plan : Shape) → IsSound plan m → (lane : CoreLane) × (lane_at m (place k l) ≡ Some lane)

@@ -17,7 +17,6 @@ pub mod Placing
 pub mod Nodewise
 pub mod Arriving
 pub mod Becoming
-pub mod Placed
 pub mod Timely
 pub mod Exactly
 pub mod Beginning

@@ -1,4 +1,4 @@
-use Rattle.std.proofs.Common.{◌≡◌, ◌<◌, ◌++◌, true, false, eqb, length, get_or, Some, refl, sym, ap, ◌∙◌, arith}
+use Rattle.std.proofs.Common.{◌≡◌, ◌<◌, ◌++◌, true, false, eqb, length, Some, refl, sym, ap, ◌∙◌, arith}
 use Rattle.std.specs.Prelude.{◌||◌}
 use Rattle.std.specs.List.{remove, slice_get, slice_set}
 use Rattle.sb_pipeline.specs.Elements.{on_lane}
@@ -12,8 +12,7 @@ use Rattle.sb_core.specs.Moments.{is_work, set_node, with_held}
 use Rattle.sb_core.proofs.FromHeld.{first-in, work-of}
 use Rattle.sb_core.proofs.Carried.{empty-by_length}
 use Rattle.sb_core.proofs.Finished.{may-finish, finished-node, finish-is, finish-never, lane-of_work, node-of_work}
-use Rattle.sb_core.proofs.InPlace.{place, read-there, node-written}
-use Rattle.sb_core.proofs.Placed.{node_within, lane_within}
+use Rattle.sb_core.proofs.InPlace.{place, node-written, node_within, node-read, lane_within, lane-read}
 use Rattle.sb_core.proofs.bundles.finish.Goals.{else-not-was_delivered-via-then-not-was_delivered+in_ok-delivery+else-not-is_empty, else-not-was_delivered-via-else-not-was_delivered}
 use Rattle.sb_core.proofs.bundles.finish.Goals as goal
 
@@ -65,8 +64,7 @@ index_mut-there-requires c =
     (c.as_slice.ensures ∙ held) (c.as_slice-2.ensures ∙ held) c.in-Some.ensures c.index-as_slice-place.is h.is) in
     let lane = lane-of_work plan m k l n h.epoch h.floor h.records h.was_delivered others found c.requires in
     let nodes : c.nodes.inside.items.items ≡ m.nodes = c.nodes.view_is ∙ ap (λ (m : Moment). m.nodes) c.moment.view_is in
-    let node_in : k < length m.nodes = node_within m (place k l) lane.0 lane.1 in
-    let k_in : k < length c.nodes.inside.items.items = omega (arith, node_in, ap length nodes) in
+    let k_in : k < length c.nodes.inside.items.items = node_within m (place k l) lane.1 nodes in
     omega (arith, k_in, c.nodes.inside.items.ok.0)
 
 pub absorb-requires : goal.absorb-requires
@@ -99,12 +97,9 @@ index_mut-requires c =
     (c.as_slice.ensures ∙ held) (c.as_slice-2.ensures ∙ held) c.in-Some.ensures c.index-as_slice-place.is h.is) in
     let lane = lane-of_work plan m k l n h.epoch h.floor h.records h.was_delivered others found c.requires in
     let nodes : c.nodes.inside.items.items ≡ m.nodes = c.nodes.view_is ∙ ap (λ (m : Moment). m.nodes) c.moment.view_is in
-    let node_in : k < length m.nodes = node_within m (place k l) lane.0 lane.1 in
-    let k_in : k < length c.nodes.inside.items.items = omega (arith, node_in, ap length nodes) in
     let node = c.index_mut-there.result.now in
     let lanes : c.lanes.inside.items.items ≡ node.lanes = c.lanes.view_is ∙ ap (λ (n : Node). n.lanes) c.there.view_is in
-    let lane_in : l < length node.lanes = lane_within m (place k l) lane.0 lane.1 node (c.index_mut-there.ensures.value ∙ ap (λ ns. get_or ns k node) nodes) in
-    let l_in : l < length c.lanes.inside.items.items = omega (arith, lane_in, ap length lanes) in
+    let l_in : l < length c.lanes.inside.items.items = lane_within m (place k l) lane.1 nodes c.index_mut-there.ensures.value lanes in
     omega (arith, l_in, c.lanes.inside.items.ok.0)
 
 pub returns : goal.returns
@@ -122,14 +117,10 @@ returns c =
     (c.as_slice.ensures ∙ held) (c.as_slice-2.ensures ∙ held) c.in-Some.ensures c.index-as_slice-place.is h.is) in
     let lane = lane-of_work plan m k l n h.epoch h.floor h.records h.was_delivered others found c.requires in
     let nodes : c.nodes.inside.items.items ≡ m.nodes = c.nodes.view_is ∙ ap (λ (m : Moment). m.nodes) c.moment.view_is in
-    let node_in : k < length m.nodes = node_within m (place k l) lane.0 lane.1 in
-    let k_in : k < length c.nodes.inside.items.items = omega (arith, node_in, ap length nodes) in
     let node = c.index_mut-there.result.now in
     let lanes : c.lanes.inside.items.items ≡ node.lanes = c.lanes.view_is ∙ ap (λ (n : Node). n.lanes) c.there.view_is in
-    let lane_in : l < length node.lanes = lane_within m (place k l) lane.0 lane.1 node (c.index_mut-there.ensures.value ∙ ap (λ ns. get_or ns k node) nodes) in
-    let l_in : l < length c.lanes.inside.items.items = omega (arith, lane_in, ap length lanes) in
-    let at : slice_get m.nodes k ≡ Some node = read-there c.nodes.inside.items.items m.nodes k node nodes k_in c.index_mut-there.ensures.value in
-    let in_it : slice_get node.lanes l ≡ Some c.index_mut.result.now = read-there c.lanes.inside.items.items node.lanes l c.index_mut.result.now lanes l_in c.index_mut.ensures.value in
+    let at : slice_get m.nodes k ≡ Some node = node-read m (place k l) lane.1 nodes c.index_mut-there.ensures.value in
+    let in_it : slice_get node.lanes l ≡ Some c.index_mut.result.now = lane-read m (place k l) lane.1 nodes c.index_mut-there.ensures.value lanes c.index_mut.ensures.value in
     let may : may-finish plan m k l n h.epoch h.floor h.records h.was_delivered others found ≡ true = elim c.else-not-was_delivered.branch [
       | else-not-was_delivered-via-then-not-was_delivered+in_ok-delivery+else-not-is_empty w ↦
           let given : w.in_ok-delivery.field-0.items ≡ delivery (operator_at (slice_get plan.steps k)) h.records = w.in_ok-delivery.ensures ∙ ap (delivery (operator_at (slice_get plan.steps k))) w.as_slice-then-not-was_delivered.ensures in

@@ -1,11 +1,10 @@
-use Rattle.std.proofs.Common.{◌≡◌, ◌+◌, ◌<◌, ◌≤◌, length, drop, get_or, Some, sym, ap, ◌∙◌, arith}
+use Rattle.std.proofs.Common.{◌≡◌, ◌+◌, ◌<◌, ◌≤◌, length, drop, Some, sym, ap, ◌∙◌, arith}
 use Rattle.std.specs.List.{slice_get, slice_set, remove}
 use Rattle.sb_core.specs.declared.moment.Moment.{Moment}
 use Rattle.sb_core.specs.declared.held.Held.TheVariants.{Close}
 use Rattle.sb_core.specs.Moments.{is_close, set_node, set_lane, with_held}
 use Rattle.sb_core.proofs.FromHeld.{first-in, close-of, end-done, lane-of_close}
-use Rattle.sb_core.proofs.InPlace.{place, read-there, node-written, lane-there}
-use Rattle.sb_core.proofs.Placed.{node_within, lane_within}
+use Rattle.sb_core.proofs.InPlace.{place, node-written, lane-there, node_within, node-read, lane_within, lane-read}
 use Rattle.sb_core.proofs.closings.end.Goals as goal
 
 pub index_mut-requires : goal.index_mut-requires
@@ -20,8 +19,7 @@ index_mut-requires c =
     c.as_slice.ensures c.as_slice-2.ensures c.in-Some.ensures c.index-as_slice-place.is h.is) in
     let lane = lane-of_close m k l h.epoch h.serial h.floor h.mark h.rows h.was_passed others found c.requires.0 c.requires.1 in
     let nodes : c.nodes.inside.items.items ≡ m.nodes = c.nodes.view_is ∙ ap (λ (m : Moment). m.nodes) c.moment.view_is in
-    let node_in : k < length m.nodes = node_within m (place k l) lane.0 lane.1 in
-    let k_in : k < length c.nodes.inside.items.items = omega (arith, node_in, ap length nodes) in
+    let k_in : k < length c.nodes.inside.items.items = node_within m (place k l) lane.1 nodes in
     omega (arith, k_in, c.nodes.inside.items.ok.0)
 
 pub index_mut-at-requires : goal.index_mut-at-requires
@@ -36,11 +34,7 @@ index_mut-at-requires c =
     c.as_slice.ensures c.as_slice-2.ensures c.in-Some.ensures c.index-as_slice-place.is h.is) in
     let lane = lane-of_close m k l h.epoch h.serial h.floor h.mark h.rows h.was_passed others found c.requires.0 c.requires.1 in
     let nodes : c.nodes.inside.items.items ≡ m.nodes = c.nodes.view_is ∙ ap (λ (m : Moment). m.nodes) c.moment.view_is in
-    let node_in : k < length m.nodes = node_within m (place k l) lane.0 lane.1 in
-    let k_in : k < length c.nodes.inside.items.items = omega (arith, node_in, ap length nodes) in
-    let node = c.index_mut.result.now in
-    let lane_in : l < length node.lanes = lane_within m (place k l) lane.0 lane.1 node (c.index_mut.ensures.value ∙ ap (λ ns. get_or ns k node) nodes) in
-    let l_in : l < length c.lanes.inside.items.items = omega (arith, lane_in, ap length c.lanes.view_is) in
+    let l_in : l < length c.lanes.inside.items.items = lane_within m (place k l) lane.1 nodes c.index_mut.ensures.value c.lanes.view_is in
     omega (arith, l_in, c.lanes.inside.items.ok.0)
 
 pub prove-unreachable-requires : goal.prove-unreachable-requires
@@ -55,15 +49,11 @@ prove-unreachable-requires c =
     c.as_slice.ensures c.as_slice-2.ensures c.in-Some.ensures c.index-as_slice-place.is h.is) in
     let lane = lane-of_close m k l h.epoch h.serial h.floor h.mark h.rows h.was_passed others found c.requires.0 c.requires.1 in
     let nodes : c.nodes.inside.items.items ≡ m.nodes = c.nodes.view_is ∙ ap (λ (m : Moment). m.nodes) c.moment.view_is in
-    let node_in : k < length m.nodes = node_within m (place k l) lane.0 lane.1 in
-    let k_in : k < length c.nodes.inside.items.items = omega (arith, node_in, ap length nodes) in
     let node = c.index_mut.result.now in
-    let lane_in : l < length node.lanes = lane_within m (place k l) lane.0 lane.1 node (c.index_mut.ensures.value ∙ ap (λ ns. get_or ns k node) nodes) in
-    let l_in : l < length c.lanes.inside.items.items = omega (arith, lane_in, ap length c.lanes.view_is) in
     let old = c.index_mut-at.result.now in
-    let at : slice_get m.nodes k ≡ Some node = read-there c.nodes.inside.items.items m.nodes k node nodes k_in c.index_mut.ensures.value in
-    let in_it : slice_get node.lanes l ≡ Some old = read-there c.lanes.inside.items.items node.lanes l old c.lanes.view_is l_in c.index_mut-at.ensures.value in
-    let ended : old.ended ≤ length old.marks = (c.requires.1.lanes (place k l) old (lane-there m k l node at old in_it)).ended_in in
+    let at : slice_get m.nodes k ≡ Some node = node-read m (place k l) lane.1 nodes c.index_mut.ensures.value in
+    let in_it : slice_get node.lanes l ≡ Some old = lane-read m (place k l) lane.1 nodes c.index_mut.ensures.value c.lanes.view_is c.index_mut-at.ensures.value in
+    let ended : old.ended ≤ length old.marks = (c.requires.1.lanes (place k l) old (lane-there m k node at l old in_it)).ended_in in
     let same : length c.as_slice-3.result.now ≡ length old.marks = ap length c.as_slice-3.ensures in
     omega (arith, c.if-prove.true)
 
@@ -79,14 +69,10 @@ returns c =
     c.as_slice.ensures c.as_slice-2.ensures c.in-Some.ensures c.index-as_slice-place.is h.is) in
     let lane = lane-of_close m k l h.epoch h.serial h.floor h.mark h.rows h.was_passed others found c.requires.0 c.requires.1 in
     let nodes : c.nodes.inside.items.items ≡ m.nodes = c.nodes.view_is ∙ ap (λ (m : Moment). m.nodes) c.moment.view_is in
-    let node_in : k < length m.nodes = node_within m (place k l) lane.0 lane.1 in
-    let k_in : k < length c.nodes.inside.items.items = omega (arith, node_in, ap length nodes) in
     let node = c.index_mut.result.now in
-    let lane_in : l < length node.lanes = lane_within m (place k l) lane.0 lane.1 node (c.index_mut.ensures.value ∙ ap (λ ns. get_or ns k node) nodes) in
-    let l_in : l < length c.lanes.inside.items.items = omega (arith, lane_in, ap length c.lanes.view_is) in
     let old = c.index_mut-at.result.now in
-    let at : slice_get m.nodes k ≡ Some node = read-there c.nodes.inside.items.items m.nodes k node nodes k_in c.index_mut.ensures.value in
-    let in_it : slice_get node.lanes l ≡ Some old = read-there c.lanes.inside.items.items node.lanes l old c.lanes.view_is l_in c.index_mut-at.ensures.value in
+    let at : slice_get m.nodes k ≡ Some node = node-read m (place k l) lane.1 nodes c.index_mut.ensures.value in
+    let in_it : slice_get node.lanes l ≡ Some old = lane-read m (place k l) lane.1 nodes c.index_mut.ensures.value c.lanes.view_is c.index_mut-at.ensures.value in
     let left : c.remove.new.self.items ≡ others = c.remove.ensures.items ∙ ap (λ (m : Moment). remove m.held c.in-Some.place) c.moment.view_is in
     let ended = set_lane l (record old { conts = drop 1 old.conts; ended = old.ended + 1 }) node in
     end-done m k l h.epoch h.serial h.floor h.mark h.rows h.was_passed others found node old at in_it c.if-not-was_passed.false
