@@ -8,7 +8,7 @@ use Rattle.sb_core.specs.Moments
 use Rattle.std.proofs.Common.{◌≡◌, ℕ, suc, zero, ◌+◌, ◌≤◌, Bool, true, false, not, cond, eqb, List, [], ◌∷◌, length, Some, sym, refl, ap, subst, ◌∙◌, arith}
 use Rattle.std.specs.Prelude.{◌&&◌, ◌||◌, sum_by}
 use Rattle.std.specs.List.{slice_get, list_any, AllByRecursion}
-use Rattle.std.proofs.lemmas.Bool.{eqb-true}
+use Rattle.std.proofs.lemmas.Bool.{eqb-true, not-true}
 use Rattle.std.proofs.lemmas.List.Sums.{sum_by-cons}
 use Rattle.sb_record.specs.declared.item.Record.{Record}
 use Rattle.sb_record.specs.declared.item.Stream.{Stream}
@@ -112,14 +112,10 @@ events-keep_exact plan m later fed (Begin node lane) h lawful after exact = begi
         let c = bind_some (Lanes.closable b.0.ended b.0.conts) _ later b.2 in
         let d = cond_is_some (not (list_any (Moments.is_close node) m.held)) _ later c.2 in
         let is = some_is _ _ d.1 in
-        let up = rises plan m node lane a.0 b.0 c.0 a.1 b.1 (closable-is b.0.ended b.0.conts c.0 c.1) (idle (list_any (Moments.is_close node) m.held) d.0) lawful in
+        let up = rises plan m node lane a.0 b.0 c.0 a.1 b.1 (closable-is b.0.ended b.0.conts c.0 c.1) (not-true (list_any (Moments.is_close node) m.held) d.0) lawful in
         let before = ap (λ (x : Node). Marks.closed x.lanes) (node_at-same m node a.0 a.0 a.1) in
         let then = ap (λ (x : Moment). Marks.closed (node_at x node).lanes) (sym is) ∙ ap (λ (x : Node). Marks.closed x.lanes) (node_at-set_same m node a.0 _ a.1) in
         subst (λ x. x ≤ Marks.closed (node_at later node).lanes) (sym before) (subst (λ x. Marks.closed a.0.lanes ≤ x) (sym then) up)
-      where
-        idle : (b : Bool) → not b ≡ true → b ≡ false
-        idle true h = cc
-        idle false h = refl
 events-keep_exact plan m later fed (Pass node) h lawful after exact =
     let a = bind_some (Choices.pulled (Moments.is_close node) m.held) (λ q. Events.after_pass plan m q.0 q.1) later h in
     pass-exact plan m later fed lawful exact a.0 (SameSums-pulled (Moments.is_close node) m.held a.0 a.1) (All-pulled (IsHeld plan m) (Moments.is_close node) m.held a.0 a.1 lawful.holds).0 a.2

@@ -3,6 +3,7 @@ use Rattle.std.proofs.Common.{◌≡◌, ℕ, suc, zero, ◌-◌, ◌≤◌, Lis
 use Rattle.std.specs.Prelude.{min}
 use Rattle.std.specs.List.{slice_get, slice_set}
 use Rattle.std.proofs.lemmas.List.{take_all}
+use Rattle.std.proofs.Math.Numerals.{sub-one}
 use Rattle.sb_core.specs.declared.moment.Cont.{Cont}
 use Rattle.sb_core.specs.declared.moment.CoreLane.{CoreLane}
 use Rattle.sb_core.specs.Lanes.{with_first_closing}
@@ -26,11 +27,8 @@ closed_with-later (z ∷ y ∷ lanes) x zero first others two is later own rest 
 closed_with-later (z ∷ y ∷ lanes) x (suc i) first others two is later own rest =
     λ lane cont conts at has. (λ j. min ((own ∙ ap begun_mark is) j) (below lane cont conts at has j)) ∙ sym (closed-later z y lanes i (record lane { conts = with_first_closing lane.conts }))
   where
-    less : (n : ℕ) → suc n - 1 ≡ n
-    less n = omega arith
-
     all : take (length (z ∷ y ∷ lanes) - 1) (y ∷ lanes) ≡ y ∷ lanes
     all = take_all (length (z ∷ y ∷ lanes) - 1) (y ∷ lanes) (omega arith)
 
     below : IsClosedWith (y ∷ lanes) i others
-    below = subst (λ (n : ℕ). IsClosedWith (y ∷ lanes) n others) (less i) (subst (λ (l : List CoreLane). IsClosedWith l (suc i - 1) others) all rest)
+    below = subst (λ (n : ℕ). IsClosedWith (y ∷ lanes) n others) (sub-one (suc i)) (subst (λ (l : List CoreLane). IsClosedWith l (suc i - 1) others) all rest)

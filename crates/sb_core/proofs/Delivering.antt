@@ -1,6 +1,6 @@
 -- A bundle is delivered: the moment stays lawful.
 use Rattle.sb_record.proofs.Elements.{every, All-flat_map}
-use Rattle.std.proofs.Common.{◌^◌, eqb, ◌≡◌, ℕ, suc, zero, ◌+◌, ◌≤◌, ◌<◌, Bool, true, false, cond, List, [], ◌∷◌, ◌++◌, take, drop, Some, Option, sym, refl, ap, subst, ◌∙◌, arith, zero-add}
+use Rattle.std.proofs.Common.{◌^◌, eqb, ◌≡◌, ℕ, suc, zero, ◌+◌, ◌≤◌, ◌<◌, Bool, true, false, cond, List, [], ◌∷◌, ◌++◌, take, drop, Some, Option, sym, refl, ap, subst, ◌∙◌, arith, zero-add, add-zero}
 use Rattle.std.specs.List.{flat_map, slice_get, AllByRecursion}
 use Rattle.std.proofs.lemmas.Bool.{eq-eqb, ne_eqb}
 use Rattle.sb_record.specs.declared.item.Record.{Record}
@@ -68,11 +68,8 @@ above-more k (t ∷ steps) count further zero s h =
     ∙ ap (λ b. cond b (count (k + 0) + count k + 1) (count (k + 0))) (ne_eqb t.down.node (k + 0) (λ e. absurd (let q : t.down.node ≡ s.down.node = ap (λ (s : Step). s.down.node) same in omega arith))) in
     let b : cond (eqb t.down.node s.down.node) (count s.down.node + count k + 1) (count s.down.node) ≤ above_from k (t ∷ steps) count s.down.node = counted-more (k + 1) steps (λ n. cond (eqb t.down.node n) (count n + count k + 1) (count n)) s.down.node in
     let c : cond (eqb t.down.node s.down.node) (count s.down.node + count k + 1) (count s.down.node) ≡ count s.down.node + count k + 1 = ap (λ b. cond b (count s.down.node + count k + 1) (count s.down.node)) (eq-eqb t.down.node s.down.node (ap (λ (s : Step). s.down.node) same)) in
-    let d : count (k + 0) ≡ count k = ap count (plus_zero k) in
+    let d : count (k + 0) ≡ count k = ap count (add-zero k) in
     omega arith
-  where
-    plus_zero : (k : ℕ) → k + 0 ≡ k
-    plus_zero k = omega arith
 above-more k (t ∷ steps) count further (suc j) s h =
     subst (λ z. above_from k (t ∷ steps) count z + 1 ≤ above_from k (t ∷ steps) count s.down.node) (shift k j)
     (above-more (k + 1) steps (λ n. cond (eqb t.down.node n) (count n + count k + 1) (count n)) (λ j t e. let z : k + suc j < t.down.node = further (suc j) t e in omega arith) j s h)

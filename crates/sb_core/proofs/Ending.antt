@@ -3,6 +3,7 @@ use Rattle.std.proofs.Common.{◌≡◌, ℕ, suc, zero, ◌+◌, ◌≤◌, Boo
 use Rattle.std.specs.Prelude.{◌≢◌, ◌⊎◌, ◌&&◌, ◌||◌, count_by, slice_set}
 use Rattle.std.specs.List.{filter, slice_get, list_any, AllByRecursion}
 use Rattle.std.proofs.lemmas.Bool.{eq-eqb, ne_eqb, cases_eq, eqb-true, eqb-false}
+use Rattle.std.proofs.Math.Bool.{and-false}
 use Rattle.sb_record.specs.declared.item.Record.{Record}
 use Rattle.sb_core.specs.declared.moment.Cont.{Cont}
 use Rattle.sb_core.specs.declared.moment.CoreLane.{CoreLane}
@@ -107,12 +108,8 @@ end-lawful plan m node lane y l epoch serial floor mark rows others at in_it law
     (λ k. omega (arith, count_gone (is_close k) m.held others (Close y l epoch serial floor mark rows true) pulled, lawful.one_close k))
     closing_left
     (λ k s is. below_still plan m y l node (set_lane l (shorter lane) node) lane (shorter lane) at in_it refl refl begins marks others k s
-    (any_gone (is_unpassed k) m.held others (Close y l epoch serial floor mark rows true) pulled (and_false (eqb y k))) (floors s.down) (epochs s.down) (lawful.below k s is))
+    (any_gone (is_unpassed k) m.held others (Close y l epoch serial floor mark rows true) pulled (and-false (eqb y k))) (floors s.down) (epochs s.down) (lawful.below k s is))
   where
-    and_false : (b : Bool) → (b && false) ≡ false
-    and_false true = refl
-    and_false false = refl
-
     was : lane_at m (record { node = y; lane = l }) ≡ Some lane
     was = ap (λ (o : Option Node). o >>= λ x. slice_get x.lanes l) at ∙ in_it
 
@@ -165,7 +162,7 @@ end-lawful plan m node lane y l epoch serial floor mark rows others at in_it law
         and_left ne = ap (λ b. b && eqb l d.lane) (ne_eqb y d.node (λ e. ne (sym e)))
 
         and_right : d.lane ≢ l → (eqb y d.node && eqb l d.lane) ≡ false
-        and_right ne = ap (λ b. eqb y d.node && b) (ne_eqb l d.lane (λ e. ne (sym e))) ∙ and_false (eqb y d.node)
+        and_right ne = ap (λ b. eqb y d.node && b) (ne_eqb l d.lane (λ e. ne (sym e))) ∙ and-false (eqb y d.node)
 
 -- ---- a Work is finished
 finish-ready : (epoch number : ℕ) (cs : List Cont) → IsReady cs → IsReady (finish_in epoch number cs)

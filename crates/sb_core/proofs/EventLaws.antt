@@ -10,7 +10,7 @@ use Rattle.sb_record.specs.declared.item.TheConstants
 use Rattle.std.proofs.Common.{◌≡◌, ℕ, ◌+◌, ◌-◌, ◌≤◌, ◌<◌, ◌^◌, Bool, true, false, not, cond, eqb, ltb, List, [], ◌∷◌, ◌++◌, length, take, drop, Some, Option, sym, refl, ap, subst, ◌∙◌, arith, ⊎_elim, get_or, length-drop, length-append, set as slice_set}
 use Rattle.std.specs.Prelude.{◌&&◌, nat_lt, nat_le}
 use Rattle.std.specs.List.{flat_map, sum_by, slice_get, list_all, All, AllByRecursion}
-use Rattle.std.proofs.lemmas.Bool.{eq-eqb, ne_eqb, cases_eq, le-ltb}
+use Rattle.std.proofs.lemmas.Bool.{eq-eqb, ne_eqb, cases_eq, le-ltb, not-true, and_parts}
 use Rattle.std.proofs.lemmas.Bool.Decides.{nat_tests}
 use Rattle.std.proofs.lemmas.List.Elements.{All-from_recursion, All-append, All-weaker}
 use Rattle.std.proofs.lemmas.Option.{slice_get_within}
@@ -117,13 +117,9 @@ pub nat_le-le : (a b : ℕ) → nat_le a b ≡ true → a ≤ b
 nat_le-le a b h = grind (arith, nat_tests)
 
 -- ---- a bundle arrives
-pub and_is : (a b : Bool) → (a && b) ≡ true → (a ≡ true) × (b ≡ true)
-and_is true b h = (refl, h)
-and_is false b h = cc
-
 pub list_all-AllByRecursion : (p : Record → Bool) (P : Record → Type 0) → ((r : Record) → p r ≡ true → P r) → (l : List Record) → list_all p l ≡ true → AllByRecursion P l
 list_all-AllByRecursion p P w [] h = tt
-list_all-AllByRecursion p P w (r ∷ l) h = let k = and_is (p r) (list_all p l) h in (w r k.0, list_all-AllByRecursion p P w l k.1)
+list_all-AllByRecursion p P w (r ∷ l) h = let k = and_parts (p r) (list_all p l) h in (w r k.0, list_all-AllByRecursion p P w l k.1)
 
 admits_more : (plan : Shape) (m m' : Moment) (s : Stream) (d : Down) (records : List Record) → source plan s ≡ Some d → AllByRecursion (λ r. (floor_at m d ≤ r.time) × (r.time ≤ TheConstants.MAX_TIME)) records
     → ((e : Down) → floor_at m' e ≡ floor_at m e) → (coming : Stream → List Record) → IsAdmissible plan m' coming → IsAdmissible plan m (with_more s records coming)
@@ -153,7 +149,7 @@ arrive-exact plan m m' fed s records h lawful exact =
         let made = with_lane-is m d p.0 with m' p.1 (ap (λ x. Moments.with_lane d (Lanes.with_arrival (Lanes.next_epoch lane) (Lanes.next_floor lane) records x) m) (sym same) ∙ h) in
         let floors : (e : Down) → floor_at m' e ≡ floor_at m e = λ e. ap (λ x. floor_at x e) (sym made) ∙ floor-set m d.node d.lane p.0 (Moments.set_lane d.lane with p.0) lane with p.1 p.2 refl refl e in
         let mark = arrival_calm (bound_at plan d.node) (Lanes.next_epoch lane) (Lanes.next_floor lane) records lane (lawful.lanes d lane at) (omega arith) in
-        let times = list_all-AllByRecursion (λ r. nat_le (Lanes.next_floor lane) r.time && nat_le r.time TheConstants.MAX_TIME) (λ r. (floor_at m d ≤ r.time) × (r.time ≤ TheConstants.MAX_TIME)) (λ r t. let k = and_is (nat_le (Lanes.next_floor lane) r.time) (nat_le r.time TheConstants.MAX_TIME) t in (subst (λ n. n ≤ r.time) (sym (ap floor_of at)) (nat_le-le (Lanes.next_floor lane) r.time k.0), nat_le-le r.time TheConstants.MAX_TIME k.1)) records (and_is (nat_le (length records) m.bundle) _ (and_is (not (Choices.is_empty records)) _ test).1).1 in
+        let times = list_all-AllByRecursion (λ r. nat_le (Lanes.next_floor lane) r.time && nat_le r.time TheConstants.MAX_TIME) (λ r. (floor_at m d ≤ r.time) × (r.time ≤ TheConstants.MAX_TIME)) (λ r t. let k = and_parts (nat_le (Lanes.next_floor lane) r.time) (nat_le r.time TheConstants.MAX_TIME) t in (subst (λ n. n ≤ r.time) (sym (ap floor_of at)) (nat_le-le (Lanes.next_floor lane) r.time k.0), nat_le-le r.time TheConstants.MAX_TIME k.1)) records (and_parts (nat_le (length records) m.bundle) _ (and_parts (not (Choices.is_empty records)) _ test).1).1 in
         exact-arrived plan m m' fed s d records (lawful-timely plan m lawful) is
         (λ k es fs x. subst (λ z. SameSums (gives plan m k es) (gives plan z k fs)) made
         (arrival-gives plan m d p.0 lane p.1 p.2 (Lanes.next_epoch lane) (Lanes.next_floor lane) records m.held mark k es fs [] (λ f. refl) (λ f. refl) (λ _. refl) x))
@@ -233,7 +229,7 @@ seal-exact plan m m' fed s mark h lawful exact =
     go d lane at test h =
         let p = lane_at-parts m d lane at in
         let made = with_lane-is m d p.0 (Lanes.with_seal mark lane) m' p.1 h in
-        let up : Lanes.next_floor lane ≤ mark = nat_le-le (Lanes.next_floor lane) mark (and_is (nat_le mark TheConstants.END_MARK) (nat_le (Lanes.next_floor lane) mark) test).1 in
+        let up : Lanes.next_floor lane ≤ mark = nat_le-le (Lanes.next_floor lane) mark (and_parts (nat_le mark TheConstants.END_MARK) (nat_le (Lanes.next_floor lane) mark) test).1 in
         let floors : (e : Down) → floor_at m e ≤ floor_at m' e = λ e. subst (λ x. floor_at m e ≤ floor_at x e) made (floor-rises m d.node d.lane p.0 (Moments.set_lane d.lane (Lanes.with_seal mark lane) p.0) lane (Lanes.with_seal mark lane) p.1 p.2 refl (subst (λ n. Lanes.next_floor lane ≤ n) (sym (sealed_floor mark lane)) up) e) in
         exact-same plan m m' fed (lawful-timely plan m lawful)
         (λ k es fs within in_time same. subst (λ z. SameSums (gives plan m k es) (gives plan z k fs)) made
@@ -299,12 +295,8 @@ module _ (plan : Shape) (m m' : Moment) (fed : Stream → List Record) (lawful :
       let b = bind_some (Moments.lane_at m a.0) _ m' a.2 in
       let c = cond_is_some (not passed && Choices.is_empty rows) _ m' b.2 in
       let d = below-is plan y a.0 a.1 in
-      go a.0 b.0 d.0 d.1 d.2 b.1 (still passed (and_is (not passed) (Choices.is_empty rows) c.0).0) c.1
+      go a.0 b.0 d.0 d.1 d.2 b.1 (not-true passed (and_parts (not passed) (Choices.is_empty rows) c.0).0) c.1
     where
-      still : (p : Bool) → not p ≡ true → p ≡ false
-      still true h = cc
-      still false h = refl
-
       done : List Held
       done = others ++ Close y l epoch serial floor mark rows true ∷ []
 
@@ -383,13 +375,9 @@ module _ (plan : Shape) (m m' : Moment) (fed : Stream → List Record) (lawful :
       let b = below-is plan y a.0 a.1 in
       let o = operator_at (slice_get plan.steps y) in
       let c = cond_is_some (not delivered && not (Choices.is_empty (Closings.delivery o records))) _ m' a.2 in
-      let t = and_is (not delivered) (not (Choices.is_empty (Closings.delivery o records))) c.0 in
-      by_operator o refl a.0 b.0 b.1 b.2 (still delivered t.0) t.1 c.1
+      let t = and_parts (not delivered) (not (Choices.is_empty (Closings.delivery o records))) c.0 in
+      by_operator o refl a.0 b.0 b.1 b.2 (not-true delivered t.0) t.1 c.1
     where
-      still : (p : Bool) → not p ≡ true → p ≡ false
-      still true h = cc
-      still false h = refl
-
       by_operator : (o : Operator) → operator_at (slice_get plan.steps y) ≡ o → (d : Down) (s : Step) → slice_get plan.steps y ≡ Some s → s.down ≡ d → delivered ≡ false → not (Choices.is_empty (Closings.delivery o records)) ≡ true
           → Events.arrived_at d epoch floor (Closings.delivery (operator_at (slice_get plan.steps y)) records) (Moments.with_held (others ++ Work y l epoch floor number records true ∷ []) m) ≡ Some m' → IsExact plan m' fed
       by_operator (Windowed g) e d s is down f some h = cc

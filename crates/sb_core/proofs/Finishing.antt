@@ -27,7 +27,7 @@ use Rattle.sb_core.specs.Moments.{set_lane, set_node, with_held, node_at}
 use Rattle.sb_core.specs.Lanes.{finish_in}
 use Rattle.sb_core.specs.Exactness.{waiting_in, waiting_from, working, undelivered, rest, gives, gives_by}
 use Rattle.sb_record.proofs.Sums.{SameSums, SameSums-map, SameSums-flat_map, SameSums-filter}
-use Rattle.sb_core.proofs.Lists.{waiting_of, of_cont}
+use Rattle.sb_core.proofs.Lists.{waiting_of, of_cont, empty_is}
 use Rattle.sb_core.proofs.Nodes.{closed-set, sum_by-waiting_set, node_at-same, node_at-set_same, node_at-set_other}
 use Rattle.sb_core.proofs.Groupings.{grouped-order, all_records-append}
 use Rattle.sb_core.proofs.Gives.{sum_by-rest, gives-less}
@@ -54,10 +54,6 @@ abbrev pub is_pardo : Operator → Bool
 is_pardo (ParDo op) = true
 is_pardo (Windowed grouping) = false
 is_pardo Sink = false
-
-empty_is : {X : Type 0} (l : List X) → is_empty l ≡ true → l ≡ []
-empty_is [] h = refl
-empty_is (x ∷ l) h = cc
 
 -- the node of the Work
 finishing-gives : (o : Operator) (k l epoch floor number : ℕ) (node after : Node) (held others : List Held) (records : List Record) (delivered : Bool) (rows : List Record) (es fs : List KeptRec)

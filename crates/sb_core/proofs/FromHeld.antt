@@ -2,7 +2,7 @@
 use Rattle.std.proofs.Common.{◌≡◌, ℕ, ◌+◌, Bool, true, cond, eqb, List, drop, get_or, Some, None, sym, ap, subst, ◌∙◌}
 use Rattle.std.specs.Prelude.{◌&&◌}
 use Rattle.std.specs.List.{slice_get, remove}
-use Rattle.std.proofs.lemmas.Bool.{eqb-true}
+use Rattle.std.proofs.lemmas.Bool.{eqb-true, and_parts}
 use Rattle.std.proofs.lemmas.Option.{get_or_from_slice_get}
 use Rattle.sb_record.specs.declared.item.Record.{Record}
 use Rattle.sb_pipeline.specs.Shapes.{Shape}
@@ -19,7 +19,6 @@ use Rattle.sb_core.specs.Moments.{lane_at, set_lane, set_node, with_lane, with_h
 use Rattle.sb_core.specs.Soundness.{IsSound}
 use Rattle.sb_core.proofs.InPlace.{then_some, place, lane-there}
 use Rattle.sb_core.proofs.LaneLaws.{All-pulled}
-use Rattle.sb_core.proofs.Ordered.{and_is}
 use Rattle.sb_core.proofs.TidyLanes.{pulled-passes}
 
 -- what code reads at the place that it found
@@ -47,7 +46,7 @@ pub close-of_lane : (hs others : List Held) (k l n j epoch serial floor mark : �
     → (pulled (is_close_of k l) hs ≡ Some (Close n j epoch serial floor mark rows passed, others)) × (is_close_of k l (Close n j epoch serial floor mark rows passed) ≡ true)
     → pulled (is_close_of k l) hs ≡ Some (Close k l epoch serial floor mark rows passed, others)
 close-of_lane hs others k l n j epoch serial floor mark rows passed h =
-    let both = and_is (eqb n k) (eqb j l) h.1 in
+    let both = and_parts (eqb n k) (eqb j l) h.1 in
     h.0 ∙ (λ i. Some (Close (eqb-true n k both.0 i) (eqb-true j l both.1 i) epoch serial floor mark rows passed, others))
 
 -- a Work that is found is that of the bundle
@@ -55,8 +54,8 @@ pub work-of : (hs others : List Held) (k l number n j i epoch floor : ℕ) (reco
     → (pulled (is_work k l number) hs ≡ Some (Work n j epoch floor i records delivered, others)) × (is_work k l number (Work n j epoch floor i records delivered) ≡ true)
     → pulled (is_work k l number) hs ≡ Some (Work k l epoch floor number records delivered, others)
 work-of hs others k l number n j i epoch floor records delivered h =
-    let first = and_is (eqb n k) (eqb j l && eqb i number) h.1 in
-    let second = and_is (eqb j l) (eqb i number) first.1 in
+    let first = and_parts (eqb n k) (eqb j l && eqb i number) h.1 in
+    let second = and_parts (eqb j l) (eqb i number) first.1 in
     h.0 ∙ (λ z. Some (Work (eqb-true n k first.0 z) (eqb-true j l second.0 z) epoch floor (eqb-true i number second.1 z) records delivered, others))
 
 -- the end of a closing that is found

@@ -1,6 +1,6 @@
 -- What a node gives, where its state changes.
 use Rattle.sb_record.proofs.Numbers.{bind_some}
-use Rattle.std.proofs.Common.{◌≡◌, ℕ, ◌+◌, true, false, not, cond, eqb, ltb, List, [], ◌∷◌, ◌++◌, Some, sym, refl, ap, ◌∙◌, arith}
+use Rattle.std.proofs.Common.{◌≡◌, ℕ, ◌+◌, true, false, not, cond, eqb, ltb, List, [], ◌∷◌, ◌++◌, Some, sym, refl, ap, ◌∙◌, arith, add_assoc}
 use Rattle.std.specs.Prelude.{◌&&◌}
 use Rattle.std.specs.List.{flat_map, sum_by, slice_get}
 use Rattle.std.proofs.lemmas.List.Sums.{sum_by-append}
@@ -44,24 +44,18 @@ gives-less (ParDo op) k node after held later rows more u es fs und same kept ma
     sum_by-append f (flat_map (undelivered k) held) (flat_map (outputs_of op) (all_records (rest k node held es)))
     ∙ (λ i. und f i + SameSums-flat_map (outputs_of op) (all_records (rest k node held es)) (all_records (rest k after later fs)) (SameSums-map (λ e. e.rec) (rest k node held es) (rest k after later fs) same) f i)
     ∙ ap (λ n. n + sum_by f (flat_map (outputs_of op) (all_records (rest k after later fs)))) (sum_by-append f u (flat_map (undelivered k) later))
-    ∙ regroup _ _ _
+    ∙ add_assoc _ _ _
     ∙ ap (λ n. sum_by f u + n) (sym (sum_by-append f (flat_map (undelivered k) later) (flat_map (outputs_of op) (all_records (rest k after later fs)))))
     ∙ sym (sum_by-append f u (gives_by (ParDo op) k after later more fs))
-  where
-    regroup : (a b c : ℕ) → (a + b) + c ≡ a + (b + c)
-    regroup a b c = omega arith
 gives-less (Windowed g) k node after held later rows more u es fs und same kept mark sink more_is f =
     sum_by-append f (flat_map (undelivered k) held) (at_least (closed node.lanes) (grouped g (node.kept ++ rest k node held es)))
     ∙ (λ i. und f i + SameSums-filter (λ r. not (ltb r.time (closed node.lanes))) (grouped g (node.kept ++ rest k node held es)) (grouped g (after.kept ++ rest k after later fs)) (grouped-order g (node.kept ++ rest k node held es) (after.kept ++ rest k after later fs) all) f i)
     ∙ ap (λ n. sum_by f (u ++ flat_map (undelivered k) later) + sum_by f (at_least n (grouped g (after.kept ++ rest k after later fs)))) (sym mark)
     ∙ ap (λ n. n + sum_by f (at_least (closed after.lanes) (grouped g (after.kept ++ rest k after later fs)))) (sum_by-append f u (flat_map (undelivered k) later))
-    ∙ regroup _ _ _
+    ∙ add_assoc _ _ _
     ∙ ap (λ n. sum_by f u + n) (sym (sum_by-append f (flat_map (undelivered k) later) (at_least (closed after.lanes) (grouped g (after.kept ++ rest k after later fs)))))
     ∙ sym (sum_by-append f u (gives_by (Windowed g) k after later more fs))
   where
-    regroup : (a b c : ℕ) → (a + b) + c ≡ a + (b + c)
-    regroup a b c = omega arith
-
     all : SameSums (node.kept ++ rest k node held es) (after.kept ++ rest k after later fs)
     all f = sum_by-append f node.kept (rest k node held es) ∙ (λ i. sum_by f (sym kept i) + same f i) ∙ sym (sum_by-append f after.kept (rest k after later fs))
 gives-less Sink k node after held later rows more u es fs und same kept mark sink more_is f =

@@ -76,7 +76,8 @@ early_in_lane mark l es late = sum_by-map (early mark) (λ (e : KeptRec). e.rec)
         by_case true a k = sum_by-cons (early_one mark) e (filter (λ e. eqb e.lane l) es) ∙ (λ i. a i + k i)
         by_case false a k = k
 
-none_before : (mark : ℕ) (coming : List Record) → sum_by (early mark) coming ≡ 0 → before mark coming ≡ []
+-- where none is early, none is before the mark
+pub none_before : (mark : ℕ) (coming : List Record) → sum_by (early mark) coming ≡ 0 → before mark coming ≡ []
 none_before mark [] h = refl
 none_before mark (r ∷ l) h =
     let rest : before mark l ≡ [] = none_before mark l (omega (arith, sum_by-cons (early mark) r l)) in

@@ -4,6 +4,7 @@ use Rattle.std.specs.Prelude.{◌≢◌, min}
 use Rattle.std.specs.List.{flat_map, sum_by, slice_get, list_any, AllByRecursion}
 use Rattle.std.proofs.lemmas.Bool.{eqb-true, eq-eqb, ne_eqb, cases_eq}
 use Rattle.std.proofs.lemmas.List.Sums.{sum_by-append, sum_by-cons}
+use Rattle.std.proofs.Math.Numerals.{sub-one}
 use Rattle.sb_record.specs.declared.item.Record.{Record}
 use Rattle.sb_bundle.specs.declared.bundle.Bundle.{Bundle}
 use Rattle.sb_core.specs.declared.moment.Cont.{Cont}
@@ -58,11 +59,8 @@ falls-drop low (m ∷ ms) (suc n) up h = subst (λ z. NeverFalls z (drop n ms)) 
     at : (n : ℕ) → cond (eqb n 0) m (get_or ms (n - 1) 0) ≡ cond (eqb (suc n) 0) low (get_or (m ∷ ms) (suc n - 1) 0)
     at zero = refl
     at (suc n) =
-        ap (λ b. cond b m (get_or ms (suc n - 1) 0)) (ne_eqb (suc n) 0 (λ e. omega arith)) ∙ ap (λ j. get_or ms j 0) (less n)
-        ∙ sym (ap (λ b. cond b low (get_or (m ∷ ms) (suc (suc n) - 1) 0)) (ne_eqb (suc (suc n)) 0 (λ e. omega arith)) ∙ ap (λ j. get_or (m ∷ ms) j 0) (less (suc n)))
-      where
-        less : (n : ℕ) → suc n - 1 ≡ n
-        less n = omega arith
+        ap (λ b. cond b m (get_or ms (suc n - 1) 0)) (ne_eqb (suc n) 0 (λ e. omega arith)) ∙ ap (λ j. get_or ms j 0) (sub-one (suc n))
+        ∙ sym (ap (λ b. cond b low (get_or (m ∷ ms) (suc (suc n) - 1) 0)) (ne_eqb (suc (suc n)) 0 (λ e. omega arith)) ∙ ap (λ j. get_or (m ∷ ms) j 0) (sub-one (suc (suc n))))
 
 -- ---- what waits in containers, from the floor on
 bundles_late : (bound low : ℕ) (c : Cont) → low ≤ c.floor → (l : List Bundle) → AllByRecursion (IsBundleOf bound c) l → sum_by (early low) (flat_map (λ b. b.records) l) ≡ 0

@@ -12,11 +12,8 @@ use Rattle.sb_core.specs.Lanes.{fresh, in_epoch, with_bundle, take_from, finish_
 use Rattle.sb_core.specs.Choices.{pulled}
 use Rattle.sb_core.specs.LaneOrder.{NeverFalls, IsWithin, IsBundleOf, IsSealed, IsOpen, AreOpen, AreContainers}
 use Rattle.sb_core.proofs.Fitting.{Fits}
+use Rattle.sb_core.proofs.HeldLists.{All-last}
 use Rattle.sb_core.proofs.Lists.{some_is}
-
-pub All-snoc : {X : Type 0} (P : X → Type 0) (xs : List X) (x : X) → AllByRecursion P xs → P x → AllByRecursion P (xs ++ x ∷ [])
-All-snoc P [] x all h = (h, tt)
-All-snoc P (y ∷ xs) x all h = (all.0, All-snoc P xs x all.1 h)
 
 -- the last of the marks, or what was before them
 abbrev pub last_from : ℕ → List ℕ → ℕ
@@ -35,7 +32,7 @@ module _ (bound epoch floor number : ℕ) (records : List Record) (times : IsWit
 
   in_its_epoch : (c : Cont) → c.epoch ≡ epoch → c.floor ≡ floor → AllByRecursion (IsBundleOf bound c) c.waiting → AllByRecursion (IsBundleOf bound (with_bundle (record { number = number; epoch = epoch; floor = floor; records = records }) c)) (c.waiting ++ record { number = number; epoch = epoch; floor = floor; records = records } ∷ [])
   in_its_epoch c e f all =
-      All-snoc (IsBundleOf bound (with_bundle (record { number = number; epoch = epoch; floor = floor; records = records }) c)) c.waiting _
+      All-last (IsBundleOf bound (with_bundle (record { number = number; epoch = epoch; floor = floor; records = records }) c)) c.waiting _
       (same c.waiting all)
       (record { epoch = sym e; floor = sym f; times = subst (λ n. IsWithin n bound records) (sym f) times })
     where

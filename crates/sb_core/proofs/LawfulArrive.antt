@@ -1,7 +1,9 @@
 -- A bundle arrives: the moment stays lawful.
+use Rattle.sb_record.proofs.Elements.{every}
 use Rattle.std.proofs.Common.{◌≡◌, ℕ, suc, zero, ◌+◌, ◌-◌, ◌≤◌, cond, eqb, List, [], ◌∷◌, length, drop, Some, Option, sym, refl, ap, subst, ◌∙◌, arith, get_or, length-drop}
-use Rattle.std.specs.List.{slice_get, AllByRecursion}
+use Rattle.std.specs.List.{slice_get}
 use Rattle.std.proofs.lemmas.Bool.{ne_eqb}
+use Rattle.std.proofs.Math.Numerals.{sub-one}
 use Rattle.sb_record.specs.declared.item.Record.{Record}
 use Rattle.sb_bundle.specs.declared.bundle.Bundle.{Bundle}
 use Rattle.sb_core.specs.declared.moment.Cont.{Cont}
@@ -10,7 +12,6 @@ use Rattle.sb_pipeline.specs.declared.transform.Down.{Down}
 use Rattle.sb_core.specs.declared.moment.Node.{Node}
 use Rattle.sb_pipeline.specs.Shapes.{Shape}
 use Rattle.sb_core.specs.declared.moment.Moment.{Moment}
-use Rattle.sb_core.specs.declared.held.Held.{Held}
 use Rattle.sb_record.specs.Reading.{◌>>=◌}
 use Rattle.sb_core.specs.Lanes.{with_bundle, with_arrival, next_epoch, next_floor}
 use Rattle.sb_core.specs.Marks.{last_of_first}
@@ -31,14 +32,11 @@ last_from-drop low marks zero h = refl
 last_from-drop low [] (suc n) h = absurd (omega arith)
 last_from-drop low (m ∷ ms) (suc n) h = ap (λ z. last_from z (drop n ms)) (at n) ∙ last_from-drop m ms n (omega arith)
   where
-    less : (n : ℕ) → suc n - 1 ≡ n
-    less n = omega arith
-
     at : (n : ℕ) → cond (eqb (suc n) 0) low (get_or (m ∷ ms) (suc n - 1) 0) ≡ cond (eqb n 0) m (get_or ms (n - 1) 0)
     at zero = refl
     at (suc n) =
-        ap (λ b. cond b low (get_or (m ∷ ms) (suc (suc n) - 1) 0)) (ne_eqb (suc (suc n)) 0 (λ e. omega arith)) ∙ ap (λ j. get_or (m ∷ ms) j 0) (less (suc n))
-        ∙ sym (ap (λ b. cond b m (get_or ms (suc n - 1) 0)) (ne_eqb (suc n) 0 (λ e. omega arith)) ∙ ap (λ j. get_or ms j 0) (less n))
+        ap (λ b. cond b low (get_or (m ∷ ms) (suc (suc n) - 1) 0)) (ne_eqb (suc (suc n)) 0 (λ e. omega arith)) ∙ ap (λ j. get_or (m ∷ ms) j 0) (sub-one (suc (suc n)))
+        ∙ sym (ap (λ b. cond b m (get_or ms (suc n - 1) 0)) (ne_eqb (suc n) 0 (λ e. omega arith)) ∙ ap (λ j. get_or ms j 0) (sub-one (suc n)))
 
 last_from-last : (low : ℕ) (m : ℕ) (ms : List ℕ) → last_from low (m ∷ ms) ≡ get_or (m ∷ ms) (length (m ∷ ms) - 1) 0
 last_from-last low m [] = ap (λ n. get_or (m ∷ []) n 0) zero_is
@@ -133,7 +131,3 @@ arrival-lawful plan m d node lane records at in_it times lawful =
     frame plan m d node lane (with_arrival (next_epoch lane) (next_floor lane) records lane) at in_it kept m.held lawful (arrival-lane (bound_at plan d.node) records lane ok times)
     (every (λ h. holds_still plan m d node lane (with_arrival (next_epoch lane) (next_floor lane) records lane) at in_it kept m.held h) m.held lawful.holds)
     (λ k. omega arith) (λ e. refl) (λ k. refl)
-  where
-    every : {P Q : Held → Type 0} → ((h : Held) → P h → Q h) → (hs : List Held) → AllByRecursion P hs → AllByRecursion Q hs
-    every f [] all = tt
-    every f (h ∷ hs) all = (f h all.0, every f hs all.1)

@@ -4,9 +4,10 @@ use Rattle.sb_record.proofs.Sorting.{All-in_order}
 use Rattle.std.proofs.Common.{◌^◌, ◌≡◌, ℕ, suc, zero, ◌+◌, ◌≤◌, ◌<◌, Bool, true, false, not, cond, eqb, ltb, List, [], ◌∷◌, ◌++◌, length, drop, Some, Option, sym, refl, ap, subst, ◌∙◌, arith, ⊎_elim, length-drop, set as slice_set, length-set}
 use Rattle.std.specs.Prelude.{◌&&◌, ◌||◌, ◌≢◌, ◌⊎◌, count_by, sum_by, nat_lt, is_some}
 use Rattle.std.specs.List.{slice_get, list_any, AllByRecursion}
-use Rattle.std.proofs.lemmas.Bool.{eq-eqb, ne_eqb, cases_eq, eqb-true, eqb-false, ltb-true, ltb-false}
+use Rattle.std.proofs.lemmas.Bool.{eq-eqb, ne_eqb, cases_eq, eqb-true, eqb-false, ltb-true, ltb-false, and_parts}
 use Rattle.std.proofs.lemmas.List.Sums.{sum_by-append, sum_by-cons}
 use Rattle.std.proofs.lemmas.List.Folds.{list_any-append}
+use Rattle.std.proofs.Math.Bool.{or-true}
 use Rattle.sb_record.specs.declared.item.Record.{Record}
 use Rattle.sb_bundle.specs.declared.bundle.Bundle.{Bundle}
 use Rattle.sb_core.specs.declared.moment.Cont.{Cont}
@@ -33,9 +34,9 @@ use Rattle.sb_core.specs.Bounds.{bound_at}
 use Rattle.sb_core.specs.Holdings.{IsWork, IsHeld, is_unpassed}
 use Rattle.sb_core.specs.Soundness.{IsSealedBelow}
 use Rattle.sb_core.proofs.Orderly.{IsLawful}
-use Rattle.sb_core.proofs.Lists.{some_is, cond_is_some}
+use Rattle.sb_core.proofs.Lists.{some_is, cond_is_some, empty_is}
 use Rattle.sb_core.proofs.Nodes.{begun_mark, slice_get-set_same, lane_at-set, lane_at-cases, node_at-same, node_at-set_same, node_at-set_other}
-use Rattle.sb_core.proofs.LaneLaws.{All-snoc}
+use Rattle.sb_core.proofs.HeldLists.{All-last}
 use Rattle.sb_core.proofs.InTime.{last_of_first-rises}
 use Rattle.sb_core.proofs.EventLaws.{transform_is}
 use Rattle.sb_core.proofs.Beginning.{begun_lane, closing_mark, begun_node, new_close, after_beginning}
@@ -53,19 +54,11 @@ pub closable-is : (epoch : ℕ) (cs : List Cont) (c : Cont) → closable epoch c
 closable-is epoch [] c h = cc
 closable-is epoch (x ∷ cs) c h =
     let a = cond_is_some ((eqb x.epoch epoch) && (is_some x.mark && (is_empty x.waiting && is_empty x.out))) (Some x) c h in
-    let b = and_is (eqb x.epoch epoch) _ a.0 in
-    let d = and_is (is_some x.mark) _ b.1 in
-    let e = and_is (is_empty x.waiting) (is_empty x.out) d.1 in
+    let b = and_parts (eqb x.epoch epoch) _ a.0 in
+    let d = and_parts (is_some x.mark) _ b.1 in
+    let e = and_parts (is_empty x.waiting) (is_empty x.out) d.1 in
     let same : x ≡ c = some_is x c a.1 in
     subst (IsClosable epoch (x ∷ cs)) same (record { rest = cs; is = refl; of_epoch = eqb-true x.epoch epoch b.0; marked = d.0; none_waits = empty_is x.waiting e.0; none_out = empty_is x.out e.1 })
-  where
-    and_is : (a b : Bool) → (a && b) ≡ true → (a ≡ true) × (b ≡ true)
-    and_is true b h = (refl, h)
-    and_is false b h = cc
-
-    empty_is : {X : Type 0} (l : List X) → is_empty l ≡ true → l ≡ []
-    empty_is [] h = refl
-    empty_is (x ∷ l) h = cc
 
 -- the least over the lanes rises with one of them
 closed-set_rises : (lanes : List CoreLane) (l : ℕ) (lane with : CoreLane) → slice_get lanes l ≡ Some lane → begun_mark lane ≤ begun_mark with → closed lanes ≤ closed (slice_set lanes l with)
@@ -306,20 +299,16 @@ module _ (plan : Shape) (m : Moment) (n l : ℕ) (node : Node) (lane : CoreLane)
           one_lane = λ k h. ⊎_elim
               (λ e. ap (λ k. length (node_at after k).lanes) e ∙ ap (λ (x : Node). length x.lanes) this_node ∙ length-set node.lanes l begun_l ∙ ap (λ (x : Node). length x.lanes) (sym (node_at-same m n node node at)) ∙ ap (λ k. length (node_at m k).lanes) (sym e) ∙ lawful.one_lane k h)
               (λ ne. ap (λ (x : Node). length x.lanes) (other_node k ne) ∙ lawful.one_lane k h) (cases_eq k n);
-          holds = All-snoc (IsHeld plan after) m.held close (none_is m.held idle lawful.holds) new_is;
+          holds = All-last (IsHeld plan after) m.held close (none_is m.held idle lawful.holds) new_is;
           one_close = one_close;
           closing_held = λ e x h z. list_any-append (is_close_of e.node e.lane) m.held (close ∷ []) ∙ ⊎_elim
-              (λ y. ap (λ (d : Down). list_any (is_close_of d.node d.lane) m.held || (((eqb n d.node) && (eqb l d.lane)) || false)) y.0 ∙ (λ i. list_any (is_close_of n l) m.held || ((eq-eqb n n refl i && eq-eqb l l refl i) || false)) ∙ or_true (list_any (is_close_of n l) m.held))
+              (λ y. ap (λ (d : Down). list_any (is_close_of d.node d.lane) m.held || (((eqb n d.node) && (eqb l d.lane)) || false)) y.0 ∙ (λ i. list_any (is_close_of n l) m.held || ((eq-eqb n n refl i && eq-eqb l l refl i) || false)) ∙ or-true (list_any (is_close_of n l) m.held))
               (λ y. ap (λ b. b || list_any (is_close_of e.node e.lane) (close ∷ [])) (lawful.closing_held e x (sym y ∙ h) z)) (cases e);
           below = below;
           closings = closings;
           sources = λ s e is. let x = lawful.sources s e is in ⊎_elim (λ y. (begun_l, y.1)) (λ y. (x.0, y ∙ x.1)) (cases e);
         }
       where
-        or_true : (b : Bool) → (b || true) ≡ true
-        or_true true = refl
-        or_true false = refl
-
         one_close : (k : ℕ) → count_by (is_close k) (m.held ++ close ∷ []) ≤ 1
         one_close k = ⊎_elim
             (λ e. let z : count_by (is_close k) m.held ≡ 0 = count_none k m.held (ap (λ k. list_any (is_close k) m.held) e ∙ idle) in omega (arith, sum_by-append (λ h. cond (is_close k h) 1 0) m.held (close ∷ []), small (eqb n k)))

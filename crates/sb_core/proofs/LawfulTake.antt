@@ -1,4 +1,5 @@
 -- A bundle is taken: the moment stays lawful.
+use Rattle.sb_record.proofs.Elements.{every}
 use Rattle.sb_record.proofs.Numbers.{bind_some}
 use Rattle.sb_core.specs.Moments
 use Rattle.std.proofs.Common.{◌≡◌, ℕ, ◌+◌, ◌≤◌, ◌<◌, Bool, true, false, cond, eqb, List, [], ◌∷◌, ◌++◌, drop, Some, Option, sym, refl, ap, subst, ◌∙◌, arith}
@@ -7,6 +8,7 @@ use Rattle.std.specs.List.{slice_get, list_any, AllByRecursion}
 use Rattle.std.proofs.lemmas.Bool.{eq-eqb, ne_eqb}
 use Rattle.std.proofs.lemmas.List.Sums.{sum_by-append}
 use Rattle.std.proofs.lemmas.List.Folds.{list_any-append}
+use Rattle.std.proofs.Math.Bool.{or-true, or-false}
 use Rattle.sb_bundle.specs.declared.bundle.Bundle.{Bundle}
 use Rattle.sb_core.specs.declared.moment.Cont.{Cont}
 use Rattle.sb_core.specs.declared.moment.CoreLane.{CoreLane}
@@ -30,7 +32,8 @@ use Rattle.sb_core.proofs.Lists.{some_is}
 use Rattle.sb_core.proofs.Nodes.{slice_get-set_same}
 use Rattle.sb_core.proofs.Frame.{IsKept, frame, holds_still}
 use Rattle.sb_core.proofs.Gives.{lane_at-parts, with_lane-is}
-use Rattle.sb_core.proofs.LaneLaws.{DifferInBundles, take_from-differ, containers-differ, All-snoc, All-pulled}
+use Rattle.sb_core.proofs.HeldLists.{All-last}
+use Rattle.sb_core.proofs.LaneLaws.{DifferInBundles, take_from-differ, containers-differ, All-pulled}
 
 -- ---- what was taken is out of the container of its epoch
 record IsTaken (bound number : ℕ) (b : Bundle) (cs : List Cont) : Type 0 where
@@ -45,10 +48,6 @@ record IsTaken (bound number : ℕ) (b : Bundle) (cs : List Cont) : Type 0 where
 taken_later : (bound number : ℕ) (b : Bundle) (c : Cont) (cs : List Cont) → c.epoch < b.epoch → IsTaken bound number b cs → IsTaken bound number b (c ∷ cs)
 taken_later bound number b c cs h t = record { cont = t.cont; of_epoch = ap (λ a. cond a (Some c) (cont_at b.epoch cs)) (ne_eqb c.epoch b.epoch (λ e. omega arith)) ∙ t.of_epoch; floor_is = t.floor_is; is_out = t.is_out; times = t.times; from = 0 }
 
-or_true : (b : Bool) → (b || true) ≡ true
-or_true true = refl
-or_true false = refl
-
 -- from the container in hand
 taken_here : (bound number : ℕ) (b : Bundle) (c : Cont) (waiting : List Bundle) (cs : List Cont) → IsBundleOf bound c b → IsTaken bound number b (record c { waiting = waiting; out = c.out ++ number ∷ [] } ∷ cs)
 taken_here bound number b c waiting cs h =
@@ -56,7 +55,7 @@ taken_here bound number b c waiting cs h =
       cont = record c { waiting = waiting; out = c.out ++ number ∷ [] };
       of_epoch = ap (λ a. cond a (Some (record c { waiting = waiting; out = c.out ++ number ∷ [] })) (cont_at b.epoch cs)) (eq-eqb c.epoch b.epoch (sym h.epoch));
       floor_is = sym h.floor;
-      is_out = list_any-append (λ n. eqb n number) c.out (number ∷ []) ∙ ap (λ a. list_any (λ n. eqb n number) c.out || (a || false)) (eq-eqb number number refl) ∙ or_true (list_any (λ n. eqb n number) c.out);
+      is_out = list_any-append (λ n. eqb n number) c.out (number ∷ []) ∙ ap (λ a. list_any (λ n. eqb n number) c.out || (a || false)) (eq-eqb number number refl) ∙ or-true (list_any (λ n. eqb n number) c.out);
       times = subst (λ n. IsWithin n bound b.records) (sym h.floor) h.times;
       from = 0;
     }
@@ -206,20 +205,12 @@ take-lawful plan m m' d number h lawful =
         subst (IsLawful plan) made
         (frame plan m d p.0 lane with p.1 p.2 kept (m.held ++ work ∷ []) lawful
         (record { ended_in = ok.ended_in; rising = ok.rising; containers = containers-differ (bound_at plan d.node) lane.ended _ _ lane.conts q.1 differ ok.containers; ready = take-ready number lane.conts q took ok.ready; others = differ-tail (bound_at plan d.node) lane.conts q.1 differ ok.others })
-        (All-snoc (IsHeld plan (set_node d.node (set_lane d.lane with p.0) (with_held (m.held ++ work ∷ []) m))) m.held work
+        (All-last (IsHeld plan (set_node d.node (set_lane d.lane with p.0) (with_held (m.held ++ work ∷ []) m))) m.held work
         (every (λ h. holds_still plan m d p.0 lane with p.1 p.2 kept (m.held ++ work ∷ []) h) m.held lawful.holds)
         (record { lane = with; there = there; cont = taken.cont; of_epoch = taken.of_epoch; floor_is = taken.floor_is; is_out = taken.is_out; times = taken.times; only_pardo = λ f. let x : false ≡ true = f in cc }))
         (λ k. omega (arith, sum_by-append (λ h. cond (is_close k h) 1 0) m.held (work ∷ [])))
-        (λ e. list_any-append (is_close_of e.node e.lane) m.held (work ∷ []) ∙ or_false _)
-        (λ k. list_any-append (is_unpassed k) m.held (work ∷ []) ∙ or_false _))
+        (λ e. list_any-append (is_close_of e.node e.lane) m.held (work ∷ []) ∙ or-false _)
+        (λ k. list_any-append (is_unpassed k) m.held (work ∷ []) ∙ or-false _))
       where
-        or_false : (b : Bool) → (b || false) ≡ b
-        or_false true = refl
-        or_false false = refl
-
-        every : {P Q : Held → Type 0} → ((h : Held) → P h → Q h) → (hs : List Held) → AllByRecursion P hs → AllByRecursion Q hs
-        every f [] all = tt
-        every f (h ∷ hs) all = (f h all.0, every f hs all.1)
-
         at_place : (d : Down) (node : Node) (lane with : CoreLane) → slice_get m.nodes d.node ≡ Some node → slice_get node.lanes d.lane ≡ Some lane → (held : List Held) → lane_at (set_node d.node (set_lane d.lane with node) (with_held held m)) d ≡ Some with
         at_place d node lane with at in_it held = ap (λ (o : Option Node). o >>= λ n. slice_get n.lanes d.lane) (slice_get-set_same m.nodes d.node node (set_lane d.lane with node) at) ∙ slice_get-set_same node.lanes d.lane lane with in_it

@@ -1,6 +1,6 @@
 -- What the words on lists and lanes do to the records that wait.
 use Rattle.sb_record.proofs.Numbers.{bind_some}
-use Rattle.std.proofs.Common.{◌≡◌, ℕ, ◌+◌, Bool, true, false, cond, eqb, ltb, List, [], ◌∷◌, ◌++◌, Some, None, Option, sym, refl, ap, ◌∙◌, arith}
+use Rattle.std.proofs.Common.{◌≡◌, ℕ, ◌+◌, Bool, true, false, cond, eqb, ltb, List, [], ◌∷◌, ◌++◌, Some, None, Option, sym, refl, ap, ◌∙◌, arith, add_assoc}
 use Rattle.std.specs.List.{sum_by, flat_map, list_any}
 use Rattle.std.proofs.lemmas.List.Sums.{sum_by-append, sum_by-cons}
 use Rattle.std.proofs.lemmas.List.Concat.{flat_map-append}
@@ -8,7 +8,7 @@ use Rattle.sb_record.specs.declared.item.Record.{Record}
 use Rattle.sb_bundle.specs.declared.bundle.Bundle.{Bundle}
 use Rattle.sb_core.specs.declared.moment.Cont.{Cont}
 use Rattle.sb_record.specs.Reading.{◌>>=◌}
-use Rattle.sb_core.specs.Choices.{pulled}
+use Rattle.sb_core.specs.Choices.{pulled, is_empty}
 use Rattle.sb_core.specs.Lanes.{fresh, in_epoch, with_bundle, take_from}
 use Rattle.sb_record.proofs.Sums.{SameSums, sum_by-flat_map}
 
@@ -18,6 +18,11 @@ cond_is_some false o x h = cc
 
 pub some_is : {X : Type 0} (x y : X) → Some x ≡ Some y → x ≡ y
 some_is x y h = cc
+
+-- what the test for an empty list says
+pub empty_is : {X : Type 0} (l : List X) → is_empty l ≡ true → l ≡ []
+empty_is [] h = refl
+empty_is (x ∷ l) h = cc
 
 pub swap_front : (a b n : ℕ) → a + (b + n) ≡ b + (a + n)
 swap_front a b n = omega arith
@@ -84,9 +89,6 @@ waiting-with_bundle b c f =
     ∙ sum_by-append f (of_cont c) (b.records ++ []) ∙ ap (λ n. sum_by f (of_cont c) + n) (sum_by-append f b.records [])
     ∙ omega arith ∙ sym (sum_by-append f b.records (of_cont c))
 
-assoc : (a b c : ℕ) → (a + b) + c ≡ a + (b + c)
-assoc a b c = omega arith
-
 -- a bundle is taken
 pub waiting-take_from : (number : ℕ) (cs : List Cont) (q : Bundle × List Cont) → take_from number cs ≡ Some q → SameSums (waiting_of cs) (q.0.records ++ waiting_of q.1)
 waiting-take_from number [] q h f = cc
@@ -103,7 +105,7 @@ waiting-take_from number (c ∷ cs) q h f = by_case (list_any (λ b. eqb b.numbe
         let one : sum_by f (of_cont c) ≡ sum_by f b.0.0.records + sum_by f (flat_map (λ b. b.records) b.0.1) =
         sum_by-flat_map f (λ b. b.records) c.waiting ∙ got ∙ sum_by-cons (λ b. sum_by f b.records) b.0.0 b.0.1 ∙ ap (λ n. sum_by f b.0.0.records + n) (sym (sum_by-flat_map f (λ b. b.records) b.0.1)) in
         sum_by-append f (of_cont c) (waiting_of cs) ∙ ap (λ n. n + sum_by f (waiting_of cs)) one
-        ∙ assoc (sum_by f b.0.0.records) _ _ ∙ ap (λ n. sum_by f b.0.0.records + n) (sym (sum_by-append f (flat_map (λ b. b.records) b.0.1) (waiting_of cs)))
+        ∙ add_assoc (sum_by f b.0.0.records) _ _ ∙ ap (λ n. sum_by f b.0.0.records + n) (sym (sum_by-append f (flat_map (λ b. b.records) b.0.1) (waiting_of cs)))
         ∙ sym (sum_by-append f b.0.0.records _)
         ∙ ap (λ (r : Bundle × List Cont). sum_by f (r.0.records ++ waiting_of r.1)) same
     by_case false h ih =

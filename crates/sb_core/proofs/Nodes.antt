@@ -1,5 +1,5 @@
 -- A change in one lane, as each node sees it.
-use Rattle.std.proofs.Common.{◌≡◌, ℕ, suc, zero, ◌+◌, Bool, true, false, cond, eqb, List, [], ◌∷◌, Some, Option, sym, refl, ap, subst, ◌∙◌, arith, zero-add, inl, inr, ⊎_elim}
+use Rattle.std.proofs.Common.{◌≡◌, ℕ, suc, zero, ◌+◌, Bool, true, false, cond, eqb, List, [], ◌∷◌, Some, Option, sym, refl, ap, subst, ◌∙◌, arith, zero-add, inl, inr, ⊎_elim, add-zero}
 use Rattle.std.specs.Prelude.{◌≢◌, ◌⊎◌, min}
 use Rattle.std.specs.List.{sum_by, slice_get, slice_set}
 use Rattle.std.proofs.lemmas.List.{get_or-set_same, get_or-set_other}
@@ -30,12 +30,9 @@ sum_by-waiting_set f i (first ∷ lanes) zero lane with h =
     let e : first ≡ lane = cc in
     let a : sum_by f (waiting_from i (with ∷ lanes)) ≡ sum_by f (on_lane i (waiting_in with)) + sum_by f (waiting_from (i + 1) lanes) = sum_by-append f (on_lane i (waiting_in with)) (waiting_from (i + 1) lanes) in
     let b : sum_by f (waiting_from i (first ∷ lanes)) ≡ sum_by f (on_lane i (waiting_in first)) + sum_by f (waiting_from (i + 1) lanes) = sum_by-append f (on_lane i (waiting_in first)) (waiting_from (i + 1) lanes) in
-    let c : sum_by f (on_lane (i + 0) (waiting_in lane)) ≡ sum_by f (on_lane i (waiting_in first)) = λ z. sum_by f (on_lane (plus_zero i z) (waiting_in (sym e z))) in
-    let d : sum_by f (on_lane (i + 0) (waiting_in with)) ≡ sum_by f (on_lane i (waiting_in with)) = λ z. sum_by f (on_lane (plus_zero i z) (waiting_in with)) in
+    let c : sum_by f (on_lane (i + 0) (waiting_in lane)) ≡ sum_by f (on_lane i (waiting_in first)) = λ z. sum_by f (on_lane (add-zero i z) (waiting_in (sym e z))) in
+    let d : sum_by f (on_lane (i + 0) (waiting_in with)) ≡ sum_by f (on_lane i (waiting_in with)) = λ z. sum_by f (on_lane (add-zero i z) (waiting_in with)) in
     omega arith
-  where
-    plus_zero : (i : ℕ) → i + 0 ≡ i
-    plus_zero i = omega arith
 sum_by-waiting_set f i (first ∷ lanes) (suc l) lane with h =
     let ih : sum_by f (waiting_from (i + 1) (slice_set lanes l with)) + sum_by f (on_lane (i + suc l) (waiting_in lane)) ≡ sum_by f (waiting_from (i + 1) lanes) + sum_by f (on_lane (i + suc l) (waiting_in with)) =
     subst (λ n. sum_by f (waiting_from (i + 1) (slice_set lanes l with)) + sum_by f (on_lane n (waiting_in lane)) ≡ sum_by f (waiting_from (i + 1) lanes) + sum_by f (on_lane n (waiting_in with))) (step i l) (sum_by-waiting_set f (i + 1) lanes l lane with h) in

@@ -6,7 +6,7 @@ use Rattle.sb_core.specs.Lanes
 use Rattle.sb_core.specs.Moments
 use Rattle.std.proofs.Common.{◌≡◌, ℕ, Bool, true, false, cond, eqb, List, Some, Option, sym, refl, ap, ◌∙◌, set as slice_set}
 use Rattle.std.specs.List.{slice_get}
-use Rattle.std.proofs.lemmas.Bool.{eqb-true}
+use Rattle.std.proofs.lemmas.Bool.{eqb-true, and_parts}
 use Rattle.sb_record.specs.declared.item.Record.{Record}
 use Rattle.sb_pipeline.specs.declared.transform.Down.{Down}
 use Rattle.sb_core.specs.declared.moment.Node.{Node}
@@ -19,7 +19,6 @@ use Rattle.sb_core.specs.declared.held.Held.TheVariants.{Work, Close}
 use Rattle.sb_record.specs.Reading.{◌>>=◌}
 use Rattle.sb_core.specs.Laws.{OneNodeChanges}
 use Rattle.sb_core.proofs.Lists.{cond_is_some, some_is}
-use Rattle.sb_core.proofs.EventLaws.{and_is}
 use Rattle.sb_core.proofs.TidyLanes.{pulled-passes}
 
 -- the nodes are as they were but for one
@@ -51,7 +50,7 @@ module _ (plan : Shape) (m later : Moment) where
       let a = bind_some (Events.below plan k) _ later h in
       let c = cond_is_some _ _ later a.2 in
       let z = arrival_changes a.0 serial floor _ _ later c.1 in
-      (a.0.node, z.0, place_below k n a.0 (eqb-true k n (and_is (eqb k n) (eqb i l) t).0) a.1, z.1)
+      (a.0.node, z.0, place_below k n a.0 (eqb-true k n (and_parts (eqb k n) (eqb i l) t).0) a.1, z.1)
 
   of_work : (n l number : ℕ) (q : Held × List Held) → Moments.is_work n l number q.0 ≡ true → Events.deliver_work plan m q.0 q.1 ≡ Some later → Names plan m later (Events.below plan n >>= λ d. Some d.node)
   of_work n l number (Close k i epoch serial floor mark rows passed, others) t h = cc
@@ -59,7 +58,7 @@ module _ (plan : Shape) (m later : Moment) where
       let a = bind_some (Events.below plan k) _ later h in
       let c = cond_is_some _ _ later a.2 in
       let z = arrival_changes a.0 epoch floor _ _ later c.1 in
-      (a.0.node, z.0, place_below k n a.0 (eqb-true k n (and_is (eqb k n) _ t).0) a.1, z.1)
+      (a.0.node, z.0, place_below k n a.0 (eqb-true k n (and_parts (eqb k n) _ t).0) a.1, z.1)
 
   of_finish : (n l number : ℕ) (q : Held × List Held) → Moments.is_work n l number q.0 ≡ true → Events.after_finish plan m q.0 q.1 ≡ Some later → Names plan m later (Some n)
   of_finish n l number (Close k i epoch serial floor mark rows passed, others) t h = cc
@@ -67,7 +66,7 @@ module _ (plan : Shape) (m later : Moment) where
       let a = bind_some (slice_get m.nodes k) _ later h in
       let b = bind_some (slice_get a.0.lanes i) _ later a.2 in
       let c = cond_is_some _ _ later b.2 in
-      (k, _, ap Some (sym (eqb-true k n (and_is (eqb k n) _ t).0)), sym (ap (λ (x : Moment). x.nodes) (some_is _ _ c.1)))
+      (k, _, ap Some (sym (eqb-true k n (and_parts (eqb k n) _ t).0)), sym (ap (λ (x : Moment). x.nodes) (some_is _ _ c.1)))
 
   of_pass : (n : ℕ) (q : Held × List Held) → Moments.is_close n q.0 ≡ true → Events.after_pass plan m q.0 q.1 ≡ Some later → Names plan m later (Events.below plan n >>= λ d. Some d.node)
   of_pass n (Work k i epoch floor number records delivered, others) t h = cc

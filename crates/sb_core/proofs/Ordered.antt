@@ -2,7 +2,7 @@
 use Rattle.std.proofs.Common.{◌≡◌, ℕ, ◌+◌, ◌≤◌, ◌<◌, Bool, true, false, cond, eqb, List, [], ◌∷◌, drop, Some, sym, refl, ap, subst, ◌∙◌, arith}
 use Rattle.std.specs.Prelude.{◌&&◌, ◌||◌}
 use Rattle.std.specs.List.{list_any, AllByRecursion}
-use Rattle.std.proofs.lemmas.Bool.{eqb-true, eq-eqb, ne_eqb}
+use Rattle.std.proofs.lemmas.Bool.{eqb-true, eq-eqb, ne_eqb, and_parts}
 use Rattle.sb_core.specs.declared.moment.Cont.{Cont}
 use Rattle.sb_core.specs.declared.moment.CoreLane.{CoreLane}
 use Rattle.sb_core.specs.Marks.{begun, first_is_closing, last_of_first}
@@ -66,17 +66,13 @@ own_fits e f epoch (x ∷ cs) c r h = by_case (eqb x.epoch epoch) refl h (λ k. 
         let k = found (IsFrom (x.epoch + 1) x.floor) epoch cs c (all_from (x.epoch + 1) x.floor cs r.2) h in
         ((λ _. k.0.1, λ z. absurd (omega (arith, k.0.0, k.1)), λ z. absurd (omega (arith, k.0.0, k.1))), ih h)
 
-pub and_is : (a b : Bool) → (a && b) ≡ true → (a ≡ true) × (b ≡ true)
-and_is true b h = (refl, h)
-and_is false b h = cc
-
 -- what holds of each container holds of one that is there
 pub has_one : (P : ℕ → ℕ → Type 0) (epoch floor : ℕ) (cs : List Cont) → AllByRecursion (λ c. P c.epoch c.floor) cs → list_any (λ c. (eqb c.epoch epoch) && (eqb c.floor floor)) cs ≡ true → P epoch floor
 has_one P epoch floor [] all h = cc
 has_one P epoch floor (x ∷ cs) all h = by_case (eqb x.epoch epoch && eqb x.floor floor) refl h (λ k. has_one P epoch floor cs all.1 k)
   where
     by_case : (b : Bool) → (eqb x.epoch epoch && eqb x.floor floor) ≡ b → (b || list_any (λ c. (eqb c.epoch epoch) && (eqb c.floor floor)) cs) ≡ true → (list_any (λ c. (eqb c.epoch epoch) && (eqb c.floor floor)) cs ≡ true → P epoch floor) → P epoch floor
-    by_case true e h ih = let k = and_is (eqb x.epoch epoch) (eqb x.floor floor) e in subst (λ z. P z floor) (eqb-true x.epoch epoch k.0) (subst (λ z. P x.epoch z) (eqb-true x.floor floor k.1) all.0)
+    by_case true e h ih = let k = and_parts (eqb x.epoch epoch) (eqb x.floor floor) e in subst (λ z. P z floor) (eqb-true x.epoch epoch k.0) (subst (λ z. P x.epoch z) (eqb-true x.floor floor k.1) all.0)
     by_case false e h ih = ih h
 
 -- the first epoch has the first floor

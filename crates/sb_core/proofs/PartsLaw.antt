@@ -9,7 +9,7 @@ use Rattle.sb_core.specs.Moments
 use Rattle.std.proofs.Common.{◌≡◌, ℕ, suc, zero, ◌+◌, Bool, true, false, not, cond, eqb, List, [], ◌∷◌, ◌++◌, Some, None, Option, sym, refl, ap, ◌∙◌, append-nil, take, drop}
 use Rattle.std.specs.Prelude.{◌||◌}
 use Rattle.std.specs.List.{slice_get, slice_set, list_any}
-use Rattle.std.proofs.lemmas.Bool.{eqb-true}
+use Rattle.std.proofs.lemmas.Bool.{eqb-true, and_parts}
 use Rattle.std.proofs.lemmas.List.Sorted.{IsPermutation-append_comm}
 use Rattle.sb_record.specs.declared.item.Record.{Record}
 use Rattle.sb_pipeline.specs.declared.transform.Down.{Down}
@@ -31,7 +31,6 @@ use Rattle.sb_core.specs.Parts.{PartsKeepSound, HeldPartsKeepSound, Part, only_n
 use Rattle.sb_core.proofs.Lists.{cond_is_some, some_is}
 use Rattle.sb_core.proofs.AnyOrder.{held-in_any_order, idle-by_its_lanes}
 use Rattle.sb_core.proofs.AfterSound.{events-keep_sound}
-use Rattle.sb_core.proofs.EventLaws.{and_is}
 
 -- a chain that is known step by step
 chain : {X Y : Type 0} (o : Option X) (f : X → Option Y) (x : X) (y : Y) → o ≡ Some x → f x ≡ Some y → (o >>= f) ≡ Some y
@@ -149,7 +148,7 @@ module _ (plan : Shape) (m : Moment) (rest : List Held) (k : ℕ) (node : Node) 
   rows_part n l (Close y i epoch serial floor mark rows passed) t named h =
       let a = bind_some (Events.below plan y) _ p h in
       let c = cond_is_some _ _ p a.2 in
-      let z = at_below y n a.0 (eqb-true y n (and_is (eqb y n) (eqb i l) t).0) a.1 named in
+      let z = at_below y n a.0 (eqb-true y n (and_parts (eqb y n) (eqb i l) t).0) a.1 named in
       let left : List Held = Close y i epoch serial floor mark (drop m.bundle rows) passed ∷ [] in
       let w = put (with_held (rest ++ left) m) a.0 node z.1 serial floor (take m.bundle rows) left p c.1 in
       chain (Events.below plan y) _ a.0 _ a.1 (passing _ _ _ c.0 w.0)
@@ -160,7 +159,7 @@ module _ (plan : Shape) (m : Moment) (rest : List Held) (k : ℕ) (node : Node) 
   work_part n l number (Work y i epoch floor other records delivered) t named h =
       let a = bind_some (Events.below plan y) _ p h in
       let c = cond_is_some _ _ p a.2 in
-      let z = at_below y n a.0 (eqb-true y n (and_is (eqb y n) _ t).0) a.1 named in
+      let z = at_below y n a.0 (eqb-true y n (and_parts (eqb y n) _ t).0) a.1 named in
       let left : List Held = Work y i epoch floor other records true ∷ [] in
       let w = put (with_held (rest ++ left) m) a.0 node z.1 epoch floor (Closings.delivery (operator_at (slice_get plan.steps y)) records) left p c.1 in
       chain (Events.below plan y) _ a.0 _ a.1 (passing _ _ _ c.0 w.0)
@@ -171,7 +170,7 @@ module _ (plan : Shape) (m : Moment) (rest : List Held) (k : ℕ) (node : Node) 
   finish_part n l number (Work y i epoch floor other records delivered) t named h =
       let b = bind_some (slice_get node.lanes i) _ p h in
       let c = cond_is_some _ _ p b.2 in
-      let same : y ≡ k = eqb-true y n (and_is (eqb y n) _ t).0 ∙ named in
+      let same : y ≡ k = eqb-true y n (and_parts (eqb y n) _ t).0 ∙ named in
       let made : Part = only_node [] (record (set_lane i (record b.0 { conts = Lanes.finish_in epoch other b.0.conts }) node) { kept = node.kept ++ Closings.absorbed (operator_at (slice_get plan.steps y)) (on_lane i records) }) in
       let is : made ≡ p = some_is _ _ c.1 in
       chain (slice_get m.nodes y) _ node _ (ap (slice_get m.nodes) same ∙ at)

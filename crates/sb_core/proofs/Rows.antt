@@ -2,8 +2,8 @@
 use Rattle.std.proofs.Common.{◌≡◌, ℕ, ◌+◌, ◌<◌, cond, List, [], ◌∷◌, ◌++◌, length, sym, refl, ap, ◌∙◌, arith, zero-add, append-nil}
 use Rattle.std.specs.Prelude.{nat_lt, sum_by}
 use Rattle.std.specs.List.{slice_get, AllByRecursion}
-use Rattle.std.proofs.lemmas.Bool.{lt-ltb, le-ltb}
-use Rattle.std.proofs.lemmas.List.Sums.{sum_by-append, sum_by-cons}
+use Rattle.std.proofs.lemmas.Bool.{lt-ltb}
+use Rattle.std.proofs.lemmas.List.Sums.{sum_by-append}
 use Rattle.std.proofs.lemmas.List.Elements.{filter-append}
 use Rattle.std.proofs.lemmas.Option.{slice_get_past}
 use Rattle.sb_record.specs.declared.item.Record.{Record}
@@ -22,21 +22,13 @@ use Rattle.sb_core.specs.Exactness.{gives, gives_by, final, rest, IsAdmissible, 
 use Rattle.sb_core.specs.Moments.{node_at}
 use Rattle.sb_record.proofs.Sums.{sum_by-map}
 use Rattle.sb_core.proofs.Flow.{flow_in_time}
-use Rattle.sb_core.proofs.Groupings.{early}
-use Rattle.sb_core.proofs.Groupings.{early_one}
-use Rattle.sb_core.proofs.Timely.{late, early_zero, IsTimely, gives_in_time, rest_in_time, streams_in_time}
+use Rattle.sb_core.proofs.Groupings.{early, early_one, none_before}
+use Rattle.sb_core.proofs.Timely.{late, IsTimely, gives_in_time, rest_in_time, streams_in_time}
 use Rattle.sb_record.proofs.Sorting.{sorted-unique, SameRecords-filter}
 
 before-all : (w : ℕ) (l : List Record) → AllByRecursion (λ r. r.time < w) l → before w l ≡ l
 before-all w [] all = refl
 before-all w (r ∷ l) all = (λ i. cond (lt-ltb r.time w all.0 i) (r ∷ before w l) (before w l)) ∙ ap (λ m. r ∷ m) (before-all w l all.1)
-
-before-none : (w : ℕ) (l : List Record) → sum_by (early w) l ≡ 0 → before w l ≡ []
-before-none w [] h = refl
-before-none w (r ∷ l) h =
-    let a : early w r ≡ 0 = omega (arith, sum_by-cons (early w) r l) in
-    let b : sum_by (early w) l ≡ 0 = omega (arith, sum_by-cons (early w) r l) in
-    (λ i. cond (le-ltb r.time w (early_zero w r.time a) i) (r ∷ before w l) (before w l)) ∙ before-none w l b
 
 -- Where the sink's rows are sorted and below its mark, and what it keeps is not, the rows are those of the plan below
 -- the mark, whatever comes.
@@ -75,5 +67,5 @@ rows-are plan m fed coming timely exact ok up low kept =
     written =
         ap (before (closed (node_at m (length plan.steps)).lanes)) sink
         ∙ filter-append (λ r. nat_lt r.time (closed (node_at m (length plan.steps)).lanes)) m.rows _
-        ∙ (λ i. before-all (closed (node_at m (length plan.steps)).lanes) m.rows low i ++ before-none (closed (node_at m (length plan.steps)).lanes) (all_records ((node_at m (length plan.steps)).kept ++ rest (length plan.steps) (node_at m (length plan.steps)) m.held (arriving (length plan.steps) (sent_from (gives plan m) 0 plan.steps (from_streams plan coming))))) (sum_by-map (early (closed (node_at m (length plan.steps)).lanes)) (λ (e : KeptRec). e.rec) ((node_at m (length plan.steps)).kept ++ rest (length plan.steps) (node_at m (length plan.steps)) m.held (arriving (length plan.steps) (sent_from (gives plan m) 0 plan.steps (from_streams plan coming)))) ∙ late_left) i)
+        ∙ (λ i. before-all (closed (node_at m (length plan.steps)).lanes) m.rows low i ++ none_before (closed (node_at m (length plan.steps)).lanes) (all_records ((node_at m (length plan.steps)).kept ++ rest (length plan.steps) (node_at m (length plan.steps)) m.held (arriving (length plan.steps) (sent_from (gives plan m) 0 plan.steps (from_streams plan coming))))) (sum_by-map (early (closed (node_at m (length plan.steps)).lanes)) (λ (e : KeptRec). e.rec) ((node_at m (length plan.steps)).kept ++ rest (length plan.steps) (node_at m (length plan.steps)) m.held (arriving (length plan.steps) (sent_from (gives plan m) 0 plan.steps (from_streams plan coming)))) ∙ late_left) i)
         ∙ append-nil m.rows

@@ -4,13 +4,13 @@ use Rattle.sb_record.proofs.Numbers.{bind_some}
 use Rattle.sb_record.proofs.Elements.{All-join, All-passed, every}
 use Rattle.sb_core.proofs.WindowsAt.{windows-at}
 use Rattle.sb_core.proofs.Orderly.{lawful_of, tidy_of, sound_of}
-use Rattle.std.proofs.Common.{cond, eqb, length-set, ◌≡◌, ℕ, suc, zero, ◌+◌, ◌≤◌, ◌<◌, Bool, true, false, not, ltb, List, [], ◌∷◌, ◌++◌, length, Some, None, Option, sym, refl, ap, subst, ◌∙◌, arith, ⊎_elim, append-nil, set as slice_set}
+use Rattle.std.proofs.Common.{cond, eqb, length-set, ◌≡◌, ℕ, suc, zero, ◌+◌, ◌≤◌, ◌<◌, Bool, true, false, not, ltb, List, [], ◌∷◌, ◌++◌, length, Some, None, Option, sym, refl, ap, subst, ◌∙◌, arith, ⊎_elim, append-nil, set as slice_set, add-zero}
 use Rattle.std.specs.Prelude.{◌&&◌, min, ◌⊎◌, ◌≢◌, ◌||◌, nat_lt, sum_by}
 use Rattle.std.specs.List.{slice_get, list_any, AllByRecursion}
 use Rattle.std.specs.Ordering.{is_lt, nat_cmp, int_cmp, ordering_then}
 use Rattle.std.specs.Cmp.{nat_cmp_is}
 use Rattle.std.specs.declared.cmp.Ordering.TheVariants.{Greater}
-use Rattle.std.proofs.lemmas.Bool.{cases_eq, ltb-true, ltb-false}
+use Rattle.std.proofs.lemmas.Bool.{cases_eq, ltb-true, ltb-false, not-true}
 use Rattle.std.proofs.lemmas.List.Sums.{sum_by-cons}
 use Rattle.std.proofs.lemmas.List.Folds.{list_any-append}
 use Rattle.std.proofs.lemmas.Option.{slice_get_within}
@@ -261,7 +261,7 @@ module _ (plan : Shape) (is_plan : IsPlan plan) (m : Moment) (n l : ℕ) (node :
               (λ e. ap (λ k. length (node_at after k).lanes) e ∙ ap (λ (x : Node). length x.lanes) (node_at-set_same m n node new at) ∙ length-set node.lanes l with ∙ ap (λ (x : Node). length x.lanes) (sym (node_at-same m n node new at)) ∙ ap (λ k. length (node_at m k).lanes) (sym e) ∙ tidy.lanes k b)
               (λ ne. ap (λ (x : Node). length x.lanes) (node_at-set_other m n node new at k ne) ∙ tidy.lanes k b) (cases_eq k n);
           numbers = λ d x h. let b = as_before d x h in numbered-less b.0 x b.2.2 (λ i. omega (arith, (b.2.3 i).0)) (tidy.numbers d b.0 b.1);
-          outs = λ d x h i. let b = as_before d x h in (b.2.3 i).1 ∙ tidy.outs d b.0 b.1 i ∙ sym (count_snoc (is_work d.node d.lane i) m.held close ∙ plus_zero _);
+          outs = λ d x h i. let b = as_before d x h in (b.2.3 i).1 ∙ tidy.outs d b.0 b.1 i ∙ sym (count_snoc (is_work d.node d.lane i) m.held close ∙ add-zero _);
           open_source = λ s d x is h. let b = as_before d x h in subst (λ z. AllByRecursion (λ c. z ≤ c.epoch → c.epoch ≡ z) x.conts) (ap length (sym b.2.0)) (All-same (λ e f. next_epoch b.0 ≤ e → e ≡ next_epoch b.0) b.0.conts x.conts b.2.1 (tidy.open_source s d b.0 is b.1));
           open_below = λ k s x is h. let b = as_before s.down x h in
               subst (λ z. AllByRecursion (λ c. z ≤ c.epoch → IsOpenBelow (operator_at (slice_get plan.steps k)) (node_at after k).lanes (list_any (is_unpassed k) (m.held ++ close ∷ [])) z c.epoch c.floor) x.conts) (ap length (sym b.2.0))
@@ -278,9 +278,6 @@ module _ (plan : Shape) (is_plan : IsPlan plan) (m : Moment) (n l : ℕ) (node :
         };
       }))
     where
-      plus_zero : (n : ℕ) → n + 0 ≡ n
-      plus_zero n = omega arith
-
       own_marks : (k : ℕ) (s : Step) (x own : CoreLane) → slice_get plan.steps k ≡ Some s → lane_at after s.down ≡ Some x → (node_at after k).lanes ≡ own ∷ [] → Begins x.marks own.marks
       own_marks k s x own is h lone_is =
           let b = as_before s.down x h in
@@ -297,8 +294,4 @@ begins-sound plan is_plan m m' n l h sound =
     let b = bind_some (slice_get a.0.lanes l) _ m' a.2 in
     let c = bind_some (closable b.0.ended b.0.conts) _ m' b.2 in
     let d = cond_is_some (not (list_any (is_close n) m.held)) _ m' c.2 in
-    subst (IsSound plan) (some_is _ _ d.1) (begin-sound plan is_plan m n l a.0 b.0 c.0 a.1 b.1 (closable-is b.0.ended b.0.conts c.0 c.1) (idle (list_any (is_close n) m.held) d.0) sound)
-  where
-    idle : (b : Bool) → not b ≡ true → b ≡ false
-    idle true h = cc
-    idle false h = refl
+    subst (IsSound plan) (some_is _ _ d.1) (begin-sound plan is_plan m n l a.0 b.0 c.0 a.1 b.1 (closable-is b.0.ended b.0.conts c.0 c.1) (not-true (list_any (is_close n) m.held) d.0) sound)

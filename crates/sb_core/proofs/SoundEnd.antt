@@ -5,12 +5,13 @@ use Rattle.sb_core.specs.LaneOrder
 use Rattle.sb_core.specs.Moments
 use Rattle.sb_core.proofs.WindowsAt.{windows-at}
 use Rattle.sb_core.proofs.Orderly.{lawful_of, tidy_of, sound_of}
-use Rattle.std.proofs.Common.{◌≡◌, ℕ, suc, zero, ◌+◌, ◌*◌, ◌%◌, ◌/◌, ◌≤◌, ◌<◌, Bool, true, false, not, cond, eqb, List, [], ◌∷◌, ◌++◌, length, drop, Some, Option, sym, refl, ap, subst, ◌∙◌, arith, ⊎_elim}
+use Rattle.std.proofs.Common.{◌≡◌, ℕ, suc, zero, ◌+◌, ◌*◌, ◌%◌, ◌/◌, ◌≤◌, ◌<◌, Bool, true, false, not, cond, eqb, List, [], ◌∷◌, ◌++◌, length, drop, Some, Option, sym, refl, ap, subst, ◌∙◌, arith, ⊎_elim, add-zero, zero-add}
 use Rattle.std.specs.Prelude.{◌≢◌, ◌&&◌, ◌||◌, nat_lt, count_by, sum_by}
 use Rattle.std.specs.List.{filter, slice_get, list_any, range_with_len, AllByRecursion}
 use Rattle.std.proofs.lemmas.Bool.{eqb-false, eq-eqb, ne_eqb, cases_eq, eqb-true, lt-ltb}
 use Rattle.std.proofs.lemmas.List.Sums.{sum_by-cons}
 use Rattle.std.proofs.Math.Nat.{mul-mod_right, mod-add-div, mod-lt}
+use Rattle.std.proofs.Math.Bool.{or-true, and-false}
 use Rattle.sb_record.specs.declared.item.Record.{Record}
 use Rattle.sb_bundle.specs.declared.bundle.Bundle.{Bundle}
 use Rattle.sb_core.specs.declared.moment.Cont.{Cont}
@@ -71,7 +72,7 @@ take-sound plan is_plan m m' d number h sound =
         let differ = take_from-differ (bound_at plan d.node) number lane.conts q took in
         let same = same-differ (bound_at plan d.node) lane.conts q.1 differ in
         let begins : begun (record lane { conts = q.1 }) ≡ begun lane = ap (λ b. cond b (lane.ended + 1) lane.ended) (differ-closing (bound_at plan d.node) lane.conts q.1 differ) in
-        let unpassed : (k : ℕ) → list_any (is_unpassed k) (m.held ++ work ∷ []) ≡ list_any (is_unpassed k) m.held = λ k. any_same (is_unpassed k) (m.held ++ work ∷ []) m.held (count_snoc (is_unpassed k) m.held work ∙ plus_zero _) in
+        let unpassed : (k : ℕ) → list_any (is_unpassed k) (m.held ++ work ∷ []) ≡ list_any (is_unpassed k) m.held = λ k. any_same (is_unpassed k) (m.held ++ work ∷ []) m.held (count_snoc (is_unpassed k) m.held work ∙ add-zero _) in
         let moves : (k next e f : ℕ) → IsOpenBelow (operator_at (slice_get plan.steps k)) (node_at m k).lanes (list_any (is_unpassed k) m.held) next e f
         → IsOpenBelow (operator_at (slice_get plan.steps k)) (node_at (set_node d.node (set_lane d.lane (record lane { conts = q.1 }) p.0) (with_held (m.held ++ work ∷ []) m)) k).lanes (list_any (is_unpassed k) (m.held ++ work ∷ [])) next e f =
         λ k next e f. open_moves (operator_at (slice_get plan.steps k)) (node_at m k).lanes (node_at (set_node d.node (set_lane d.lane (record lane { conts = q.1 }) p.0) (with_held (m.held ++ work ∷ []) m)) k).lanes (list_any (is_unpassed k) m.held) (list_any (is_unpassed k) (m.held ++ work ∷ [])) next e f
@@ -80,7 +81,7 @@ take-sound plan is_plan m m' d number h sound =
         (tidy_still plan m d.node d.lane p.0 (set_lane d.lane (record lane { conts = q.1 }) p.0) lane (record lane { conts = q.1 }) p.1 p.2 refl refl begins (ap (λ n. last_of_first n lane.marks) begins) (m.held ++ work ∷ []) (tidy_of sound)
         (numbered-less lane (record lane { conts = q.1 }) refl (λ n. omega (arith, (taken-sums number n lane.conts q took).0)) ((tidy_of sound).numbers d lane at))
         (λ i. (taken-sums number i lane.conts q took).1 ∙ (λ z. (tidy_of sound).outs d lane at i z + here_is i z) ∙ sym (count_snoc (is_work d.node d.lane i) m.held work))
-        (λ e ne i. count_snoc (is_work e.node e.lane i) m.held work ∙ ap (λ b. count_by (is_work e.node e.lane i) m.held + cond b 1 0) (not_here e ne i) ∙ plus_zero _)
+        (λ e ne i. count_snoc (is_work e.node e.lane i) m.held work ∙ ap (λ b. count_by (is_work e.node e.lane i) m.held + cond b 1 0) (not_here e ne i) ∙ add-zero _)
         (λ s is. All-same (λ e f. next_epoch lane ≤ e → e ≡ next_epoch lane) lane.conts q.1 same ((tidy_of sound).open_source s d lane is at))
         (λ k s is e. every (λ c z b. moves k (next_epoch lane) c.epoch c.floor (z b)) q.1
         (All-same (λ e f. next_epoch lane ≤ e → IsOpenBelow (operator_at (slice_get plan.steps k)) (node_at m k).lanes (list_any (is_unpassed k) m.held) (next_epoch lane) e f) lane.conts q.1 same ((tidy_of sound).open_below k s lane is (ap (lane_at m) e ∙ at))))
@@ -90,9 +91,6 @@ take-sound plan is_plan m m' d number h sound =
         is_plan.further (λ all. all)
         (closes_still plan m d.node d.lane p.0 (set_lane d.lane (record lane { conts = q.1 }) p.0) lane (record lane { conts = q.1 }) p.1 p.2 refl refl begins (ap (λ n. last_of_first n lane.marks) begins) (m.held ++ work ∷ []) refl (m.held ++ work ∷ []) (All-last (IsCloseOf plan m) m.held work (tidy_of sound).closes tt)))
       where
-        plus_zero : (n : ℕ) → n + 0 ≡ n
-        plus_zero n = omega arith
-
         here_is : (i : ℕ) → cond {A = ℕ} (eqb number i) 1 0 ≡ cond (eqb d.node d.node && (eqb d.lane d.lane && eqb number i)) 1 0
         here_is i = sym (λ z. cond {A = ℕ} (eq-eqb d.node d.node refl z && (eq-eqb d.lane d.lane refl z && eqb number i)) 1 0)
 
@@ -109,10 +107,6 @@ any_in : (p o : ℕ → Bool) (a n x : ℕ) → a ≤ x → x < a + n → o x �
 any_in p o a zero x low high is passes = absurd (omega arith)
 any_in p o a (suc n) x low high is passes = ⊎_elim here (λ ne. later (any_in p o (a + 1) n x (omega arith) (omega arith) is passes)) (cases_eq a x)
   where
-    or_true : (b : Bool) → (b || true) ≡ true
-    or_true true = refl
-    or_true false = refl
-
     here : a ≡ x → list_any p (cond (o a) (a ∷ filter o (range_with_len (a + 1) n)) (filter o (range_with_len (a + 1) n))) ≡ true
     here e = ap (λ b. list_any p (cond b (a ∷ filter o (range_with_len (a + 1) n)) (filter o (range_with_len (a + 1) n)))) (ap o e ∙ is) ∙ ap (λ b. b || list_any p (filter o (range_with_len (a + 1) n))) (ap p e ∙ passes)
 
@@ -120,7 +114,7 @@ any_in p o a (suc n) x low high is passes = ⊎_elim here (λ ne. later (any_in 
     later h = by_case (o a) h
       where
         by_case : (b : Bool) → list_any p (filter o (range_with_len (a + 1) n)) ≡ true → list_any p (cond b (a ∷ filter o (range_with_len (a + 1) n)) (filter o (range_with_len (a + 1) n))) ≡ true
-        by_case true h = ap (λ b. p a || b) h ∙ or_true (p a)
+        by_case true h = ap (λ b. p a || b) h ∙ or-true (p a)
         by_case false h = h
 
 -- a step that divides the size is within it
@@ -222,11 +216,8 @@ finish-sound plan is_plan m m' sound (Work k l epoch floor number records delive
             ∙ finished-none epoch number lane.conts held.0.cont (ap (λ (x : CoreLane). LaneOrder.cont_at epoch x.conts) (sym is_lane) ∙ held.0.of_epoch) held.0.is_out (out_once plan m (tidy_of sound) (record { node = k; lane = l }) lane was number)
             ∙ none_now ∙ ap (λ i. count_by (is_work k l i) others) (sym e))
             (λ ne. (finished-sums epoch number i lane.conts).1 ne ∙ (tidy_of sound).outs (record { node = k; lane = l }) lane was i ∙ count_gone (is_work k l i) m.held others (Work k l epoch floor number records delivered) pulled
-            ∙ ap (λ b. cond b 1 0 + count_by (is_work k l i) others) (other_number i ne) ∙ zero_plus _) (cases_eq i number)
+            ∙ ap (λ b. cond b 1 0 + count_by (is_work k l i) others) (other_number i ne) ∙ zero-add _) (cases_eq i number)
           where
-            zero_plus : (n : ℕ) → 0 + n ≡ n
-            zero_plus n = omega arith
-
             none_now : 0 ≡ count_by (is_work k l number) others
             none_now = let g = count_gone (is_work k l number) m.held others (Work k l epoch floor number records delivered) pulled in let c : cond {A = ℕ} (is_work k l number (Work k l epoch floor number records delivered)) 1 0 ≡ 1 = ap (λ b. cond {A = ℕ} b 1 0) this_one in omega (arith, once)
 
@@ -234,11 +225,8 @@ finish-sound plan is_plan m m' sound (Work k l epoch floor number records delive
             other_number i ne = (λ z. eq-eqb k k refl z && (eq-eqb l l refl z && ne_eqb number i (λ e. ne (sym e)) z))
 
         outs_other : (d : Down) → d ≢ record { node = k; lane = l } → (i : ℕ) → count_by (is_work d.node d.lane i) others ≡ count_by (is_work d.node d.lane i) m.held
-        outs_other d ne i = sym (count_gone (is_work d.node d.lane i) m.held others (Work k l epoch floor number records delivered) pulled ∙ ap (λ b. cond b 1 0 + count_by (is_work d.node d.lane i) others) (by_case (eqb k d.node) (eqb l d.lane) refl refl) ∙ zero_plus _)
+        outs_other d ne i = sym (count_gone (is_work d.node d.lane i) m.held others (Work k l epoch floor number records delivered) pulled ∙ ap (λ b. cond b 1 0 + count_by (is_work d.node d.lane i) others) (by_case (eqb k d.node) (eqb l d.lane) refl refl) ∙ zero-add _)
           where
-            zero_plus : (n : ℕ) → 0 + n ≡ n
-            zero_plus n = omega arith
-
             by_case : (a b : Bool) → eqb k d.node ≡ a → eqb l d.lane ≡ b → (a && (b && eqb number i)) ≡ false
             by_case true true p q = absurd (ne (sym (λ z. record { node = eqb-true k d.node p z; lane = eqb-true l d.lane q z })))
             by_case true false p q = refl
@@ -288,10 +276,7 @@ drop_sum g (c ∷ cs) = omega (arith, sum_by-cons g c cs)
 -- the container that goes has nothing out
 end-outs : (i : ℕ) (cs : List Cont) → IsReady cs → first_is_closing cs ≡ true → sum_by (out_of i) (drop 1 cs) ≡ sum_by (out_of i) cs
 end-outs i [] ready c = refl
-end-outs i (x ∷ cs) ready c = let k : out_of i x ≡ 0 = ap (count_by (λ n. eqb n i)) (ready c).1 in sym (sum_by-cons (out_of i) x cs ∙ (λ z. k z + sum_by (out_of i) cs) ∙ zero_plus _)
-  where
-    zero_plus : (n : ℕ) → 0 + n ≡ n
-    zero_plus n = omega arith
+end-outs i (x ∷ cs) ready c = let k : out_of i x ≡ 0 = ap (count_by (λ n. eqb n i)) (ready c).1 in sym (sum_by-cons (out_of i) x cs ∙ (λ z. k z + sum_by (out_of i) cs) ∙ zero-add _)
 
 none_any : {X : Type 0} (p : X → Bool) (xs : List X) → AllByRecursion (λ x. p x ≡ false) xs → list_any p xs ≡ false
 none_any p [] all = refl
@@ -338,12 +323,8 @@ end-sound plan is_plan m m' sound (Close y l epoch serial floor mark rows passed
         works : (k j i : ℕ) → count_by (is_work k j i) others ≡ count_by (is_work k j i) m.held
         works k j i = let g : count_by (is_work k j i) m.held ≡ 0 + count_by (is_work k j i) others = count_gone (is_work k j i) m.held others (Close y l epoch serial floor mark rows true) first in omega arith
 
-        and_false : (b : Bool) → (b && false) ≡ false
-        and_false true = refl
-        and_false false = refl
-
         same_unpassed : (k : ℕ) → list_any (is_unpassed k) others ≡ list_any (is_unpassed k) m.held
-        same_unpassed k = any_gone (is_unpassed k) m.held others (Close y l epoch serial floor mark rows true) first (and_false (eqb y k))
+        same_unpassed k = any_gone (is_unpassed k) m.held others (Close y l epoch serial floor mark rows true) first (and-false (eqb y k))
 
         left : AllByRecursion (λ h. is_close y h ≡ false) others
         left = none_left (is_close y) m.held others (Close y l epoch serial floor mark rows true) first ((lawful_of sound).one_close y) (eq-eqb y y refl)

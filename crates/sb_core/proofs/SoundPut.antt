@@ -8,7 +8,8 @@ use Rattle.sb_core.proofs.Orderly.{lawful_of, tidy_of, sound_of}
 use Rattle.std.proofs.Common.{◌≡◌, ℕ, suc, zero, ◌+◌, ◌-◌, ◌^◌, ◌≤◌, ◌<◌, Bool, true, false, not, cond, eqb, List, [], ◌∷◌, ◌++◌, length, take, drop, Some, Option, sym, refl, ap, subst, ◌∙◌, arith, ⊎_elim}
 use Rattle.std.specs.Prelude.{◌&&◌, ◌||◌, nat_lt, nat_le, sum_by}
 use Rattle.std.specs.List.{flat_map, slice_get, list_any, list_all, AllByRecursion}
-use Rattle.std.proofs.lemmas.Bool.{cases_lt, eq-eqb}
+use Rattle.std.proofs.lemmas.Bool.{cases_lt, eq-eqb, not-true, and_parts}
+use Rattle.std.proofs.Math.Bool.{or-false}
 use Rattle.sb_record.specs.declared.item.Record.{Record}
 use Rattle.sb_core.specs.declared.moment.Cont.{Cont}
 use Rattle.sb_core.specs.declared.moment.CoreLane.{CoreLane}
@@ -46,7 +47,7 @@ use Rattle.sb_core.proofs.Gives.{lane_at-parts, with_lane-is}
 use Rattle.sb_core.proofs.Nodes.{begun_mark}
 use Rattle.sb_core.proofs.InTime.{work_floor, work_epoch}
 use Rattle.sb_core.proofs.LawfulTimely.{lane_of, lawful-timely}
-use Rattle.sb_core.proofs.EventLaws.{and_is, nat_le-le, list_all-AllByRecursion, below-is, transform_is}
+use Rattle.sb_core.proofs.EventLaws.{nat_le-le, list_all-AllByRecursion, below-is, transform_is}
 use Rattle.sb_core.proofs.AfterExact.{lone, not_sealed, unpassed_under}
 use Rattle.sb_core.proofs.LawfulArrive.{arrival-lawful, arrival-kept, put-kept, next_fits}
 use Rattle.sb_core.proofs.Delivering.{rows-lawful, work-lawful, All-take, images_within, bound-rises}
@@ -73,7 +74,7 @@ arrive-sound plan is_plan m m' s records h sound =
         let with : CoreLane = with_arrival (next_epoch lane) (next_floor lane) records lane in
         let made = with_lane-is m d p.0 with m' p.1 (ap (λ x. Moments.with_lane d (with_arrival (next_epoch lane) (next_floor lane) records x) m) (sym same) ∙ h) in
         let times : IsWithin (next_floor lane) (bound_at plan d.node) records =
-        list_all-AllByRecursion (λ r. nat_le (next_floor lane) r.time && nat_le r.time MAX_TIME) (λ r. (next_floor lane ≤ r.time) × (r.time ≤ bound_at plan d.node)) (λ r t. let k = and_is (nat_le (next_floor lane) r.time) (nat_le r.time MAX_TIME) t in (nat_le-le (next_floor lane) r.time k.0, let z : r.time ≤ MAX_TIME = nat_le-le r.time MAX_TIME k.1 in omega arith)) records (and_is (nat_le (length records) m.bundle) _ (and_is (not (is_empty records)) _ test).1).1 in
+        list_all-AllByRecursion (λ r. nat_le (next_floor lane) r.time && nat_le r.time MAX_TIME) (λ r. (next_floor lane ≤ r.time) × (r.time ≤ bound_at plan d.node)) (λ r t. let k = and_parts (nat_le (next_floor lane) r.time) (nat_le r.time MAX_TIME) t in (nat_le-le (next_floor lane) r.time k.0, let z : r.time ≤ MAX_TIME = nat_le-le r.time MAX_TIME k.1 in omega arith)) records (and_parts (nat_le (length records) m.bundle) _ (and_parts (not (is_empty records)) _ test).1).1 in
         subst (IsSound plan) made ((sound_of (record {
           lawful = arrival-lawful plan m d p.0 lane records p.1 p.2 times (lawful_of sound);
           tidy = put-tidy plan is_plan m d p.0 lane (next_epoch lane) (next_floor lane) records m.held p.1 p.2 (arrival-kept (bound_at plan d.node) records lane ((lawful_of sound).lanes d lane at) times) (tidy_of sound)
@@ -157,11 +158,7 @@ module _ (plan : Shape) (is_plan : IsPlan plan) (m m' : Moment) (sound : IsSound
   -- the lane of a ParDo is its only one
   pub lone_has : (lanes : List CoreLane) (l e f : ℕ) (lane : CoreLane) → length lanes ≡ 1 → slice_get lanes l ≡ Some lane → list_any (has_cont e f) lanes ≡ has_cont e f lane
   lone_has [] l e f lane one h = cc
-  lone_has (x ∷ []) zero e f lane one h = let k : x ≡ lane = cc in or_false (has_cont e f x) ∙ ap (has_cont e f) k
-    where
-      or_false : (b : Bool) → (b || false) ≡ b
-      or_false true = refl
-      or_false false = refl
+  lone_has (x ∷ []) zero e f lane one h = let k : x ≡ lane = cc in or-false (has_cont e f x) ∙ ap (has_cont e f) k
   lone_has (x ∷ []) (suc l) e f lane one h = cc
   lone_has (x ∷ y ∷ lanes) l e f lane one h = absurd (omega arith)
 
@@ -178,13 +175,9 @@ module _ (plan : Shape) (is_plan : IsPlan plan) (m m' : Moment) (sound : IsSound
       let b = below-is plan y a.0 a.1 in
       let o = operator_at (slice_get plan.steps y) in
       let c = cond_is_some (not delivered && not (is_empty (delivery o records))) _ m' a.2 in
-      let t = and_is (not delivered) (not (is_empty (delivery o records))) c.0 in
-      by_operator o refl a.0 b.0 b.1 b.2 (still delivered t.0) t.1 c.1
+      let t = and_parts (not delivered) (not (is_empty (delivery o records))) c.0 in
+      by_operator o refl a.0 b.0 b.1 b.2 (not-true delivered t.0) t.1 c.1
     where
-      still : (p : Bool) → not p ≡ true → p ≡ false
-      still true h = cc
-      still false h = refl
-
       by_operator : (o : Operator) → operator_at (slice_get plan.steps y) ≡ o → (d : Down) (s : Step) → slice_get plan.steps y ≡ Some s → s.down ≡ d → delivered ≡ false → not (is_empty (delivery o records)) ≡ true
           → arrived_at d epoch floor (delivery (operator_at (slice_get plan.steps y)) records) (with_held (others ++ Work y l epoch floor number records true ∷ []) m) ≡ Some m' → IsSound plan m'
       by_operator (Windowed g) e d s is down f some h = cc

@@ -7,7 +7,7 @@ use Rattle.sb_core.proofs.Orderly.{lawful_of, tidy_of, sound_of}
 use Rattle.std.proofs.Common.{◌≡◌, ℕ, suc, zero, ◌+◌, ◌-◌, ◌≤◌, ◌<◌, Bool, true, false, not, cond, eqb, List, [], ◌∷◌, ◌++◌, length, Some, Option, sym, refl, ap, subst, ◌∙◌, arith, get_or, length-append}
 use Rattle.std.specs.Prelude.{◌≢◌, ◌&&◌, nat_le, count_by, sum_by}
 use Rattle.std.specs.List.{slice_get, list_any, AllByRecursion}
-use Rattle.std.proofs.lemmas.Bool.{ne_eqb}
+use Rattle.std.proofs.lemmas.Bool.{ne_eqb, not-true, and_parts}
 use Rattle.sb_core.specs.declared.moment.Cont.{Cont}
 use Rattle.sb_core.specs.declared.moment.CoreLane.{CoreLane}
 use Rattle.sb_record.specs.declared.item.Stream.{Stream}
@@ -35,13 +35,13 @@ use Rattle.sb_core.specs.Holdings.{IsClosing, IsHeld, is_unpassed, IsCloseOf}
 use Rattle.sb_core.proofs.Orderly.{IsLawful, IsTidy}
 use Rattle.sb_core.specs.Soundness.{has_cont, Begins, IsOpenBelow, IsSound}
 use Rattle.sb_record.proofs.Sums.{SameSums}
-use Rattle.sb_core.proofs.Lists.{cond_is_some, some_is}
+use Rattle.sb_core.proofs.Lists.{cond_is_some, some_is, empty_is}
 use Rattle.sb_core.proofs.Gives.{lane_at-parts, with_lane-is}
 use Rattle.sb_core.proofs.Nodes.{begun_mark}
 use Rattle.sb_core.proofs.InTime.{begun_within}
 use Rattle.sb_core.proofs.LaneLaws.{MarkFits}
 use Rattle.sb_core.proofs.LawfulTimely.{lane_of}
-use Rattle.sb_core.proofs.EventLaws.{and_is, nat_le-le, below-is, seal_calm}
+use Rattle.sb_core.proofs.EventLaws.{nat_le-le, below-is, seal_calm}
 use Rattle.sb_core.proofs.AfterExact.{lone}
 use Rattle.sb_core.proofs.Ordered.{closing_fits, has_one}
 use Rattle.sb_core.proofs.Sealing.{last_of_first-longer, marks_fit, seal-begun, seal-lawful, pass-lawful}
@@ -123,7 +123,7 @@ seal-sound plan is_plan m m' s mark h sound =
     go d lane is at test h =
         let p = lane_at-parts m d lane at in
         let made = with_lane-is m d p.0 (with_seal mark lane) m' p.1 h in
-        let up : next_floor lane ≤ mark = nat_le-le (next_floor lane) mark (and_is (nat_le mark END_MARK) (nat_le (next_floor lane) mark) test).1 in
+        let up : next_floor lane ≤ mark = nat_le-le (next_floor lane) mark (and_parts (nat_le mark END_MARK) (nat_le (next_floor lane) mark) test).1 in
         let fits : MarkFits mark (next_epoch lane) lane.conts = marks_fit mark (next_epoch lane) lane.conts ((tidy_of sound).open_source s d lane is at) in
         subst (IsSound plan) made ((sound_of (record {
           lawful = seal-lawful plan m d p.0 lane mark p.1 p.2 (lawful_of sound) up fits (λ k t it. Feeding.sources_apart plan is_plan s d k t is it);
@@ -139,17 +139,9 @@ pass-sound plan is_plan m m' sound (Close y l epoch serial floor mark rows passe
     let b = bind_some (lane_at m a.0) _ m' a.2 in
     let c = cond_is_some (not passed && is_empty rows) _ m' b.2 in
     let d = below-is plan y a.0 a.1 in
-    let t = and_is (not passed) (is_empty rows) c.0 in
-    go a.0 b.0 d.0 d.1 d.2 b.1 (still passed t.0) (empty_is rows t.1) c.1
+    let t = and_parts (not passed) (is_empty rows) c.0 in
+    go a.0 b.0 d.0 d.1 d.2 b.1 (not-true passed t.0) (empty_is rows t.1) c.1
   where
-    still : (p : Bool) → not p ≡ true → p ≡ false
-    still true h = cc
-    still false h = refl
-
-    empty_is : {X : Type 0} (l : List X) → is_empty l ≡ true → l ≡ []
-    empty_is [] h = refl
-    empty_is (x ∷ l) h = cc
-
     lawful : IsLawful plan m
     lawful = (lawful_of sound)
 

@@ -1,10 +1,11 @@
 -- What the changes of a lane do to numbers, epochs and floors.
 use Rattle.sb_record.proofs.Numbers.{bind_some}
-use Rattle.std.proofs.Common.{◌≡◌, ℕ, suc, zero, ◌+◌, ◌≤◌, Bool, true, false, not, cond, eqb, ltb, List, [], ◌∷◌, ◌++◌, Some, Option, sym, refl, ap, subst, ◌∙◌, arith, ⊎_elim}
+use Rattle.std.proofs.Common.{◌≡◌, ℕ, suc, zero, ◌+◌, ◌≤◌, Bool, true, false, not, cond, eqb, ltb, List, [], ◌∷◌, ◌++◌, Some, Option, sym, refl, ap, subst, ◌∙◌, arith, ⊎_elim, zero-add}
 use Rattle.std.specs.Prelude.{◌&&◌, ◌||◌, ◌≢◌, count_by, sum_by}
 use Rattle.std.specs.List.{filter, list_any, AllByRecursion}
 use Rattle.std.proofs.lemmas.Bool.{eqb-true, eqb-false, eq-eqb, ne_eqb, cases_eq, ltb-true}
 use Rattle.std.proofs.lemmas.List.Sums.{sum_by-cons}
+use Rattle.std.proofs.Math.Bool.{or-true}
 use Rattle.sb_record.specs.declared.item.Record.{Record}
 use Rattle.sb_bundle.specs.declared.bundle.Bundle.{Bundle}
 use Rattle.sb_core.specs.declared.moment.Cont.{Cont}
@@ -54,14 +55,10 @@ module _ (epoch floor : ℕ) (change : Cont → Cont) (epochs : (c : Cont) → (
       or_later true b d h k = refl
       or_later false b d h k = k h
 
-      or_true : (b : Bool) → (b || true) ≡ true
-      or_true true = refl
-      or_true false = refl
-
       by_case : (a b : Bool) → (list_any (λ c. (eqb c.epoch e) && (eqb c.floor f)) cs ≡ true → list_any (λ c. (eqb c.epoch e) && (eqb c.floor f)) (in_epoch epoch floor change cs) ≡ true)
           → list_any (λ c. (eqb c.epoch e) && (eqb c.floor f)) (cond a (change c ∷ cs) (cond b (change (fresh epoch floor) ∷ c ∷ cs) (c ∷ in_epoch epoch floor change cs))) ≡ true
       by_case true b ih = (λ i. ((eqb (epochs c i) e) && (eqb (floors c i) f)) || list_any (λ c. (eqb c.epoch e) && (eqb c.floor f)) cs) ∙ h
-      by_case false true ih = ap (λ b. ((eqb (change (fresh epoch floor)).epoch e) && (eqb (change (fresh epoch floor)).floor f)) || b) h ∙ or_true _
+      by_case false true ih = ap (λ b. ((eqb (change (fresh epoch floor)).epoch e) && (eqb (change (fresh epoch floor)).floor f)) || b) h ∙ or-true _
       by_case false false ih = or_later ((eqb c.epoch e) && (eqb c.floor f)) (list_any (λ c. (eqb c.epoch e) && (eqb c.floor f)) cs) _ h ih
 
 -- ---- a bundle comes
@@ -97,26 +94,17 @@ numbered-arrival epoch floor records lane ok = record { once = once; given = giv
         (cases_eq (lane.arrived + 1) n)
 
 pub outs-arrival : (epoch floor : ℕ) (records : List Record) (lane : CoreLane) (n : ℕ) → sum_by (out_of n) (with_arrival epoch floor records lane).conts ≡ sum_by (out_of n) lane.conts
-outs-arrival epoch floor records lane n = sum-in_epoch (out_of n) 0 epoch floor (with_bundle (record { number = lane.arrived + 1; epoch = epoch; floor = floor; records = records })) (λ c. zero_plus _) refl lane.conts ∙ sym (zero_plus _)
-  where
-    zero_plus : (a : ℕ) → a ≡ 0 + a
-    zero_plus a = omega arith
+outs-arrival epoch floor records lane n = sum-in_epoch (out_of n) 0 epoch floor (with_bundle (record { number = lane.arrived + 1; epoch = epoch; floor = floor; records = records })) (λ c. sym (zero-add _)) refl lane.conts ∙ zero-add _
 
 -- ---- sums as before keep the numbers
 pub numbered-less : (lane with : CoreLane) → with.arrived ≡ lane.arrived → ((n : ℕ) → sum_by (numbers_of n) with.conts ≤ sum_by (numbers_of n) lane.conts) → AreNumbered lane → AreNumbered with
 numbered-less lane with same less ok = record { once = λ n. omega (arith, less n, ok.once n); given = λ n h. let k = ok.given n (omega (arith, less n)) in (k.0, omega (arith, k.1)) }
 
 pub numbered-seal : (mark n : ℕ) (lane : CoreLane) → sum_by (numbers_of n) (with_seal mark lane).conts ≡ sum_by (numbers_of n) lane.conts
-numbered-seal mark n lane = sum-in_epoch (numbers_of n) 0 _ _ (λ c. record c { mark = Some mark }) (λ c. zero_plus _) refl lane.conts ∙ sym (zero_plus _)
-  where
-    zero_plus : (a : ℕ) → a ≡ 0 + a
-    zero_plus a = omega arith
+numbered-seal mark n lane = sum-in_epoch (numbers_of n) 0 _ _ (λ c. record c { mark = Some mark }) (λ c. sym (zero-add _)) refl lane.conts ∙ zero-add _
 
 pub outs-seal : (mark n : ℕ) (lane : CoreLane) → sum_by (out_of n) (with_seal mark lane).conts ≡ sum_by (out_of n) lane.conts
-outs-seal mark n lane = sum-in_epoch (out_of n) 0 _ _ (λ c. record c { mark = Some mark }) (λ c. zero_plus _) refl lane.conts ∙ sym (zero_plus _)
-  where
-    zero_plus : (a : ℕ) → a ≡ 0 + a
-    zero_plus a = omega arith
+outs-seal mark n lane = sum-in_epoch (out_of n) 0 _ _ (λ c. record c { mark = Some mark }) (λ c. sym (zero-add _)) refl lane.conts ∙ zero-add _
 
 -- ---- a bundle is taken
 -- the number pulled is the one that was asked for
@@ -203,13 +191,9 @@ pub has-at : (e f : ℕ) (cs : List Cont) (c : Cont) → cont_at e cs ≡ Some c
 has-at e f [] c h k = cc
 has-at e f (x ∷ cs) c h k = by_case (eqb x.epoch e) refl h (λ z. has-at e f cs c z k)
   where
-    or_true : (b : Bool) → (b || true) ≡ true
-    or_true true = refl
-    or_true false = refl
-
     by_case : (b : Bool) → eqb x.epoch e ≡ b → cond b (Some x) (cont_at e cs) ≡ Some c → (cont_at e cs ≡ Some c → list_any (λ c. (eqb c.epoch e) && (eqb c.floor f)) cs ≡ true) → (((eqb x.epoch e) && (eqb x.floor f)) || list_any (λ c. (eqb c.epoch e) && (eqb c.floor f)) cs) ≡ true
     by_case true q h ih = let z : x.floor ≡ f = ap (λ (c : Cont). c.floor) (some_is x c h) ∙ k in (λ i. (q i && eq-eqb x.floor f z i) || list_any (λ c. (eqb c.epoch e) && (eqb c.floor f)) cs)
-    by_case false q h ih = ap (λ b. ((eqb x.epoch e) && (eqb x.floor f)) || b) (ih h) ∙ or_true _
+    by_case false q h ih = ap (λ b. ((eqb x.epoch e) && (eqb x.floor f)) || b) (ih h) ∙ or-true _
 
 -- ---- a Work is finished
 filtered : (number n : ℕ) (l : List ℕ) → count_by (λ x. eqb x n) (filter (λ x. not (eqb x number)) l) ≡ cond (eqb n number) 0 (count_by (λ x. eqb x n) l)

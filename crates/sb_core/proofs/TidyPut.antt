@@ -4,6 +4,7 @@ use Rattle.std.proofs.Common.{◌≡◌, ℕ, suc, zero, ◌+◌, ◌≤◌, Boo
 use Rattle.std.specs.Prelude.{◌||◌, count_by}
 use Rattle.std.specs.List.{slice_get, list_any, AllByRecursion}
 use Rattle.std.proofs.lemmas.Bool.{cases_eq}
+use Rattle.std.proofs.Math.Bool.{or-true}
 use Rattle.sb_record.specs.declared.item.Record.{Record}
 use Rattle.sb_core.specs.declared.moment.Cont.{Cont}
 use Rattle.sb_core.specs.declared.moment.CoreLane.{CoreLane}
@@ -42,11 +43,7 @@ has_set e f (x ∷ lanes) zero lane with at up h = let k : x ≡ lane = cc in by
   where
     by_case : (b : Bool) → has_cont e f x ≡ b → (b || list_any (has_cont e f) lanes) ≡ true → (has_cont e f x ≡ true → has_cont e f with ≡ true) → (has_cont e f with || list_any (has_cont e f) lanes) ≡ true
     by_case true q h up = ap (λ b. b || list_any (has_cont e f) lanes) (up q)
-    by_case false q h up = ap (λ b. has_cont e f with || b) h ∙ or_true (has_cont e f with)
-      where
-        or_true : (b : Bool) → (b || true) ≡ true
-        or_true true = refl
-        or_true false = refl
+    by_case false q h up = ap (λ b. has_cont e f with || b) h ∙ or-true (has_cont e f with)
 has_set e f (x ∷ lanes) (suc l) lane with at up h = by_case (has_cont e f x) h (λ k. has_set e f lanes l lane with at up k)
   where
     by_case : (b : Bool) → (b || list_any (has_cont e f) lanes) ≡ true → (list_any (has_cont e f) lanes ≡ true → list_any (has_cont e f) (slice_set lanes l with) ≡ true) → (b || list_any (has_cont e f) (slice_set lanes l with)) ≡ true

@@ -2,7 +2,7 @@ use Rattle.std.proofs.Common.{◌≡◌, ◌++◌, ◌∷◌, [], true, false, n
 use Rattle.std.specs.Prelude.{◌&&◌}
 use Rattle.std.specs.List.{remove, slice_get}
 use Rattle.std.specs.Option.{option_map}
-use Rattle.std.proofs.lemmas.Bool.{eqb-true}
+use Rattle.std.proofs.lemmas.Bool.{eqb-true, and_parts}
 use Rattle.sb_pipeline.specs.Operators.{operator_at}
 use Rattle.sb_core.specs.declared.moment.Moment.{Moment}
 use Rattle.sb_core.specs.declared.held.Held.TheVariants.{Work}
@@ -11,7 +11,6 @@ use Rattle.sb_core.specs.Closings.{delivery}
 use Rattle.sb_core.specs.Events.{arrived_at}
 use Rattle.sb_core.specs.HeldSteps.{bundle_delivered}
 use Rattle.sb_core.specs.Moments.{is_work, with_held}
-use Rattle.sb_core.proofs.Ordered.{and_is}
 use Rattle.sb_core.proofs.FromHeld.{first-in, first-out, work-of}
 use Rattle.sb_core.proofs.Carried.{below-down, below-none, empty-by_length, arrived-held, held-after, refused-as, held-delivered, work-is, work-never, work-no_place}
 use Rattle.sb_core.proofs.bundles.deliver.Goals.{then-was_delivered-via-then-was_delivered, then-was_delivered-via-else-was_delivered+then-node-transforms}
@@ -90,8 +89,8 @@ returns c =
     let others = remove m.held i in
     let x = Work h.node h.lane h.epoch h.floor h.number h.records h.was_delivered in
     let first = first-in (is_work k l n) c.as_slice.result.now c.as_slice-2.result.now m.held i c.index-as_slice-place.result x c.as_slice.ensures c.as_slice-2.ensures c.in-Some.ensures c.index-as_slice-place.is h.is in
-    let both = and_is (eqb h.node k) (eqb h.lane l && eqb h.number n) first.1 in
-    let rest = and_is (eqb h.lane l) (eqb h.number n) both.1 in
+    let both = and_parts (eqb h.node k) (eqb h.lane l && eqb h.number n) first.1 in
+    let rest = and_parts (eqb h.lane l) (eqb h.number n) both.1 in
     let found = work-of m.held others k l n h.node h.lane h.number h.epoch h.floor h.records h.was_delivered first in
     let given : c.in_ok-given.given.items ≡ delivery (operator_at (slice_get plan.steps k)) h.records = c.in_ok-given.ensures ∙ ap (delivery (operator_at (slice_get plan.steps k))) c.as_slice-3.ensures in
     let some : is_empty (delivery (operator_at (slice_get plan.steps k)) h.records) ≡ false =

@@ -1,7 +1,7 @@
 use Rattle.std.proofs.Common.{◌≡◌, ◌++◌, ◌∷◌, [], false, cond, eqb, length, take, drop, min, Some, sym, ap, ◌∙◌, arith}
 use Rattle.std.specs.List.{remove}
 use Rattle.std.specs.Option.{option_map}
-use Rattle.std.proofs.lemmas.Bool.{eqb-true}
+use Rattle.std.proofs.lemmas.Bool.{eqb-true, and_parts}
 use Rattle.std.proofs.lemmas.List.{take_min}
 use Rattle.sb_core.specs.declared.moment.Moment.{Moment}
 use Rattle.sb_core.specs.declared.held.Held.TheVariants.{Close}
@@ -9,7 +9,6 @@ use Rattle.sb_core.specs.Choices.{is_empty}
 use Rattle.sb_core.specs.Events.{arrived_at}
 use Rattle.sb_core.specs.HeldSteps.{rows_delivered}
 use Rattle.sb_core.specs.Moments.{is_close_of, with_held}
-use Rattle.sb_core.proofs.Ordered.{and_is}
 use Rattle.sb_core.proofs.FromHeld.{first-in, first-out, close-of_lane}
 use Rattle.sb_core.proofs.Carried.{below-down, below-none, empty-by_length, arrived-held, held-after, refused-as, held-fewer, rows-is, rows-never, rows-no_place}
 use Rattle.sb_core.proofs.closings.deliver.Goals.{then-is_empty-via-then-is_empty, then-is_empty-via-else-is_empty+then-node-transforms}
@@ -70,7 +69,7 @@ returns c =
     let others = remove m.held i in
     let x = Close h.node h.lane h.epoch h.serial h.floor h.mark h.rows h.passed in
     let first = first-in (is_close_of k l) c.as_slice.result.now c.as_slice-2.result.now m.held i c.index-as_slice-place.result x c.as_slice.ensures c.as_slice-2.ensures c.in-Some.ensures c.index-as_slice-place.is h.is in
-    let both = and_is (eqb h.node k) (eqb h.lane l) first.1 in
+    let both = and_parts (eqb h.node k) (eqb h.lane l) first.1 in
     let found = close-of_lane m.held others k l h.node h.lane h.epoch h.serial h.floor h.mark h.rows h.passed first in
     let some : is_empty h.rows ≡ false = sym (empty-by_length h.rows) ∙ sym (ap (λ l. eqb (length l) 0) c.as_slice-3.ensures) ∙ sym c.is_empty.ensures ∙ c.if-is_empty.false in
     let count : c.min-count.result ≡ min m.bundle (length h.rows) = omega (arith, c.min-count.ensures, ap length c.as_slice-4.ensures) in
