@@ -1,5 +1,8 @@
 //! Transforms: what each does, and where what it gives goes.
 
+ghost use Rattle.std.specs.Prelude.{◌≡◌};
+ghost use Rattle.sb_pipeline.specs.Plans.{is_join, has_windows};
+
 use sb_aggregate::Agg;
 use sb_join::Combine;
 use sb_pardo::Op;
@@ -25,6 +28,22 @@ pub enum Kind {
     Group(Agg, Windows),
     /// Combines the records of lanes 0 and 1 that lie in the same window of the same key.
     Join(Combine, Windows),
+}
+
+impl Kind {
+    /// Whether it is a join.
+    pub fn is_join(&self) -> bool
+        ensures { result ≡ is_join self.now }
+    {
+        matches!(self, Kind::Join(_, _))
+    }
+
+    /// Whether it gathers records by window: it is an aggregation or a join.
+    pub fn has_windows(&self) -> bool
+        ensures { result ≡ has_windows self.now }
+    {
+        matches!(self, Kind::Group(_, _) | Kind::Join(_, _))
+    }
 }
 
 /// A lane of a node: where records are sent. The left input of a join is its lane 0, the right one its lane 1, and every

@@ -57,26 +57,14 @@ fn is_valid(kind: &Kind) -> bool
 fn joins(steps: &[Step]) -> usize
     ensures { result ≡ count_by (λ s. is_join s.kind) steps.now }
 {
-    steps.iter().filter(|step| is_join(&step.kind)).count()
-}
-
-fn is_join(kind: &Kind) -> bool
-    ensures { result ≡ is_join kind.now }
-{
-    matches!(kind, Kind::Join(_, _))
+    steps.iter().filter(|step| step.kind.is_join()).count()
 }
 
 /// How many of the transforms are aggregations or joins.
 fn groupings(steps: &[Step]) -> usize
     ensures { result ≡ count_by (λ s. has_windows s.kind) steps.now }
 {
-    steps.iter().filter(|step| has_windows(&step.kind)).count()
-}
-
-fn has_windows(kind: &Kind) -> bool
-    ensures { result ≡ has_windows kind.now }
-{
-    matches!(kind, Kind::Group(_, _) | Kind::Join(_, _))
+    steps.iter().filter(|step| step.kind.has_windows()).count()
 }
 
 /// Whether each transform sends to a later node.

@@ -11,7 +11,7 @@ ghost use Rattle.sb_plan.specs.Soundness.{IsSound};
 
 use crate::fault::{PlanCause, PlanFault, PlanStop};
 use crate::wiring::{Part, Wiring};
-use sb_pipeline::{Down, Kind, MAX_TRANSFORMS, Plan, Step};
+use sb_pipeline::{Down, MAX_TRANSFORMS, Plan, Step};
 use sb_record::NoMemory;
 use std::alloc::Global;
 
@@ -64,13 +64,7 @@ fn first_without_down(parts: &[Part]) -> Option<usize>
 fn has_windows(parts: &[Part]) -> bool
     ensures { result ≡ list_any (λ part. has_windows part.kind) parts.now }
 {
-    parts.iter().any(|part| is_windowed(&part.kind))
-}
-
-fn is_windowed(kind: &Kind) -> bool
-    ensures { result ≡ has_windows kind.now }
-{
-    matches!(kind, Kind::Group(_, _) | Kind::Join(_, _))
+    parts.iter().any(|part| part.kind.has_windows())
 }
 
 /// The transforms of the plan: what goes nowhere goes to the sink.

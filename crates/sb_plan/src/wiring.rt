@@ -80,19 +80,13 @@ fn next_node(parts: &[Part]) -> u32
 fn is_second_join(kind: &Kind, parts: &[Part]) -> bool
     ensures { result ≡ spec.is_second_join kind.now parts.now }
 {
-    is_join(kind) && has_join(parts)
-}
-
-fn is_join(kind: &Kind) -> bool
-    ensures { result ≡ is_join kind.now }
-{
-    matches!(kind, Kind::Join(_, _))
+    kind.is_join() && has_join(parts)
 }
 
 fn has_join(parts: &[Part]) -> bool
     ensures { result ≡ list_any (λ part. is_join part.kind) parts.now }
 {
-    parts.iter().any(|part| is_join(&part.kind))
+    parts.iter().any(|part| part.kind.is_join())
 }
 
 /// Sends the inputs of an entry to the lanes of its node.
