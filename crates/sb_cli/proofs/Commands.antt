@@ -2,7 +2,7 @@
 use Rattle.std.proofs.Common.{◌≡◌, ◌↔◌, ℕ, ◌+◌, ◌<◌, ◌≤◌, List, [], ◌∷◌, length, get_or, Some, None, Option, sym, ap, subst, ◌∙◌, arith, refl, rules}
 use Rattle.std.specs.Prelude.{decimal, codes}
 use Rattle.std.specs.Option.{unwrap_or}
-use Rattle.sb_cli.specs.declared.words.TheConstants.{MAX_SIZE}
+use Rattle.sb_window.specs.declared.windows.TheConstants.{MAX_SIZE}
 use Rattle.sb_cli.specs.Words.{Asked, IsCommand}
 use Rattle.sb_cli.specs.Words.Asked.{Sum, Run, Slow}
 

@@ -2,7 +2,7 @@
 use Rattle.std.specs.Prelude.{◌≡◌, ◌≢◌, ◌≤◌, ℕ, List, [], ◌∷◌, decimal, codes}
 use Rattle.sb_cli.specs.declared.words.Request.{Request}
 use Rattle.sb_cli.specs.declared.words.Request.TheVariants as request
-use Rattle.sb_cli.specs.declared.words.TheConstants.{MAX_SIZE}
+use Rattle.sb_window.specs.declared.windows.TheConstants.{MAX_SIZE}
 
 -- what users may ask for: sums over windows of a size, or the rows of a plan from a file, by the engine or by the plain program
 pub data Asked : Type 0 where

@@ -14,9 +14,7 @@ ghost use Rattle.std.specs.Option.{option_map};
 ghost use Rattle.sb_cli.specs.Words.{Asked, IsCommand, IsFileName, IsValid, asked};
 
 use sb_record::read_number;
-
-/// The greatest size of a window.
-const MAX_SIZE: u64 = 1_000_000_000_000;
+use sb_window::MAX_SIZE;
 
 /// What words ask for.
 #[derive(Clone, Copy, Debug, PartialEq, Eq)]
