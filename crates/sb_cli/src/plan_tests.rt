@@ -91,11 +91,20 @@ const DISTINCT: &str =
 const MIN: &str =
     "[[transform]]\nname = \"m\"\nkind = \"map\"\nfrom = \"b\"\nchange = \"key_mod\"\nnumber = 2\n\n[[transform]]\nname = \"l\"\nkind = \"min\"\nfrom = \"m\"\nsize = 10\n";
 
+const PEAKS: &str =
+    "[[transform]]\nname = \"peaks\"\nkind = \"max\"\nfrom = \"a\"\nsize = 60\nevery = 20\n";
+
+const TALKERS: &str =
+    "[[transform]]\nname = \"per_host\"\nkind = \"sum\"\nfrom = \"a\"\nsize = 60\n\n[[transform]]\nname = \"networks\"\nkind = \"map\"\nfrom = \"per_host\"\nchange = \"key_div\"\nnumber = 1000\n\n[[transform]]\nname = \"talkers\"\nkind = \"top\"\nfrom = \"networks\"\nsize = 60\nkeep = 2\n";
+
+const ORDERS: &str =
+    "[[transform]]\nname = \"left_to_pay\"\nkind = \"join\"\nfrom = \"a\"\nwith = \"b\"\nsize = 100\ngive = \"sub\"\n\n[[transform]]\nname = \"owed\"\nkind = \"filter\"\nfrom = \"left_to_pay\"\nfield = \"value\"\ntest = \"more\"\nnumber = 0\n";
+
 /// A plan, lines of an input, the rows, the status and the note.
 type Case = (&'static str, &'static str, &'static str, u8, &'static str);
 
-/// Plans of every kind.
-const CASES: [Case; 14] = [
+/// Plans of every kind, and those of the examples.
+const CASES: [Case; 17] = [
     (
         VIEWS,
         VIEW_LINES,
@@ -158,6 +167,27 @@ const CASES: [Case; 14] = [
         "line 1: stream not in the plan\n",
     ),
     (MAX_OF_SUMS, "", "", 0, ""),
+    (
+        PEAKS,
+        "r,a,5,1,10\nr,a,25,1,30\nr,a,70,1,20\n",
+        "20,1,10\n40,1,30\n60,1,30\n80,1,30\n100,1,20\n120,1,20\n",
+        0,
+        "",
+    ),
+    (
+        TALKERS,
+        "r,a,1,1007,500\nr,a,2,1008,200\nr,a,3,1007,100\nr,a,4,1009,900\nr,a,5,2001,50\nw,a,60\nr,a,61,1008,70\n",
+        "60,1,600\n60,1,900\n60,2,50\n120,1,70\n",
+        0,
+        "",
+    ),
+    (
+        ORDERS,
+        "r,a,5,71,120\nr,a,8,72,50\nr,b,20,71,100\nr,b,30,72,50\nw,a,100\nw,b,100\nr,a,110,73,30\nr,b,190,73,10\n",
+        "100,71,20\n200,73,20\n",
+        0,
+        "",
+    ),
 ];
 
 #[test]
@@ -230,11 +260,21 @@ fn refused_plans_are_named_before_the_input_is_read(rt: HostRuntime) -> Result<(
     Ok(())
 }
 
+/// A plan that is right, but for a table that is not in the folder.
+const NO_TABLE: &str =
+    "transform = [{name = \"l\", kind = \"lookup\", from = \"a\", table = \"none.csv\"}, {name = \"c\", kind = \"count\", from = \"l\", size = 10}]\n";
+
 #[test]
 fn files_that_are_not_loaded(rt: HostRuntime) -> Result<(), Fail> {
     let alloc = rt.alloc();
-    for (name, failing) in [("q.toml", 9), ("p.toml", 1), ("p.toml", 2)] {
-        let mut folder = folder_of(alloc, VIEWS.as_bytes(), ADS.as_bytes(), &[failing])?;
+    let cases = [
+        (VIEWS, "q.toml", 9),
+        (VIEWS, "p.toml", 1),
+        (VIEWS, "p.toml", 2),
+        (NO_TABLE, "p.toml", 9),
+    ];
+    for (plan, name, failing) in cases {
+        let mut folder = folder_of(alloc, plan.as_bytes(), ADS.as_bytes(), &[failing])?;
         let ran = run(alloc, "run", name, &mut folder, VIEW_LINES.as_bytes())?;
         assert_eq!(rt;
             ran.status,
