@@ -28,6 +28,7 @@ use std::alloc::Global;
 /// The plan in a file.
 fn load_plan<F: Folder>(alloc: Global, name: &str, folder: &mut F) -> Result<Plan, PlanStop>
     ensures exact { (files : Files) → F.files folder.old ≡ Some files → AnswersPlan result (plan_in files name.now) }
+    ensures same { F.files folder.new ≡ F.files folder.old }
     ensures cause { BlamesFolder (F.folder_faults folder.old) (F.folder_faults folder.new) result }
 {
     let mut text = Vec::new(alloc);
@@ -67,6 +68,7 @@ pub(crate) fn answer_file<S: Source, K: Sink, F: Folder>(
 ) -> Status
     ensures answer { IsAnswer (F.files folder.old) (Run name.now) (S.left source.old) (S.left source.new) (K.taken out.old) (K.taken out.new) result }
     ensures unread { IsUnread result → (source.new ≡ source.old) × (out.new ≡ out.old) }
+    ensures same { F.files folder.new ≡ F.files folder.old }
     ensures cause { HasCause (S.faults source.old) (S.faults source.new) (K.sink_faults out.old) (K.sink_faults out.new) (F.folder_faults folder.old) (F.folder_faults folder.new) result }
     ensures no_fault_hidden { HidesNoFault (S.faults source.old) (S.faults source.new) (F.folder_faults folder.old) (F.folder_faults folder.new) result }
 {

@@ -40,6 +40,9 @@ pub fn streambox<S: Source, K: Sink, N: Sink, F: Folder>(
     ensures unread { IsUnread result → (input.new ≡ input.old) × (out.new ≡ out.old) }
     ensures untouched { IsNoCommand (map (λ w. string_bytes w) words.now) → (input.new ≡ input.old) × (out.new ≡ out.old) × (folder.new ≡ folder.old) }
 
+    // Files are loaded, and none is changed.
+    ensures same { F.files folder.new ≡ F.files folder.old }
+
     // Faults come from where they say, none is passed over, and a run in which nothing fails is done.
     ensures cause { HasCause (S.faults input.old) (S.faults input.new) (K.sink_faults out.old) (K.sink_faults out.new) (F.folder_faults folder.old) (F.folder_faults folder.new) result }
     ensures no_fault_hidden { HidesNoFault (S.faults input.old) (S.faults input.new) (F.folder_faults folder.old) (F.folder_faults folder.new) result }
@@ -66,6 +69,7 @@ fn respond<S: Source, K: Sink, F: Folder>(
         → IsAnswer (F.files folder.old) wanted (S.left input.old) (S.left input.new) (K.taken out.old) (K.taken out.new) result }
     ensures no_command { IsNoCommand (map (λ w. string_bytes w) words.now) → (result ≡ Status.Words) × (input.new ≡ input.old) × (out.new ≡ out.old) × (folder.new ≡ folder.old) }
     ensures unread { IsUnread result → (input.new ≡ input.old) × (out.new ≡ out.old) }
+    ensures same { F.files folder.new ≡ F.files folder.old }
     ensures cause { HasCause (S.faults input.old) (S.faults input.new) (K.sink_faults out.old) (K.sink_faults out.new) (F.folder_faults folder.old) (F.folder_faults folder.new) result }
     ensures no_fault_hidden { HidesNoFault (S.faults input.old) (S.faults input.new) (F.folder_faults folder.old) (F.folder_faults folder.new) result }
 {
