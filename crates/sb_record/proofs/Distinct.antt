@@ -1,28 +1,21 @@
 -- The elements of a list, each once, in order.
-use Rattle.std.proofs.Common.{◌≡◌, Bool, true, false, cond, List, [], ◌∷◌, sym, refl, ap, ◌∙◌}
+use Rattle.std.proofs.Common.{◌≡◌, Bool, true, false, List, [], ◌∷◌, sym, refl, ap, ◌∙◌}
 use Rattle.std.specs.Prelude.{◌||◌, ◌&&◌}
 use Rattle.std.specs.List.{filter, list_any, AllByRecursion}
 use Rattle.std.specs.List.Sorted.{IsStrictlySortedBy}
-use Rattle.std.specs.Ordering.{eq_by_cmp, is_eq, ordering_reverse}
+use Rattle.std.specs.Ordering.{eq_by_cmp, ordering_reverse}
 use Rattle.std.specs.Cmp.{IsTotalOrder}
 use Rattle.std.specs.declared.cmp.Ordering.{Ordering}
 use Rattle.std.specs.declared.cmp.Ordering.TheVariants.{Less, Equal, Greater}
 use Rattle.std.proofs.lemmas.List.Kept.{IsStrictlySortedBy-filter}
+use Rattle.std.proofs.Math.Bool.{or_assoc, or_comm, or_self_left}
 use Rattle.std.proofs.lemmas.Map.Lookups.{CmpEqualImpliesEq, btree_set_from_contains}
+use Rattle.std.proofs.lemmas.Map.Views.{any-filter_same, tells_apart}
 use Rattle.sb_record.specs.Orders.{put_once, distinct, by_ordering}
-
-or_idem : (a b : Bool) → (a || (a || b)) ≡ (a || b)
-or_idem true b = refl
-or_idem false b = refl
+use Rattle.sb_record.proofs.Elements.{every}
 
 or_swap : (a b c : Bool) → (a || (b || c)) ≡ (b || (a || c))
-or_swap true true c = refl
-or_swap true false c = refl
-or_swap false b c = refl
-
-all_weaker : {X : Type 0} (P Q : X → Type 0) → ((x : X) → P x → Q x) → (xs : List X) → AllByRecursion P xs → AllByRecursion Q xs
-all_weaker P Q h [] all = all
-all_weaker P Q h (x ∷ xs) all = (h x all.0, all_weaker P Q h xs all.1)
+or_swap a b c = sym (or_assoc a b c) ∙ ap (λ d. d || c) (or_comm a b) ∙ or_assoc b a c
 
 module _ {X : Type 0} {R : X → X → Ordering} (o : IsTotalOrder R) where
   all_put_once : (P : X → Type 0) (x : X) (ys : List X) → P x → AllByRecursion P ys → AllByRecursion P (put_once R x ys)
@@ -39,7 +32,7 @@ module _ {X : Type 0} {R : X → X → Ordering} (o : IsTotalOrder R) where
   put_once-sorted x [] s = (tt, tt)
   put_once-sorted x (y ∷ ys) s =
       elim (R x y) as (λ r. R x y ≡ r → IsStrictlySortedBy R (by_ordering r (x ∷ y ∷ ys) (y ∷ ys) (y ∷ put_once R x ys))) [
-        | Less ↦ λ e. ((e, all_weaker (λ z. R y z ≡ Less) (λ z. R x z ≡ Less) (λ z h. o.trans x y z e h) ys s.0), s)
+        | Less ↦ λ e. ((e, every (λ z h. o.trans x y z e h) ys s.0), s)
         | Equal ↦ λ e. s
         | Greater ↦ λ e. (all_put_once (λ z. R y z ≡ Less) x ys (o.antisymm y x ∙ ap ordering_reverse e) s.0, put_once-sorted x ys s.1)
       ] refl
@@ -55,7 +48,7 @@ module _ {X : Type 0} {R : X → X → Ordering} (o : IsTotalOrder R) where
     any_put_once q x (y ∷ ys) =
         elim (R x y) as (λ r. R x y ≡ r → list_any (eq_by_cmp R q) (by_ordering r (x ∷ y ∷ ys) (y ∷ ys) (y ∷ put_once R x ys)) ≡ (eq_by_cmp R q x || (eq_by_cmp R q y || list_any (eq_by_cmp R q) ys))) [
           | Less ↦ λ e. refl
-          | Equal ↦ λ e. sym (ap (λ z. eq_by_cmp R q z || (eq_by_cmp R q y || list_any (eq_by_cmp R q) ys)) (exact x y e) ∙ or_idem (eq_by_cmp R q y) _)
+          | Equal ↦ λ e. sym (ap (λ z. eq_by_cmp R q z || (eq_by_cmp R q y || list_any (eq_by_cmp R q) ys)) (exact x y e) ∙ or_self_left (eq_by_cmp R q y) _)
           | Greater ↦ λ e. ap (λ b. eq_by_cmp R q y || b) (any_put_once q x ys) ∙ or_swap (eq_by_cmp R q y) (eq_by_cmp R q x) _
         ] refl
 
@@ -64,28 +57,7 @@ module _ {X : Type 0} {R : X → X → Ordering} (o : IsTotalOrder R) where
     any_distinct q (x ∷ xs) = any_put_once q x (distinct R xs) ∙ ap (λ b. eq_by_cmp R q x || b) (any_distinct q xs)
 
     any_filter : (p : X → Bool) (q : X) (xs : List X) → list_any (eq_by_cmp R q) (filter p xs) ≡ (p q && list_any (eq_by_cmp R q) xs)
-    any_filter p q [] = elim (p q) as (λ b. false ≡ (b && false)) [ true ↦ refl | false ↦ refl ]
-    any_filter p q (x ∷ xs) =
-        elim (R q x) as (λ r. R q x ≡ r → list_any (eq_by_cmp R q) (cond (p x) (x ∷ filter p xs) (filter p xs)) ≡ (p q && (is_eq r || list_any (eq_by_cmp R q) xs))) [
-          | Less ↦ λ e. skipped e refl (any_filter p q xs)
-          | Equal ↦ λ e. found e (any_filter p q xs)
-          | Greater ↦ λ e. skipped e refl (any_filter p q xs)
-        ] refl
-      where
-        skipped : {r : Ordering} → R q x ≡ r → is_eq r ≡ false → list_any (eq_by_cmp R q) (filter p xs) ≡ (p q && list_any (eq_by_cmp R q) xs)
-            → list_any (eq_by_cmp R q) (cond (p x) (x ∷ filter p xs) (filter p xs)) ≡ (p q && list_any (eq_by_cmp R q) xs)
-        skipped e n h = elim (p x) as (λ b. list_any (eq_by_cmp R q) (cond b (x ∷ filter p xs) (filter p xs)) ≡ (p q && list_any (eq_by_cmp R q) xs)) [
-          | true ↦ ap (λ b. b || list_any (eq_by_cmp R q) (filter p xs)) (ap is_eq e ∙ n) ∙ h
-          | false ↦ h
-        ]
-
-        found : R q x ≡ Equal → list_any (eq_by_cmp R q) (filter p xs) ≡ (p q && list_any (eq_by_cmp R q) xs)
-            → list_any (eq_by_cmp R q) (cond (p x) (x ∷ filter p xs) (filter p xs)) ≡ (p q && true)
-        found e h = ap (λ z. list_any (eq_by_cmp R q) (cond (p z) (x ∷ filter p xs) (filter p xs))) (sym (exact q x e))
-            ∙ (elim (p q) as (λ b. (list_any (eq_by_cmp R q) (filter p xs) ≡ (b && list_any (eq_by_cmp R q) xs)) → list_any (eq_by_cmp R q) (cond b (x ∷ filter p xs) (filter p xs)) ≡ (b && true)) [
-              | true ↦ λ h. ap (λ b. b || list_any (eq_by_cmp R q) (filter p xs)) (ap is_eq e)
-              | false ↦ λ h. h
-            ]) h
+    any_filter p q xs = any-filter_same (eq_by_cmp R q) p (p q) (λ x same. ap p (sym (tells_apart exact q x same))) xs
 
     -- where both lists have the same of what passes, what passes is the same list
     pub distinct-same : (p : X → Bool) (xs ys : List X) → ((q : X) → p q ≡ true → list_any (eq_by_cmp R q) xs ≡ list_any (eq_by_cmp R q) ys) → filter p (distinct R xs) ≡ filter p (distinct R ys)

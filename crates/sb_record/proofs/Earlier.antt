@@ -1,18 +1,17 @@
 -- The rows before a time come before all others.
-use Rattle.std.proofs.Common.{◌≡◌, ℕ, ◌+◌, ◌<◌, ◌≤◌, Bool, true, false, cond, ltb, List, [], ◌∷◌, ◌++◌, sym, refl, ap, ◌∙◌, arith, inl, inr}
+use Rattle.std.proofs.Common.{◌≡◌, ℕ, ◌+◌, ◌<◌, ◌≤◌, false, cond, List, [], ◌∷◌, ◌++◌, sym, refl, ap, ◌∙◌, arith}
 use Rattle.std.specs.Prelude.{nat_lt, not}
 use Rattle.std.specs.List.{sum_by, AllByRecursion}
 use Rattle.std.specs.Ordering.{eq_by_cmp, is_lt, nat_cmp, int_cmp, ordering_then}
 use Rattle.std.specs.Cmp.{nat_cmp_is}
 use Rattle.std.specs.declared.cmp.Ordering.TheVariants.{Greater}
-use Rattle.std.proofs.lemmas.Bool.{cases_lt, lt-ltb, le-ltb}
 use Rattle.std.proofs.lemmas.Bool.Decides.{nat_tests}
 use Rattle.std.proofs.lemmas.List.Filters.{sum_by-filter_both}
 use Rattle.std.proofs.lemmas.List.Sums.{sum_by-append}
 use Rattle.sb_record.specs.declared.item.Record.{Record}
 use Rattle.sb_record.specs.Orders.{IsAscending}
 use Rattle.sb_record.specs.Records.{record_cmp, sorted, before, at_least}
-use Rattle.sb_record.proofs.Elements.{every, All-join, All-anything, All-passed}
+use Rattle.sb_record.proofs.Elements.{every, All-join, All-anything, All-passed, filter_of_filter}
 use Rattle.sb_record.proofs.Sorting.{SameSums-in_order, All-in_order, records_total, in_order-ascending, sorted-unique}
 
 -- a record of a later time is not less
@@ -51,15 +50,7 @@ sorted-split w l = sym (sorted-unique (sorted (before w l) ++ sorted (at_least w
 
 -- what is before an earlier time is before a later one too
 pub before-before : (v w : ℕ) (l : List Record) → v ≤ w → before v (before w l) ≡ before v l
-before-before v w [] le = refl
-before-before v w (r ∷ l) le = elim (cases_lt r.time v) [
-  | inl low ↦ rw (lt-ltb r.time w (omega arith), lt-ltb r.time v low) (λ i. r ∷ before-before v w l le i)
-  | inr high ↦ by_case (ltb r.time w) (le-ltb r.time v high) (before-before v w l le)
-]
-  where
-    by_case : (b : Bool) → ltb r.time v ≡ false → before v (before w l) ≡ before v l → before v (cond b (r ∷ before w l) (before w l)) ≡ cond (ltb r.time v) (r ∷ before v l) (before v l)
-    by_case true e h = λ i. cond (ltb r.time v) (r ∷ h i) (h i)
-    by_case false e h = h ∙ sym (λ i. cond (e i) (r ∷ before v l) (before v l))
+before-before v w l le = filter_of_filter (λ r. nat_lt r.time v) (λ r. nat_lt r.time w) (λ r h. grind (arith, nat_tests)) l
 
 -- the sorted records before a time begin those before a later time
 pub sorted_before-front : (v w : ℕ) (l : List Record) → v ≤ w → sorted (before w l) ≡ sorted (before v l) ++ sorted (at_least v (before w l))

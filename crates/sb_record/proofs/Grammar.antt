@@ -1,7 +1,8 @@
 -- The item that is read is the one whose text the line is.
-use Rattle.std.proofs.Common.{◌≡◌, ◌==◌, ℕ, ℤ, pos, negsuc, suc, ◌-◌, ◌<◌, ◌≤◌, ◌^◌, ◌++◌, List, [], ◌∷◌, length, Some, None, true, false, refl, sym, ap, subst, ◌∙◌, arith, inl, inr, append-nil}
+use Rattle.std.proofs.Common.{◌≡◌, ◌==◌, ℕ, ℤ, pos, negsuc, suc, ◌-◌, ◌<◌, ◌≤◌, ◌^◌, ◌++◌, List, [], ◌∷◌, length, Some, None, false, refl, sym, ap, subst, ◌∙◌, arith, inl, inr, append-nil}
 use Rattle.std.proofs.lemmas.Bool.{cases_Bool, eqb-true, ne_eqb}
 use Rattle.std.proofs.lemmas.Fmt.{decimal_is_IsNumeral, decimal_nonempty}
+use Rattle.std.proofs.lemmas.Option.{same_Some}
 use Rattle.std.proofs.lemmas.Str.Parse.{digit_from_value}
 use Rattle.std.specs.Str.Parse.{AllDigits}
 use Rattle.std.specs.Fmt.{decimal, signed_decimal}
@@ -14,14 +15,14 @@ use Rattle.sb_record.specs.declared.item.Item.{Item}
 use Rattle.sb_record.specs.declared.item.Item.TheVariants.{Rec, Mark, Skip}
 use Rattle.sb_record.specs.Lines.{letter, IsInRange, IsTextOf}
 use Rattle.sb_record.specs.Reading.{number_at, byte_at, negative, positive, signed_from, signed_at, stream_at, at_end, record_at, mark_at, between, item_of}
-use Rattle.sb_record.proofs.Numbers.{some_value, bind_some, number_text, number_of_text, starts_digit}
+use Rattle.sb_record.proofs.Numbers.{bind_some, number_text, number_of_text, starts_digit}
 
 pub byte_some : (b : ℕ) (xs rest : List ℕ) → byte_at b xs ≡ Some rest → xs ≡ b ∷ rest
 unfolding byte_at
 byte_some b [] rest h = cc
 byte_some b (x ∷ xs) rest h = elim (cases_Bool (x == b)) [
   | inl same ↦
-      let e : xs ≡ rest = some_value xs rest (rw same at h) in
+      let e : xs ≡ rest = same_Some xs rest (rw same at h) in
       λ i. eqb-true x b same i ∷ e i
   | inr other ↦ cc (rw other at h)
 ]
@@ -30,33 +31,30 @@ pub stream_some : (xs rest : List ℕ) (s : Stream) → stream_at xs ≡ Some (s
 unfolding stream_at
 stream_some [] rest s h = cc
 stream_some (x ∷ xs) rest s h = elim (cases_Bool (x == 97)) [
-  | inl a ↦ let e = some_value (A, xs) (s, rest) (rw a at h) in λ i. go x 97 a (ap (λ (p : Stream × List ℕ). letter p.0) e) i ∷ (e i).1
+  | inl a ↦ let e = same_Some (A, xs) (s, rest) (rw a at h) in λ i. (eqb-true x 97 a ∙ ap (λ (p : Stream × List ℕ). letter p.0) e) i ∷ (e i).1
   | inr no_a ↦ elim (cases_Bool (x == 98)) [
-    | inl b ↦ let e = some_value (B, xs) (s, rest) (rw (no_a, b) at h) in λ i. go x 98 b (ap (λ (p : Stream × List ℕ). letter p.0) e) i ∷ (e i).1
+    | inl b ↦ let e = same_Some (B, xs) (s, rest) (rw (no_a, b) at h) in λ i. (eqb-true x 98 b ∙ ap (λ (p : Stream × List ℕ). letter p.0) e) i ∷ (e i).1
     | inr no_b ↦ cc (rw (no_a, no_b) at h)
   ]
 ]
-  where
-    go : (x n : ℕ) → (x == n) ≡ true → {m : ℕ} → n ≡ m → x ≡ m
-    go x n same e = eqb-true x n same ∙ e
 
 pub end_some : (item i : Item) (xs : List ℕ) → at_end item xs ≡ Some i → (xs ≡ []) × (item ≡ i)
 unfolding at_end
-end_some item i [] h = (refl, some_value item i h)
+end_some item i [] h = (refl, same_Some item i h)
 end_some item i (x ∷ xs) h = cc
 
 signed_from_some : (o : Option (List ℕ)) (xs rest : List ℕ) (v : ℤ) → byte_at 45 xs ≡ o → signed_from o xs ≡ Some (v, rest) → (xs ≡ signed_decimal v ++ rest) × (mag v < 2 ^ 63)
 signed_from_some None xs rest v at h =
     let (p, read, is) = bind_some (number_at 9223372036854775807 xs) positive (v, rest) h in
     let t = number_text 9223372036854775807 xs p.0 p.1 read in
-    subst (λ (q : ℤ × List ℕ). (xs ≡ signed_decimal q.0 ++ q.1) × (mag q.0 < 2 ^ 63)) (some_value (pos p.0, p.1) (v, rest) is) (t.0, omega (arith, t.1))
+    subst (λ (q : ℤ × List ℕ). (xs ≡ signed_decimal q.0 ++ q.1) × (mag q.0 < 2 ^ 63)) (same_Some (pos p.0, p.1) (v, rest) is) (t.0, omega (arith, t.1))
 signed_from_some (Some bytes) xs rest v at h =
     let (p, read, is) = bind_some (number_at 9223372036854775808 bytes) negative (v, rest) h in
     let t = number_text 9223372036854775808 bytes p.0 p.1 read in
     elim (cases_Bool (p.0 == 0)) [
       | inl none ↦ cc (rw none at is)
       | inr some ↦
-          let e = some_value (negsuc (p.0 - 1), p.1) (v, rest) (rw some at is) in
+          let e = same_Some (negsuc (p.0 - 1), p.1) (v, rest) (rw some at is) in
           let f : suc (p.0 - 1) ≡ p.0 = grind arith in
           let whole : xs ≡ 45 ∷ (decimal (suc (p.0 - 1)) ++ p.1) = byte_some 45 xs bytes at ∙ (λ i. 45 ∷ t.0 i) ∙ ap (λ n. 45 ∷ (decimal n ++ p.1)) (sym f) in
           let small : p.0 - 1 < 2 ^ 63 = omega (arith, t.1) in
@@ -120,14 +118,14 @@ between_some xs rest s h =
     let (t, rt, h2) = bind_some (stream_at b) _ (s, rest) h1 in
     let (c, rc, h3) = bind_some (byte_at 44 t.1) _ (s, rest) h2 in
     let whole : xs ≡ 44 ∷ letter t.0 ∷ 44 ∷ c = byte_some 44 xs b rb ∙ ap (λ l. 44 ∷ l) (stream_some b t.1 t.0 rt ∙ ap (λ l. letter t.0 ∷ l) (byte_some 44 t.1 c rc)) in
-    subst (λ (q : Stream × List ℕ). xs ≡ 44 ∷ letter q.0 ∷ 44 ∷ q.1) (some_value (t.0, c) (s, rest) h3) whole
+    subst (λ (q : Stream × List ℕ). xs ≡ 44 ∷ letter q.0 ∷ 44 ∷ q.1) (same_Some (t.0, c) (s, rest) h3) whole
 
 -- what is read is what the line is the text of
 pub item_some : (line : List ℕ) (i : Item) → item_of line ≡ Some i → IsTextOf i line
 unfolding item_of
 item_some [] i h = cc
 item_some (b ∷ rest) i h = elim (cases_Bool (b == 35)) [
-  | inl hash ↦ subst (λ j. IsTextOf j (b ∷ rest)) (some_value Skip i (rw hash at h)) (rest, λ j. eqb-true b 35 hash j ∷ rest)
+  | inl hash ↦ subst (λ j. IsTextOf j (b ∷ rest)) (same_Some Skip i (rw hash at h)) (rest, λ j. eqb-true b 35 hash j ∷ rest)
   | inr no_hash ↦ elim (cases_Bool (b == 114)) [
     | inl r ↦
         let (s, bt, h1) = bind_some (between rest) _ i (rw (no_hash, r) at h) in

@@ -4,23 +4,16 @@ use Rattle.std.proofs.lemmas.Bool.{cases_Bool, cases_lt, le-leb, lt-leb, lt-ltb}
 use Rattle.std.proofs.lemmas.Fmt.{decimal_by_steps, decimal_digit, decimal_nonempty, decimal_step}
 use Rattle.std.specs.Fmt.{decimal}
 use Rattle.std.specs.Char.{is_ascii_digit}
-use Rattle.std.specs.Prelude.{Option, Result, Ok}
-use Rattle.std.specs.Option.{unwrap_or}
+use Rattle.std.specs.Prelude.{Option}
+use Rattle.std.proofs.lemmas.Option.{same_Some}
 use Rattle.sb_record.specs.Reading.{◌>>=◌, value_at_end, whole_number, at_most, number_at, digits_from, ended, is_leading_zero}
-
--- the value inside two equal answers
-pub some_value : {A : Type 0} (x y : A) → ◌≡◌ {A = Option A} (Some x) (Some y) → x ≡ y
-some_value {A} x y e = ap (λ (r : Option A). unwrap_or r x) e
-
-pub ok_same : {A B : Type 0} (x y : A) → x ≡ y → ◌≡◌ {A = Result A B} (Ok x) (Ok y)
-ok_same x y e i = Ok (e i)
 
 -- digits that ended give what was read, and there was at least one
 ended_some : (value len : ℕ) (xs : List ℕ) (v : ℕ) (rest : List ℕ) → ended value len xs ≡ Some (v, rest)
     → (0 < len) × (value ≡ v) × (xs ≡ rest)
 ended_some value len xs v rest h = elim (cases_lt 0 len) [
   | inl some ↦
-      let p = some_value _ _ (rw (lt-ltb 0 len some) at h) in
+      let p = same_Some _ _ (rw (lt-ltb 0 len some) at h) in
       (some, ap (λ (q : ℕ × List ℕ). q.0) p, ap (λ (q : ℕ × List ℕ). q.1) p)
   | inr none ↦
       let e : len ≡ 0 = omega arith in
@@ -83,7 +76,7 @@ at_most_some : (most : ℕ) (p : ℕ × List ℕ) (v : ℕ) (rest : List ℕ) �
 at_most_some most p v rest h = elim (cases_lt most p.0) [
   | inl big ↦ cc (rw (lt-leb _ _ big) at h)
   | inr small ↦
-      let e : p ≡ (v, rest) = some_value _ _ (rw (le-leb _ _ small) at h) in
+      let e : p ≡ (v, rest) = same_Some _ _ (rw (le-leb _ _ small) at h) in
       let same : p.0 ≡ v = ap (λ (q : ℕ × List ℕ). q.0) e in
       (e, omega arith)
 ]
@@ -146,7 +139,7 @@ number_of_text most v rest top fits h =
     rw (digits_of_text v rest (omega arith) h, le-leb _ _ fits) refl
 
 at_end_some : (p : ℕ × List ℕ) (n : ℕ) → value_at_end p ≡ Some n → p ≡ (n, [])
-at_end_some (value, []) n h = let e : value ≡ n = some_value _ _ h in λ i. (e i, [])
+at_end_some (value, []) n h = let e : value ≡ n = same_Some _ _ h in λ i. (e i, [])
 at_end_some (value, b ∷ rest) n h = cc h
 
 -- a text is read as a whole number exactly where it is the text of one within the bound

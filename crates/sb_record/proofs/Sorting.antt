@@ -1,33 +1,31 @@
 -- A list put in order has the same elements, ascends, and is the only such list.
 use Rattle.std.proofs.Common.{◌≡◌, ℕ, suc, ◌+◌, ◌<◌, ℤ, Bool, true, false, cond, List, [], ◌∷◌, length, get_or, sym, refl, ap, ◌∙◌, arith}
 use Rattle.std.specs.Prelude.{count_by, sum_by}
-use Rattle.std.specs.List.{filter, AllByRecursion}
+use Rattle.std.specs.List.{filter, list_any, AllByRecursion}
 use Rattle.std.specs.List.Sorted.{IsSorted}
 use Rattle.std.specs.Ordering.{eq_by_cmp, is_eq, is_lt, ordering_reverse, ordering_then, nat_cmp, int_cmp}
 use Rattle.std.specs.Cmp.{IsTotalOrder, IsStrictWeakOrder, nat_cmp_total, int_cmp_total, tied_itself}
 use Rattle.std.specs.declared.cmp.Ordering.{Ordering}
 use Rattle.std.specs.declared.cmp.Ordering.TheVariants.{Less, Equal, Greater}
+use Rattle.std.proofs.lemmas.Bool.{lt-ltb}
 use Rattle.std.proofs.lemmas.Cmp.{then_total, on_total}
 use Rattle.std.proofs.lemmas.List.Sums.{sum_by-cons}
 use Rattle.std.proofs.lemmas.List.Sorted.{sorted_far, ranks_by}
 use Rattle.std.proofs.lemmas.Map.Lookups.{CmpEqualImpliesEq, exact_pairs, exact_unsigned, exact_signed}
+use Rattle.std.proofs.lemmas.Map.Views.{tells_apart}
 use Rattle.sb_record.specs.declared.item.Record.{Record}
 use Rattle.sb_record.specs.Orders.{put_in_order, in_order, IsAscending}
-use Rattle.sb_record.specs.Records.{record_cmp, count_of, SameRecords, sorted}
-use Rattle.sb_record.proofs.Sums.{SameSums, sum_by-filter}
+use Rattle.sb_record.specs.Records.{record_cmp, SameRecords, sorted}
+use Rattle.sb_record.proofs.Elements.{every, All-any}
+use Rattle.sb_record.proofs.Sums.{SameSums, SameSums-filter, any_by_count}
 
 -- ---- putting in order moves elements alone
 SameSums-put_in_order : {X : Type 0} (cmp : X → X → Ordering) (x : X) (ys : List X) → SameSums (put_in_order cmp x ys) (x ∷ ys)
 SameSums-put_in_order cmp x [] f = refl
 SameSums-put_in_order cmp x (y ∷ ys) f = by_case (is_lt (cmp y x)) (SameSums-put_in_order cmp x ys f)
   where
-    swapped : (a b n : ℕ) → a + (b + n) ≡ b + (a + n)
-    swapped a b n = omega arith
-
     by_case : (b : Bool) → sum_by f (put_in_order cmp x ys) ≡ sum_by f (x ∷ ys) → sum_by f (cond b (y ∷ put_in_order cmp x ys) (x ∷ y ∷ ys)) ≡ sum_by f (x ∷ y ∷ ys)
-    by_case true h =
-        sum_by-cons f y (put_in_order cmp x ys) ∙ ap (λ n. f y + n) (h ∙ sum_by-cons f x ys) ∙ swapped (f y) (f x) (sum_by f ys)
-        ∙ sym (sum_by-cons f x (y ∷ ys) ∙ ap (λ n. f x + n) (sum_by-cons f y ys))
+    by_case true h = omega (arith, h, sum_by-cons f y (put_in_order cmp x ys), sum_by-cons f x ys, sum_by-cons f x (y ∷ ys), sum_by-cons f y ys)
     by_case false h = refl
 
 pub SameSums-in_order : {X : Type 0} (cmp : X → X → Ordering) (xs : List X) → SameSums (in_order cmp xs) xs
@@ -59,29 +57,13 @@ module _ {X : Type 0} {cmp : X → X → Ordering} (o : IsTotalOrder cmp) where
   ranks : IsStrictWeakOrder (λ x y. is_lt (cmp x y))
   ranks = ranks_by o (λ (x : X). x)
 
-  less_flip : (x y : X) → is_lt (cmp x y) ≡ true → is_lt (cmp y x) ≡ false
-  less_flip x y h = ap is_lt (o.antisymm y x) ∙ flipped (cmp x y) h
-    where
-      flipped : (r : Ordering) → is_lt r ≡ true → is_lt (ordering_reverse r) ≡ false
-      flipped Less h = refl
-      flipped Equal h = cc
-      flipped Greater h = cc
-
-  all_put : (P : X → Type 0) (x : X) (ys : List X) → P x → AllByRecursion P ys → AllByRecursion P (put_in_order cmp x ys)
-  all_put P x ys h all = All-put_in_order P cmp x ys h all
-
   put_ascending : (x : X) (ys : List X) → IsAscending cmp ys → IsAscending cmp (put_in_order cmp x ys)
   put_ascending x [] up = (tt, tt)
   put_ascending x (y ∷ ys) up = by_case (is_lt (cmp y x)) refl (put_ascending x ys up.1)
     where
-      -- what is not below y is not below x, where y is not below x
-      over : is_lt (cmp y x) ≡ false → (zs : List X) → AllByRecursion (λ z. is_lt (cmp z y) ≡ false) zs → AllByRecursion (λ z. is_lt (cmp z x) ≡ false) zs
-      over e [] all = tt
-      over e (z ∷ zs) all = (ranks.chain z y x all.0 e, over e zs all.1)
-
       by_case : (b : Bool) → is_lt (cmp y x) ≡ b → IsAscending cmp (put_in_order cmp x ys) → IsAscending cmp (cond b (y ∷ put_in_order cmp x ys) (x ∷ y ∷ ys))
-      by_case true e k = (all_put (λ z. is_lt (cmp z y) ≡ false) x ys (less_flip y x e) up.0, k)
-      by_case false e k = ((e, over e ys up.0), up)
+      by_case true e k = (All-put_in_order (λ z. is_lt (cmp z y) ≡ false) cmp x ys (ranks.one_way y x e) up.0, k)
+      by_case false e k = ((e, every (λ z h. ranks.chain z y x h e) ys up.0), up)
 
   pub in_order-ascending : (xs : List X) → IsAscending cmp (in_order cmp xs)
   in_order-ascending [] = tt
@@ -109,27 +91,16 @@ module _ {X : Type 0} {cmp : X → X → Ordering} (o : IsTotalOrder cmp) where
     count-own : (x : X) (xs : List X) → count x (x ∷ xs) ≡ 1 + count x xs
     count-own x xs = count-cons x x xs ∙ ap (λ r. cond {A = ℕ} (is_eq r) 1 0 + count x xs) (tied_itself o x)
 
+    -- one of the elements that are not less than y is not less than y
+    pub not_below : (m y : X) (zs : List X) → AllByRecursion (λ z. is_lt (cmp z y) ≡ false) zs → list_any (eq_by_cmp cmp m) zs ≡ true → is_lt (cmp m y) ≡ false
+    not_below m y zs all some =
+        All-any (λ z. is_lt (cmp z y) ≡ false) (is_lt (cmp m y) ≡ false) (eq_by_cmp cmp m) (λ z h same. ap (λ x. is_lt (cmp x y)) (tells_apart exact m z same) ∙ h) zs all some
+
     -- what stands in an ascending list is not below its first
     not_below_first : (x y : X) (ys : List X) → AllByRecursion (λ z. is_lt (cmp z y) ≡ false) ys → 0 < count x (y ∷ ys) → is_lt (cmp x y) ≡ false
-    not_below_first x y ys up h = first (cmp x y) refl
-      where
-        later : (zs : List X) → AllByRecursion (λ z. is_lt (cmp z y) ≡ false) zs → 0 < count x zs → is_lt (cmp x y) ≡ false
-        later [] all h = absurd (omega arith)
-        later (z ∷ zs) all h = by_case (cmp x z) refl (omega (arith, count-cons x z zs)) (λ k. later zs all.1 k)
-          where
-            by_case : (r : Ordering) → cmp x z ≡ r → 0 < cond {A = ℕ} (eq_by_cmp cmp x z) 1 0 + count x zs → (0 < count x zs → is_lt (cmp x y) ≡ false) → is_lt (cmp x y) ≡ false
-            by_case Equal e k ih = ap (λ w. is_lt (cmp w y)) (exact x z e) ∙ all.0
-            by_case Less e k ih = ih (let z : cond {A = ℕ} (eq_by_cmp cmp x z) 1 0 ≡ 0 = ap (λ r. cond {A = ℕ} (is_eq r) 1 0) e in omega arith)
-            by_case Greater e k ih = ih (let z : cond {A = ℕ} (eq_by_cmp cmp x z) 1 0 ≡ 0 = ap (λ r. cond {A = ℕ} (is_eq r) 1 0) e in omega arith)
+    not_below_first x y ys up h = not_below x y (y ∷ ys) (ap is_lt (tied_itself o y), up) (any_by_count (eq_by_cmp cmp x) (y ∷ ys) ∙ lt-ltb 0 _ h)
 
-        first : (r : Ordering) → cmp x y ≡ r → is_lt (cmp x y) ≡ false
-        first Equal e = ap is_lt e
-        first Greater e = ap is_lt e
-        first Less e =
-            let k : cond {A = ℕ} (eq_by_cmp cmp x y) 1 0 ≡ 0 = ap (λ r. cond {A = ℕ} (is_eq r) 1 0) e in
-            later ys up (omega (arith, count-cons x y ys))
-
-    equal_by : (x y : X) → is_lt (cmp x y) ≡ false → is_lt (cmp y x) ≡ false → x ≡ y
+    pub equal_by : (x y : X) → is_lt (cmp x y) ≡ false → is_lt (cmp y x) ≡ false → x ≡ y
     equal_by x y a b = by_case (cmp x y) refl a
       where
         by_case : (r : Ordering) → cmp x y ≡ r → is_lt r ≡ false → x ≡ y
@@ -157,33 +128,13 @@ pub sorted-unique : (rows l : List Record) → IsAscending record_cmp rows → S
 sorted-unique rows l up same =
     ascending-unique records_total exact_records rows (sorted l) up (in_order-ascending records_total l) (λ r. same r ∙ sym (SameSums-in_order record_cmp l (λ x. cond (eq_by_cmp record_cmp r x) 1 0)))
 
+-- every function adds up alike over lists with the same records
+SameSums-records : (l m : List Record) → SameRecords l m → SameSums l m
+SameSums-records l m same f = sym (SameSums-in_order record_cmp l f) ∙ ap (sum_by f) sorted_alike ∙ SameSums-in_order record_cmp m f
+  where
+    sorted_alike : sorted l ≡ sorted m
+    sorted_alike = sorted-unique (sorted l) m (in_order-ascending records_total l) (λ r. SameSums-in_order record_cmp l (λ x. cond (eq_by_cmp record_cmp r x) 1 0) ∙ same r)
+
 -- what passes of lists with the same records
 pub SameRecords-filter : (p : Record → Bool) (l m : List Record) → SameRecords l m → SameRecords (filter p l) (filter p m)
-SameRecords-filter p l m same r = passing l ∙ ap (λ n. cond (p r) n 0) (same r) ∙ sym (passing m)
-  where
-    passing : (l : List Record) → count_of r (filter p l) ≡ cond (p r) (count_of r l) 0
-    passing l = sum_by-filter (λ x. cond (eq_by_cmp record_cmp r x) 1 0) p l ∙ go l
-      where
-        one : (x : Record) (rest : ℕ) (more : ℕ) → more ≡ cond (p r) rest 0 → cond (p x) (cond {A = ℕ} (eq_by_cmp record_cmp r x) 1 0) 0 + more ≡ cond (p r) (cond (eq_by_cmp record_cmp r x) 1 0 + rest) 0
-        one x rest more h = by_case (record_cmp r x) refl
-          where
-            none : (b c : Bool) → more ≡ cond c rest 0 → cond {A = ℕ} b 0 0 + more ≡ cond c (0 + rest) 0
-            none true true h = omega (arith, h)
-            none true false h = omega (arith, h)
-            none false true h = omega (arith, h)
-            none false false h = omega (arith, h)
-
-            yes : (c : Bool) → more ≡ cond c rest 0 → cond {A = ℕ} c 1 0 + more ≡ cond c (1 + rest) 0
-            yes true h = omega (arith, h)
-            yes false h = omega (arith, h)
-
-            by_case : (o : Ordering) → record_cmp r x ≡ o → cond (p x) (cond {A = ℕ} (is_eq (record_cmp r x)) 1 0) 0 + more ≡ cond (p r) (cond (is_eq (record_cmp r x)) 1 0 + rest) 0
-            by_case Equal e = ap (λ o. cond (p x) (cond {A = ℕ} (is_eq o) 1 0) 0 + more) e ∙ ap (λ x. cond {A = ℕ} (p x) 1 0 + more) (sym (exact_records r x e)) ∙ yes (p r) h ∙ ap (λ o. cond (p r) (cond {A = ℕ} (is_eq o) 1 0 + rest) 0) (sym e)
-            by_case Less e = ap (λ o. cond (p x) (cond {A = ℕ} (is_eq o) 1 0) 0 + more) e ∙ none (p x) (p r) h ∙ ap (λ o. cond (p r) (cond {A = ℕ} (is_eq o) 1 0 + rest) 0) (sym e)
-            by_case Greater e = ap (λ o. cond (p x) (cond {A = ℕ} (is_eq o) 1 0) 0 + more) e ∙ none (p x) (p r) h ∙ ap (λ o. cond (p r) (cond {A = ℕ} (is_eq o) 1 0 + rest) 0) (sym e)
-
-        go : (l : List Record) → sum_by (λ x. cond (p x) (cond (eq_by_cmp record_cmp r x) 1 0) 0) l ≡ cond (p r) (count_of r l) 0
-        go [] = elim (p r) as (λ b. ◌≡◌ {A = ℕ} 0 (cond b 0 0)) [ true ↦ refl | false ↦ refl ]
-        go (x ∷ l) =
-            sum_by-cons (λ x. cond (p x) (cond (eq_by_cmp record_cmp r x) 1 0) 0) x l ∙ one x (count_of r l) _ (go l)
-            ∙ ap (λ n. cond (p r) n 0) (sym (sum_by-cons (λ x. cond (eq_by_cmp record_cmp r x) 1 0) x l))
+SameRecords-filter p l m same r = SameSums-filter p l m (SameSums-records l m same) (λ x. cond (eq_by_cmp record_cmp r x) 1 0)
