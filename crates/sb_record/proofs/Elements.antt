@@ -1,6 +1,5 @@
 -- What holds of each element of a list, and what passes of a list.
 use Rattle.std.proofs.Common.{◌≡◌, Bool, true, false, cond, List, [], ◌∷◌, ◌++◌, map, get_or, refl, sym, ap, ◌∙◌}
-use Rattle.std.specs.Prelude.{◌||◌}
 use Rattle.std.specs.List.{filter, flat_map, list_any, AllByRecursion}
 use Rattle.std.proofs.lemmas.List.Elements.{All-from_recursion, recursion_from_All, All-append, All-weaker, All-map as All-mapped, All-filter, All-contains, filter_passes}
 use Rattle.std.proofs.lemmas.List.Folds.{Any-from_list_any}
@@ -34,15 +33,6 @@ All-any P Q p w xs all some = let (k, x, within, at, passes) = Any-from_list_any
 pub filter_all : {X : Type 0} (xs : List X) → filter (λ _. true) xs ≡ xs
 filter_all [] = refl
 filter_all (x ∷ xs) = ap (λ l. x ∷ l) (filter_all xs)
-
--- nothing passes where none does
-pub none_pass : {X : Type 0} (p : X → Bool) (xs : List X) → list_any p xs ≡ false → filter p xs ≡ []
-none_pass p [] h = refl
-none_pass {X} p (x ∷ xs) h = by_case (p x) h (none_pass p xs)
-  where
-    by_case : (b : Bool) → (b || list_any p xs) ≡ false → (list_any p xs ≡ false → filter p xs ≡ []) → cond b (x ∷ filter p xs) (filter p xs) ≡ []
-    by_case true h ih = cc
-    by_case false h ih = ih h
 
 -- what passes p passes a test that lets all of it through
 pub filter_of_filter : {X : Type 0} (p o : X → Bool) → ((x : X) → p x ≡ true → o x ≡ true) → (xs : List X) → filter p (filter o xs) ≡ filter p xs

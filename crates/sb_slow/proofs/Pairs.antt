@@ -6,7 +6,8 @@ use Rattle.sb_record.specs.declared.item.Record.{Record}
 use Rattle.sb_window.specs.declared.keyed_window.KeyedWindow.{KeyedWindow}
 use Rattle.sb_window.specs.Spacing.{Spacing}
 use Rattle.sb_window.specs.Windows.{is_in, keyed_window_cmp, keyed_windows, values_in}
-use Rattle.sb_window.proofs.Gathering.{entries-keyed_windows, none_pass}
+use Rattle.sb_record.proofs.Sums.{none_pass}
+use Rattle.sb_window.proofs.Gathering.{entries-keyed_windows}
 use Rattle.sb_join.specs.declared.join.Combine.{Combine}
 use Rattle.sb_join.specs.Joins.{pair_values, pairs, join_rows}
 use Rattle.sb_slow.specs.Gathered.{values_at, rows_of_pairs}

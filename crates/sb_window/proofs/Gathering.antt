@@ -1,52 +1,41 @@
 -- Gathering what is made of values by keyed window: record by record, end by end, and the rows of a map's entries.
-use Rattle.std.proofs.Common.{◌≡◌, ℕ, ℤ, ◌<◌, Bool, true, false, cond, eqb, List, [], ◌∷◌, ◌++◌, map, Option, Some, None, append-nil, sym, refl, ap, ◌∙◌, arith}
+use Rattle.std.proofs.Common.{◌≡◌, ℕ, ℤ, ◌-◌, ◌<◌, Bool, true, false, cond, eqb, List, [], ◌∷◌, ◌++◌, map, Option, Some, None, append-nil, sym, refl, ap, ◌∙◌, arith}
 use Rattle.std.specs.Prelude.{◌||◌, ◌&&◌}
 use Rattle.std.specs.List.{filter, flat_map, list_any, AllByRecursion}
 use Rattle.std.specs.Option.{is_some}
 use Rattle.std.specs.Map.{keys_of}
 use Rattle.std.specs.BTreeMap.{BTreeMap, IsOrdered, get, is_at}
-use Rattle.std.specs.Ordering.{is_eq, nat_cmp, ordering_then}
-use Rattle.std.specs.declared.cmp.Ordering.{Ordering}
-use Rattle.std.specs.declared.cmp.Ordering.TheVariants.{Less, Equal, Greater}
-use Rattle.std.proofs.lemmas.Bool.Decides.{nat_tests}
-use Rattle.std.proofs.lemmas.Bool.{eqb-true}
+use Rattle.std.proofs.lemmas.Bool.{eqb-true, ne_eqb}
 use Rattle.std.proofs.lemmas.List.{map-append}
-use Rattle.std.proofs.lemmas.List.Elements.{filter-append, recursion_from_All}
-use Rattle.std.proofs.lemmas.List.Folds.{list_any-append}
+use Rattle.std.proofs.lemmas.List.Elements.{filter-append, recursion_from_All, All-from_recursion}
+use Rattle.std.proofs.lemmas.List.Folds.{list_any-append, list_any_none, flat_map-map}
+use Rattle.std.proofs.lemmas.Option.{cond_some}
 use Rattle.std.proofs.lemmas.Map.Views.{All-found}
 use Rattle.std.proofs.lemmas.Map.Made.{is_some-lookup}
 use Rattle.std.proofs.lemmas.Map.Lookups.{btree_set_from_contains}
 use Rattle.sb_record.specs.declared.item.Record.{Record}
+use Rattle.sb_record.proofs.Elements.{every}
+use Rattle.sb_record.proofs.Sums.{any_filtered, none_pass}
 use Rattle.sb_record.proofs.Distinct.{distinct-sorted}
 use Rattle.sb_window.specs.declared.keyed_window.KeyedWindow.{KeyedWindow}
 use Rattle.sb_window.specs.Spacing.{Spacing}
 use Rattle.sb_window.specs.Windows.{window_ends, keyed_window_cmp, windows_of, keyed_windows, is_in, values_in}
-use Rattle.sb_window.specs.Aggregations.{rows_in, rows_by}
+use Rattle.sb_window.specs.Aggregations.{rows_by}
 use Rattle.sb_window.specs.Gatherings.{gathered, joined, rows_of_entries}
 use Rattle.sb_window.proofs.Multiples.{Rising}
-use Rattle.sb_window.proofs.Rows.{keyed_windows_total, exact_keyed_windows, any_keyed_windows}
+use Rattle.sb_window.proofs.Rows.{keyed_windows_total, exact_keyed_windows, any_keyed_windows, same_keyed_window}
 
 pub joined_none : {V : Type 0} (join : V → V → V) (o : Option V) → joined join o None ≡ o
 joined_none join None = refl
 joined_none join (Some v) = refl
 
 -- ---- record by record
--- nothing passes where none does
-pub none_pass : (p : Record → Bool) (l : List Record) → list_any p l ≡ false → filter p l ≡ []
-none_pass p [] h = refl
-none_pass p (r ∷ l) h = by_case (p r) h (none_pass p l)
-  where
-    by_case : (b : Bool) → (b || list_any p l) ≡ false → (list_any p l ≡ false → filter p l ≡ []) → cond b (r ∷ filter p l) (filter p l) ≡ []
-    by_case true h ih = cc
-    by_case false h ih = ih h
-
 some_pass : (p : Record → Bool) (l : List Record) → list_any p l ≡ true → (x : Record) × (xs : List Record) × (filter p l ≡ x ∷ xs)
-some_pass p [] h = cc
-some_pass p (r ∷ l) h = by_case (p r) h (some_pass p l)
+some_pass p l h = by_case (filter p l) refl
   where
-    by_case : (b : Bool) → (b || list_any p l) ≡ true → (list_any p l ≡ true → (x : Record) × (xs : List Record) × (filter p l ≡ x ∷ xs)) → (x : Record) × (xs : List Record) × (cond b (r ∷ filter p l) (filter p l) ≡ x ∷ xs)
-    by_case true h ih = (r, filter p l, refl)
-    by_case false h ih = ih h
+    by_case : (xs : List Record) → filter p l ≡ xs → (x : Record) × (xs : List Record) × (filter p l ≡ x ∷ xs)
+    by_case [] none = let k : true ≡ false = sym h ∙ any_filtered p l [] none in cc
+    by_case (x ∷ xs) some = (x, xs, some)
 
 -- what is made of the values of two lists, where join makes it of what is made of each
 pub gathered-append : {V : Type 0} (made : List ℤ → V) (join : V → V → V) → ((v w : ℤ) (vs ws : List ℤ) → made ((v ∷ vs) ++ w ∷ ws) ≡ join (made (v ∷ vs)) (made (w ∷ ws)))
@@ -94,34 +83,18 @@ made_at-window_ends {V} made windows r q = by_case (is_in windows q r)
     by_case true = refl
     by_case false = refl
 
-is_eq_then : (a b : Ordering) → is_eq (ordering_then a b) ≡ (is_eq a && is_eq b)
-is_eq_then Less b = refl
-is_eq_then Equal b = refl
-is_eq_then Greater b = refl
-
-is_eq_nat : (a b : ℕ) → is_eq (nat_cmp a b) ≡ eqb a b
-is_eq_nat a b = grind (arith, nat_tests)
-
 -- what is above a number does not hold it
 not_among : (x : ℕ) (es : List ℕ) → AllByRecursion (λ e. x < e) es → list_any (λ e. eqb e x) es ≡ false
-not_among x [] all = refl
-not_among x (e ∷ es) all = by_case (eqb e x) refl (not_among x es all.1)
-  where
-    by_case : (b : Bool) → eqb e x ≡ b → list_any (λ e. eqb e x) es ≡ false → (b || list_any (λ e. eqb e x) es) ≡ false
-    by_case true k h = let same : e ≡ x = eqb-true e x k in absurd (omega (arith, all.0))
-    by_case false k h = h
+not_among x es all = list_any_none (λ e. eqb e x) es (All-from_recursion (λ e. eqb e x ≡ false) es (every (λ e h. ne_eqb e x (λ same. omega (arith, h, same))) es all))
 
 -- a step of a loop over rising ends, which joins what is made of one value to what there is at each
 pub made_at-more : {V : Type 0} (join : V → V → V) (v : V) (key e : ℕ) (es : List ℕ) → Rising (e ∷ es) → (now later : KeyedWindow → Option V)
     → ((q : KeyedWindow) → later q ≡ cond (is_at (keyed_window_cmp (record { end = e; key = key })) q) (joined join (now (record { end = e; key = key })) (Some v)) (now q))
     → (q : KeyedWindow) → joined join (later q) (made_at v key es q) ≡ joined join (now q) (made_at v key (e ∷ es) q)
 made_at-more {V} join v key e es rising now later step q =
-    ap (λ o. joined join o (made_at v key es q)) (step q ∙ ap (λ b. cond b (joined join (now (record { end = e; key = key })) (Some v)) (now q)) test)
+    ap (λ o. joined join o (made_at v key es q)) (step q ∙ ap (λ b. cond b (joined join (now (record { end = e; key = key })) (Some v)) (now q)) (same_keyed_window (record { end = e; key = key }) q))
     ∙ by_case (eqb e q.end) (eqb key q.key) refl refl
   where
-    test : is_at (keyed_window_cmp (record { end = e; key = key })) q ≡ (eqb e q.end && eqb key q.key)
-    test = is_eq_then (nat_cmp e q.end) (nat_cmp key q.key) ∙ (λ i. is_eq_nat e q.end i && is_eq_nat key q.key i)
-
     by_case : (a k : Bool) → eqb e q.end ≡ a → eqb key q.key ≡ k
         → joined join (cond (a && k) (joined join (now (record { end = e; key = key })) (Some v)) (now q)) (cond (k && list_any (λ x. eqb x q.end) es) (Some v) None)
         ≡ joined join (now q) (cond (k && (a || list_any (λ x. eqb x q.end) es)) (Some v) None)
@@ -155,22 +128,13 @@ entries-keyed_windows {V} windows l f m ordered at =
         (λ q. any_keyed_windows windows q l ∙ sym (is_some-cond (list_any (is_in windows q) l) (f q)) ∙ ap is_some (sym (at q)) ∙ is_some-lookup (is_at (keyed_window_cmp q)) m.entries)
         exact_keyed_windows
 
-    value_is : (b : Bool) (v w : V) → cond b (Some v) None ≡ Some w → v ≡ w
-    value_is true v w h = some_is v w h
-      where
-        some_is : (v w : V) → Some v ≡ Some w → v ≡ w
-        some_is v w h = cc
-    value_is false v w h = cc
-
     each : (es : List (KeyedWindow × V)) → AllByRecursion (λ (e : KeyedWindow × V). get keyed_window_cmp m e.0 ≡ Some e.1) es → map (λ q. (q, f q)) (keys_of es) ≡ es
     each [] all = refl
-    each (e ∷ es) all = λ i. (e.0, value_is (list_any (is_in windows e.0) l) (f e.0) e.1 (sym (at e.0) ∙ all.0) i) ∷ each es all.1 i
+    each (e ∷ es) all = λ i. (e.0, (cond_some (list_any (is_in windows e.0) l) (f e.0) e.1 (sym (at e.0) ∙ all.0)).1 i) ∷ each es all.1 i
 
 -- the rows of a map that gathers the values of records are the rows over the records
 pub rows_of_entries-gathered : {V : Type 0} (made : List ℤ → V) (values : V → List ℤ) (windows : Spacing) (l : List Record) (m : BTreeMap KeyedWindow V) → IsOrdered keyed_window_cmp m
     → ((q : KeyedWindow) → get keyed_window_cmp m q ≡ gathered made windows l q) → rows_of_entries values m.entries ≡ rows_by (λ vs. values (made vs)) windows l
-rows_of_entries-gathered made values windows l m ordered at = ap (rows_of_entries values) (entries-keyed_windows windows l (λ q. made (values_in windows q l)) m ordered at) ∙ each (keyed_windows windows l)
-  where
-    each : (qs : List KeyedWindow) → rows_of_entries values (map (λ q. (q, made (values_in windows q l))) qs) ≡ flat_map (rows_in (λ vs. values (made vs)) windows l) qs
-    each [] = refl
-    each (q ∷ qs) = ap (λ rows. rows_in (λ vs. values (made vs)) windows l q ++ rows) (each qs)
+rows_of_entries-gathered {V} made values windows l m ordered at =
+    ap (rows_of_entries values) (entries-keyed_windows windows l (λ q. made (values_in windows q l)) m ordered at)
+    ∙ flat_map-map (λ (e : KeyedWindow × V). map (λ v. record { time = e.0.end - 1; key = e.0.key; value = v }) (values e.1)) (λ q. (q, made (values_in windows q l))) (keyed_windows windows l)

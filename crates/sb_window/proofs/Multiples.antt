@@ -3,8 +3,9 @@ use Rattle.std.proofs.Common.{◌≡◌, ℕ, suc, zero, ◌+◌, ◌-◌, ◌*�
 use Rattle.std.specs.List.{filter, range_with_len, AllByRecursion}
 use Rattle.std.specs.List.Sorted.{IsStrictlyIncreasing}
 use Rattle.std.proofs.Math.Nat.{mod-add-mod, mod-eq_of_lt, suc-mul, add-mod_right, mul-mod_left}
-use Rattle.std.proofs.lemmas.Bool.{eqb-true, eq-eqb}
+use Rattle.std.proofs.lemmas.Bool.{eqb-true, eq-eqb, false_from_ne_true}
 use Rattle.std.proofs.lemmas.List.Elements.{All-from_recursion}
+use Rattle.sb_record.proofs.Elements.{every}
 use Rattle.sb_window.specs.Spacing.{Spacing, AreWindows}
 use Rattle.sb_window.specs.Progressions.{progression}
 use Rattle.sb_window.specs.Windows.{window_ends}
@@ -29,11 +30,7 @@ no_multiple every m x h low high is =
 
 -- a number below a multiple, and less than a step below it, is none
 none_before : (every first x : ℕ) → first % every ≡ 0 → x < first → first < x + every → is_multiple every x ≡ false
-none_before every first x h low high = by_case (is_multiple every x) refl
-  where
-    by_case : (b : Bool) → is_multiple every x ≡ b → b ≡ false
-    by_case true e = absurd (no_multiple every x first (eqb-true (x % every) 0 e) low high h)
-    by_case false e = refl
+none_before every first x h low high = false_from_ne_true (is_multiple every x) (λ e. no_multiple every x first (eqb-true (x % every) 0 e) low high h)
 
 -- numbers that do not pass are passed over
 skipped : (p : ℕ → Bool) (a m n : ℕ) → ((x : ℕ) → a ≤ x → x < a + m → p x ≡ false) → filter p (range_with_len a (m + n)) ≡ filter p (range_with_len (a + m) n)
@@ -104,27 +101,16 @@ progression-rises first step (suc (suc count)) some (suc k) h =
 -- what passes of a range is in the range
 pub All-range : (p : ℕ → Bool) (a n : ℕ) → AllByRecursion (λ e. (a ≤ e) × (e < a + n) × (p e ≡ true)) (filter p (range_with_len a n))
 All-range p a zero = tt
-All-range p a (suc n) = by_case (p a) refl (wider (filter p (range_with_len (a + 1) n)) (All-range p (a + 1) n))
+All-range p a (suc n) = by_case (p a) refl (every (λ e h. (omega (arith, h.0), omega (arith, h.1), h.2)) (filter p (range_with_len (a + 1) n)) (All-range p (a + 1) n))
   where
-    wider : (l : List ℕ) → AllByRecursion (λ e. (a + 1 ≤ e) × (e < a + 1 + n) × (p e ≡ true)) l → AllByRecursion (λ e. (a ≤ e) × (e < a + suc n) × (p e ≡ true)) l
-    wider [] all = tt
-    wider (e ∷ l) all = ((omega (arith, all.0.0), omega (arith, all.0.1), all.0.2), wider l all.1)
-
     by_case : (b : Bool) → p a ≡ b → AllByRecursion (λ e. (a ≤ e) × (e < a + suc n) × (p e ≡ true)) (filter p (range_with_len (a + 1) n)) → AllByRecursion (λ e. (a ≤ e) × (e < a + suc n) × (p e ≡ true)) (cond b (a ∷ filter p (range_with_len (a + 1) n)) (filter p (range_with_len (a + 1) n)))
     by_case true e all = ((omega arith, omega arith, e), all)
     by_case false e all = all
 
 -- the ends of the windows of a time are above it, at most a size above it, and multiples
 pub All-window_ends : (windows : Spacing) (t : ℕ) → AllByRecursion (λ e. (t < e) × (e ≤ t + windows.size) × (e % windows.every ≡ 0)) (window_ends windows t)
-All-window_ends windows t = read (window_ends windows t) (All-range (is_multiple windows.every) (t + 1) windows.size)
-  where
-    read : (l : List ℕ) → AllByRecursion (λ e. (t + 1 ≤ e) × (e < t + 1 + windows.size) × (is_multiple windows.every e ≡ true)) l → AllByRecursion (λ e. (t < e) × (e ≤ t + windows.size) × (e % windows.every ≡ 0)) l
-    read [] all = tt
-    read (e ∷ l) all = ((omega (arith, all.0.0), omega (arith, all.0.1), eqb-true (e % windows.every) 0 all.0.2), read l all.1)
-
-all-weaker : (P Q : ℕ → Type 0) → ((x : ℕ) → P x → Q x) → (l : List ℕ) → AllByRecursion P l → AllByRecursion Q l
-all-weaker P Q h [] all = tt
-all-weaker P Q h (x ∷ l) all = (h x all.0, all-weaker P Q h l all.1)
+All-window_ends windows t =
+    every (λ e h. (omega (arith, h.0), omega (arith, h.1), eqb-true (e % windows.every) 0 h.2)) (window_ends windows t) (All-range (is_multiple windows.every) (t + 1) windows.size)
 
 -- each number is below those after it
 abbrev pub Rising : List ℕ → Type 0
@@ -135,7 +121,7 @@ pub window_ends-rising : (windows : Spacing) (t : ℕ) → Rising (window_ends w
 window_ends-rising windows t = rising (t + 1) windows.size
   where
     above : (a n : ℕ) → AllByRecursion (λ y. a < y) (filter (is_multiple windows.every) (range_with_len (a + 1) n))
-    above a n = all-weaker _ (λ y. a < y) (λ y h. omega (arith, h.0)) (filter (is_multiple windows.every) (range_with_len (a + 1) n)) (All-range (is_multiple windows.every) (a + 1) n)
+    above a n = every (λ y h. omega (arith, h.0)) (filter (is_multiple windows.every) (range_with_len (a + 1) n)) (All-range (is_multiple windows.every) (a + 1) n)
 
     rising : (a n : ℕ) → Rising (filter (is_multiple windows.every) (range_with_len a n))
     rising a zero = tt
@@ -151,7 +137,7 @@ window_ends-spaced windows are t =
     record {
       count = ap length is ∙ length-progression (first_end windows t) windows.every (windows.size / windows.every);
       rising = subst (λ l. IsStrictlyIncreasing l) (sym is) (progression-rises (first_end windows t) windows.every (windows.size / windows.every) (omega (arith, are.some_every)));
-      above = All-from_recursion (λ e. t < e) (window_ends windows t) (all-weaker _ (λ e. t < e) (λ x h. h.0) (window_ends windows t) (All-window_ends windows t));
-      within_size = All-from_recursion (λ e. e ≤ t + windows.size) (window_ends windows t) (all-weaker _ (λ e. e ≤ t + windows.size) (λ x h. h.1) (window_ends windows t) (All-window_ends windows t));
-      multiples = All-from_recursion (λ e. e % windows.every ≡ 0) (window_ends windows t) (all-weaker _ (λ e. e % windows.every ≡ 0) (λ x h. h.2) (window_ends windows t) (All-window_ends windows t));
+      above = All-from_recursion (λ e. t < e) (window_ends windows t) (every (λ x h. h.0) (window_ends windows t) (All-window_ends windows t));
+      within_size = All-from_recursion (λ e. e ≤ t + windows.size) (window_ends windows t) (every (λ x h. h.1) (window_ends windows t) (All-window_ends windows t));
+      multiples = All-from_recursion (λ e. e % windows.every ≡ 0) (window_ends windows t) (every (λ x h. h.2) (window_ends windows t) (All-window_ends windows t));
     }
