@@ -5,7 +5,7 @@ use Rattle.std.specs.Int.{cast_signed, cast_unsigned}
 use Rattle.std.specs.Ordering.{int_cmp, flip_args, is_lt, is_gt, ordering_reverse}
 use Rattle.std.specs.Cmp.{IsTotalOrder, int_cmp_total}
 use Rattle.std.proofs.lemmas.Cmp.{back_total}
-use Rattle.std.proofs.lemmas.List.Sums.{sum_by-cons}
+use Rattle.std.proofs.lemmas.List.Recursion.{is_sum_by}
 use Rattle.std.proofs.lemmas.Map.Lookups.{CmpEqualImpliesEq, exact_signed}
 use Rattle.sb_record.specs.Orders.{in_order}
 use Rattle.std.specs.declared.cmp.Ordering.TheVariants.{Less, Equal, Greater}
@@ -34,8 +34,7 @@ greatest_first_of m vs at high = first_of greatest_total exact_greatest m vs at 
     flipped v = ap is_lt (int_cmp_total.antisymm m v) ∙ (elim (int_cmp v m) as (λ r. is_lt (ordering_reverse r) ≡ is_gt r) [ Less ↦ refl | Equal ↦ refl | Greater ↦ refl ])
 
 length_is_sum : (vs : List ℤ) → length vs ≡ sum_by (λ v. 1) vs
-length_is_sum [] = refl
-length_is_sum (v ∷ vs) = omega (arith, length_is_sum vs, sum_by-cons (λ (v : ℤ). 1) v vs)
+length_is_sum vs = is_sum_by length (λ v. 1) refl (λ v vs. omega arith) vs
 
 pub aggregates-orderless : AggregatesDoNotDependOnOrder
 aggregates-orderless Count vs ws h = ap (λ n. signed n ∷ []) (length_is_sum vs ∙ h (λ v. 1) ∙ sym (length_is_sum ws))

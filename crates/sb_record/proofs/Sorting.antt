@@ -91,14 +91,14 @@ module _ {X : Type 0} {cmp : X → X → Ordering} (o : IsTotalOrder cmp) where
     count-own : (x : X) (xs : List X) → count x (x ∷ xs) ≡ 1 + count x xs
     count-own x xs = count-cons x x xs ∙ ap (λ r. cond {A = ℕ} (is_eq r) 1 0 + count x xs) (tied_itself o x)
 
-    -- one of the elements that are not less than y is not less than y
-    pub not_below : (m y : X) (zs : List X) → AllByRecursion (λ z. is_lt (cmp z y) ≡ false) zs → list_any (eq_by_cmp cmp m) zs ≡ true → is_lt (cmp m y) ≡ false
-    not_below m y zs all some =
-        All-any (λ z. is_lt (cmp z y) ≡ false) (is_lt (cmp m y) ≡ false) (eq_by_cmp cmp m) (λ z h same. ap (λ x. is_lt (cmp x y)) (tells_apart exact m z same) ∙ h) zs all some
+    counted : (x : X) (xs : List X) → 0 < count x xs → list_any (eq_by_cmp cmp x) xs ≡ true
+    counted x xs h = any_by_count (eq_by_cmp cmp x) xs ∙ lt-ltb 0 _ h
 
     -- what stands in an ascending list is not below its first
-    not_below_first : (x y : X) (ys : List X) → AllByRecursion (λ z. is_lt (cmp z y) ≡ false) ys → 0 < count x (y ∷ ys) → is_lt (cmp x y) ≡ false
-    not_below_first x y ys up h = not_below x y (y ∷ ys) (ap is_lt (tied_itself o y), up) (any_by_count (eq_by_cmp cmp x) (y ∷ ys) ∙ lt-ltb 0 _ h)
+    pub not_below_first : (x y : X) (ys : List X) → AllByRecursion (λ z. is_lt (cmp z y) ≡ false) ys → list_any (eq_by_cmp cmp x) (y ∷ ys) ≡ true → is_lt (cmp x y) ≡ false
+    not_below_first x y ys up some =
+        All-any (λ z. is_lt (cmp z y) ≡ false) (is_lt (cmp x y) ≡ false) (eq_by_cmp cmp x) (λ z h same. ap (λ w. is_lt (cmp w y)) (tells_apart exact x z same) ∙ h)
+        (y ∷ ys) (ap is_lt (tied_itself o y), up) some
 
     pub equal_by : (x y : X) → is_lt (cmp x y) ≡ false → is_lt (cmp y x) ≡ false → x ≡ y
     equal_by x y a b = by_case (cmp x y) refl a
@@ -114,7 +114,7 @@ module _ {X : Type 0} {cmp : X → X → Ordering} (o : IsTotalOrder cmp) where
     ascending-unique [] (y ∷ ys) up vp same = absurd (omega (arith, same y, count-own y ys))
     ascending-unique (x ∷ xs) [] up vp same = absurd (omega (arith, same x, count-own x xs))
     ascending-unique (x ∷ xs) (y ∷ ys) up vp same =
-        let e : x ≡ y = equal_by x y (not_below_first x y ys vp.0 (omega (arith, same x, count-own x xs))) (not_below_first y x xs up.0 (omega (arith, same y, count-own y ys))) in
+        let e : x ≡ y = equal_by x y (not_below_first x y ys vp.0 (counted x (y ∷ ys) (omega (arith, same x, count-own x xs)))) (not_below_first y x xs up.0 (counted y (x ∷ xs) (omega (arith, same y, count-own y ys)))) in
         let rest : xs ≡ ys = ascending-unique xs ys up.1 vp.1 (λ z. less z e) in
         λ i. e i ∷ rest i
       where
@@ -123,10 +123,13 @@ module _ {X : Type 0} {cmp : X → X → Ordering} (o : IsTotalOrder cmp) where
             let a : cond {A = ℕ} (eq_by_cmp cmp z x) 1 0 ≡ cond (eq_by_cmp cmp z y) 1 0 = ap (λ w. cond {A = ℕ} (eq_by_cmp cmp z w) 1 0) e in
             omega (arith, same z, count-cons z x xs, count-cons z y ys)
 
+    -- so one that holds each element as often as another list is that list put in order
+    pub ascending-in_order : (xs ys : List X) → IsAscending cmp xs → ((x : X) → count x xs ≡ count x ys) → xs ≡ in_order cmp ys
+    ascending-in_order xs ys up same = ascending-unique xs (in_order cmp ys) up (in_order-ascending ys) (λ x. same x ∙ sym (SameSums-in_order cmp ys (λ z. cond (eq_by_cmp cmp x z) 1 0)))
+
 -- ---- records
 pub sorted-unique : (rows l : List Record) → IsAscending record_cmp rows → SameRecords rows l → rows ≡ sorted l
-sorted-unique rows l up same =
-    ascending-unique records_total exact_records rows (sorted l) up (in_order-ascending records_total l) (λ r. same r ∙ sym (SameSums-in_order record_cmp l (λ x. cond (eq_by_cmp record_cmp r x) 1 0)))
+sorted-unique rows l up same = ascending-in_order records_total exact_records rows l up same
 
 -- every function adds up alike over lists with the same records
 SameSums-records : (l m : List Record) → SameRecords l m → SameSums l m
