@@ -2,6 +2,7 @@
 use Rattle.std.proofs.Common.{◌≡◌, ℕ, ◌+◌, ◌<◌, ◌≤◌, Bool, true, false, List, [], ◌∷◌, ◌++◌, length, append-nil, append_assoc, length-append, sym, refl, ap, ◌∙◌, arith}
 use Rattle.std.specs.Prelude.{◌==◌, if◌then◌else◌, filter, Some, None}
 use Rattle.std.proofs.lemmas.Bool.Decides.{nat_tests}
+use Rattle.std.proofs.lemmas.List.{length_push}
 use Rattle.std.proofs.lemmas.List.Elements.{All-nil, All-cons}
 use Rattle.sb_record.specs.declared.item.Record.{Record}
 use Rattle.sb_bundle.specs.declared.bundle.Bundle.{Bundle}
@@ -46,9 +47,6 @@ epoch_grows [] c = omega arith
 epoch_grows (Push r ∷ calls) c = epoch_grows calls (after_record r c)
 epoch_grows (Mark mark ∷ calls) c = let later = epoch_grows calls (after_mark mark c) in omega (arith, later)
 
-length_with : (r : Record) (rs : List Record) → length (rs ++ r ∷ []) ≡ length rs + 1
-length_with r rs = length-append rs (r ∷ [])
-
 -- no record is pushed in an epoch before the present one
 no_records_before : (n now : ℕ) (calls : List Call) → n < now → records_in n now calls ≡ []
 no_records_before n now [] past = refl
@@ -88,6 +86,11 @@ none_before : (b : Bool) (records : List Record) → (if b then [] else []) ++ r
 none_before true records = refl
 none_before false records = refl
 
+-- a record more, held or still to come
+held_more : (now : Bool) (held : List Record) (r : Record) (rest : List Record) → (if now then (held ++ r ∷ []) else []) ++ rest ≡ (if now then held else []) ++ (if now then r ∷ rest else rest)
+held_more true held r rest = append_assoc held (r ∷ []) rest
+held_more false held r rest = refl
+
 -- ---- epochs that have ended
 -- the bundles of an ended epoch are the records held, where the epoch is the present one, and those still to come, cut
 abbrev pub IsCutBy : ℕ → List Call → Cutting → Type 0
@@ -108,12 +111,6 @@ ended n (Push r ∷ calls) c fewer past = by_case (fills r c) refl (ended n call
         along c.size _ _ _ (append_assoc c.held (r ∷ []) (records_in n c.epoch calls)) (cut_cons c.size (c.held ++ r ∷ []) (records_in n c.epoch calls) (parts_of bundles) (omega arith) full cut)
     with_full false bundles full cut = cut
 
-    with_held : (now : Bool) (parts : List (List Record))
-        → AreCutOf c.size ((if now then (c.held ++ r ∷ []) else []) ++ records_in n c.epoch calls) parts
-        → AreCutOf c.size ((if now then c.held else []) ++ (if now then r ∷ records_in n c.epoch calls else records_in n c.epoch calls)) parts
-    with_held true parts cut = along c.size _ _ _ (append_assoc c.held (r ∷ []) (records_in n c.epoch calls)) cut
-    with_held false parts cut = cut
-
     by_case : (full : Bool) → fills r c ≡ full → ((d : Cutting) → length d.held < d.size → n < (after_all calls d).epoch → IsCutBy n calls d)
         → let d : Cutting = holding (if full then [] else (c.held ++ r ∷ [])) c in
         n < (after_all calls d).epoch
@@ -121,7 +118,7 @@ ended n (Push r ∷ calls) c fewer past = by_case (fills r c) refl (ended n call
     by_case true e later past =
         with_full (c.epoch == n) (filter (λ b. b.epoch == n) (bundles_by calls (holding [] c))) (grind (arith, nat_tests)) (later (holding [] c) (omega arith) past)
     by_case false e later past =
-        with_held (c.epoch == n) (parts_in n (bundles_by calls (holding (c.held ++ r ∷ []) c))) (later (holding (c.held ++ r ∷ []) c) (let l = length_with r c.held in grind (arith, nat_tests, l)) past)
+        along c.size _ _ _ (held_more (c.epoch == n) c.held r (records_in n c.epoch calls)) (later (holding (c.held ++ r ∷ []) c) (let l = length_push c.held r in grind (arith, nat_tests, l)) past)
 ended n (Mark mark ∷ calls) c fewer past = by_held c.held fewer (along c.size _ _ _ (none_before ((c.epoch + 1) == n) (records_in n (c.epoch + 1) calls)) (ended n calls (after_mark mark c) (omega arith) past))
   where
     some : (held : List Record) (now : Bool) → (c.epoch == n) ≡ now → 1 ≤ length held → length held < c.size
@@ -167,12 +164,6 @@ last n (Push r ∷ calls) c fewer is = by_case (fills r c) refl (last n calls) i
         full_along c.size _ _ _ rest (append_assoc c.held (r ∷ []) (records_in n c.epoch calls)) (full_cons c.size (c.held ++ r ∷ []) (records_in n c.epoch calls) (parts_of bundles) rest here full)
     with_full false bundles rest here full = full
 
-    with_held : (now : Bool) (parts : List (List Record)) (rest : List Record)
-        → AreFullOf c.size ((if now then (c.held ++ r ∷ []) else []) ++ records_in n c.epoch calls) parts rest
-        → AreFullOf c.size ((if now then c.held else []) ++ (if now then r ∷ records_in n c.epoch calls else records_in n c.epoch calls)) parts rest
-    with_held true parts rest full = full_along c.size _ _ _ rest (append_assoc c.held (r ∷ []) (records_in n c.epoch calls)) full
-    with_held false parts rest full = full
-
     by_case : (full : Bool) → fills r c ≡ full → ((d : Cutting) → length d.held < d.size → n ≡ (after_all calls d).epoch → IsFullBy n calls d)
         → let d : Cutting = holding (if full then [] else (c.held ++ r ∷ [])) c in
         n ≡ (after_all calls d).epoch
@@ -180,8 +171,7 @@ last n (Push r ∷ calls) c fewer is = by_case (fills r c) refl (last n calls) i
     by_case true e later is =
         with_full (c.epoch == n) (filter (λ b. b.epoch == n) (bundles_by calls (holding [] c))) (after_all calls (holding [] c)).held (grind (arith, nat_tests)) (later (holding [] c) (omega arith) is)
     by_case false e later is =
-        let d : Cutting = holding (c.held ++ r ∷ []) c in
-        with_held (c.epoch == n) (parts_in n (bundles_by calls d)) (after_all calls d).held (later d (let l = length_with r c.held in grind (arith, nat_tests, l)) is)
+        full_along c.size _ _ _ _ (held_more (c.epoch == n) c.held r (records_in n c.epoch calls)) (later (holding (c.held ++ r ∷ []) c) (let l = length_push c.held r in grind (arith, nat_tests, l)) is)
 last n (Mark mark ∷ calls) c fewer is =
     by_held c.held (full_along c.size _ _ _ _ (none_before ((c.epoch + 1) == n) (records_in n (c.epoch + 1) calls)) (last n calls (after_mark mark c) (omega arith) is))
   where
