@@ -15,7 +15,7 @@ use Rattle.sb_record.specs.declared.item.Item.{Item}
 use Rattle.sb_record.specs.declared.item.Item.TheVariants.{Rec, Mark, Skip}
 use Rattle.sb_record.specs.Lines.{letter, IsInRange, IsTextOf}
 use Rattle.sb_record.specs.Reading.{number_at, byte_at, negative, positive, signed_from, signed_at, stream_at, at_end, record_at, mark_at, between, item_of}
-use Rattle.sb_record.proofs.Numbers.{bind_some, number_text, number_of_text, starts_digit}
+use Rattle.sb_record.proofs.Numbers.{bind_some, number_text, number_of_text, number_of_whole, starts_digit}
 
 pub byte_some : (b : ℕ) (xs rest : List ℕ) → byte_at b xs ≡ Some rest → xs ≡ b ∷ rest
 unfolding byte_at
@@ -80,9 +80,6 @@ signed_of_text (negsuc n) rest small h =
 
 signed_of_whole : (v : ℤ) → mag v < 2 ^ 63 → signed_at (signed_decimal v) ≡ Some (v, [])
 signed_of_whole v small = ap signed_at (sym (append-nil (signed_decimal v))) ∙ signed_of_text v [] small refl
-
-number_of_whole : (most v : ℕ) → most < 10000000000000000000 → v ≤ most → number_at most (decimal v) ≡ Some (v, [])
-number_of_whole most v top small = ap (number_at most) (sym (append-nil (decimal v))) ∙ number_of_text most v [] top small refl
 
 record_some : (s : Stream) (xs : List ℕ) (i : Item) → record_at s xs ≡ Some i → IsTextOf i (114 ∷ 44 ∷ letter s ∷ 44 ∷ xs)
 unfolding record_at

@@ -138,6 +138,9 @@ unfolding number_at
 number_of_text most v rest top fits h =
     rw (digits_of_text v rest (omega arith) h, le-leb _ _ fits) refl
 
+pub number_of_whole : (most v : ℕ) → most < 10000000000000000000 → v ≤ most → number_at most (decimal v) ≡ Some (v, [])
+number_of_whole most v top small = ap (number_at most) (sym (append-nil (decimal v))) ∙ number_of_text most v [] top small refl
+
 at_end_some : (p : ℕ × List ℕ) (n : ℕ) → value_at_end p ≡ Some n → p ≡ (n, [])
 at_end_some (value, []) n h = let e : value ≡ n = same_Some _ _ h in λ i. (e i, [])
 at_end_some (value, b ∷ rest) n h = cc h
@@ -152,6 +155,5 @@ whole_number_exact most xs n top = (
       let t = number_text most xs n [] (read ∙ ap Some (at_end_some p n is)) in
       (t.1, t.0 ∙ append-nil (decimal n)),
   λ (small, text).
-      let whole : xs ≡ decimal n ++ [] = text ∙ sym (append-nil (decimal n)) in
-      ap (λ l. number_at most l >>= value_at_end) whole ∙ ap (λ r. r >>= value_at_end) (number_of_text most n [] top small refl),
+      ap (λ l. number_at most l >>= value_at_end) text ∙ ap (λ r. r >>= value_at_end) (number_of_whole most n top small),
 )
