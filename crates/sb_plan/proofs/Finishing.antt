@@ -1,12 +1,14 @@
 -- A sound wiring in which each transform but the last goes somewhere, and one has windows, is a plan.
-use Rattle.std.proofs.Common.{◌≡◌, ◌<◌, ◌≤◌, ◌+◌, ◌-◌, ◌*◌, ◌++◌, ◌∙◌, ℕ, zero, suc, Bool, true, false, cond, List, [], ◌∷◌, map, take, length, length-append, get_or, Option, Some, None, option_map, IfSome, All, refl, sym, ap, subst, arith, inl, inr}
-use Rattle.std.specs.Prelude.{slice_get, is_none, nat_lt, unwrap_or}
-use Rattle.std.specs.List.{count_by, sum_by, list_any, position, position_or_len}
-use Rattle.std.proofs.lemmas.Bool.{cases_lt, ltb-false, le-ltb}
+use Rattle.std.proofs.Common.{◌≡◌, ◌<◌, ◌≤◌, ◌+◌, ◌-◌, ◌*◌, ◌++◌, ◌∙◌, ℕ, Bool, true, cond, List, [], ◌∷◌, map, take, length, get_or, Option, Some, None, option_map, IfSome, All, refl, sym, ap, subst, arith, inl, inr}
+use Rattle.std.specs.Prelude.{slice_get, is_none, unwrap_or}
+use Rattle.std.specs.List.{count_by, sum_by, list_any}
+use Rattle.std.proofs.lemmas.Bool.{cases_lt}
 use Rattle.std.proofs.lemmas.Bool.Decides.{nat_tests}
-use Rattle.std.proofs.lemmas.List.{length-map, take-append-le, take_all}
-use Rattle.std.proofs.lemmas.List.Sums.{sum_by-append, sum_by-cons}
-use Rattle.std.proofs.lemmas.Option.{slice_get_past, slice_get_within, slice_get-get_or, slice_get-map}
+use Rattle.std.proofs.lemmas.List.{length-map, take_all}
+use Rattle.std.proofs.lemmas.List.Sums.{count_by_more_yes, sum_by-append, sum_by-cons}
+use Rattle.std.proofs.lemmas.Option.{slice_get_past, slice_get_within, slice_get-get_or, slice_get-map, slice_get_cases}
+use Rattle.std.proofs.NetLemmas.Options.{map_some}
+use Rattle.sb_plan.proofs.Counting.{All-unfound, count_by-any, count_by-none}
 use Rattle.sb_record.proofs.Sums.{sum_by-map}
 use Rattle.sb_pipeline.specs.declared.transform.Down.{Down}
 use Rattle.sb_pipeline.specs.declared.transform.Step.{Step}
@@ -19,60 +21,20 @@ use Rattle.sb_plan.specs.declared.wiring.Wiring.{Wiring}
 use Rattle.sb_plan.specs.Soundness.{IsSound, IsLane, lanes_in, goes, fed_by}
 use Rattle.sb_plan.specs.PlanFiles.{first_unused, shape_of, step_of}
 
--- no element passes the test where none is found
-none_pass : {A : Type 0} (t : A → Bool) (xs : List A) → nat_lt (position_or_len t xs) (length xs) ≡ false → count_by t xs ≡ 0
-none_pass t [] h = refl
-none_pass t (x ∷ xs) h = by_case (t x) refl (λ r. none_pass t xs r)
-  where
-    by_case : (b : Bool) → t x ≡ b → (nat_lt (position_or_len t xs) (length xs) ≡ false → count_by t xs ≡ 0) → count_by t (x ∷ xs) ≡ 0
-    by_case true e later = absurd (omega (arith, ltb-false 0 (length (x ∷ xs)) (rw e at h)))
-    by_case false e later =
-        let n : suc (length xs) ≤ 1 + position_or_len t xs = ltb-false (1 + position_or_len t xs) (suc (length xs)) (rw e at h) in
-        let none : cond {A = ℕ} (t x) 1 0 ≡ 0 = ap (λ b. cond {A = ℕ} b 1 0) e in
-        omega (arith, sum_by-cons (λ y. cond (t y) 1 0) x xs, none, later (le-ltb (position_or_len t xs) (length xs) (omega arith)))
-
-none_found : {A : Type 0} (t : A → Bool) (xs : List A) → position t xs ≡ None → count_by t xs ≡ 0
-none_found t xs none = by_case (nat_lt (position_or_len t xs) (length xs)) refl
-  where
-    by_case : (b : Bool) → nat_lt (position_or_len t xs) (length xs) ≡ b → count_by t xs ≡ 0
-    by_case true e = let some : Some (position_or_len t xs) ≡ None = rw e at none in cc
-    by_case false e = none_pass t xs e
-
--- one element passes the test where any does
-some_pass : {A : Type 0} (t : A → Bool) (xs : List A) → list_any t xs ≡ true → 1 ≤ count_by t xs
-some_pass t [] h = cc
-some_pass t (x ∷ xs) h = by_case (t x) refl (λ r. some_pass t xs r)
-  where
-    by_case : (b : Bool) → t x ≡ b → (list_any t xs ≡ true → 1 ≤ count_by t xs) → 1 ≤ count_by t (x ∷ xs)
-    by_case true e later = omega (arith, sum_by-cons (λ y. cond (t y) 1 0) x xs, ap (λ b. cond {A = ℕ} b 1 0) e)
-    by_case false e later = omega (arith, sum_by-cons (λ y. cond (t y) 1 0) x xs, ap (λ b. cond {A = ℕ} b 1 0) e, later (rw e at h))
-
--- the last element of a list, and those before it
-last_of : (p : Part) (ps : List Part) → (front : List Part) × (last : Part) × (p ∷ ps ≡ front ++ last ∷ [])
-last_of p [] = ([], p, refl)
-last_of p (q ∷ qs) = let rest = last_of q qs in (p ∷ rest.0, rest.1, ap (λ l. p ∷ l) rest.2)
-
 abbrev goes_nowhere : Part → Bool
 goes_nowhere p = is_none p.down
-
-at_last : (front : List Part) (last : Part) → slice_get (front ++ last ∷ []) (length front) ≡ Some last
-at_last [] last = refl
-at_last (p ∷ front) last = at_last front last
 
 -- only the last transform goes nowhere
 one_nowhere : (ps : List Part) → 1 ≤ length ps → first_unused ps ≡ None
     → ((p : Part) → slice_get ps (length ps - 1) ≡ Some p → p.down ≡ None) → count_by goes_nowhere ps ≡ 1
 one_nowhere [] some used last = absurd (omega arith)
 one_nowhere (p ∷ ps) some used last =
-    let s = last_of p ps in
-    let long : length (p ∷ ps) ≡ length s.0 + 1 = ap length s.2 ∙ omega (arith, length-append s.0 (s.1 ∷ [])) in
-    let short : length (p ∷ ps) - 1 ≡ length s.0 = omega (arith, long) in
-    let cut : take (length (p ∷ ps) - 1) (p ∷ ps) ≡ s.0 =
-    (λ i. take (short i) (s.2 i)) ∙ take-append-le (length s.0) s.0 (s.1 ∷ []) (omega arith) ∙ take_all (length s.0) s.0 (omega arith) in
-    let none : count_by goes_nowhere s.0 ≡ 0 = none_found goes_nowhere s.0 (ap (position goes_nowhere) (sym cut) ∙ used) in
-    let at : slice_get (p ∷ ps) (length (p ∷ ps) - 1) ≡ Some s.1 = (λ i. slice_get (s.2 i) (short i)) ∙ at_last s.0 s.1 in
-    let one : cond {A = ℕ} (goes_nowhere s.1) 1 0 ≡ 1 = ap (λ o. cond {A = ℕ} (is_none o) 1 0) (last s.1 at) in
-    omega (arith, ap (count_by goes_nowhere) s.2, sum_by-append (λ q. cond (goes_nowhere q) 1 0) s.0 (s.1 ∷ []), sum_by-cons (λ q. cond (goes_nowhere q) 1 0) s.1 [], none, one)
+    let all = p ∷ ps in
+    let n = length all - 1 in
+    let whole : take (n + 1) all ≡ all = take_all (n + 1) all (omega arith) in
+    let none : count_by goes_nowhere (take n all) ≡ 0 = count_by-none goes_nowhere (take n all) (All-unfound goes_nowhere (take n all) used) in
+    let nowhere : goes_nowhere (get_or all n p) ≡ true = ap (λ o. is_none o) (last (get_or all n p) (slice_get-get_or all n p (omega arith))) in
+    omega (arith, ap (count_by goes_nowhere) whole, count_by_more_yes goes_nowhere all n p (omega arith) nowhere, none)
 
 -- how many go to a place, where what goes nowhere goes to the sink
 filled : (sink d : Down) (ps : List Part)
@@ -103,11 +65,6 @@ going : (d : Down) (o : Option Down) → count_by (is_same_place d) (if_any o) �
 going d None = refl
 going d (Some x) = sum_by-cons (λ e. cond (is_same_place d e) 1 0) x [] ∙ omega arith
 
-past_from_none : (ps : List Part) (i : ℕ) → slice_get ps i ≡ None → length ps ≤ i
-past_from_none [] i h = omega arith
-past_from_none (p ∷ ps) zero h = cc
-past_from_none (p ∷ ps) (suc i) h = omega (arith, past_from_none ps i h)
-
 -- the lanes of a transform are those of its step
 lanes_of_step : (sink : Down) (o : Option Part) (n : ℕ) → n < lanes_in o → lanes_of (operator_at (option_map (step_of sink) o)) ≡ lanes_in o
 lanes_of_step sink None n low = absurd (omega arith)
@@ -132,11 +89,7 @@ module _ (w : Wiring) (some : 1 ≤ length w.parts) (most : length w.parts ≤ M
 
   -- the transform that a step is of
   part_at : (k : ℕ) (s : Step) → slice_get steps k ≡ Some s → (p : Part) × (slice_get w.parts k ≡ Some p) × (step_of sink p ≡ s)
-  part_at k s at = by_part (slice_get w.parts k) refl (sym (step_at k) ∙ at)
-    where
-      by_part : (o : Option Part) → slice_get w.parts k ≡ o → option_map (step_of sink) o ≡ Some s → (p : Part) × (slice_get w.parts k ≡ Some p) × (step_of sink p ≡ s)
-      by_part None e h = cc
-      by_part (Some p) e h = (p, e, cc)
+  part_at k s at = map_some (step_of sink) (slice_get w.parts k) s (sym (step_at k) ∙ at) (λ p there same. (p, there, same))
 
   every_step : (P : Step → Type 0) → ((k : ℕ) (p : Part) → slice_get w.parts k ≡ Some p → P (step_of sink p)) → All P steps
   every_step P each k d within =
@@ -200,23 +153,18 @@ module _ (w : Wiring) (some : 1 ≤ length w.parts) (most : length w.parts ≤ M
       )
 
   fed_at : (d : Down) → IsPlace steps d → feeds (shape_of w) d ≡ 1
-  fed_at d place = elim (cases_lt d.node (length w.parts)) [
-    | inl low ↦
+  fed_at d place = elim (slice_get_cases w.parts d.node).1 [
+    | inl (p, low, there, same) ↦
         let none : goes d (Some sink) ≡ 0 = grind (arith, nat_tests) in
-        omega (arith, fed_by_steps d, none, is.fed_once d (lane_of (slice_get w.parts d.node) refl low))
-    | inr high ↦
+        let lanes : lanes_of (operator_at (slice_get steps d.node)) ≡ lanes_in (slice_get w.parts d.node) =
+        ap (λ o. lanes_of (operator_at o)) (step_at d.node ∙ ap (option_map (step_of sink)) there) ∙ sym (ap lanes_in there) in
+        omega (arith, fed_by_steps d, none, is.fed_once d (subst (λ m. d.lane < m) lanes place.1))
+    | inr (high, past) ↦
         let at : d.node ≡ length w.parts = omega (arith, high, place.0, size) in
         let first : d.lane < 1 = subst (λ m. d.lane < m) (ap (λ i. lanes_of (operator_at (slice_get steps i))) at ∙ sink_lanes) place.1 in
         let one : goes d (Some sink) ≡ 1 = grind (arith, nat_tests) in
         omega (arith, fed_by_steps d, one, is.none_beyond d high)
   ]
-    where
-      lane_of : (o : Option Part) → slice_get w.parts d.node ≡ o → d.node < length w.parts → IsLane w.parts d
-      lane_of None e low = absurd (omega (arith, low, past_from_none w.parts d.node e))
-      lane_of (Some p) e low =
-          let lanes : lanes_of (operator_at (slice_get steps d.node)) ≡ lanes_in (slice_get w.parts d.node) =
-          ap (λ o. lanes_of (operator_at o)) (step_at d.node ∙ ap (option_map (step_of sink)) e) ∙ sym (ap lanes_in e) in
-          subst (λ m. d.lane < m) lanes place.1
 
   pub is_plan : IsPlan (shape_of w)
   is_plan = record {
@@ -224,7 +172,7 @@ module _ (w : Wiring) (some : 1 ≤ length w.parts) (most : length w.parts ≤ M
     most = omega (arith, size, most);
     kinds = every_step (λ s. IsValidKind s.kind) (λ k p at. is.kinds k p at);
     joins = omega (arith, sum_by-map (λ s. cond (is_join s.kind) 1 0) (step_of sink) w.parts, is.joins);
-    windows = omega (arith, sum_by-map (λ s. cond (has_windows s.kind) 1 0) (step_of sink) w.parts, some_pass (λ p. has_windows p.kind) w.parts windows);
+    windows = omega (arith, sum_by-map (λ s. cond (has_windows s.kind) 1 0) (step_of sink) w.parts, count_by-any (λ p. has_windows p.kind) w.parts windows);
     further = λ k s at. let p = part_at k s at in subst (λ s. k < s.down.node) p.2 (down_of k p.0 p.1).0;
     places = every_step (λ s. IsPlace steps s.down) (λ k p at. (down_of k p at).1);
     source_a = source_of w.source_a is.source_a;

@@ -1,12 +1,12 @@
 -- One transform more keeps the wiring sound.
 use Rattle.std.proofs.Common.{◌≡◌, ◌<◌, ◌≤◌, ◌+◌, ◌++◌, ◌∙◌, ℕ, zero, suc, Bool, true, false, cond, List, [], ◌∷◌, length, length-append, Option, Some, None, option_map, OnOk, Result, Ok, Err, refl, sym, ap, subst, arith, inl, inr}
 use Rattle.std.specs.Prelude.{◌⊎◌, slice_get, is_some}
-use Rattle.std.specs.List.{count_by, list_any}
+use Rattle.std.specs.List.{count_by}
 use Rattle.std.proofs.lemmas.Bool.{cases_lt}
 use Rattle.std.proofs.lemmas.Option.{slice_get_past}
+use Rattle.std.proofs.NetLemmas.Options.{map_some}
 use Rattle.std.proofs.lemmas.Bool.Decides.{nat_tests}
 use Rattle.std.proofs.lemmas.List.Sums.{sum_by-append, sum_by-cons}
-use Rattle.sb_pardo.specs.TableFiles.{then_test}
 use Rattle.sb_pipeline.specs.declared.transform.Down.{Down}
 use Rattle.sb_pipeline.specs.declared.transform.Kind.{Kind}
 use Rattle.sb_pipeline.specs.declared.transform.Kind.TheVariants.{Do, Group, Join}
@@ -16,10 +16,10 @@ use Rattle.sb_plan.specs.declared.entry.Entry.{Entry}
 use Rattle.sb_plan.specs.declared.wiring.Wiring.{Wiring}
 use Rattle.sb_plan.specs.declared.wiring.Part.{Part}
 use Rattle.sb_plan.specs.declared.fault.PlanKey.TheVariants as key
-use Rattle.sb_plan.specs.declared.fault.PlanCause.{PlanCause}
 use Rattle.sb_plan.specs.declared.fault.PlanCause.TheVariants as cause
 use Rattle.sb_plan.specs.declared.stop.Stop.{Stop}
-use Rattle.sb_plan.proofs.OfKinds.{of_text}
+use Rattle.sb_plan.proofs.Counting.{count_by-not_any}
+use Rattle.sb_plan.proofs.Passed.{of_text, passed, passed_unless}
 use Rattle.sb_plan.specs.Answers.{ChangesTo}
 use Rattle.sb_plan.specs.Failures.{by_text}
 use Rattle.sb_plan.specs.Wiring.{input_sent, right_sent, inputs_sent, is_second_join, with_part, connected}
@@ -46,16 +46,6 @@ lanes_by (Some kind) = lanes_of (operator_of kind)
 lanes_in-by : (o : Option Part) → lanes_in o ≡ lanes_by (option_map kind_of o)
 lanes_in-by None = refl
 lanes_in-by (Some p) = refl
-
-none-any : (p : Part → Bool) (ps : List Part) → list_any p ps ≡ false → count_by p ps ≡ 0
-none-any p [] h = refl
-none-any p (q ∷ qs) h = by_case (p q) refl (λ e. none-any p qs e)
-  where
-    by_case : (b : Bool) → p q ≡ b → (list_any p qs ≡ false → count_by p qs ≡ 0) → count_by p (q ∷ qs) ≡ 0
-    by_case true e later = let never : true ≡ false = rw e at h in cc
-    by_case false e later =
-        let none : cond {A = ℕ} (p q) 1 0 ≡ 0 = ap (λ b. cond {A = ℕ} b 1 0) e in
-        omega (arith, sum_by-cons (λ x. cond (p x) 1 0) q qs, none, later (rw e at h))
 
 module _ (entry : Entry) (n m : ℕ) (w v : Wiring) (at_end : n ≡ length w.parts) (lanes : m ≡ lanes_of (operator_of entry.kind)) (s : Sent n m w v) (is : IsSound w)
     (valid : IsValidKind entry.kind) (single : is_second_join entry.kind w.parts ≡ false) where
@@ -122,14 +112,10 @@ module _ (entry : Entry) (n m : ℕ) (w v : Wiring) (at_end : n ≡ length w.par
   kinds_after k part at = elim (at_pushed v.parts new k) [
     | inl old ↦
         let of_w : option_map kind_of (slice_get w.parts k) ≡ Some part.kind = sym (s.kinds k) ∙ ap (option_map kind_of) (sym old.1 ∙ at) in
-        by_kind (slice_get w.parts k) refl part.kind of_w
+        map_some kind_of (slice_get w.parts k) part.kind of_w (λ p there same. subst IsValidKind same (is.kinds k p there))
     | inr (inl here) ↦ let same : new ≡ part = cc in subst (λ p. IsValidKind p.kind) same valid
     | inr (inr past) ↦ cc
   ]
-    where
-      by_kind : (o : Option Part) → slice_get w.parts k ≡ o → (kind : Kind) → option_map kind_of o ≡ Some kind → IsValidKind kind
-      by_kind None e kind h = cc
-      by_kind (Some p) e kind h = let same : p.kind ≡ kind = cc in subst IsValidKind same (is.kinds k p e)
 
   joins_after : count_by (λ p. is_join p.kind) u.parts ≤ 1
   joins_after = by_case (is_join entry.kind) refl
@@ -141,7 +127,7 @@ module _ (entry : Entry) (n m : ℕ) (w v : Wiring) (at_end : n ≡ length w.par
       more = omega (arith, sum_by-append (λ p. cond (is_join p.kind) 1 0) v.parts (new ∷ []), sum_by-cons (λ p. cond (is_join p.kind) 1 0) new [], s.joins)
 
       by_case : (b : Bool) → is_join entry.kind ≡ b → count_by (λ p. is_join p.kind) u.parts ≤ 1
-      by_case true e = omega (arith, more, ap (λ b. cond {A = ℕ} b 1 0) e, none-any (λ p. is_join p.kind) w.parts (rw e at single))
+      by_case true e = omega (arith, more, ap (λ b. cond {A = ℕ} b 1 0) e, count_by-not_any (λ p. is_join p.kind) w.parts (rw e at single))
       by_case false e = omega (arith, more, ap (λ b. cond {A = ℕ} b 1 0) e, is.joins)
 
   downs_after : (k : ℕ) (part : Part) (d : Down) → slice_get u.parts k ≡ Some part → part.down ≡ Some d → (k < d.node) × IsLane u.parts d
@@ -185,7 +171,9 @@ module _ (entry : Entry) (n m : ℕ) (w v : Wiring) (at_end : n ≡ length w.par
 -- all inputs of an entry are sent
 all_sent : (entry : Entry) (n : ℕ) (w v : Wiring) → is_some entry.right ≡ is_join entry.kind → inputs_sent n entry w ≡ Ok v → Sent n (lanes_of (operator_of entry.kind)) w v
 unfolding inputs_sent
-all_sent entry n w v two h = by_left (input_sent key.From entry.left (record { node = n; lane = 0 }) w) refl h
+all_sent entry n w v two h =
+    let left = passed (input_sent key.From entry.left (record { node = n; lane = 0 }) w) _ v h in
+    by_right left.0 (sent_more n 0 w w (sent_none n w) key.From entry.left left.0 left.1) entry.right refl left.2
   where
     one_lane : (kind : Kind) → is_join kind ≡ false → lanes_of (operator_of kind) ≡ 1
     one_lane (Do op) e = refl
@@ -206,32 +194,19 @@ all_sent entry n w v two h = by_left (input_sent key.From entry.left (record { n
         let many : lanes_of (operator_of entry.kind) ≡ 2 = two_lanes entry.kind (sym two ∙ ap is_some e) in
         subst (λ m. Sent n m w v) (sym many) (sent_more n 1 w x s key.With input v g)
 
-    by_left : (r : Result Wiring PlanCause) → input_sent key.From entry.left (record { node = n; lane = 0 }) w ≡ r
-        → then_test r (λ left. right_sent entry.right (record { node = n; lane = 1 }) left) ≡ Ok v → Sent n (lanes_of (operator_of entry.kind)) w v
-    by_left (Ok x) e g = by_right x (sent_more n 0 w w (sent_none n w) key.From entry.left x e) entry.right refl g
-    by_left (Err c) e g = cc
-
 -- a transform that is connected keeps the wiring sound
 pub connected_sound : (entry : Entry) (w u : Wiring) → connected entry w ≡ Ok u → IsValidEntry entry → IsSound w → IsSound u × (length u.parts ≡ length w.parts + 1)
 unfolding connected
-connected_sound entry w u h valid is = by_single (is_second_join entry.kind w.parts) refl h
-  where
-    by_sent : is_second_join entry.kind w.parts ≡ false → (r : Result Wiring PlanCause) → inputs_sent (length w.parts) entry w ≡ r
-        → then_test r (λ sent. Ok (with_part entry sent)) ≡ Ok u → IsSound u × (length u.parts ≡ length w.parts + 1)
-    by_sent single (Ok v) e g =
-        let s : Sent (length w.parts) (lanes_of (operator_of entry.kind)) w v = all_sent entry (length w.parts) w v valid.1 e in
-        let same : with_part entry v ≡ u = cc in
-        subst (λ x. IsSound x × (length x.parts ≡ length w.parts + 1)) same (
-          added entry (length w.parts) (lanes_of (operator_of entry.kind)) w v refl refl s is valid.0 single,
-          omega (arith, length-append v.parts (record { name = entry.name; kind = entry.kind; down = None } ∷ []), s.lengths),
-        )
-    by_sent single (Err c) e g = cc
-
-    by_single : (b : Bool) → is_second_join entry.kind w.parts ≡ b
-        → cond b (Err cause.TwoJoins) (then_test (inputs_sent (length w.parts) entry w) (λ sent. Ok (with_part entry sent))) ≡ Ok u
-        → IsSound u × (length u.parts ≡ length w.parts + 1)
-    by_single true e g = cc
-    by_single false e g = by_sent e (inputs_sent (length w.parts) entry w) refl g
+connected_sound entry w u h valid is =
+    let single = passed_unless (is_second_join entry.kind w.parts) cause.TwoJoins _ u h in
+    let sent = passed (inputs_sent (length w.parts) entry w) _ u single.1 in
+    let lanes = lanes_of (operator_of entry.kind) in
+    let s : Sent (length w.parts) lanes w sent.0 = all_sent entry (length w.parts) w sent.0 valid.1 sent.1 in
+    let same : with_part entry sent.0 ≡ u = let is_ok = sent.2 in cc in
+    subst (λ x. IsSound x × (length x.parts ≡ length w.parts + 1)) same (
+      added entry (length w.parts) lanes w sent.0 refl refl s is valid.0 single.0,
+      omega (arith, length-append sent.0.parts (record { name = entry.name; kind = entry.kind; down = None } ∷ []), s.lengths),
+    )
 
 -- the same of an answer that may want memory
 pub connects_sound : {A : Type 0} (entry : Entry) (w u : Wiring) (r : Result A Stop) → ChangesTo r (by_text (connected entry w)) u → IsValidEntry entry → IsSound w

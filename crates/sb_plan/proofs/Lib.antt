@@ -2,6 +2,8 @@ pub mod Integers
 pub mod Files
 pub mod AllKeys
 pub mod Blaming
+pub mod Counting
+pub mod Passed
 pub mod Sending
 pub mod Sent
 pub mod Joined

@@ -1,9 +1,11 @@
 -- What a table says of its transform may be in a plan.
-use Rattle.std.proofs.Common.{◌≡◌, ◌≤◌, ◌+◌, ℕ, ℤ, pos, negsuc, Bool, true, false, cond, List, [], ◌∷◌, length, Option, Some, None, option_map, IfOk, Result, Ok, Err, refl, sym, ap, subst, arith, rules}
-use Rattle.std.specs.Prelude.{is_some, ◌&&◌, ◌||◌, ◌==◌, ◌%◌, ◌/◌, not, nat_lt, nat_le, unwrap_or}
+use Rattle.std.proofs.Common.{◌≡◌, ◌≤◌, ◌+◌, ℕ, ℤ, pos, negsuc, Bool, true, false, cond, List, [], ◌∷◌, length, Option, Some, None, IfOk, Result, Ok, Err, refl, sym, ap, subst, arith, rules}
+use Rattle.std.specs.Prelude.{is_some, ◌&&◌, ◌||◌, ◌==◌, ◌%◌, ◌/◌, not, nat_lt, nat_le}
 use Rattle.std.specs.FinMap.{FinMap, empty, get, insert}
 use Rattle.std.specs.Ordering.{nat_cmp}
 use Rattle.std.proofs.lemmas.Bool.{and_parts, leb-true}
+use Rattle.std.proofs.lemmas.Option.{cond_some}
+use Rattle.std.proofs.NetLemmas.Options.{map_some}
 use Rattle.toml.specs.Data.{Members, get_member, as_integer}
 use Rattle.sb_record.specs.declared.item.TheConstants.{MAX_KEY}
 use Rattle.sb_record.proofs.Numbers.{whole_number_exact}
@@ -40,47 +42,25 @@ use Rattle.sb_plan.specs.declared.words.KindName.TheVariants as kind
 use Rattle.sb_plan.specs.declared.words.ChangeName.{ChangeName}
 use Rattle.sb_plan.specs.declared.words.ChangeName.TheVariants as change_name
 use Rattle.sb_plan.specs.Failures.{Failure, by_text, in_file, in_place_of}
-use Rattle.sb_plan.specs.Failures.Failure.{Fails}
 use Rattle.sb_plan.specs.Keys.{key_text, typed_at, word_at, number_at, number_between}
 use Rattle.sb_plan.specs.Words.{change_by, change_named, combine_named, field_named, test_named}
 use Rattle.sb_plan.specs.Kinds.{file_name, as_integers, filter_at, map_at, expand_at, windows_every, windows_at, group_at, top_at, join_at, lookup_in, lookup_at, transform_at}
 use Rattle.sb_plan.specs.declared.stop.Stop.{Stop}
 use Rattle.sb_plan.specs.Answers.{AnswersTests}
 use Rattle.sb_plan.specs.Soundness.{IsOfKind, names_join}
-
--- where a test and the next ones pass, each does
-pub passed : {A B E : Type 0} (r : Result A E) (f : A → Result B E) (b : B) → then_test r f ≡ Ok b → (a : A) × (r ≡ Ok a) × (f a ≡ Ok b)
-passed (Ok a) f b h = (a, refl, h)
-passed (Err e) f b h = cc
-
--- the same where the first test is of the text alone
-pub of_text : {A E : Type 0} (r : Result A E) (a : A) → by_text r ≡ Ok a → r ≡ Ok a
-of_text (Ok x) a h = cc
-of_text (Err e) a h = cc
-
-pub passed_text : {A B E : Type 0} (r : Result A E) (f : A → Result B (Failure E)) (b : B) → then_test (by_text r) f ≡ Ok b → (a : A) × (r ≡ Ok a) × (f a ≡ Ok b)
-passed_text (Ok a) f b h = (a, refl, h)
-passed_text (Err e) f b h = cc
+use Rattle.sb_plan.proofs.Passed.{found, of_text, passed, passed_if, passed_text, passed_unless}
 
 -- a file that gives anything is there
 is_there : {A E : Type 0} (read : List ℕ → Result A (Failure E)) (file : Option (List ℕ)) (a : A) → in_file read file ≡ Ok a → (bytes : List ℕ) × (read bytes ≡ Ok a)
 is_there read (Some bytes) a h = (bytes, h)
 is_there read None a h = cc
 
-pub found : {A E : Type 0} (e : E) (o : Option A) (a : A) → or_fault e o ≡ Ok a → o ≡ Some a
-found e (Some x) a h = cc
-found e None a h = cc
-
 -- a number is in its range
 pub between : (low high : ℕ) (z : ℤ) (n : ℕ) → number_between low high z ≡ Some n → (low ≤ n) × (n ≤ high)
-between low high (pos x) n h = by_case (nat_le low x && nat_le x high) refl h
-  where
-    by_case : (b : Bool) → (nat_le low x && nat_le x high) ≡ b → cond b (Some x) None ≡ Some n → (low ≤ n) × (n ≤ high)
-    by_case true e g =
-        let both = and_parts (nat_le low x) (nat_le x high) e in
-        let same : x ≡ n = cc in
-        (omega (arith, leb-true low x both.0, same), omega (arith, leb-true x high both.1, same))
-    by_case false e g = cc
+between low high (pos x) n h =
+    let fits = cond_some (nat_le low x && nat_le x high) x n h in
+    let both = and_parts (nat_le low x) (nat_le x high) fits.0 in
+    (omega (arith, leb-true low x both.0, fits.1), omega (arith, leb-true x high both.1, fits.1))
 between low high (negsuc x) n h = cc
 
 numbers : (low high : ℕ) (k : PlanKey) (table : Members) (n : ℕ) → number_at low high k table ≡ Ok n → (low ≤ n) × (n ≤ high)
@@ -98,20 +78,10 @@ filter-valid table t h =
     let same : Do (Filter field.0 test.0 number.0) ≡ t = cc in
     subst (IsOfKind kind.Filter) same (tt, refl)
 
-mapped : {A B : Type 0} (f : A → B) (o : Option A) (b : B) → option_map f o ≡ Some b → (a : A) × (o ≡ Some a) × (f a ≡ b)
-mapped f (Some a) b h = (a, refl, cc)
-mapped f None b h = cc
-
 change-valid : (name : ChangeName) (z : ℤ) (c : Change) → change_by name z ≡ Some c → IsValidChange c
-change-valid change_name.KeyMod z c h =
-    let p = mapped (λ n. change.KeyMod n) (number_between 1 MAX_KEY z) c h in
-    subst IsValidChange p.2 (between 1 MAX_KEY z p.0 p.1)
-change-valid change_name.KeyDiv z c h =
-    let p = mapped (λ n. change.KeyDiv n) (number_between 1 MAX_KEY z) c h in
-    subst IsValidChange p.2 (between 1 MAX_KEY z p.0 p.1)
-change-valid change_name.KeySet z c h =
-    let p = mapped (λ n. change.KeySet n) (number_between 0 MAX_KEY z) c h in
-    subst IsValidChange p.2 (between 0 MAX_KEY z p.0 p.1).1
+change-valid change_name.KeyMod z c h = map_some (λ n. change.KeyMod n) (number_between 1 MAX_KEY z) c h (λ n in_range same. subst IsValidChange same (between 1 MAX_KEY z n in_range))
+change-valid change_name.KeyDiv z c h = map_some (λ n. change.KeyDiv n) (number_between 1 MAX_KEY z) c h (λ n in_range same. subst IsValidChange same (between 1 MAX_KEY z n in_range))
+change-valid change_name.KeySet z c h = map_some (λ n. change.KeySet n) (number_between 0 MAX_KEY z) c h (λ n in_range same. subst IsValidChange same (between 0 MAX_KEY z n in_range).1)
 change-valid change_name.ValueAdd z c h = let same : change.ValueAdd z ≡ c = cc in subst IsValidChange same tt
 change-valid change_name.ValueMul z c h = let same : change.ValueMul z ≡ c = cc in subst IsValidChange same tt
 change-valid change_name.ValueSet z c h = let same : change.ValueSet z ≡ c = cc in subst IsValidChange same tt
@@ -129,40 +99,28 @@ pub expand-valid : (table : Members) (t : Kind) → expand_at table ≡ Ok t →
 unfolding expand_at
 expand-valid table t h =
     let addends = passed (typed_at as_integers key.Addends table) _ t h in
-    by_case addends.0 (nat_le 1 (length addends.0) && nat_le (length addends.0) MAX_ADDENDS) refl addends.2
-  where
-    by_case : (zs : List ℤ) (b : Bool) → (nat_le 1 (length zs) && nat_le (length zs) MAX_ADDENDS) ≡ b → cond b (Ok (Do (Expand zs))) (Err (OutOfRange key.Addends)) ≡ Ok t → IsOfKind kind.Expand t
-    by_case zs true e g =
-        let both = and_parts (nat_le 1 (length zs)) (nat_le (length zs) MAX_ADDENDS) e in
-        let same : Do (Expand zs) ≡ t = cc in
-        subst (IsOfKind kind.Expand) same ((leb-true 1 (length zs) both.0, leb-true (length zs) MAX_ADDENDS both.1), refl)
-    by_case zs false e g = cc
+    let fits = passed_if (nat_le 1 (length addends.0) && nat_le (length addends.0) MAX_ADDENDS) (OutOfRange key.Addends) (Ok (Do (Expand addends.0))) t addends.2 in
+    let both = and_parts (nat_le 1 (length addends.0)) (nat_le (length addends.0) MAX_ADDENDS) fits.0 in
+    let same : Do (Expand addends.0) ≡ t = let is_ok = fits.1 in cc in
+    subst (IsOfKind kind.Expand) same ((leb-true 1 (length addends.0) both.0, leb-true (length addends.0) MAX_ADDENDS both.1), refl)
 
 fixed-valid : (size : ℕ) → 1 ≤ size → size ≤ MAX_SIZE → AreWindows (fixed size)
 fixed-valid size some most = search rules
 
 spacing-valid : (size every : ℕ) (w : Spacing) → spacing_of size every ≡ Ok w → AreWindows w
-spacing-valid size every w h = by_size (size == 0 || nat_lt MAX_SIZE size) refl h
-  where
-    sizes : (size == 0 || nat_lt MAX_SIZE size) ≡ false → (1 ≤ size) × (size ≤ MAX_SIZE)
-    sizes e = (grind (arith, nat_tests), grind (arith, nat_tests))
-
-    everies : (every == 0 || (not (size % every == 0) || nat_lt MAX_WINDOWS_OF_A_TIME (size / every))) ≡ false
-        → (1 ≤ every) × (size % every ≡ 0) × (size / every ≤ MAX_WINDOWS_OF_A_TIME)
-    everies e = (grind (arith, nat_tests), grind (arith, nat_tests), grind (arith, nat_tests))
-
-    by_every : (size == 0 || nat_lt MAX_SIZE size) ≡ false → (b : Bool) → (every == 0 || (not (size % every == 0) || nat_lt MAX_WINDOWS_OF_A_TIME (size / every))) ≡ b
-        → cond b (Err bad.Every) (Ok (record { size = size; every = every })) ≡ Ok w → AreWindows w
-    by_every e true f g = cc
-    by_every e false f g =
-        let same : record { size = size; every = every } ≡ w = cc in
-        subst AreWindows same (record { some_size = (sizes e).0; most_size = (sizes e).1; some_every = (everies f).0; divides = (everies f).1; most_windows = (everies f).2 })
-
-    by_size : (b : Bool) → (size == 0 || nat_lt MAX_SIZE size) ≡ b
-        → cond b (Err bad.Size) (cond (every == 0 || (not (size % every == 0) || nat_lt MAX_WINDOWS_OF_A_TIME (size / every))) (Err bad.Every) (Ok (record { size = size; every = every }))) ≡ Ok w
-        → AreWindows w
-    by_size true e g = cc
-    by_size false e g = by_every e (every == 0 || (not (size % every == 0) || nat_lt MAX_WINDOWS_OF_A_TIME (size / every))) refl g
+spacing-valid size every w h =
+    let sized = passed_unless (size == 0 || nat_lt MAX_SIZE size) bad.Size _ w h in
+    let spaced = passed_unless (every == 0 || (not (size % every == 0) || nat_lt MAX_WINDOWS_OF_A_TIME (size / every))) bad.Every (Ok (record { size = size; every = every })) w sized.1 in
+    let same : record { size = size; every = every } ≡ w = let is_ok = spaced.1 in cc in
+    let no_size = sized.0 in
+    let no_every = spaced.0 in
+    subst AreWindows same (record {
+      some_size = grind (arith, nat_tests);
+      most_size = grind (arith, nat_tests);
+      some_every = grind (arith, nat_tests);
+      divides = grind (arith, nat_tests);
+      most_windows = grind (arith, nat_tests);
+    })
 
 in_place : {A E F : Type 0} (fault : F → E) (r : Result A F) (a : A) → in_place_of fault r ≡ Ok a → r ≡ Ok a
 in_place fault (Ok x) a h = cc
@@ -214,10 +172,6 @@ passed_row : {A B : Type 0} (n : ℕ) (r : Result A RowFault) (f : A → Result 
 passed_row n (Ok a) f b h = (a, refl, h)
 passed_row n (Err e) f b h = cc
 
-few : (b : Bool) (r : Result (ℕ × ℕ) RowFault) (e : ℕ × ℕ) → cond b (Err TooMany) r ≡ Ok e → r ≡ Ok e
-few true r e h = cc
-few false r e h = h
-
 image-valid : (seen : FinMap nat_cmp ℕ) (row : Fields) (e : ℕ × ℕ) → entry_of seen row ≡ Ok e → e.1 ≤ MAX_KEY
 unfolding entry_of
 image-valid seen row e h =
@@ -225,30 +179,25 @@ image-valid seen row e h =
     let key = passed (or_fault Key (key_of columns.0.0)) _ e columns.2 in
     let image = passed (or_fault Image (key_of columns.0.1)) _ e key.2 in
     let low : image.0 ≤ MAX_KEY = ((whole_number_exact MAX_KEY columns.0.1 image.0 (omega arith)).0 (found _ (key_of columns.0.1) image.0 image.1)).0 in
-    by_case (is_some (get seen key.0)) key.0 image.0 low image.2
-  where
-    by_case : (b : Bool) (k i : ℕ) → i ≤ MAX_KEY → cond b (Err Repeated) (Ok (k, i)) ≡ Ok e → e.1 ≤ MAX_KEY
-    by_case true k i low g = cc
-    by_case false k i low g = let same : (k, i) ≡ e = cc in omega (arith, low, ap (λ p. p.1) same)
+    let new = passed_unless (is_some (get seen key.0)) Repeated (Ok (key.0, image.0)) e image.2 in
+    let same : (key.0, image.0) ≡ e = let is_ok = new.1 in cc in
+    omega (arith, low, ap (λ p. p.1) same)
 
 table-valid : (n : ℕ) (seen table : FinMap nat_cmp ℕ) (rows : List Fields) → HasKeyImages seen → table_from n seen rows ≡ Ok table → HasKeyImages table
 unfolding table_from
 table-valid n seen table [] images h = let same : seen ≡ table = cc in subst HasKeyImages same images
 table-valid n seen table (row ∷ rows) images h =
     let first = passed_row n (cond (nat_lt MAX_ROWS n) (Err TooMany) (entry_of seen row)) _ table h in
-    let entry : entry_of seen row ≡ Ok first.0 = few (nat_lt MAX_ROWS n) (entry_of seen row) first.0 first.1 in
-    table-valid (n + 1) (insert seen first.0.0 first.0.1) table rows (images_with seen first.0.0 first.0.1 images (image-valid seen row first.0 entry)) first.2
+    let entry = passed_unless (nat_lt MAX_ROWS n) TooMany (entry_of seen row) first.0 first.1 in
+    table-valid (n + 1) (insert seen first.0.0 first.0.1) table rows (images_with seen first.0.0 first.0.1 images (image-valid seen row first.0 entry.1)) first.2
 
 pub lookup-valid : (bytes : List ℕ) (t : Kind) → lookup_in bytes ≡ Ok t → IsOfKind kind.Lookup t
 unfolding lookup_in
-lookup-valid bytes t h = by_case (nat_lt MAX_TABLE_BYTES (length bytes)) h
-  where
-    by_case : (b : Bool) → cond b (Err TableTooLong) (then_test (in_place_of (λ fault. TableRow fault) (table_of bytes)) (λ table. Ok (Do (Lookup table)))) ≡ Ok t → IsOfKind kind.Lookup t
-    by_case true g = cc
-    by_case false g =
-        let table = passed (in_place_of (λ fault. TableRow fault) (table_of bytes)) _ t g in
-        let same : Do (Lookup table.0) ≡ t = cc in
-        subst (IsOfKind kind.Lookup) same (table-valid 1 empty table.0 (rows_of bytes) no_images (in_place (λ fault. TableRow fault) (table_of bytes) table.0 table.1), refl)
+lookup-valid bytes t h =
+    let short = passed_unless (nat_lt MAX_TABLE_BYTES (length bytes)) TableTooLong _ t h in
+    let table = passed (in_place_of (λ fault. TableRow fault) (table_of bytes)) _ t short.1 in
+    let same : Do (Lookup table.0) ≡ t = cc in
+    subst (IsOfKind kind.Lookup) same (table-valid 1 empty table.0 (rows_of bytes) no_images (in_place (λ fault. TableRow fault) (table_of bytes) table.0 table.1), refl)
 
 lookup_file-valid : (files : Files) (table : Members) (t : Kind) → lookup_at files table ≡ Ok t → IsOfKind kind.Lookup t
 unfolding lookup_at

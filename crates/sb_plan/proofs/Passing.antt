@@ -1,5 +1,5 @@
 -- What passes the tests is a plan.
-use Rattle.std.proofs.Common.{◌≡◌, ◌≤◌, ◌+◌, ◌∙◌, ℕ, Bool, true, false, cond, List, length, Option, Some, None, Result, Ok, Err, refl, sym, ap, subst, arith}
+use Rattle.std.proofs.Common.{◌≡◌, ◌≤◌, ◌+◌, ◌∙◌, ℕ, List, length, Option, Some, None, Result, Ok, Err, refl, sym, ap, subst, arith}
 use Rattle.std.specs.Prelude.{is_some, nat_lt, ◌==◌}
 use Rattle.std.specs.List.{list_any}
 use Rattle.std.proofs.lemmas.Bool.{ltb-false}
@@ -28,7 +28,8 @@ use Rattle.sb_plan.specs.Entries.{all_keys, entry_at, is_key_of, kind_at, name_a
 use Rattle.sb_plan.specs.Wiring.{connected}
 use Rattle.sb_plan.specs.Soundness.{IsOfKind, IsSound, IsValidEntry, names_join}
 use Rattle.sb_plan.specs.PlanFiles.{at_place, document_of, element_wired, fault_at, finished, first_unused, is_document_key, item_count, plan_of, shape_of, transforms_of, unwired, used_by, wired_from}
-use Rattle.sb_plan.proofs.OfKinds.{of_text, passed, passed_text, transform-valid}
+use Rattle.sb_plan.proofs.OfKinds.{transform-valid}
+use Rattle.sb_plan.proofs.Passed.{of_text, passed, passed_if, passed_text, passed_unless}
 use Rattle.sb_plan.proofs.Joined.{connected_sound}
 use Rattle.sb_plan.proofs.Finishing.{is_plan}
 
@@ -37,15 +38,6 @@ passed_place : {A B : Type 0} (place : ℕ) (r : Result A (Failure PlanCause)) (
 passed_place place (Ok a) f b h = (a, refl, h)
 passed_place place (Err (Fails c)) f b h = cc
 passed_place place (Err NoFile) f b h = cc
-
--- a test that is made by a condition passed
-passed_if : {B E : Type 0} (c : Bool) (e : E) (r : Result B E) (b : B) → cond c r (Err e) ≡ Ok b → (c ≡ true) × (r ≡ Ok b)
-passed_if true e r b h = (refl, h)
-passed_if false e r b h = cc
-
-passed_unless : {B E : Type 0} (c : Bool) (e : E) (r : Result B E) (b : B) → cond c (Err e) r ≡ Ok b → (c ≡ false) × (r ≡ Ok b)
-passed_unless true e r b h = cc
-passed_unless false e r b h = (refl, h)
 
 -- a right input is there just for a join
 right-valid : (name : KindName) (table : Members) (right : Option (List ℕ)) → right_at name table ≡ Ok right → is_some right ≡ names_join name

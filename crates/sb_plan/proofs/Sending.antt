@@ -1,9 +1,9 @@
 -- The transform of a name among the earlier ones, found by its position.
-use Rattle.std.proofs.Common.{◌≡◌, ◌<◌, ◌≤◌, ◌+◌, sym, ℕ, zero, suc, Bool, true, false, List, [], ◌∷◌, length, get_or, Option, Some, None, Result, Ok, Err, set, refl, ap, ◌∙◌, arith}
-use Rattle.std.specs.Prelude.{bytes_eq, nat_lt}
-use Rattle.std.specs.List.{position, position_or_len}
-use Rattle.std.proofs.lemmas.Bool.{ltb-false, le-ltb}
+use Rattle.std.proofs.Common.{◌≡◌, ◌<◌, sym, ℕ, zero, suc, Bool, true, false, List, [], ◌∷◌, length, get_or, Option, Some, None, Result, Ok, Err, set, refl, ap, ◌∙◌, arith}
+use Rattle.std.specs.Prelude.{All, bytes_eq}
+use Rattle.std.specs.List.{position}
 use Rattle.std.proofs.lemmas.List.{get_or_default}
+use Rattle.std.proofs.lemmas.List.Elements.{All-head, All-tail}
 use Rattle.std.proofs.lemmas.List.Quantifiers.{position-Some}
 use Rattle.sb_pardo.specs.TableFiles.{then_test}
 use Rattle.sb_pipeline.specs.declared.transform.Down.{Down}
@@ -13,6 +13,7 @@ use Rattle.sb_plan.specs.declared.wiring.Part.{Part}
 use Rattle.sb_plan.specs.declared.fault.PlanKey.{PlanKey}
 use Rattle.sb_plan.specs.declared.fault.PlanCause.{PlanCause}
 use Rattle.sb_plan.specs.declared.fault.PlanCause.TheVariants.{UnknownFrom}
+use Rattle.sb_plan.proofs.Counting.{All-unfound}
 use Rattle.sb_plan.specs.Wiring.{part_sent, sent_once, inputs_sent, is_second_join, with_part, connected}
 
 abbrev pub has_name : List ℕ → Part → Bool
@@ -40,23 +41,14 @@ part_sent-at k input place ps i p found at =
     let first = position-Some (has_name input) ps i p found in
     at_first k input place ps i p first.0 first.1 first.2 ∙ ap (sent_at k place ps i) (sym at)
 
-none_named : (k : PlanKey) (input : List ℕ) (place : Down) (ps : List Part) → nat_lt (position_or_len (has_name input) ps) (length ps) ≡ false → part_sent k input place ps ≡ Err (UnknownFrom k)
-none_named k input place [] h = refl
-none_named k input place (q ∷ qs) h = by_case (has_name input q) refl (λ r. none_named k input place qs r)
-  where
-    by_case : (b : Bool) → has_name input q ≡ b → (nat_lt (position_or_len (has_name input) qs) (length qs) ≡ false → part_sent k input place qs ≡ Err (UnknownFrom k))
-        → part_sent k input place (q ∷ qs) ≡ Err (UnknownFrom k)
-    by_case true e later = absurd (omega (arith, ltb-false 0 (length (q ∷ qs)) (rw e at h)))
-    by_case false e later =
-        let n : suc (length qs) ≤ 1 + position_or_len (has_name input) qs = ltb-false (1 + position_or_len (has_name input) qs) (suc (length qs)) (rw e at h) in
-        rw e (rw (later (le-ltb (position_or_len (has_name input) qs) (length qs) (omega arith))) refl)
-
 pub part_sent-none : (k : PlanKey) (input : List ℕ) (place : Down) (ps : List Part) → position (has_name input) ps ≡ None → part_sent k input place ps ≡ Err (UnknownFrom k)
-part_sent-none k input place ps none = by_case (nat_lt (position_or_len (has_name input) ps) (length ps)) refl
+part_sent-none k input place ps none = none_named ps (All-unfound (has_name input) ps none)
   where
-    by_case : (b : Bool) → nat_lt (position_or_len (has_name input) ps) (length ps) ≡ b → part_sent k input place ps ≡ Err (UnknownFrom k)
-    by_case true e = let some : Some (position_or_len (has_name input) ps) ≡ None = rw e at none in cc
-    by_case false e = none_named k input place ps e
+    none_named : (ps : List Part) → All (λ p. has_name input p ≡ false) ps → part_sent k input place ps ≡ Err (UnknownFrom k)
+    none_named [] others = refl
+    none_named (q ∷ qs) others =
+        let other : has_name input q ≡ false = All-head (λ p. has_name input p ≡ false) q qs others in
+        rw other (rw (none_named qs (All-tail (λ p. has_name input p ≡ false) q qs others)) refl)
 
 pub connected-passed : (entry : Entry) (wiring sent : Wiring) (node : ℕ) → is_second_join entry.kind wiring.parts ≡ false → node ≡ length wiring.parts
     → inputs_sent node entry wiring ≡ Ok sent → connected entry wiring ≡ Ok (with_part entry sent)

@@ -1,19 +1,19 @@
 -- What sending an input to a place changes.
-use Rattle.std.proofs.Common.{◌≡◌, ◌<◌, ◌+◌, ◌++◌, ◌∙◌, ℕ, zero, suc, Bool, true, false, cond, List, [], ◌∷◌, length, length-append, Option, Some, None, option_map, Result, Ok, Err, refl, sym, ap, subst, arith, inl, inr}
+use Rattle.std.proofs.Common.{◌≡◌, ◌<◌, ◌+◌, ◌++◌, ◌∙◌, ℕ, zero, suc, cond, List, [], ◌∷◌, length, length-append, Option, Some, None, option_map, Ok, refl, sym, ap, subst, arith, inl, inr}
 use Rattle.std.specs.Prelude.{bytes_eq, codes, ◌⊎◌, slice_get, nat_lt, ◌==◌, ◌&&◌}
 use Rattle.std.specs.List.{count_by, sum_by}
+use Rattle.std.proofs.lemmas.Bool.{cases_Bool}
 use Rattle.std.proofs.lemmas.Bool.Decides.{nat_tests}
 use Rattle.std.proofs.lemmas.List.Sums.{sum_by-append, sum_by-cons}
-use Rattle.sb_pardo.specs.TableFiles.{then_test}
 use Rattle.sb_pipeline.specs.declared.transform.Down.{Down}
 use Rattle.sb_pipeline.specs.declared.transform.Kind.{Kind}
 use Rattle.sb_pipeline.specs.Plans.{is_join}
 use Rattle.sb_plan.specs.declared.wiring.Wiring.{Wiring}
 use Rattle.sb_plan.specs.declared.wiring.Part.{Part}
 use Rattle.sb_plan.specs.declared.fault.PlanKey.{PlanKey}
-use Rattle.sb_plan.specs.declared.fault.PlanCause.{PlanCause}
 use Rattle.sb_plan.specs.Wiring.{part_sent, sent_once, input_sent}
 use Rattle.sb_plan.specs.Soundness.{goes, fed_by}
+use Rattle.sb_plan.proofs.Passed.{passed}
 
 -- the part, sent to the place
 abbrev pub sent : Down → Part → Part
@@ -28,24 +28,28 @@ pub record OneSent (place : Down) (ps qs : List Part) : Type 0 where
   pub before : ps ≡ front ++ part ∷ back
   pub after : qs ≡ front ++ sent place part ∷ back
 
+-- what could be sent had gone nowhere
+sent_once-passed : (k : PlanKey) (place : Down) (o d : Option Down) → sent_once k place o ≡ Ok d → (o ≡ None) × (d ≡ Some place)
+sent_once-passed k place None d h = (refl, cc)
+sent_once-passed k place (Some x) d h = cc
+
+-- the same behind one part more
+one_later : (place : Down) (p : Part) (ps qs : List Part) → OneSent place ps qs → OneSent place (p ∷ ps) (p ∷ qs)
+one_later place p ps qs s = record { front = p ∷ s.front; part = s.part; back = s.back; nowhere = s.nowhere; before = ap (λ l. p ∷ l) s.before; after = ap (λ l. p ∷ l) s.after }
+
 pub one_sent : (k : PlanKey) (input : List ℕ) (place : Down) (ps qs : List Part) → part_sent k input place ps ≡ Ok qs → OneSent place ps qs
 one_sent k input place [] qs h = cc
-one_sent k input place (p ∷ ps) qs h = by_name (bytes_eq p.name input) refl (λ rest e. one_sent k input place ps rest e)
-  where
-    by_down : (o : Option Down) → p.down ≡ o → then_test (sent_once k place o) (λ down. Ok (record p { down = down } ∷ ps)) ≡ Ok qs → OneSent place (p ∷ ps) qs
-    by_down None e g = record { front = []; part = p; back = ps; nowhere = e; before = refl; after = let same : sent place p ∷ ps ≡ qs = cc in sym same }
-    by_down (Some d) e g = cc
-
-    by_rest : ((rest : List Part) → part_sent k input place ps ≡ Ok rest → OneSent place ps rest) → (r : Result (List Part) PlanCause) → part_sent k input place ps ≡ r → then_test r (λ rest. Ok (p ∷ rest)) ≡ Ok qs → OneSent place (p ∷ ps) qs
-    by_rest later (Err c) e g = cc
-    by_rest later (Ok rest) e g =
-        let s : OneSent place ps rest = later rest e in
-        let same : p ∷ rest ≡ qs = cc in
-        record { front = p ∷ s.front; part = s.part; back = s.back; nowhere = s.nowhere; before = ap (λ l. p ∷ l) s.before; after = sym same ∙ ap (λ l. p ∷ l) s.after }
-
-    by_name : (b : Bool) → bytes_eq p.name input ≡ b → ((rest : List Part) → part_sent k input place ps ≡ Ok rest → OneSent place ps rest) → OneSent place (p ∷ ps) qs
-    by_name true e later = by_down p.down refl (rw e at h)
-    by_name false e later = by_rest later (part_sent k input place ps) refl (rw e at h)
+one_sent k input place (p ∷ ps) qs h = elim (cases_Bool (bytes_eq p.name input)) [
+  | inl named ↦
+      let here = passed (sent_once k place p.down) (λ down. Ok (record p { down = down } ∷ ps)) qs (rw named at h) in
+      let once = sent_once-passed k place p.down here.0 here.1 in
+      let same : sent place p ∷ ps ≡ qs = let is_ok = here.2 in let to = once.1 in cc in
+      record { front = []; part = p; back = ps; nowhere = once.0; before = refl; after = sym same }
+  | inr other ↦
+      let later = passed (part_sent k input place ps) (λ rest. Ok (p ∷ rest)) qs (rw other at h) in
+      let same : p ∷ later.0 ≡ qs = let is_ok = later.2 in cc in
+      subst (OneSent place (p ∷ ps)) same (one_later place p ps later.0 (one_sent k input place ps later.0 later.1))
+]
 
 -- what stands at a place of a list in which one element is another: the same, or the two of them
 pub at_either : (front back : List Part) (x y : Part) (i : ℕ) → (slice_get (front ++ y ∷ back) i ≡ slice_get (front ++ x ∷ back) i)
@@ -181,24 +185,21 @@ module _ (n m : ℕ) (w v : Wiring) (s : Sent n m w v) where
   -- one input more
   pub sent_more : (k : PlanKey) (input : List ℕ) (u : Wiring) → input_sent k input (record { node = n; lane = m }) v ≡ Ok u → Sent n (m + 1) w u
   unfolding input_sent
-  sent_more k input u h = by_a (bytes_eq input (codes "a")) refl
-    where
-      from_a : (o : Option Down) → v.source_a ≡ o → then_test (sent_once k next o) (λ source. Ok (record v { source_a = source })) ≡ Ok u → Sent n (m + 1) w u
-      from_a None e g = let is : record v { source_a = Some next } ≡ u = cc in subst (Sent n (m + 1) w) is (with_a e)
-      from_a (Some d) e g = cc
-
-      from_b : (o : Option Down) → v.source_b ≡ o → then_test (sent_once k next o) (λ source. Ok (record v { source_b = source })) ≡ Ok u → Sent n (m + 1) w u
-      from_b None e g = let is : record v { source_b = Some next } ≡ u = cc in subst (Sent n (m + 1) w) is (with_b e)
-      from_b (Some d) e g = cc
-
-      from_part : (r : Result (List Part) PlanCause) → part_sent k input next v.parts ≡ r → then_test r (λ parts. Ok (record v { parts = parts })) ≡ Ok u → Sent n (m + 1) w u
-      from_part (Ok qs) e g = let is : record v { parts = qs } ≡ u = cc in subst (Sent n (m + 1) w) is (with_parts qs (one_sent k input next v.parts qs e))
-      from_part (Err c) e g = cc
-
-      by_b : (b : Bool) → bytes_eq input (codes "b") ≡ b → bytes_eq input (codes "a") ≡ false → Sent n (m + 1) w u
-      by_b true e not_a = from_b v.source_b refl (rw e at (rw not_a at h))
-      by_b false e not_a = from_part (part_sent k input next v.parts) refl (rw e at (rw not_a at h))
-
-      by_a : (b : Bool) → bytes_eq input (codes "a") ≡ b → Sent n (m + 1) w u
-      by_a true e = from_a v.source_a refl (rw e at h)
-      by_a false e = by_b (bytes_eq input (codes "b")) refl e
+  sent_more k input u h = elim (cases_Bool (bytes_eq input (codes "a"))) [
+    | inl a ↦
+        let sent = passed (sent_once k next v.source_a) (λ source. Ok (record v { source_a = source })) u (rw a at h) in
+        let once = sent_once-passed k next v.source_a sent.0 sent.1 in
+        let same : record v { source_a = sent.0 } ≡ u = let is_ok = sent.2 in cc in
+        subst (Sent n (m + 1) w) (ap (λ source. record v { source_a = source }) (sym once.1) ∙ same) (with_a once.0)
+    | inr not_a ↦ elim (cases_Bool (bytes_eq input (codes "b"))) [
+      | inl b ↦
+          let sent = passed (sent_once k next v.source_b) (λ source. Ok (record v { source_b = source })) u (rw (not_a, b) at h) in
+          let once = sent_once-passed k next v.source_b sent.0 sent.1 in
+          let same : record v { source_b = sent.0 } ≡ u = let is_ok = sent.2 in cc in
+          subst (Sent n (m + 1) w) (ap (λ source. record v { source_b = source }) (sym once.1) ∙ same) (with_b once.0)
+      | inr not_b ↦
+          let sent = passed (part_sent k input next v.parts) (λ parts. Ok (record v { parts = parts })) u (rw (not_a, not_b) at h) in
+          let same : record v { parts = sent.0 } ≡ u = let is_ok = sent.2 in cc in
+          subst (Sent n (m + 1) w) same (with_parts sent.0 (one_sent k input next v.parts sent.0 sent.1))
+    ]
+  ]
