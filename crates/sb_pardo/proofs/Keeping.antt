@@ -1,11 +1,13 @@
 -- What every operation keeps of a record, by cases on it.
-use Rattle.std.proofs.Common.{◌≡◌, ◌≤◌, ℕ, ℤ, Bool, true, false, Option, Some, None, IfSome, if◌then◌else◌, List, [], ◌∷◌, map, length, refl, arith}
+use Rattle.std.proofs.Common.{◌≡◌, ◌≤◌, ℕ, Bool, true, false, Option, Some, None, IfSome, if◌then◌else◌, [], ◌∷◌, length, refl, arith}
+use Rattle.std.proofs.lemmas.Bool.{cond_both}
 use Rattle.std.proofs.lemmas.List.{length-map}
 use Rattle.std.proofs.Math.Nat.{div-le_self}
 use Rattle.std.specs.List.{AllByRecursion}
 use Rattle.std.specs.FinMap.{get}
 use Rattle.sb_record.specs.declared.item.Record.{Record}
 use Rattle.sb_record.specs.declared.item.TheConstants.{MAX_KEY}
+use Rattle.sb_record.proofs.Elements.{All-map}
 use Rattle.sb_pardo.specs.declared.operation.Change.{Change}
 use Rattle.sb_pardo.specs.declared.operation.Change.TheVariants.{KeyMod, KeyDiv, KeySet, ValueAdd, ValueMul, ValueSet}
 use Rattle.sb_pardo.specs.declared.operation.Op.TheVariants.{Filter, Map, Expand, Lookup}
@@ -16,10 +18,6 @@ use Rattle.sb_pardo.specs.Laws.{OutputsKeepKeysInRange, OutputsKeepTheTime, Outp
 all_kept : (P : Record → Type 0) (b : Bool) (r : Record) → P r → AllByRecursion P (if b then r ∷ [] else [])
 all_kept P true r p = (p, tt)
 all_kept P false r p = tt
-
-all_mapped : (P : Record → Type 0) (f : ℤ → Record) (xs : List ℤ) → ((x : ℤ) → P (f x)) → AllByRecursion P (map f xs)
-all_mapped P f [] p = tt
-all_mapped P f (x ∷ xs) p = (p x, all_mapped P f xs p)
 
 time_with_image : (image : Option ℕ) (r : Record) → AllByRecursion (λ output. output.time ≡ r.time) (with_image image r)
 time_with_image (Some image) r = (refl, tt)
@@ -48,25 +46,21 @@ key_changed (ValueSet n) r valid small = small
 pub outputs_keep_time : OutputsKeepTheTime
 outputs_keep_time (Filter field test n) r = all_kept (λ output. output.time ≡ r.time) (passes test (field_of field r) n) r refl
 outputs_keep_time (Map change) r = (time-changed change r, tt)
-outputs_keep_time (Expand addends) r = all_mapped (λ output. output.time ≡ r.time) (value_plus r) addends (λ n. refl)
+outputs_keep_time (Expand addends) r = All-map (λ output. output.time ≡ r.time) (value_plus r) (λ n. refl) addends
 outputs_keep_time (Lookup table) r = time_with_image (get table r.key) r
 
 pub outputs_keep_keys : OutputsKeepKeysInRange
 outputs_keep_keys (Filter field test n) r valid small = all_kept (λ output. output.key ≤ MAX_KEY) (passes test (field_of field r) n) r small
 outputs_keep_keys (Map change) r valid small = (key_changed change r valid small, tt)
-outputs_keep_keys (Expand addends) r valid small = all_mapped (λ output. output.key ≤ MAX_KEY) (value_plus r) addends (λ n. small)
+outputs_keep_keys (Expand addends) r valid small = All-map (λ output. output.key ≤ MAX_KEY) (value_plus r) (λ n. small) addends
 outputs_keep_keys (Lookup table) r valid small = key_with_image (get table r.key) r (valid r.key)
-
-few_kept : (b : Bool) (r : Record) → length (if b then r ∷ [] else []) ≤ 1
-few_kept true r = omega arith
-few_kept false r = omega arith
 
 few_with_image : (image : Option ℕ) (r : Record) → length (with_image image r) ≤ 1
 few_with_image (Some image) r = omega arith
 few_with_image None r = omega arith
 
 pub outputs_few : OutputsAreFew
-outputs_few (Filter field test n) r valid = (few_kept (passes test (field_of field r) n) r, omega arith)
+outputs_few (Filter field test n) r valid = (cond_both (passes test (field_of field r) n) (r ∷ []) [] (λ l. length l ≤ 1) (λ e. omega arith) (λ e. omega arith), omega arith)
 outputs_few (Map change) r valid = (omega arith, omega arith)
 outputs_few (Expand addends) r valid = (omega (arith, length-map addends (value_plus r)), valid.1)
 outputs_few (Lookup table) r valid = (few_with_image (get table r.key) r, omega arith)

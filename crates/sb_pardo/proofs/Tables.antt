@@ -1,6 +1,7 @@
 -- A table's entries, and the map that they make.
-use Rattle.std.proofs.Common.{◌≡◌, ◌≤◌, ℕ, Bool, true, false, cond, Option, Some, IfSome, List, [], ◌∷◌, refl, sym, ap, subst, ◌∙◌}
+use Rattle.std.proofs.Common.{◌≡◌, ◌≤◌, ℕ, cond, Option, Some, IfSome, List, [], ◌∷◌, refl, sym, ap, subst, ◌∙◌}
 use Rattle.std.specs.Ordering.{nat_cmp, eq_by_cmp}
+use Rattle.std.proofs.lemmas.Bool.{cond_both}
 use Rattle.std.specs.Cmp.{nat_cmp_total, eq_by_cmp_equiv}
 use Rattle.std.specs.Map.{lookup}
 use Rattle.std.specs.BTreeMap.{is_at}
@@ -28,9 +29,7 @@ one_set es fs k v h = same_map nat_cmp_total nat_cmp-IsAntisymmetric _ _ (λ q.
 pub no_images : HasKeyImages empty
 no_images key = subst (λ o. IfSome o (λ image. image ≤ MAX_KEY)) (sym (get-empty nat_cmp key)) tt
 
-set_or_kept : (b : Bool) (v : ℕ) (o : Option ℕ) → v ≤ MAX_KEY → IfSome o (λ image. image ≤ MAX_KEY) → IfSome (cond b (Some v) o) (λ image. image ≤ MAX_KEY)
-set_or_kept true v o small kept = small
-set_or_kept false v o small kept = kept
-
 pub images_with : (table : FinMap nat_cmp ℕ) (k v : ℕ) → HasKeyImages table → v ≤ MAX_KEY → HasKeyImages (insert table k v)
-images_with table k v kept small key = subst (λ o. IfSome o (λ image. image ≤ MAX_KEY)) (sym (get-insert nat_cmp_total table k v key)) (set_or_kept (eq_by_cmp nat_cmp key k) v (get table key) small (kept key))
+images_with table k v kept small key =
+    subst (λ o. IfSome o (λ image. image ≤ MAX_KEY)) (sym (get-insert nat_cmp_total table k v key))
+    (cond_both (eq_by_cmp nat_cmp key k) (Some v) (get table key) (λ o. IfSome o (λ image. image ≤ MAX_KEY)) (λ e. small) (λ e. kept key))
