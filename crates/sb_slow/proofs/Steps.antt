@@ -1,7 +1,8 @@
 -- The flow of a plan, one transform further.
-use Rattle.std.proofs.Common.{◌≡◌, ◌≤◌, ◌<◌, ℕ, ◌+◌, List, [], ◌∷◌, ◌++◌, All, drop, length, Option, Some, None, refl, ap, sym, subst, ◌∙◌, arith}
+use Rattle.std.proofs.Common.{◌≡◌, ◌≤◌, ◌<◌, ℕ, ◌+◌, List, [], ◌∷◌, ◌++◌, All, drop, length, Some, ap, sym, subst, ◌∙◌, arith}
 use Rattle.std.specs.List.{slice_get}
 use Rattle.std.specs.Option.{option_map}
+use Rattle.std.proofs.NetLemmas.Options.{map_some}
 use Rattle.std.proofs.lemmas.Option.{slice_get_past, slice_get_within, get_or_from_slice_get}
 use Rattle.std.proofs.lemmas.List.{drop_more}
 use Rattle.std.proofs.lemmas.List.Elements.{All-from_recursion, recursion_from_All}
@@ -23,11 +24,7 @@ use Rattle.sb_pipeline.proofs.Times.{AreTimely, IsInTime, arriving-times, from_s
 
 -- the transform at this place, by where it sends
 step-at : (steps : List Step) (k : ℕ) (down : Down) → option_map (λ s. s.down) (slice_get steps k) ≡ Some down → (s : Step) × (slice_get steps k ≡ Some s) × (s.down ≡ down)
-step-at steps k down at = by_case (slice_get steps k) refl at
-  where
-    by_case : (o : Option Step) → slice_get steps k ≡ o → option_map (λ s. s.down) o ≡ Some down → (s : Step) × (slice_get steps k ≡ Some s) × (s.down ≡ down)
-    by_case None e h = cc
-    by_case (Some s) e h = (s, e, cc)
+step-at steps k down at = map_some (λ s. s.down) (slice_get steps k) down at (λ s there same. (s, there, same))
 
 -- what is sent once a transform more has given what it gives
 pub sent_from-more : (plan : Shape) (k : ℕ) (down : Down) (sent : List Sent) → option_map (λ s. s.down) (slice_get plan.steps k) ≡ Some down

@@ -1,5 +1,7 @@
 use Rattle.std.proofs.Common.{rules, ◌≡◌, ◌<◌, List, [], ◌∷◌, ◌++◌, ◌+◌, All, IfOk, length, drop, subst, sym, ap, ◌∙◌, arith}
 use Rattle.std.proofs.lemmas.List.{drop_all}
+use Rattle.std.proofs.lemmas.List.Elements.{All-same}
+use Rattle.std.proofs.lemmas.Result.{IfOk-weaker}
 use Rattle.sb_record.specs.declared.item.Record.{Record}
 use Rattle.sb_record.specs.declared.item.TheConstants.{END_MARK}
 use Rattle.sb_record.specs.declared.item.Stream.{Stream}
@@ -11,7 +13,6 @@ use Rattle.sb_pipeline.specs.Operators.{output}
 use Rattle.sb_pipeline.specs.Results.{output_at, output_of}
 use Rattle.sb_pipeline.proofs.Times.{AreTimely}
 use Rattle.sb_slow.proofs.Steps.{sent_from-more, sent_from-timely_more, arriving-before_end, from_streams-in_time, output_of-before_end, arriving-output_of}
-use Rattle.sb_slow.proofs.Times.{ok_times}
 use Rattle.sb_slow.proofs.flow.output_of.Goals as goal
 
 pub loop-node-init : goal.loop-node-init
@@ -23,7 +24,7 @@ loop-node-init c =
 
 pub output-requires-clause-times : goal.output-requires-clause-times
 output-requires-clause-times c =
-    subst (λ (l : List KeptRec). All (λ e. e.rec.time < END_MARK) l) (sym (c.deref-in-loop-node.ensures.value ∙ c.in_ok-elements.ensures ∙ ap (arriving c.loop-node.node) c.deref.ensures.value))
+    All-same (λ (e : KeptRec). e.rec.time < END_MARK) _ _ (c.deref-in-loop-node.ensures.value ∙ c.in_ok-elements.ensures ∙ ap (arriving c.loop-node.node) c.deref.ensures.value)
     (arriving-before_end c.args.plan.now c.transforms-node-end.ensures.sound c.loop-node.node (omega arith) c.loop-node.sent.items c.loop-node.invariant.timely)
 
 pub loop-node-preserved : goal.loop-node-preserved
@@ -54,4 +55,6 @@ pub returns-clause-times : goal.returns-clause-times
 returns-clause-times c =
     let plan = c.args.plan.now in
     let streams = λ (s : Stream). records_of s c.args.items.now in
-    ok_times c.all_records.result (output_of plan streams) (output_of-before_end plan c.transforms-node-end.ensures.sound streams c.requires.times.0 c.requires.times.1) (returns-clause-rows c)
+    let low = output_of-before_end plan c.transforms-node-end.ensures.sound streams c.requires.times.0 c.requires.times.1 in
+    IfOk-weaker c.all_records.result (λ rows. rows.items ≡ output_of plan streams) (λ rows. All (λ r. r.time < END_MARK) rows.items)
+    (λ rows same. All-same (λ r. r.time < END_MARK) rows.items (output_of plan streams) same low) (returns-clause-rows c)

@@ -1,5 +1,5 @@
-use Rattle.std.proofs.Common.{◌≤◌, All, List, subst, sym}
-use Rattle.std.proofs.lemmas.List.Elements.{All-from_recursion, recursion_from_All}
+use Rattle.std.proofs.Common.{◌≤◌, All, List}
+use Rattle.std.proofs.lemmas.List.Elements.{All-from_recursion, All-same, recursion_from_All}
 use Rattle.sb_record.specs.declared.item.Item.{Item}
 use Rattle.sb_record.specs.declared.item.Stream.{Stream}
 use Rattle.sb_record.specs.declared.item.Stream.TheVariants.{A, B}
@@ -14,5 +14,5 @@ in_time items in_range s = All-from_recursion (λ r. r.time ≤ MAX_TIME) (recor
 
 pub slow_rows-requires : goal.slow_rows-requires
 slow_rows-requires c =
-    let in_range : All IsItemInRange c.deref.result.now = subst (λ (items : List Item). All IsItemInRange items) (sym c.deref.ensures.value) c.in_ok-items.ensures in
+    let in_range : All IsItemInRange c.deref.result.now = All-same IsItemInRange _ _ c.deref.ensures.value c.in_ok-items.ensures in
     record { times = (in_time c.deref.result.now in_range A, in_time c.deref.result.now in_range B) }
