@@ -1,18 +1,16 @@
 -- What was written, by how a run ended.
-use Rattle.std.proofs.Common.{inl, inr, ◌≡◌, ℕ, ◌+◌, ◌<◌, ◌≤◌, ◌++◌, List, [], ◌∷◌, Option, refl, sym, ap, subst, ◌∙◌, arith}
+use Rattle.std.proofs.Common.{inl, inr, ◌≡◌, ℕ, ◌≤◌, ◌++◌, List, [], Option, refl, sym, ap, subst, ◌∙◌, arith}
 use Rattle.std.specs.List.{AllByRecursion}
-use Rattle.std.specs.Io.KnownBytes.{Appends}
 use Rattle.std.proofs.lemmas.List.Concat.{flat_map-append}
 use Rattle.sb_record.specs.declared.item.TheConstants.{END_MARK}
 use Rattle.sb_record.specs.declared.item.Item.{Item}
 use Rattle.sb_record.specs.declared.item.Record.{Record}
-use Rattle.sb_record.specs.declared.item.Stream.TheVariants.{A}
 use Rattle.sb_record.specs.declared.intake.Stop.{Stop}
 use Rattle.sb_record.specs.declared.intake.Stop.TheVariants.{End, Refused, Fault}
 use Rattle.sb_record.specs.Lines.{IsItemInRange}
 use Rattle.sb_record.specs.Records.{sorted, before, at_least}
 use Rattle.sb_record.specs.Rows.{row_text, text_of}
-use Rattle.sb_record.specs.Streams.{records_of, low_watermark}
+use Rattle.sb_record.specs.Streams.{low_watermark}
 use Rattle.sb_record.proofs.Earlier.{sorted_before-front}
 use Rattle.sb_record.proofs.InputLemmas.{accepted-in_range, low_watermark-in_range}
 use Rattle.sb_pipeline.specs.Shapes.{Shape, streams_of}
@@ -24,28 +22,21 @@ use Rattle.std.proofs.KnownBytes.{Appends-nil}
 use Rattle.sb_outside.proofs.Appending.{prefix_of_all, prefix_of_more}
 use Rattle.sb_cli.specs.declared.status.Status.{Status}
 use Rattle.sb_cli.specs.declared.status.Status.TheVariants.{Done, Words, Plan, Line, Input, Output, Folder, Memory}
-use Rattle.sb_cli.specs.Statuses.{status_of}
 use Rattle.sb_outside.specs.Folders.{Files}
 use Rattle.sb_cli.specs.Words.{Asked}
 use Rattle.sb_cli.specs.Words.Asked.{Sum, Run, Slow}
 use Rattle.sb_cli.specs.Given.{items_of, stop_at}
-use Rattle.sb_cli.specs.Pipelines.{plan_in, IsPlanFor, TellsPlan, streams_in, all_rows}
-use Rattle.sb_cli.specs.Answers.{due_mark, due_rows, Wrote, WrotePrefix, HasWritten, HasNoPlan, IsAnswer, IsAnswerOf, HasCause, HidesNoFault, IsRead, IsUnread, IsToldOf, IsWordsOrMemory, IsDoneOrMemory, NothingFails}
-
--- writing went well
-pub has_written : (plan : Shape) (stop : Stop) (items : List Item) (taken taken' : Option (List ℕ)) → Wrote taken taken' (due_rows plan stop items) → HasWritten plan stop items taken taken' (status_of stop)
-has_written plan End items taken taken' wrote = (refl, wrote)
-has_written plan (Refused refusal) items taken taken' wrote = (refl, wrote)
-has_written plan Fault items taken taken' wrote = (refl, wrote)
+use Rattle.sb_cli.specs.Pipelines.{IsPlanFor, TellsPlan, streams_in, all_rows}
+use Rattle.sb_cli.specs.Answers.{due_mark, due_rows, Wrote, WrotePrefix, HasWritten, HasNoPlan, IsAnswer, IsAnswerOf, HasCause, HidesNoFault, IsUnread, IsToldOf, IsWordsOrMemory, IsDoneOrMemory, NothingFails}
 
 -- nothing is a prefix of all rows
 pub nothing_written : (taken : Option (List ℕ)) (rows : List Record) → WrotePrefix taken taken rows
 nothing_written taken rows = record { prefix = []; rest = text_of rows; whole = refl; appends = Appends-nil taken }
 
--- the rows that are due begin all rows
+-- the text of the rows that are due begins that of all rows
 due_first : (plan : Shape) (stop : Stop) (items : List Item) → AllByRecursion IsItemInRange items
-    → (rest : List Record) × (all_rows plan items ≡ due_rows plan stop items ++ rest)
-due_first plan stop items range = (sorted (at_least mark (before END_MARK rows)), sorted_before-front mark END_MARK rows (within stop))
+    → (rest : List ℕ) × (text_of (all_rows plan items) ≡ text_of (due_rows plan stop items) ++ rest)
+due_first plan stop items range = (text_of late, ap text_of (sorted_before-front mark END_MARK rows (within stop)) ∙ flat_map-append row_text (due_rows plan stop items) late)
   where
     low : ℕ
     low = low_watermark (streams_of plan) items
@@ -56,6 +47,9 @@ due_first plan stop items range = (sorted (at_least mark (before END_MARK rows))
     rows : List Record
     rows = output_of plan (streams_in items)
 
+    late : List Record
+    late = sorted (at_least mark (before END_MARK rows))
+
     is_low : low ≤ END_MARK
     is_low = omega (arith, low_watermark-in_range (streams_of plan) items range)
 
@@ -64,16 +58,12 @@ due_first plan stop items range = (sorted (at_least mark (before END_MARK rows))
     within (Refused refusal) = is_low
     within Fault = is_low
 
-text_of-append : (l m : List Record) → text_of (l ++ m) ≡ text_of l ++ text_of m
-text_of-append l m = flat_map-append row_text l m
-
 -- a prefix of the rows that are due is one of all rows
 pub prefix_of_due : (plan : Shape) (stop : Stop) (items : List Item) (taken taken' : Option (List ℕ)) → AllByRecursion IsItemInRange items
     → WrotePrefix taken taken' (due_rows plan stop items) → WrotePrefix taken taken' (all_rows plan items)
 prefix_of_due plan stop items taken taken' range prefix =
     let (rest, first) = due_first plan stop items range in
-    let due = due_rows plan stop items in
-    subst (λ text. AppendsPrefix taken taken' text) (sym (ap text_of first ∙ text_of-append due rest)) (prefix_of_more taken taken' (text_of due) (text_of rest) prefix)
+    subst (AppendsPrefix taken taken') (sym first) (prefix_of_more taken taken' (text_of (due_rows plan stop items)) rest prefix)
 
 -- where memory is wanting in the end, a prefix was written
 pub written_at_memory : (plan : Shape) (stop : Stop) (items : List Item) (taken taken' : Option (List ℕ)) (status : Status) → AllByRecursion IsItemInRange items
@@ -83,8 +73,7 @@ written_at_memory plan stop items taken taken' status range = by_status status
     whole : Wrote taken taken' (due_rows plan stop items) → WrotePrefix taken taken' (all_rows plan items)
     whole wrote =
         let (rest, first) = due_first plan stop items range in
-        let due = due_rows plan stop items in
-        subst (λ text. AppendsPrefix taken taken' text) (sym (ap text_of first ∙ text_of-append due rest)) (prefix_of_all taken taken' (text_of due) (text_of rest) wrote)
+        subst (AppendsPrefix taken taken') (sym first) (prefix_of_all taken taken' (text_of (due_rows plan stop items)) rest wrote)
 
     by_status : (status : Status) → HasWritten plan stop items taken taken' status → WrotePrefix taken taken' (all_rows plan items)
     by_status Done written = whole written.1
@@ -132,17 +121,6 @@ told_words status told (inr memory) is = inr memory
 pub told_unread : (status told : Status) → IsToldOf status told → IsUnread told → IsUnread status
 told_unread status told (inl same) unread = subst IsUnread same unread
 told_unread status told (inr memory) unread = absurd (subst IsUnread memory unread)
-
--- an input that was read is not unread
-pub read-unread : (status : Status) → IsRead status → IsUnread status → ⊥
-read-unread Done read unread = unread
-read-unread Words read unread = read
-read-unread (Plan fault) read unread = read
-read-unread (Line refusal) read unread = unread
-read-unread Input read unread = unread
-read-unread Output read unread = unread
-read-unread Folder read unread = read
-read-unread Memory read unread = unread
 
 -- where nothing fails the run is done
 complete_for : (plan : Shape) (left left' taken taken' : Option (List ℕ)) (reads reads' writes writes' loads loads' : ℕ) (status : Status) → IsAnswerOf plan left left' taken taken' status

@@ -1,31 +1,21 @@
 -- Which words are a command.
-use Rattle.std.proofs.Common.{◌≡◌, ◌↔◌, ℕ, ◌+◌, ◌<◌, ◌≤◌, List, [], ◌∷◌, length, get_or, Some, None, Option, sym, ap, subst, ◌∙◌, arith, refl, rules}
+use Rattle.std.proofs.Common.{◌≡◌, ◌↔◌, ℕ, ◌≤◌, List, [], ◌∷◌, Some, None, Option, sym, ap, ◌∙◌, arith, rules}
 use Rattle.std.specs.Prelude.{decimal, codes}
-use Rattle.std.specs.Option.{unwrap_or}
+use Rattle.std.proofs.lemmas.Option.{same_Some}
 use Rattle.sb_window.specs.declared.windows.TheConstants.{MAX_SIZE}
 use Rattle.sb_cli.specs.Words.{Asked, IsCommand}
 use Rattle.sb_cli.specs.Words.Asked.{Sum, Run, Slow}
-
-pub some_value : {A : Type 0} (x y : A) → ◌≡◌ {A = Option A} (Some x) (Some y) → x ≡ y
-some_value {A} x y e = ap (λ (r : Option A). unwrap_or r x) e
 
 -- a number within a bound that is not 0 is a size
 pub is_size : (v most : ℕ) (text : List ℕ) → (v ≡ 0 → ⊥) → ((n : ℕ) → (◌≡◌ {A = Option ℕ} (Some v) (Some n)) ↔ ((n ≤ most) × (text ≡ decimal n)))
     → (n : ℕ) → (◌≡◌ {A = Option ℕ} (Some v) (Some n)) ↔ ((1 ≤ n) × (n ≤ most) × (text ≡ decimal n))
 is_size v most text some exact n = (
   λ e.
-      let same = some_value v n e in
+      let same = same_Some v n e in
       let both = (exact n).0 e in
       (omega (arith, some, same), both.0, both.1),
   λ is. (exact n).1 (is.1, is.2),
 )
-
--- a list of two
-pub pair_of : {X : Type 0} (xs : List X) (a b : X) → 2 ≤ length xs → length xs < 3 → a ≡ get_or xs 0 a → b ≡ get_or xs 1 b → xs ≡ a ∷ b ∷ []
-pair_of [] a b low high ea eb = absurd (omega arith)
-pair_of (x ∷ []) a b low high ea eb = absurd (omega arith)
-pair_of (x ∷ y ∷ []) a b low high ea eb = λ i. sym ea i ∷ sym eb i ∷ []
-pair_of (x ∷ y ∷ z ∷ xs) a b low high ea eb = absurd (omega arith)
 
 -- the first word
 abbrev first_of : List ℕ → List (List ℕ) → List ℕ

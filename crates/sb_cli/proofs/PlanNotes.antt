@@ -1,5 +1,5 @@
 -- The keys of plan files are short.
-use Rattle.std.proofs.Common.{ℕ, ◌≤◌, length, arith}
+use Rattle.std.proofs.Common.{◌≤◌, length, arith}
 use Rattle.sb_plan.specs.declared.fault.PlanKey.{PlanKey}
 use Rattle.sb_plan.specs.declared.fault.PlanKey.TheVariants as key
 use Rattle.sb_plan.specs.Keys.{key_text}

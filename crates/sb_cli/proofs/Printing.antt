@@ -1,13 +1,13 @@
 -- How far rows are written.
-use Rattle.std.proofs.Common.{◌≡◌, ℕ, ◌+◌, ◌<◌, ◌≤◌, ◌++◌, List, [], ◌∷◌, length, take, drop, get_or, Option, Result, Ok, Err, refl, sym, ap, subst, ◌∙◌, arith, append_assoc, append-nil}
+use Rattle.std.proofs.Common.{◌≡◌, ℕ, ◌+◌, ◌<◌, ◌≤◌, ◌++◌, List, [], ◌∷◌, length, take, drop, get_or, Option, Result, Ok, Err, sym, ap, subst, ◌∙◌, arith, append_assoc, append-nil}
 use Rattle.std.specs.Io.KnownBytes.{Appends}
 use Rattle.std.proofs.lemmas.List.{take-append-drop, take_more, take_all}
 use Rattle.std.proofs.lemmas.List.Concat.{flat_map-append}
 use Rattle.sb_record.specs.declared.item.Record.{Record}
 use Rattle.sb_record.specs.Rows.{row_text, text_of}
 use Rattle.sb_outside.specs.Sinks.{AppendsPrefix, WritesAll}
-use Rattle.std.proofs.KnownBytes.{Appends-nil, Appends-trans}
-use Rattle.sb_outside.proofs.Appending.{appends_same, prefix_later, prefix_of_more}
+use Rattle.std.proofs.KnownBytes.{Appends-trans}
+use Rattle.sb_outside.proofs.Appending.{prefix_later, prefix_of_more}
 
 -- some text was written, and with what is gathered it is the text of the first rows
 pub record Printing (old now : Option (List ℕ)) (gathered : List ℕ) (rows : List Record) (done : ℕ) (faults faults' : ℕ) : Type 0 where
@@ -15,12 +15,6 @@ pub record Printing (old now : Option (List ℕ)) (gathered : List ℕ) (rows : 
   pub appends : Appends old now written
   pub whole : written ++ gathered ≡ text_of (take done rows)
   pub never_falls : faults ≤ faults'
-
-pub printing-first : (old : Option (List ℕ)) (rows : List Record) (faults : ℕ) → Printing old old [] rows 0 faults faults
-printing-first old rows faults = record { written = []; appends = Appends-nil old; whole = refl; never_falls = omega arith }
-
-text_of-append : (l m : List Record) → text_of (l ++ m) ≡ text_of l ++ text_of m
-text_of-append l m = flat_map-append row_text l m
 
 -- one row more is gathered
 pub printing-more : (old now : Option (List ℕ)) (gathered row : List ℕ) (rows : List Record) (done : ℕ) (r : Record) (faults faults' : ℕ) → done < length rows → row ≡ row_text (get_or rows done r)
@@ -33,7 +27,7 @@ printing-more old now gathered row rows done r faults faults' some is p =
           sym (append_assoc p.written gathered row)
           ∙ (λ i. p.whole i ++ is i)
           ∙ ap (λ l. text_of (take done rows) ++ l) (sym (append-nil (row_text (get_or rows done r))))
-          ∙ sym (text_of-append (take done rows) (get_or rows done r ∷ []))
+          ∙ sym (flat_map-append row_text (take done rows) (get_or rows done r ∷ []))
           ∙ ap text_of (sym (take_more rows done r some));
       never_falls = p.never_falls;
     }
@@ -55,12 +49,12 @@ pub printing-fails : (old now now' : Option (List ℕ)) (gathered : List ℕ) (r
 printing-fails old now now' gathered rows done faults faults' p prefix =
     let some = prefix_later old now now' p.written gathered p.appends prefix in
     let whole : (p.written ++ gathered) ++ text_of (drop done rows) ≡ text_of rows =
-    ap (λ l. l ++ text_of (drop done rows)) p.whole ∙ sym (text_of-append (take done rows) (drop done rows)) ∙ ap text_of (take-append-drop done rows) in
+    ap (λ l. l ++ text_of (drop done rows)) p.whole ∙ sym (flat_map-append row_text (take done rows) (drop done rows)) ∙ ap text_of (take-append-drop done rows) in
     subst (λ l. AppendsPrefix old now' l) whole (prefix_of_more old now' (p.written ++ gathered) (text_of (drop done rows)) some)
 
 -- the last of it is written, or a prefix of it at a fault
 pub printing-ends : {T E : Type 0} (old now now' : Option (List ℕ)) (gathered : List ℕ) (rows : List Record) (done : ℕ) (faults faults' : ℕ) (r : Result T E) → length rows ≤ done
     → Printing old now gathered rows done faults faults' → WritesAll now now' gathered r → WritesAll old now' (text_of rows) r
 printing-ends old now now' gathered rows done faults faults' (Ok x) all p appends =
-    appends_same old now' (p.written ++ gathered) (text_of rows) (p.whole ∙ ap text_of (take_all done rows all)) (Appends-trans old now now' p.written gathered p.appends appends)
+    subst (Appends old now') (p.whole ∙ ap text_of (take_all done rows all)) (Appends-trans old now now' p.written gathered p.appends appends)
 printing-ends old now now' gathered rows done faults faults' (Err e) all p prefix = printing-fails old now now' gathered rows done faults faults' p prefix

@@ -1,9 +1,8 @@
 -- What one line more says of where reading stops.
-use Rattle.std.proofs.Common.{◌≡◌, ℕ, ◌++◌, List, [], ◌∷◌, length, Bool, true, false, Some, None, Ok, Err, Option, Result, refl, sym, ap, subst, ◌∙◌, inl, inr, append-nil}
-use Rattle.std.specs.Prelude.{nat_lt, nat_le, IfSome}
-use Rattle.std.specs.Io.KnownBytes.{Consumes, IsAtEnd}
+use Rattle.std.proofs.Common.{◌≡◌, ℕ, ◌++◌, List, [], ◌∷◌, Bool, true, false, Some, None, Err, Option, refl, sym, ap, subst, ◌∙◌, inl, inr, append-nil}
+use Rattle.std.specs.Prelude.{nat_le, IfSome}
+use Rattle.std.specs.Io.KnownBytes.{IsAtEnd}
 use Rattle.std.proofs.lemmas.Bool.{cases_Bool}
-use Rattle.sb_record.specs.declared.item.Item.{Item}
 use Rattle.sb_record.specs.declared.intake.Refusal.{Refusal}
 use Rattle.sb_record.specs.declared.intake.Stop.TheVariants.{Refused}
 use Rattle.sb_record.specs.Progress.{Progress}
@@ -11,10 +10,9 @@ use Rattle.sb_record.specs.Intake.{tested, too_long}
 use Rattle.sb_outside.specs.Lines.{lines, is_too_long}
 use Rattle.sb_outside.specs.declared.lines.Halt.{Halt}
 use Rattle.sb_outside.specs.declared.lines.Halt.TheVariants as halt
-use Rattle.sb_outside.specs.declared.lines.Step.{Step}
 use Rattle.sb_outside.specs.declared.lines.Step.TheVariants as step
-use Rattle.sb_outside.specs.Readings.{Reading, Advances, GoesOn, GivesLine, MayCome, rest_of_lines}
-use Rattle.sb_cli.specs.Reads.{IsGoing, StopsAt, StopsReading}
+use Rattle.sb_outside.specs.Readings.{Reading, Advances, MayCome, rest_of_lines}
+use Rattle.sb_cli.specs.Reads.{IsGoing, StopsReading}
 
 -- where a reader that gave a line stands, its source has ended
 abbrev ended_by : Option Halt → Bool

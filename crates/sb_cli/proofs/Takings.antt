@@ -1,5 +1,5 @@
 -- How far the reading of an input has come.
-use Rattle.std.proofs.Common.{◌≡◌, ℕ, ◌+◌, ◌<◌, ◌≤◌, Bool, true, false, List, [], ◌∷◌, ◌++◌, length, Option, Some, None, Result, Ok, Err, refl, sym, ap, subst, ◌∙◌, arith, append_assoc}
+use Rattle.std.proofs.Common.{◌≡◌, ℕ, ◌+◌, ◌<◌, ◌≤◌, Bool, List, [], ◌∷◌, ◌++◌, Option, Some, None, Ok, Err, refl, sym, ap, ◌∙◌, arith, append_assoc}
 use Rattle.std.specs.Io.KnownBytes.{Consumes}
 use Rattle.sb_record.specs.declared.item.Item.{Item}
 use Rattle.sb_record.specs.declared.item.Item.TheVariants.{Rec, Mark, Skip}
@@ -9,15 +9,14 @@ use Rattle.sb_record.specs.declared.intake.Refusal.{Refusal}
 use Rattle.sb_record.specs.declared.intake.Stop.{Stop}
 use Rattle.sb_record.specs.declared.intake.Stop.TheVariants.{End, Refused, Fault}
 use Rattle.sb_record.specs.Progress.{Progress}
-use Rattle.sb_record.specs.Intake.{started, tested, after, low}
+use Rattle.sb_record.specs.Intake.{tested, after, low}
 use Rattle.sb_record.specs.Inputs.{Accepted, progress_of, accepted, accepted_if, accepted_after, stop_of}
 use Rattle.sb_record.specs.Streams.{low_watermark}
 use Rattle.sb_record.proofs.InputLemmas.{progress-more}
 use Rattle.sb_outside.specs.Lines.{lines}
-use Rattle.sb_outside.specs.Readings.{Held, Reading, MayCome, reading, rest_of_lines}
-use Rattle.std.proofs.KnownBytes.{Consumes-nil, Consumes-trans}
-use Rattle.sb_cli.specs.declared.input.Input.{Input}
-use Rattle.sb_cli.specs.Given.{Given, items_of, stop_at}
+use Rattle.sb_outside.specs.Readings.{Held, MayCome, reading, rest_of_lines}
+use Rattle.std.proofs.KnownBytes.{Consumes-trans}
+use Rattle.sb_cli.specs.Given.{Given, items_of}
 use Rattle.sb_cli.specs.Reads.{IsGoing, IsInputOf, StopsAt, StopsReading, TakesItem}
 
 -- the lines so far gave these items, and those that the reader has still to give are tested after them
@@ -30,19 +29,6 @@ pub record Taking (streams : Streams) (left left' : Option (List ℕ)) (held : H
   pub progress : p ≡ progress_of streams items
   pub room : p.lines ≤ 4294967295
   pub no_fault : faults' ≡ faults
-
--- before the first line
-pub taking-first : (streams : Streams) (left : Option (List ℕ)) (faults : ℕ) → Taking streams left left (record { at_hand = []; line = []; halt = None }) (started streams 0) [] faults faults
-taking-first streams left faults =
-    record {
-      bytes = [];
-      given = Consumes-nil left;
-      going = tt;
-      accepts = λ ended later may. refl;
-      progress = refl;
-      room = omega arith;
-      no_fault = refl;
-    }
 
 after-lines : (i : Item) (p : Progress) → (after i p).lines ≡ p.lines + 1
 after-lines (Rec s r) p = refl

@@ -1,8 +1,7 @@
-use Rattle.std.proofs.Common.{◌≡◌, sym, subst}
+use Rattle.std.proofs.Common.{sym, subst}
 use Rattle.std.specs.List.{AllByRecursion}
 use Rattle.sb_record.specs.Lines.{IsItemInRange}
 use Rattle.sb_record.proofs.InputLemmas.{accepted-in_range}
-use Rattle.sb_pipeline.specs.Shapes.{streams_of}
 use Rattle.sb_outside.specs.Lines.{lines}
 use Rattle.sb_cli.proofs.Answering.{nothing_written}
 use Rattle.sb_cli.proofs.answer.answer_plan.Goals as goal

@@ -1,9 +1,8 @@
-use Rattle.std.proofs.Common.{◌∙◌, ap}
+use Rattle.std.proofs.Common.{◌∙◌}
 use Rattle.std.proofs.lemmas.List.Elements.{All-from_recursion}
 use Rattle.sb_record.specs.declared.item.Stream.TheVariants.{A, B}
 use Rattle.sb_record.proofs.InputLemmas.{records-in_range}
-use Rattle.sb_cli.specs.Answers.{WrotePrefix}
-use Rattle.sb_cli.proofs.Answering.{has_written, prefix_of_due, rows_are_due}
+use Rattle.sb_cli.proofs.Answering.{prefix_of_due, rows_are_due}
 use Rattle.sb_cli.proofs.answer.write_due.Goals as goal
 
 pub slow_rows-requires : goal.slow_rows-requires

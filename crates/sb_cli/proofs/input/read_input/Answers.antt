@@ -1,7 +1,6 @@
-use Rattle.std.proofs.Common.{◌≡◌, [], ◌∷◌, ◌++◌, true, false, rules, sym, ap, subst, ◌∙◌}
+use Rattle.std.proofs.Common.{◌≡◌, [], ◌∷◌, ◌++◌, false, rules}
 use Rattle.std.proofs.KnownBytes.{Consumes-trans}
-use Rattle.sb_record.specs.declared.intake.Stop.TheVariants as stop
-use Rattle.sb_cli.proofs.Takings.{Taking, taking-more, taking-stops}
+use Rattle.sb_cli.proofs.Takings.{taking-more, taking-stops}
 use Rattle.sb_cli.proofs.input.read_input.Goals as goal
 
 pub returns-then-is_err-clause-reads : goal.returns-then-is_err-clause-reads

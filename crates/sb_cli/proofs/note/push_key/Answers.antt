@@ -1,4 +1,4 @@
-use Rattle.std.proofs.Common.{◌≡◌, ℕ, ◌+◌, ◌≤◌, length, length-append, ap, ◌∙◌, arith}
+use Rattle.std.proofs.Common.{◌≡◌, ◌+◌, length, length-append, ap, ◌∙◌, arith}
 use Rattle.sb_plan.specs.Keys.{key_text}
 use Rattle.sb_cli.proofs.PlanNotes.{key_text-short}
 use Rattle.sb_cli.proofs.note.push_key.Goals as goal

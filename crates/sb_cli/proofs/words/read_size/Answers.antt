@@ -1,4 +1,3 @@
-use Rattle.std.proofs.Common.{subst, Some}
 use Rattle.sb_cli.proofs.Commands.{is_size}
 use Rattle.sb_cli.proofs.words.read_size.Goals as goal
 
