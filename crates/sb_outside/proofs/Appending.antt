@@ -1,14 +1,10 @@
 -- How the bytes that a sink has taken grow, beside std's lemmas on them.
-use Rattle.std.proofs.Common.{◌≡◌, ℕ, ◌+◌, ◌++◌, List, take, drop, Some, None, Option, Result, Ok, Err, refl, sym, ap, subst, ◌∙◌, append_assoc, take-append-drop}
+use Rattle.std.proofs.Common.{ℕ, ◌+◌, ◌++◌, List, take, drop, Some, None, Option, Result, Ok, Err, refl, sym, ap, subst, ◌∙◌, append_assoc, take-append-drop}
 use Rattle.std.specs.Io.KnownBytes.{Appends, Keeps}
 use Rattle.std.proofs.KnownBytes.{Appends-trans}
 use Rattle.std.specs.Result.{IsErr}
 use Rattle.std.proofs.Math.Seq.{take-add}
 use Rattle.sb_outside.specs.Sinks.{AppendsPrefix, WritesAll}
-
--- the same bytes, said in another way
-pub appends_same : (a c : Option (List ℕ)) (x y : List ℕ) → x ≡ y → Appends a c x → Appends a c y
-appends_same a c x y e h = subst (Appends a c) e h
 
 -- a refusal leaves what was appended
 pub appends_kept : (a b c : Option (List ℕ)) (x : List ℕ) → Appends a b x → Keeps b c → Appends a c x
@@ -30,7 +26,7 @@ prefix_later a b c x y h k = record { prefix = x ++ k.prefix; rest = k.rest; who
 
 -- the first n bytes were taken, and then k of the others
 pub wrote_more : (a b c : Option (List ℕ)) (bytes : List ℕ) (n k : ℕ) → Appends a b (take n bytes) → Appends b c (take k (drop n bytes)) → Appends a c (take (n + k) bytes)
-wrote_more a b c bytes n k h l = appends_same a c _ _ (sym (take-add n k bytes)) (Appends-trans a b c (take n bytes) (take k (drop n bytes)) h l)
+wrote_more a b c bytes n k h l = subst (Appends a c) (sym (take-add n k bytes)) (Appends-trans a b c (take n bytes) (take k (drop n bytes)) h l)
 
 -- the first n bytes were taken, and then a write was refused
 pub wrote_prefix : (a b c : Option (List ℕ)) (bytes : List ℕ) (n : ℕ) → Appends a b (take n bytes) → Keeps b c → AppendsPrefix a c bytes

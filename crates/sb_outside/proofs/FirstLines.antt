@@ -1,9 +1,9 @@
 -- The first of the lines of bytes, and what follows it.
-use Rattle.std.proofs.Common.{◌≡◌, ◌==◌, ◌||◌, ◌&&◌, ℕ, suc, ◌+◌, ◌-◌, ◌<◌, ◌≤◌, ◌++◌, List, [], ◌∷◌, length, take, drop, Bool, true, false, refl, sym, ap, ◌∙◌, arith, inl, inr, append_assoc, append-nil, length-append, subst}
+use Rattle.std.proofs.Common.{◌≡◌, ◌==◌, ◌&&◌, ℕ, suc, ◌+◌, ◌-◌, ◌<◌, ◌≤◌, ◌++◌, List, [], ◌∷◌, length, take, drop, Bool, true, false, refl, sym, ap, ◌∙◌, arith, inl, inr, append_assoc, append-nil, length-append, subst}
 use Rattle.std.specs.Prelude.{nat_lt}
-use Rattle.std.proofs.lemmas.Bool.{cases_Bool, lt-ltb}
+use Rattle.std.proofs.lemmas.Bool.{cases_Bool, lt-ltb, ltb-false, or_right}
 use Rattle.std.proofs.lemmas.Bool.Decides.{nat_tests}
-use Rattle.std.proofs.lemmas.List.{length-take}
+use Rattle.std.proofs.lemmas.List.{length-take, take_all}
 use Rattle.std.specs.Io.BufRead.{ends_with_byte}
 use Rattle.sb_outside.specs.Lines.{without_cr, is_too_long, last_line, lines_from, lines}
 use Rattle.sb_outside.specs.Readings.{BeginTooLong, IsTooLong}
@@ -49,20 +49,7 @@ pub no_line_at_end : (bytes : List ℕ) (e : Bool) → has_line bytes ≡ false 
 no_line_at_end bytes e h = ap (lines e) (sym (append-nil bytes)) ∙ no_line bytes e [] [] h
 
 pub front_all : (bytes : List ℕ) → has_line bytes ≡ false → front bytes ≡ bytes
-front_all [] h = refl
-front_all (b ∷ bs) h = elim (cases_Bool (b == 10)) [
-  | inl lf ↦ absurd (let bad : true ≡ false = sym (lt-ltb 0 (suc (length bs)) (omega arith)) ∙ (rw lf at h) in cc bad)
-  | inr other ↦
-      let n = line_len bs in
-      let one : 1 + n ≡ suc n = omega arith in
-      let more : nat_lt (1 + n) (suc (length bs)) ≡ false = rw other at h in
-      let within : has_line bs ≡ false = grind (arith, nat_tests) in
-      rw other (ap (λ k. take k (b ∷ bs)) one ∙ (λ i. b ∷ front_all bs within i))
-]
-
-or_true : (a b : Bool) → b ≡ true → (a || b) ≡ true
-or_true true b e = refl
-or_true false b e = e
+front_all bytes h = take_all (line_len bytes) bytes (ltb-false (line_len bytes) (length bytes) h)
 
 -- a line loses at most one byte
 pub without_cr_least : (l : List ℕ) → (length (without_cr l) ≤ length l) × (length l ≤ length (without_cr l) + 1)
@@ -84,7 +71,7 @@ pub begun_too_long : (later : List ℕ) (e : Bool) (f : List ℕ) → is_too_lon
 begun_too_long [] e f h = record {
   line = without_cr f;
   others = [];
-  first = rw (or_true (e && nat_lt 0 (length f)) _ h) refl;
+  first = rw (or_right (e && nat_lt 0 (length f)) _ h) refl;
   long = h;
 }
 begun_too_long (b ∷ bs) e f h = elim (cases_Bool (b == 10)) [
@@ -109,9 +96,6 @@ long_line bytes h e later = elim (cases_Bool (has_line bytes)) [
       let long : is_too_long (without_cr bytes) ≡ true = ap (λ l. is_too_long (without_cr l)) (sym (front_all bytes none)) ∙ h in
       subst BeginTooLong (sym (no_line bytes e [] later none)) (begun_too_long later e bytes long)
 ]
-
-pub rest_line : (bytes : List ℕ) → lines true bytes ≡ last_line true bytes → 0 < length bytes → lines true bytes ≡ without_cr bytes ∷ []
-rest_line bytes none some = none ∙ rw (lt-ltb 0 (length bytes) some) refl
 
 pub open_rest : (bytes : List ℕ) → has_line bytes ≡ false → is_too_long (without_cr bytes) ≡ false → lines false bytes ≡ []
 open_rest bytes none short = no_line_at_end bytes false none ∙ rw short refl

@@ -1,8 +1,8 @@
 -- Parts of a list from one place to another.
 use Rattle.std.proofs.Common.{◌≡◌, ℕ, ◌+◌, ◌-◌, ◌<◌, ◌≤◌, ◌++◌, List, length, take, drop, refl, sym, ap, ◌∙◌, arith, Ok, Err, Option, Result}
 use Rattle.std.specs.List.{slice_range}
-use Rattle.std.proofs.lemmas.List.{drop-take, drop-drop, take-take, length-take-le, length-drop, drop-append-le}
-use Rattle.std.proofs.lemmas.Slice.{take-put_mid, take-put_mid_below}
+use Rattle.std.proofs.lemmas.List.{drop-drop, take-take, length-take-le, drop-append-le}
+use Rattle.std.proofs.lemmas.Slice.{between_is, take-put_mid, take-put_mid_below}
 use Rattle.std.proofs.Math.Seq.{take-append-add}
 use Rattle.std.specs.Io.{ReadsAtMost}
 use Rattle.std.specs.Result.{IsErr}
@@ -11,23 +11,13 @@ use borrow.Rule.Slice.PartMut.{put_mid}
 use Rattle.sb_outside.specs.declared.source.SourceFault.{SourceFault}
 use Rattle.sb_outside.specs.Fills.{ReadsBehind, Fills}
 
-pub length_range : (xs : List ℕ) (a b : ℕ) → a ≤ b → b ≤ length xs → length (slice_range xs a b) ≡ b - a
-length_range xs a b h l = length-take-le (b - a) (drop a xs) (omega (arith, length-drop a xs))
-
-pub range_by_take : (xs : List ℕ) (a b : ℕ) → a ≤ b → slice_range xs a b ≡ drop a (take b xs)
-range_by_take xs a b h =
-    let e : a + (b - a) ≡ b = omega arith in
-    sym (drop-take a (b - a) xs) ∙ ap (λ n. drop a (take n xs)) e
-
-pub range_later : (xs : List ℕ) (a c b : ℕ) → a + c ≤ b → slice_range xs (a + c) b ≡ drop c (slice_range xs a b)
-range_later xs a c b h =
-    let e : c + (b - (a + c)) ≡ b - a = omega arith in
-    ap (λ l. take (b - (a + c)) l) (sym (drop-drop c a xs)) ∙ sym (drop-take c (b - (a + c)) (drop a xs)) ∙ ap (λ n. drop c (take n (drop a xs))) e
+pub range_later : (xs : List ℕ) (a c b : ℕ) → slice_range xs (a + c) b ≡ drop c (slice_range xs a b)
+range_later xs a c b = between_is xs (a + c) b ∙ sym (drop-drop c a (take b xs)) ∙ ap (drop c) (sym (between_is xs a b))
 
 -- the part goes on with what was read behind it
-pub range_grows : (xs ys more : List ℕ) (a b c : ℕ) → a ≤ b → b ≤ c → b ≤ length xs → take c ys ≡ take b xs ++ more → slice_range ys a c ≡ slice_range xs a b ++ more
-range_grows xs ys more a b c h k l is =
-    range_by_take ys a c (omega arith) ∙ ap (drop a) is ∙ drop-append-le a (take b xs) more (omega (arith, length-take-le b xs l)) ∙ ap (λ p. p ++ more) (sym (range_by_take xs a b h))
+pub range_grows : (xs ys more : List ℕ) (a b c : ℕ) → a ≤ b → b ≤ length xs → take c ys ≡ take b xs ++ more → slice_range ys a c ≡ slice_range xs a b ++ more
+range_grows xs ys more a b c h l is =
+    between_is ys a c ∙ ap (drop a) is ∙ drop-append-le a (take b xs) more (omega (arith, length-take-le b xs l)) ∙ ap (λ p. p ++ more) (sym (between_is xs a b))
 
 -- what lies behind the first elements after a read into the rest
 pub read_into_rest : (xs ys : List ℕ) (e n : ℕ) → e ≤ length xs → length ys ≡ length xs - e → n ≤ length ys → take (e + n) (put_mid e (length xs - e) xs ys) ≡ take e xs ++ take n ys
@@ -43,8 +33,8 @@ pub reads_behind : (left left' : Option (List ℕ)) (xs ys : List ℕ) (e : ℕ)
 reads_behind left left' xs ys e (Ok n) h same most read some = (take n ys, read_into_rest xs ys e n h same most.0, length-take-le n ys most.0, read.0, λ z. read.1 z some)
 reads_behind left left' xs ys e (Err f) h same most read some = (take-put_mid_below e (length xs - e) xs ys e (omega arith) h, read)
 
-pub same_range : (xs ys : List ℕ) (a b : ℕ) → a ≤ b → take b ys ≡ take b xs → slice_range ys a b ≡ slice_range xs a b
-same_range xs ys a b h is = range_by_take ys a b h ∙ ap (drop a) is ∙ sym (range_by_take xs a b h)
+pub same_range : (xs ys : List ℕ) (a b : ℕ) → take b ys ≡ take b xs → slice_range ys a b ≡ slice_range xs a b
+same_range xs ys a b is = between_is ys a b ∙ ap (drop a) is ∙ sym (between_is xs a b)
 
 pub fills_err : (left left' : Option (List ℕ)) (held held' : List ℕ) (r : Result ℕ SourceFault) → IsErr r → held' ≡ held → Keeps left left' → Fills left left' held held' r
 fills_err left left' held held' (Ok n) err same keeps = cc err

@@ -1,8 +1,6 @@
 -- What the first bytes of a window show of the first line.
 use Rattle.std.proofs.Common.{◌≡◌, ℕ, ◌+◌, ◌<◌, ◌≤◌, ◌++◌, List, [], ◌∷◌, length, take, drop, true, false, min, sym, ap, ◌∙◌, arith, inl, inr}
-use Rattle.std.specs.Prelude.{nat_lt}
-use Rattle.std.proofs.lemmas.Bool.{cases_lt, lt-ltb}
-use Rattle.std.proofs.lemmas.Bool.Decides.{nat_tests}
+use Rattle.std.proofs.lemmas.Bool.{cases_lt, le-ltb, lt-ltb}
 use Rattle.std.proofs.lemmas.List.{length-take, length-take-le, take-take}
 use Rattle.sb_outside.specs.Lines.{without_cr, lines}
 use Rattle.sb_outside.specs.Readings.{IsTooLong}
@@ -10,9 +8,6 @@ use Rattle.sb_outside.specs.Looks.{line_len, IsOpen, Shows}
 use Rattle.sb_outside.specs.declared.look.Look.TheVariants as look
 use Rattle.sb_outside.proofs.Ends.{len_within}
 use Rattle.sb_outside.proofs.FirstLines.{front, has_line, next_line, no_line_at_end, front_all, without_cr_least, long_line, open_rest}
-
-not_lt : (a b : ℕ) → b ≤ a → nat_lt a b ≡ false
-not_lt a b h = grind (arith, nat_tests)
 
 pub shows_too_long : (bytes : List ℕ) (at len : ℕ) → at ≡ min 130 (line_len bytes) → len ≡ length (without_cr (take at bytes)) → 128 < len → IsTooLong bytes
 shows_too_long bytes at len is size over = long_line bytes (elim (cases_lt 130 (line_len bytes)) [
@@ -44,12 +39,12 @@ module _ (bytes : List ℕ) (at len : ℕ) (is : at ≡ min 130 (line_len bytes)
 
   pub shows_more : length bytes ≤ at → Shows bytes look.More
   shows_more none =
-      let has : has_line bytes ≡ false = not_lt (line_len bytes) (length bytes) (omega (arith, at_end)) in
+      let has : has_line bytes ≡ false = le-ltb (line_len bytes) (length bytes) (omega (arith, at_end)) in
       let whole : take at bytes ≡ bytes = ap (λ n. take n bytes) at_end ∙ front_all bytes has in
       let size : length (without_cr bytes) ≡ length (take len (take at bytes)) = ap (λ l. length (without_cr l)) (sym whole) ∙ ap length (sym cut) in
       let small : length (without_cr bytes) ≤ 128 = omega (arith, length-take len (take at bytes)) in
       let known : IsOpen bytes = record {
-        no_line_yet = open_rest bytes has (not_lt 128 (length (without_cr bytes)) small);
+        no_line_yet = open_rest bytes has (le-ltb 128 (length (without_cr bytes)) small);
         last_one = no_line_at_end bytes true has;
         short = small;
       } in

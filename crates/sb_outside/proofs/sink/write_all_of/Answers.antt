@@ -1,6 +1,6 @@
-use Rattle.std.proofs.Common.{arith, ap, take, List, ℕ}
+use Rattle.std.proofs.Common.{arith}
 use Rattle.std.proofs.lemmas.List.{length-drop, take_rest}
-use Rattle.sb_outside.proofs.Appending.{wrote_more, wrote_prefix, appends_same, writes_err}
+use Rattle.sb_outside.proofs.Appending.{wrote_more, wrote_prefix, writes_err}
 use Rattle.sb_outside.proofs.sink.write_all_of.Goals as goal
 
 pub writes-preserved : goal.writes-preserved
@@ -9,7 +9,7 @@ writes-preserved g c =
     let done = c.writes.done in
     let bytes = c.args.bytes.now in (
       omega (arith, c.in_ok-done.ensures.bound, c.writes.invariant.0, length-drop done bytes),
-      wrote_more _ _ _ bytes done count c.writes.invariant.1 (appends_same _ _ _ _ (ap (λ (l : List ℕ). take count l) (take_rest bytes done)) c.in_ok-done.ensures.bytes.1),
+      wrote_more _ _ _ bytes done count c.writes.invariant.1 (rw (take_rest bytes done) at c.in_ok-done.ensures.bytes.1),
       omega (arith, c.writes.invariant.2, c.in_ok-done.ensures.cause),
     )
 
