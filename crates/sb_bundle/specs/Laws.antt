@@ -12,7 +12,7 @@ AreCutAt size [] = Unit {0}
 AreCutAt size (part ∷ []) = (1 ≤ length part) × (length part ≤ size)
 AreCutAt size (part ∷ next ∷ parts) = (length part ≡ size) × AreCutAt size (next ∷ parts)
 
--- the parts are these records, in order, cut into lengths of `size`, the last shorter
+-- the parts are these records, in order, cut into lengths of `size`; the last may be shorter
 pub record AreCutOf (size : ℕ) (records : List Record) (parts : List (List Record)) : Type 0 where
   pub whole : joined parts ≡ records
   pub lengths : AreCutAt size parts

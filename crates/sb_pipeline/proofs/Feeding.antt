@@ -2,7 +2,7 @@
 use Rattle.std.proofs.Common.{◌≡◌, ◌≤◌, ℕ, suc, zero, ◌+◌, Bool, true, false, cond, eqb, List, [], ◌∷◌, ◌++◌, map, Option, Some, None, IfSome, refl, sym, ap, subst, ◌∙◌, arith, inl, inr}
 use Rattle.std.specs.Prelude.{◌≢◌, ◌⊎◌, ◌&&◌}
 use Rattle.std.specs.List.{slice_get, count_by}
-use Rattle.std.proofs.lemmas.Bool.{eq-eqb, eqb-true}
+use Rattle.std.proofs.lemmas.Bool.{and_parts, eq-eqb, eqb-true}
 use Rattle.std.proofs.lemmas.List.Sums.{sum_by-append, sum_by-cons}
 use Rattle.sb_record.specs.declared.item.Stream.{Stream}
 use Rattle.sb_record.specs.declared.item.Stream.TheVariants.{A, B}
@@ -16,15 +16,9 @@ same-itself : (d : Down) → is_same_place d d ≡ true
 same-itself d = λ i. eq-eqb d.node d.node refl i && eq-eqb d.lane d.lane refl i
 
 same-true : (d e : Down) → is_same_place d e ≡ true → e ≡ d
-same-true d e h = λ i. record { node = sym (eqb-true d.node e.node (first (eqb d.node e.node) (eqb d.lane e.lane) h)) i; lane = sym (eqb-true d.lane e.lane (second (eqb d.node e.node) (eqb d.lane e.lane) h)) i }
-  where
-    first : (a b : Bool) → (a && b) ≡ true → a ≡ true
-    first true b h = refl
-    first false b h = h
-
-    second : (a b : Bool) → (a && b) ≡ true → b ≡ true
-    second true b h = h
-    second false b h = cc
+same-true d e h =
+    let both = and_parts (eqb d.node e.node) (eqb d.lane e.lane) h in
+    λ i. record { node = sym (eqb-true d.node e.node both.0) i; lane = sym (eqb-true d.lane e.lane both.1) i }
 
 -- how many transforms send to the place
 abbrev sending : Down → List Step → ℕ
