@@ -1,11 +1,12 @@
 //! The one call that the program makes.
 
-ghost use Rattle.std.specs.Prelude.{◌≡◌, map, string_bytes};
+ghost use Rattle.std.specs.Prelude.{◌≡◌, ℕ, map, string_bytes};
 ghost use Rattle.sb_pipeline.specs.Shapes.{Shape};
 ghost use Rattle.sb_cli.specs.Answers.{IsAnswer, HasCause, HasNoted, HidesNoFault, IsDoneOrMemory, IsToldOf, IsUnread, IsWordsOrMemory, NothingFails};
 ghost use Rattle.sb_cli.specs.Pipelines.{TellsPlan};
 ghost use Rattle.sb_cli.specs.Statuses.{note_text};
 ghost use Rattle.sb_cli.specs.Words.{Asked, IsCommand, IsNoCommand};
+ghost use Rattle.sb_cli.specs.Words.Asked.{Sum};
 
 use crate::answer::{answer_file, answer_sum};
 use crate::note::note_of;
@@ -40,8 +41,9 @@ pub fn streambox<S: Source, K: Sink, N: Sink, F: Folder>(
     ensures unread { IsUnread result → (input.new ≡ input.old) × (out.new ≡ out.old) }
     ensures untouched { IsNoCommand (map (λ w. string_bytes w) words.now) → (input.new ≡ input.old) × (out.new ≡ out.old) × (folder.new ≡ folder.old) }
 
-    // Files are loaded, and none is changed.
+    // Files are loaded where a plan file is asked for, and none is changed.
     ensures same { F.files folder.new ≡ F.files folder.old }
+    ensures sum_loads_nothing { (size : ℕ) → IsCommand (Sum size) (map (λ w. string_bytes w) words.now) → folder.new ≡ folder.old }
 
     // Faults come from where they say, none is passed over, and a run in which nothing fails is done.
     ensures cause { HasCause (S.faults input.old) (S.faults input.new) (K.sink_faults out.old) (K.sink_faults out.new) (F.folder_faults folder.old) (F.folder_faults folder.new) result }
@@ -70,6 +72,7 @@ fn respond<S: Source, K: Sink, F: Folder>(
     ensures no_command { IsNoCommand (map (λ w. string_bytes w) words.now) → (result ≡ Status.Words) × (input.new ≡ input.old) × (out.new ≡ out.old) × (folder.new ≡ folder.old) }
     ensures unread { IsUnread result → (input.new ≡ input.old) × (out.new ≡ out.old) }
     ensures same { F.files folder.new ≡ F.files folder.old }
+    ensures sum_loads_nothing { (size : ℕ) → IsCommand (Sum size) (map (λ w. string_bytes w) words.now) → folder.new ≡ folder.old }
     ensures cause { HasCause (S.faults input.old) (S.faults input.new) (K.sink_faults out.old) (K.sink_faults out.new) (F.folder_faults folder.old) (F.folder_faults folder.new) result }
     ensures no_fault_hidden { HidesNoFault (S.faults input.old) (S.faults input.new) (F.folder_faults folder.old) (F.folder_faults folder.new) result }
 {
