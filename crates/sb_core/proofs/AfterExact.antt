@@ -10,6 +10,7 @@ use Rattle.std.specs.Prelude.{◌&&◌, ◌||◌, sum_by}
 use Rattle.std.specs.List.{slice_get, list_any, AllByRecursion}
 use Rattle.std.proofs.lemmas.Bool.{eqb-true, not-true}
 use Rattle.std.proofs.lemmas.List.Sums.{sum_by-cons}
+use Rattle.std.proofs.lemmas.Option.{same_Some}
 use Rattle.sb_record.specs.declared.item.Record.{Record}
 use Rattle.sb_record.specs.declared.item.Stream.{Stream}
 use Rattle.sb_record.specs.declared.item.Stream.TheVariants.{A, B}
@@ -32,7 +33,7 @@ use Rattle.sb_core.specs.Closings.{is_pardo}
 use Rattle.sb_core.specs.Holdings.{IsWork, IsHeld, is_unpassed}
 use Rattle.sb_core.proofs.Orderly.{IsLawful}
 use Rattle.sb_core.specs.Laws.{fed_after}
-use Rattle.sb_core.proofs.Lists.{some_is, cond_is_some, SameSums-pulled}
+use Rattle.sb_core.proofs.Lists.{cond_is_some, SameSums-pulled}
 use Rattle.sb_core.proofs.LaneLaws.{All-pulled}
 use Rattle.sb_core.proofs.Nodes.{node_at-same, node_at-set_same}
 use Rattle.sb_core.proofs.InTime.{work_epoch}
@@ -111,7 +112,7 @@ events-keep_exact plan m later fed (Begin node lane) h lawful after exact = begi
         let b = bind_some (slice_get a.0.lanes lane) _ later a.2 in
         let c = bind_some (Lanes.closable b.0.ended b.0.conts) _ later b.2 in
         let d = cond_is_some (not (list_any (Moments.is_close node) m.held)) _ later c.2 in
-        let is = some_is _ _ d.1 in
+        let is = same_Some _ _ d.1 in
         let up = rises plan m node lane a.0 b.0 c.0 a.1 b.1 (closable-is b.0.ended b.0.conts c.0 c.1) (not-true (list_any (Moments.is_close node) m.held) d.0) lawful in
         let before = ap (λ (x : Node). Marks.closed x.lanes) (node_at-same m node a.0 a.0 a.1) in
         let then = ap (λ (x : Moment). Marks.closed (node_at x node).lanes) (sym is) ∙ ap (λ (x : Node). Marks.closed x.lanes) (node_at-set_same m node a.0 _ a.1) in

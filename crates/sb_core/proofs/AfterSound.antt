@@ -5,6 +5,7 @@ use Rattle.sb_core.specs.Events
 use Rattle.sb_core.specs.Moments
 use Rattle.sb_core.proofs.Orderly.{lawful_of, tidy_of}
 use Rattle.std.proofs.Common.{◌≡◌, Bool, true, false, cond, eqb, List, [], ◌∷◌, Some, Option, subst}
+use Rattle.std.proofs.lemmas.Option.{same_Some}
 use Rattle.sb_record.specs.declared.item.Record.{Record}
 use Rattle.sb_record.specs.declared.item.Stream.{Stream}
 use Rattle.sb_pipeline.specs.Shapes.{Shape}
@@ -17,7 +18,7 @@ use Rattle.sb_core.specs.Exactness.{IsExact}
 use Rattle.sb_core.specs.Holdings.{IsHeld, IsCloseOf}
 use Rattle.sb_core.specs.Soundness.{IsSound}
 use Rattle.sb_core.specs.Laws.{EventsKeepSound, fed_after, fed_by}
-use Rattle.sb_core.proofs.Lists.{some_is, SameSums-pulled}
+use Rattle.sb_core.proofs.Lists.{SameSums-pulled}
 use Rattle.sb_core.proofs.LaneLaws.{All-pulled}
 use Rattle.sb_core.proofs.AfterExact.{events-keep_exact}
 use Rattle.sb_core.proofs.SoundPut.{arrive-sound, rows-sound, work-sound}
@@ -61,7 +62,7 @@ events-keep_sound plan is_plan m later event h sound =
 
 -- ---- a list of events
 pub runs-keep : (plan : Shape) → IsPlan plan → (events : List Event) (m later : Moment) (fed : Stream → List Record) → Events.run plan events m ≡ Some later → IsSound plan m → IsExact plan m fed → IsSound plan later × IsExact plan later (fed_by events fed)
-runs-keep plan is_plan [] m later fed h sound exact = let k : m ≡ later = some_is m later h in subst (λ m. IsSound plan m × IsExact plan m fed) k (sound, exact)
+runs-keep plan is_plan [] m later fed h sound exact = let k : m ≡ later = same_Some m later h in subst (λ m. IsSound plan m × IsExact plan m fed) k (sound, exact)
 runs-keep plan is_plan (e ∷ es) m later fed h sound exact =
     let a = bind_some (Events.after plan m e) (Events.run plan es) later h in
     let k = events-keep_sound plan is_plan m a.0 e a.1 sound in

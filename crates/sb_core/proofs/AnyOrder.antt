@@ -5,13 +5,14 @@ use Rattle.sb_core.specs.Choices
 use Rattle.sb_core.specs.Events
 use Rattle.sb_core.specs.Lanes
 use Rattle.sb_core.specs.Moments
-use Rattle.sb_core.proofs.Orderly.{lawful_of, tidy_of, sound_of}
+use Rattle.sb_core.proofs.Orderly.{lawful_of, tidy_of, sound_of, IsLawful, IsTidy}
 use Rattle.std.proofs.Common.{◌≡◌, ℕ, ◌+◌, ◌≤◌, Bool, true, false, cond, eqb, List, [], ◌∷◌, ◌++◌, Some, Option, sym, refl, ap, subst, ◌∙◌, arith, append-nil}
 use Rattle.std.specs.Prelude.{◌||◌, IsPermutation, sum_by}
 use Rattle.std.specs.List.{flat_map, slice_get, list_any, AllByRecursion}
 use Rattle.std.proofs.lemmas.List.Sorted.{IsPermutation-to_front, sum_by-IsPermutation, All-permutation, IsPermutation-append_comm}
 use Rattle.std.proofs.lemmas.List.Elements.{All-from_recursion, recursion_from_All}
 use Rattle.std.proofs.lemmas.Bool.{eqb-true}
+use Rattle.std.proofs.lemmas.Option.{same_Some}
 use Rattle.sb_record.specs.declared.item.Record.{Record}
 use Rattle.sb_record.specs.declared.item.Stream.{Stream}
 use Rattle.sb_record.specs.declared.item.Stream.TheVariants.{A, B}
@@ -28,11 +29,10 @@ use Rattle.sb_record.specs.Reading.{◌>>=◌}
 use Rattle.sb_core.specs.Moments.{with_held, node_at}
 use Rattle.sb_core.specs.Exactness.{waiting_from, working, undelivered, rest, IsExact}
 use Rattle.sb_core.specs.Holdings.{IsHeld, is_unpassed, IsCloseOf}
-use Rattle.sb_core.proofs.Orderly.{IsLawful, IsTidy}
 use Rattle.sb_core.specs.Soundness.{IsOpenBelow, IsSound}
 use Rattle.sb_core.specs.Laws.{NewAtTheHead, IdleByItsLanes, takes_up, HeldInAnyOrder, EventsAtTheHead, concerns, changed, delivered_now, passed_now, fed_after}
 use Rattle.sb_record.proofs.Sums.{SameSums-flat_map}
-use Rattle.sb_core.proofs.Lists.{cond_is_some, some_is}
+use Rattle.sb_core.proofs.Lists.{cond_is_some}
 use Rattle.sb_core.proofs.Gives.{gives-less, sum_by-rest}
 use Rattle.sb_core.proofs.Exactly.{exact-same}
 use Rattle.sb_core.proofs.LawfulTimely.{lawful-timely}
@@ -137,7 +137,7 @@ held-in_any_order plan m held same sound = (sound-permuted plan m held same soun
 with_lane-held : (d : Down) (lane : CoreLane) (m later : Moment) → Moments.with_lane d lane m ≡ Some later → later.held ≡ m.held
 with_lane-held d lane m later h =
     let b = bind_some (slice_get m.nodes d.node) _ later h in
-    sym (ap (λ (x : Moment). x.held) (some_is _ _ b.2))
+    sym (ap (λ (x : Moment). x.held) (same_Some _ _ b.2))
 
 arrived-held : (d : Down) (epoch floor : ℕ) (records : List Record) (m later : Moment) → Events.arrived_at d epoch floor records m ≡ Some later → later.held ≡ m.held
 arrived-held d epoch floor records m later h =
@@ -170,7 +170,7 @@ module _ (plan : Shape) (m later : Moment) (h : Held) (rest : List Held) where
       let a = bind_some (slice_get m.nodes k) _ later e in
       let b = bind_some (slice_get a.0.lanes l) _ later a.2 in
       let c = cond_is_some _ _ later b.2 in
-      sym (ap (λ (x : Moment). x.held) (some_is _ _ c.1)) ∙ sym (append-nil rest)
+      sym (ap (λ (x : Moment). x.held) (same_Some _ _ c.1)) ∙ sym (append-nil rest)
 
   of_pass : (h : Held) → Events.after_pass plan (with_held (h ∷ rest) m) h rest ≡ Some later → later.held ≡ rest ++ passed_now h
   of_pass (Work k l epoch floor number records delivered) e = cc
@@ -238,7 +238,7 @@ took plan m later (Begin node lane) t e =
     let b = bind_some (slice_get a.0.lanes lane) _ later a.2 in
     let c = bind_some (Lanes.closable b.0.ended b.0.conts) _ later b.2 in
     let d = cond_is_some _ _ later c.2 in
-    (_, sym (ap (λ (x : Moment). x.held) (some_is _ _ d.1)))
+    (_, sym (ap (λ (x : Moment). x.held) (same_Some _ _ d.1)))
 
 pub new-at_the_head : NewAtTheHead
 new-at_the_head plan is_plan m later event t e sound =

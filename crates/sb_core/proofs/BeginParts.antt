@@ -3,7 +3,7 @@ use Rattle.std.proofs.Common.{◌≡◌, ℕ, zero, suc, ◌+◌, ◌≤◌, ◌
 use Rattle.std.specs.Prelude.{All, ◌||◌, ◌&&◌, ◌==◌, sum_by}
 use Rattle.std.specs.List.{slice_get, list_any, AllByRecursion}
 use Rattle.std.specs.Option.{option_map}
-use Rattle.std.proofs.lemmas.Option.{slice_get_past, slice_get_within, slice_get-get_or, get_or_from_slice_get}
+use Rattle.std.proofs.lemmas.Option.{slice_get_past, slice_get_within, slice_get-get_or, get_or_from_slice_get, same_Some}
 use Rattle.std.proofs.lemmas.Bool.{eq-eqb, ne_eqb, cases_lt}
 use Rattle.std.proofs.lemmas.List.Elements.{All-from_recursion}
 use Rattle.sb_record.specs.declared.item.TheConstants.{END_MARK}
@@ -37,7 +37,7 @@ use Rattle.sb_core.specs.Soundness.{IsSound, IsKeptAt}
 use Rattle.sb_core.proofs.TimeBounds.{bound-before_end}
 use Rattle.sb_core.proofs.InPlace.{then_some, lane-there}
 use Rattle.sb_core.proofs.InTime.{begun_within}
-use Rattle.sb_core.proofs.Lists.{cond_is_some, some_is}
+use Rattle.sb_core.proofs.Lists.{cond_is_some}
 
 -- an element passes just where there is a first that does
 is_some-then : {A B : Type 0} (o : Option A) (f : A → B) → is_some (o >>= λ x. Some (f x)) ≡ is_some o
@@ -61,12 +61,12 @@ pub closable-first : (epoch : ℕ) (cs : List Cont) (c : Cont) → closable epoc
 closable-first epoch [] c h = cc
 closable-first epoch (x ∷ cs) c h =
     let a = cond_is_some ((x.epoch == epoch) && (is_some x.mark && (is_empty x.waiting && is_empty x.out))) (Some x) c h in
-    (cs, ap (λ c. c ∷ cs) (some_is x c a.1))
+    (cs, ap (λ c. c ∷ cs) (same_Some x c a.1))
 
 -- the container whose epoch the code found
 pub closable-found : (o : Option Cont) (epoch : ℕ) → Some epoch ≡ option_map (λ (c : Cont). c.epoch) o → (c : Cont) × (o ≡ Some c) × (epoch ≡ c.epoch)
 closable-found None epoch h = cc
-closable-found (Some c) epoch h = (c, refl, some_is epoch c.epoch h)
+closable-found (Some c) epoch h = (c, refl, same_Some epoch c.epoch h)
 
 lanes_of-most : (o : Operator) → lanes_of o ≤ 2
 lanes_of-most (ParDo op) = omega arith

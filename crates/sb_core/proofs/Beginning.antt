@@ -3,6 +3,7 @@ use Rattle.std.proofs.Common.{◌≡◌, ℕ, suc, zero, ◌+◌, ◌≤◌, tru
 use Rattle.std.specs.Prelude.{◌≢◌, nat_lt}
 use Rattle.std.specs.List.{filter, flat_map, sum_by, slice_get, slice_set}
 use Rattle.std.proofs.lemmas.Bool.{eq-eqb, ne_eqb, cases_eq}
+use Rattle.std.proofs.lemmas.Option.{slice_get_cases}
 use Rattle.std.proofs.lemmas.List.Sums.{sum_by-append}
 use Rattle.std.proofs.lemmas.List.Filters.{sum_by-filter_both}
 use Rattle.sb_record.specs.declared.item.Record.{Record}
@@ -115,10 +116,8 @@ transform_no_sink (Do op) h = cc
 transform_no_sink (Group agg windows) h = cc
 transform_no_sink (Join combine windows) h = cc
 
-none_past : {X : Type 0} (xs : List X) (j : ℕ) → slice_get xs j ≡ None → length xs ≤ j
-none_past [] j h = omega arith
-none_past (x ∷ xs) zero h = cc
-none_past (x ∷ xs) (suc j) h = let k : length xs ≤ j = none_past xs j h in omega arith
+pub none_past : {X : Type 0} (xs : List X) (j : ℕ) → slice_get xs j ≡ None → length xs ≤ j
+none_past xs j h = ⊎_elim (λ a. let k : Some a.0 ≡ None = sym a.2 ∙ h in cc) (λ b. b.0) (slice_get_cases xs j).1
 
 -- the rows of the sink change only where the sink closes
 rows_of_others : (plan : Shape) (k n mark : ℕ) (rows : List Record) (es : List KeptRec) → k ≤ length plan.steps → n ≤ length plan.steps → k ≢ n
@@ -126,7 +125,7 @@ rows_of_others : (plan : Shape) (k n mark : ℕ) (rows : List Record) (es : List
 rows_of_others plan k n mark rows es within_k within_n ne sink = by_case (slice_get plan.steps n) refl (slice_get plan.steps k) refl sink
   where
     past : (j : ℕ) → j ≤ length plan.steps → slice_get plan.steps j ≡ None → j ≡ length plan.steps
-    past j w h = let k : length plan.steps ≤ j = none_past plan.steps j h in omega arith
+    past j w h = omega (arith, none_past plan.steps j h)
 
     by_case : (o : Option Step) → slice_get plan.steps n ≡ o → (p : Option Step) → slice_get plan.steps k ≡ p → is_sink (operator_at p) ≡ true → rows ++ collected (operator_at o) mark es ≡ rows
     by_case (Some s) e p f sink = ap (λ l. rows ++ l) (collects_none s.kind mark es) ∙ append-nil rows

@@ -5,7 +5,7 @@ use Rattle.std.specs.Option.{option_map}
 use Rattle.std.specs.Result.{IsErrAnd}
 use Rattle.std.specs.List.{slice_get}
 use Rattle.std.proofs.lemmas.Bool.{ne_eqb}
-use Rattle.std.proofs.lemmas.Option.{slice_get_past}
+use Rattle.std.proofs.lemmas.Option.{slice_get_past, same_Some}
 use Rattle.sb_record.specs.declared.item.Record.{Record}
 use Rattle.sb_record.specs.Reading.{◌>>=◌}
 use Rattle.sb_pipeline.specs.declared.transform.Down.{Down}
@@ -28,7 +28,6 @@ use Rattle.sb_core.specs.LaneSteps.{sealed_at}
 use Rattle.sb_core.specs.Moments.{lane_at, set_lane, set_node, with_lane, with_held, is_work, is_close, is_close_of}
 use Rattle.sb_core.specs.Steps.{Becomes}
 use Rattle.sb_core.proofs.InPlace.{then_some, then_none}
-use Rattle.sb_core.proofs.Lists.{some_is}
 
 -- an answer that never goes on
 pub then_never : {A B : Type 0} (o : Option A) (f : A → Option B) → ((x : A) → f x ≡ None) → (o >>= f) ≡ None
@@ -80,7 +79,7 @@ arrived-held m hs d epoch floor records = go (lane_at m d)
 
 -- so as much is held as before
 pub held-after : (m after : Moment) (o : Option Moment) → o ≡ option_map (with_held m.held) o → o ≡ Some after → after.held ≡ m.held
-held-after m after o same is = ap (λ (x : Moment). x.held) (some_is after (with_held m.held after) (sym is ∙ same ∙ ap (option_map (with_held m.held)) is))
+held-after m after o same is = ap (λ (x : Moment). x.held) (same_Some after (with_held m.held after) (sym is ∙ same ∙ ap (option_map (with_held m.held)) is))
 
 -- a refusal passed on
 pub refused-as : {T : Type 0} (later under : Option Moment) (f : Moment → Moment) (old new : Moment) (stop : StepStop) (r : Result T StepStop)

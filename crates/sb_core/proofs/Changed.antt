@@ -3,6 +3,7 @@ use Rattle.std.proofs.Common.{◌≡◌, ℕ, ◌≤◌, Bool, true, false, eqb,
 use Rattle.std.specs.Prelude.{◌⊎◌, ◌≢◌, count_by, sum_by}
 use Rattle.std.specs.List.{slice_get, list_any, AllByRecursion}
 use Rattle.std.proofs.lemmas.Bool.{cases_eq}
+use Rattle.std.proofs.lemmas.Option.{same_Some}
 use Rattle.sb_record.specs.declared.item.Record.{Record}
 use Rattle.sb_core.specs.declared.moment.Cont.{Cont}
 use Rattle.sb_core.specs.declared.moment.CoreLane.{CoreLane}
@@ -20,7 +21,6 @@ use Rattle.sb_core.specs.Bounds.{bound_at}
 use Rattle.sb_core.specs.Holdings.{IsWork, IsClosing, IsHeld, is_unpassed}
 use Rattle.sb_core.specs.Soundness.{IsSealedBelow}
 use Rattle.sb_core.proofs.Orderly.{IsLawful}
-use Rattle.sb_core.proofs.Lists.{some_is}
 use Rattle.sb_core.proofs.Frame.{sum_by-set_at}
 use Rattle.sb_core.proofs.Nodes.{begun_mark, closed-set, lane_at-cases, slice_get-set_same, node_at-same, node_at-set_same, node_at-set_other}
 
@@ -56,7 +56,7 @@ module _ (plan : Shape) (m : Moment) (n l : ℕ) (node new : Node) (lane with : 
     where
       here : (◌≡◌ {A = Down} (record { node = k; lane = i }) (record { node = n; lane = l })) × (lane_at now (record { node = k; lane = i }) ≡ Some with) × (lane_at m (record { node = k; lane = i }) ≡ Some lane) → IsWork plan now k i epoch floor number records delivered
       here c =
-          let same : h.lane ≡ lane = some_is h.lane lane (sym h.there ∙ c.2) in
+          let same : h.lane ≡ lane = same_Some h.lane lane (sym h.there ∙ c.2) in
           let o = still c.0 (h.cont, ap (λ (x : CoreLane). cont_at epoch x.conts) (sym same) ∙ h.of_epoch, h.floor_is, h.is_out) in
           record { lane = with; there = c.1; cont = o.0; of_epoch = o.1; floor_is = o.2; is_out = o.3; times = h.times; only_pardo = h.only_pardo }
 
@@ -85,7 +85,7 @@ module _ (plan : Shape) (m : Moment) (n l : ℕ) (node new : Node) (lane with : 
     where
       here : (◌≡◌ {A = Down} (record { node = k; lane = i }) (record { node = n; lane = l })) × (lane_at now (record { node = k; lane = i }) ≡ Some with) × (lane_at m (record { node = k; lane = i }) ≡ Some lane) → (x : CoreLane) × (lane_at now (record { node = k; lane = i }) ≡ Some x) × (first_is_closing x.conts ≡ true) × (epoch ≡ x.ended)
       here c =
-          let e : h.lane ≡ lane = some_is h.lane lane (sym h.there ∙ c.2) in
+          let e : h.lane ≡ lane = same_Some h.lane lane (sym h.there ∙ c.2) in
           let z = still c.0 in
           (with, c.1, z.0 ∙ ap (λ (x : CoreLane). first_is_closing x.conts) (sym e) ∙ h.closing, h.epoch_is ∙ ap (λ (x : CoreLane). x.ended) e ∙ sym z.1)
 
@@ -110,7 +110,7 @@ module _ (plan : Shape) (m : Moment) (n l : ℕ) (node new : Node) (lane with : 
   lawful_still lawful ok holds one closing below =
       record {
         nodes = length-set m.nodes n new ∙ lawful.nodes;
-        lanes = λ e x h. ⊎_elim (λ c. subst (λ y. IsLane (bound_at plan e.node) y) (some_is with x (sym c.1 ∙ h)) (subst (λ (e : Down). IsLane (bound_at plan e.node) with) (sym c.0) ok)) (λ c. lawful.lanes e x (sym c ∙ h)) (cases e);
+        lanes = λ e x h. ⊎_elim (λ c. subst (λ y. IsLane (bound_at plan e.node) y) (same_Some with x (sym c.1 ∙ h)) (subst (λ (e : Down). IsLane (bound_at plan e.node) with) (sym c.0) ok)) (λ c. lawful.lanes e x (sym c ∙ h)) (cases e);
         one_lane = λ k h. of_node (λ x. length x.lanes) (ap length lanes ∙ length-set node.lanes l with) k ∙ lawful.one_lane k h;
         holds = holds;
         one_close = one;

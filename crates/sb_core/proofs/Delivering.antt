@@ -3,6 +3,7 @@ use Rattle.sb_record.proofs.Elements.{every, All-flat_map}
 use Rattle.std.proofs.Common.{◌^◌, eqb, ◌≡◌, ℕ, suc, zero, ◌+◌, ◌≤◌, ◌<◌, Bool, true, false, cond, List, [], ◌∷◌, ◌++◌, take, drop, Some, Option, sym, refl, ap, subst, ◌∙◌, arith, zero-add, add-zero}
 use Rattle.std.specs.List.{flat_map, slice_get, AllByRecursion}
 use Rattle.std.proofs.lemmas.Bool.{eq-eqb, ne_eqb}
+use Rattle.std.proofs.lemmas.Option.{same_Some}
 use Rattle.sb_record.specs.declared.item.Record.{Record}
 use Rattle.sb_pardo.specs.declared.operation.Op.{Op}
 use Rattle.sb_pardo.proofs.Keeping.{outputs_keep_time}
@@ -18,7 +19,6 @@ use Rattle.sb_pardo.specs.Outputs.{outputs_of}
 use Rattle.sb_pipeline.specs.Operators.{operator_at}
 use Rattle.sb_pipeline.specs.Plans.{IsPlan}
 use Rattle.sb_pipeline.specs.declared.transform.Step.{Step}
-use Rattle.sb_core.proofs.Lists.{some_is}
 use Rattle.sb_record.specs.Reading.{◌>>=◌}
 use Rattle.sb_core.specs.Lanes.{next_epoch, next_floor, with_arrival}
 use Rattle.sb_core.specs.Moments.{is_close, is_close_of, set_lane, set_node, with_held}
@@ -61,7 +61,7 @@ counted-already k (s ∷ steps) count n further h =
 above-more : (k : ℕ) (steps : List Step) (count : ℕ → ℕ) → ((j : ℕ) (s : Step) → slice_get steps j ≡ Some s → k + j < s.down.node) → (j : ℕ) (s : Step) → slice_get steps j ≡ Some s → above_from k steps count (k + j) + 1 ≤ above_from k steps count s.down.node
 above-more k [] count further j s h = cc
 above-more k (t ∷ steps) count further zero s h =
-    let same : t ≡ s = some_is t s h in
+    let same : t ≡ s = same_Some t s h in
     let lower : k + 0 < s.down.node = further 0 s h in
     let a : above_from k (t ∷ steps) count (k + 0) ≡ count (k + 0) =
     counted-already (k + 1) steps (λ n. cond (eqb t.down.node n) (count n + count k + 1) (count n)) (k + 0) (λ j t e. let z : k + suc j < t.down.node = further (suc j) t e in omega arith) (omega arith)

@@ -4,6 +4,7 @@ use Rattle.std.specs.Prelude.{◌≢◌, ◌⊎◌, ◌&&◌, ◌||◌, count_by
 use Rattle.std.specs.List.{filter, slice_get, list_any, AllByRecursion}
 use Rattle.std.proofs.lemmas.Bool.{eq-eqb, ne_eqb, cases_eq, eqb-true, eqb-false}
 use Rattle.std.proofs.Math.Bool.{and-false}
+use Rattle.std.proofs.lemmas.Option.{same_Some}
 use Rattle.sb_record.specs.declared.item.Record.{Record}
 use Rattle.sb_core.specs.declared.moment.Cont.{Cont}
 use Rattle.sb_core.specs.declared.moment.CoreLane.{CoreLane}
@@ -22,10 +23,10 @@ use Rattle.sb_core.specs.Bounds.{bound_at}
 use Rattle.sb_core.specs.Holdings.{IsHeld, is_unpassed}
 use Rattle.sb_core.proofs.Orderly.{IsLawful}
 use Rattle.sb_record.proofs.Sums.{SameSums}
-use Rattle.sb_core.proofs.Lists.{some_is}
 use Rattle.sb_core.proofs.LaneLaws.{DifferInBundles, containers-differ, finish_in-differ}
 use Rattle.sb_core.proofs.Nodes.{begun_mark}
 use Rattle.sb_core.proofs.InTime.{next_mark}
+use Rattle.sb_core.proofs.InEpoch.{tail_calm, ready_calm}
 use Rattle.sb_core.proofs.LawfulTake.{differ-closing, differ-tail}
 use Rattle.sb_core.proofs.HeldLists.{any_gone, count_gone, none_left, every_both}
 use Rattle.sb_core.proofs.Changed.{IsOutAt, cases, at_place, work_still, close_still, below_still, lawful_still}
@@ -33,14 +34,6 @@ use Rattle.sb_core.proofs.Changed.{IsOutAt, cases, at_place, work_still, close_s
 -- ---- the lane without its first container
 abbrev pub shorter : CoreLane → CoreLane
 shorter lane = record lane { conts = drop 1 lane.conts; ended = lane.ended + 1 }
-
-calm_ready : (cs : List Cont) → AllByRecursion (λ c. c.closing ≡ false) cs → IsReady cs
-calm_ready [] all = tt
-calm_ready (c ∷ cs) all = λ h. let k : false ≡ true = sym all.0 ∙ h in cc
-
-calm_tail : (cs : List Cont) → AllByRecursion (λ c. c.closing ≡ false) cs → AllByRecursion (λ c. c.closing ≡ false) (drop 1 cs)
-calm_tail [] all = tt
-calm_tail (c ∷ cs) all = all.1
 
 calm_first : (cs : List Cont) → AllByRecursion (λ c. c.closing ≡ false) cs → first_is_closing cs ≡ false
 calm_first [] all = refl
@@ -70,8 +63,8 @@ module _ (bound : ℕ) (lane : CoreLane) (ok : IsLane bound lane) (closing : fir
             containers = subst (λ l. AreContainers bound (lane.ended + 1) (last_of_first (lane.ended + 1) lane.marks) (drop (lane.ended + 1) lane.marks) (drop 1 l)) (sym e)
                 (subst (λ n. AreContainers bound (lane.ended + 1) n (drop (lane.ended + 1) lane.marks) cs) (sym (next_mark bound lane ok m ms em))
                 (subst (λ l. AreContainers bound (lane.ended + 1) m l cs) (sym (ap (λ n. drop n lane.marks) (one_more lane.ended) ∙ drop_more lane.ended lane.marks m ms em)) are.1));
-            ready = calm_ready (drop 1 lane.conts) ok.others;
-            others = calm_tail (drop 1 lane.conts) ok.others;
+            ready = ready_calm (drop 1 lane.conts) ok.others;
+            others = tail_calm (drop 1 lane.conts) ok.others;
           }
         where
           one_more : (n : ℕ) → n + 1 ≡ suc n
@@ -151,7 +144,7 @@ end-lawful plan m node lane y l epoch serial floor mark rows others at in_it law
         here e f =
             let k : d ≡ record { node = y; lane = l } = λ i. record { node = e i; lane = f i } in
             let z : lane_at after d ≡ Some (shorter lane) = ap (lane_at after) k ∙ at_place plan m y l node (set_lane l (shorter lane) node) lane (shorter lane) at in_it refl refl begins marks others in
-            let n : false ≡ true = sym (end-calm (bound_at plan y) lane ok closing) ∙ ap (λ (x : CoreLane). first_is_closing x.conts) (some_is (shorter lane) x (sym z ∙ h)) ∙ c in cc
+            let n : false ≡ true = sym (end-calm (bound_at plan y) lane ok closing) ∙ ap (λ (x : CoreLane). first_is_closing x.conts) (same_Some (shorter lane) x (sym z ∙ h)) ∙ c in cc
 
         there : d ≢ record { node = y; lane = l } → (eqb y d.node && eqb l d.lane) ≡ false → list_any (is_close_of d.node d.lane) others ≡ true
         there ne nope =
@@ -197,12 +190,12 @@ finish-out epoch number at floor other (x ∷ cs) c ne h f out = one (eqb x.epoc
       where
         pick_true : (b : Bool) → cond b (Some x) (cont_at at cs) ≡ Some c
             → (d : Cont) × (cond b (Some (record x { out = filter (λ n. not (eqb n number)) x.out })) (cont_at at (finish_in epoch number cs)) ≡ Some d) × (d.floor ≡ floor) × (list_any (λ n. eqb n other) d.out ≡ true)
-        pick_true true h = let k : x ≡ c = some_is x c h in (record x { out = filter (λ n. not (eqb n number)) x.out }, refl, ap (λ (c : Cont). c.floor) k ∙ f, still x.out (subst (λ (c : Cont). list_any (λ n. eqb n other) c.out ≡ true) (sym k) out))
+        pick_true true h = let k : x ≡ c = same_Some x c h in (record x { out = filter (λ n. not (eqb n number)) x.out }, refl, ap (λ (c : Cont). c.floor) k ∙ f, still x.out (subst (λ (c : Cont). list_any (λ n. eqb n other) c.out ≡ true) (sym k) out))
         pick_true false h = ih h
 
         pick_false : (b : Bool) → cond b (Some x) (cont_at at cs) ≡ Some c
             → (d : Cont) × (cond b (Some x) (cont_at at (finish_in epoch number cs)) ≡ Some d) × (d.floor ≡ floor) × (list_any (λ n. eqb n other) d.out ≡ true)
-        pick_false true h = let k : x ≡ c = some_is x c h in (x, refl, ap (λ (c : Cont). c.floor) k ∙ f, subst (λ (c : Cont). list_any (λ n. eqb n other) c.out ≡ true) (sym k) out)
+        pick_false true h = let k : x ≡ c = same_Some x c h in (x, refl, ap (λ (c : Cont). c.floor) k ∙ f, subst (λ (c : Cont). list_any (λ n. eqb n other) c.out ≡ true) (sym k) out)
         pick_false false h = ih h
 
         both : (a : Bool) → (d : Cont) × (cont_at at (cond a (record x { out = filter (λ n. not (eqb n number)) x.out }) x ∷ finish_in epoch number cs) ≡ Some d) × (d.floor ≡ floor) × (list_any (λ n. eqb n other) d.out ≡ true)
@@ -219,7 +212,7 @@ finish-lawful plan m node new lane k l epoch floor number records delivered othe
     (every_both one others holds left)
     (λ j. omega (arith, count_gone (is_close j) m.held others (Work k l epoch floor number records delivered) pulled, lawful.one_close j))
     (λ d x h c. any_gone (is_close_of d.node d.lane) m.held others (Work k l epoch floor number records delivered) pulled refl ∙ ⊎_elim
-    (λ y. lawful.closing_held d lane y.2 (sym closing ∙ ap (λ (x : CoreLane). first_is_closing x.conts) (some_is (record lane { conts = finish_in epoch number lane.conts }) x (sym y.1 ∙ h)) ∙ c))
+    (λ y. lawful.closing_held d lane y.2 (sym closing ∙ ap (λ (x : CoreLane). first_is_closing x.conts) (same_Some (record lane { conts = finish_in epoch number lane.conts }) x (sym y.1 ∙ h)) ∙ c))
     (λ y. lawful.closing_held d x (sym y ∙ h) c) (by_place d))
     (λ j s is. below_still plan m k l node new lane (record lane { conts = finish_in epoch number lane.conts }) at in_it lanes closings begins marks others j s
     (any_gone (is_unpassed j) m.held others (Work k l epoch floor number records delivered) pulled refl) (floors s.down) (epochs s.down) (lawful.below j s is))

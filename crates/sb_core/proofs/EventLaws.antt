@@ -13,7 +13,7 @@ use Rattle.std.specs.List.{flat_map, sum_by, slice_get, list_all, All, AllByRecu
 use Rattle.std.proofs.lemmas.Bool.{eq-eqb, ne_eqb, cases_eq, le-ltb, not-true, and_parts}
 use Rattle.std.proofs.lemmas.Bool.Decides.{nat_tests}
 use Rattle.std.proofs.lemmas.List.Elements.{All-from_recursion, All-append, All-weaker}
-use Rattle.std.proofs.lemmas.Option.{slice_get_within}
+use Rattle.std.proofs.lemmas.Option.{slice_get_within, same_Some}
 use Rattle.std.proofs.lemmas.List.Sums.{sum_by-append}
 use Rattle.std.proofs.Math.Nat.{add_comm}
 use Rattle.std.proofs.lemmas.List.{get_or-append_right, get_or_append_left}
@@ -38,7 +38,7 @@ use Rattle.sb_core.specs.Bounds.{bound_at}
 use Rattle.sb_core.specs.Closings.{is_pardo}
 use Rattle.sb_core.proofs.Orderly.{IsLawful}
 use Rattle.sb_record.proofs.Sums.{SameSums, SameSums-flat_map}
-use Rattle.sb_core.proofs.Lists.{cond_is_some, some_is, waiting_of, SameSums-pulled}
+use Rattle.sb_core.proofs.Lists.{cond_is_some, waiting_of, SameSums-pulled}
 use Rattle.sb_pipeline.specs.Operators.{Operator, operator_of, operator_at}
 use Rattle.sb_pardo.specs.Outputs.{outputs_of}
 use Rattle.sb_pipeline.specs.Operators.Operator.{ParDo, Windowed, Sink}
@@ -126,10 +126,10 @@ admits_more : (plan : Shape) (m m' : Moment) (s : Stream) (d : Down) (records : 
 admits_more plan m m' s d records is times floors coming ok t e at = go s t refl (source plan) is at (admits plan m m' floors coming ok t e at)
   where
     go : (s t : Stream) → s ≡ s → (src : Stream → Option Down) → src s ≡ Some d → src t ≡ Some e → All (λ r. (floor_at m e ≤ r.time) × (r.time ≤ TheConstants.MAX_TIME)) (coming t) → All (λ r. (floor_at m e ≤ r.time) × (r.time ≤ TheConstants.MAX_TIME)) (with_more s records coming t)
-    go A A z src is at old = let k : d ≡ e = some_is _ _ (sym is ∙ at) in All-append (λ r. (floor_at m e ≤ r.time) × (r.time ≤ TheConstants.MAX_TIME)) records (coming A) (All-from_recursion (λ r. (floor_at m e ≤ r.time) × (r.time ≤ TheConstants.MAX_TIME)) records (subst (λ d. AllByRecursion (λ r. (floor_at m d ≤ r.time) × (r.time ≤ TheConstants.MAX_TIME)) records) k times)) old
+    go A A z src is at old = let k : d ≡ e = same_Some _ _ (sym is ∙ at) in All-append (λ r. (floor_at m e ≤ r.time) × (r.time ≤ TheConstants.MAX_TIME)) records (coming A) (All-from_recursion (λ r. (floor_at m e ≤ r.time) × (r.time ≤ TheConstants.MAX_TIME)) records (subst (λ d. AllByRecursion (λ r. (floor_at m d ≤ r.time) × (r.time ≤ TheConstants.MAX_TIME)) records) k times)) old
     go A B z src is at old = old
     go B A z src is at old = old
-    go B B z src is at old = let k : d ≡ e = some_is _ _ (sym is ∙ at) in All-append (λ r. (floor_at m e ≤ r.time) × (r.time ≤ TheConstants.MAX_TIME)) records (coming B) (All-from_recursion (λ r. (floor_at m e ≤ r.time) × (r.time ≤ TheConstants.MAX_TIME)) records (subst (λ d. AllByRecursion (λ r. (floor_at m d ≤ r.time) × (r.time ≤ TheConstants.MAX_TIME)) records) k times)) old
+    go B B z src is at old = let k : d ≡ e = same_Some _ _ (sym is ∙ at) in All-append (λ r. (floor_at m e ≤ r.time) × (r.time ≤ TheConstants.MAX_TIME)) records (coming B) (All-from_recursion (λ r. (floor_at m e ≤ r.time) × (r.time ≤ TheConstants.MAX_TIME)) records (subst (λ d. AllByRecursion (λ r. (floor_at m d ≤ r.time) × (r.time ≤ TheConstants.MAX_TIME)) records) k times)) old
 
 pub arrive-exact : (plan : Shape) (m m' : Moment) (fed : Stream → List Record) (s : Stream) (records : List Record) → Events.after_arrive plan m s records ≡ Some m' → IsLawful plan m → IsExact plan m fed → IsExact plan m' (fed_more s records fed)
 arrive-exact plan m m' fed s records h lawful exact =
@@ -138,7 +138,7 @@ arrive-exact plan m m' fed s records h lawful exact =
     let c = cond_is_some _ _ m' b.2 in
     let e = bind_some (Moments.lane_at m a.0) _ m' c.1 in
     let g = cond_is_some _ _ m' e.2 in
-    go a.0 b.0 e.0 a.1 b.1 (some_is _ _ (sym e.1 ∙ b.1)) c.0 g.1
+    go a.0 b.0 e.0 a.1 b.1 (same_Some _ _ (sym e.1 ∙ b.1)) c.0 g.1
   where
     go : (d : Down) (lane again : CoreLane) → source plan s ≡ Some d → Moments.lane_at m d ≡ Some lane → again ≡ lane
         → (not (Choices.is_empty records) && (nat_le (length records) m.bundle && list_all (λ r. nat_le (Lanes.next_floor lane) r.time && nat_le r.time TheConstants.MAX_TIME) records)) ≡ true
@@ -167,7 +167,7 @@ finish-exact plan m m' fed n l number h lawful exact =
         let a = bind_some (slice_get m.nodes k) _ m' h in
         let b = bind_some (slice_get a.0.lanes l) _ m' a.2 in
         let c = cond_is_some _ _ m' b.2 in
-        let is = some_is _ _ c.1 in
+        let is = same_Some _ _ c.1 in
         let floors : (e : Down) → floor_at m' e ≡ floor_at m e = λ e. ap (λ x. floor_at x e) (sym is) ∙ floor-set m k l a.0 _ b.0 (record b.0 { conts = Lanes.finish_in epoch number b.0.conts }) a.1 b.1 refl refl e in
         exact-same plan m m' fed (lawful-timely plan m lawful)
         (λ n es fs within in_time same. subst (λ z. SameSums (gives plan m n es) (gives plan z n fs)) is
@@ -184,7 +184,7 @@ begin-exact plan m m' fed n l h lawful later rises exact =
     let b = bind_some (slice_get a.0.lanes l) _ m' a.2 in
     let c = bind_some (Lanes.closable b.0.ended b.0.conts) _ m' b.2 in
     let d = cond_is_some _ _ m' c.2 in
-    let is = some_is _ _ d.1 in
+    let is = same_Some _ _ d.1 in
     let within : n < length m.nodes = slice_get_within m.nodes n a.0 a.1 in
     let begun : CoreLane = record b.0 { conts = Lanes.with_first_closing b.0.conts } in
     let floors : (e : Down) → floor_at m' e ≡ floor_at m e = λ e. ap (λ x. floor_at x e) (sym is) ∙ floor-set m n l a.0 _ b.0 begun a.1 b.1 refl refl e in
@@ -238,7 +238,7 @@ seal-exact plan m m' fed s mark h lawful exact =
 
 -- ---- the next rows of a Close are delivered
 pub below-is : (plan : Shape) (k : ℕ) (d : Down) → Events.below plan k ≡ Some d → (s : Step) × (slice_get plan.steps k ≡ Some s) × (s.down ≡ d)
-below-is plan k d h = let b = bind_some (slice_get plan.steps k) (λ s. Some s.down) d h in (b.0, b.1, some_is b.0.down d b.2)
+below-is plan k d h = let b = bind_some (slice_get plan.steps k) (λ s. Some s.down) d h in (b.0, b.1, same_Some b.0.down d b.2)
 
 pub transform_is : (plan : Shape) (k : ℕ) (s : Step) → slice_get plan.steps k ≡ Some s → Closings.is_sink (operator_at (slice_get plan.steps k)) ≡ false
 transform_is plan k s is = ap (λ o. Closings.is_sink (operator_at o)) is ∙ no_sink s.kind
@@ -282,7 +282,7 @@ module _ (plan : Shape) (m m' : Moment) (fed : Stream → List Record) (lawful :
           let next : Lanes.next_epoch p.1 ≡ serial = sym (ap epoch_of at) ∙ ap (epoch_at m) (sym down) ∙ held.next_under unpassed s is in
           let further : y < d.node = subst (λ (d : Down). y < d.node) down (lawful.below y s is).further in
           let calm : begun_mark (Lanes.with_arrival serial floor (take m.bundle rows) p.1) ≡ begun_mark p.1 = arrival_calm (bound_at plan d.node) serial floor (take m.bundle rows) p.1 (lawful.lanes d p.1 at) (omega arith) in
-          exact-delivered plan m m' fed y d (take m.bundle rows) (lawful-timely plan m lawful) (slice_get_within plan.steps y s is) (λ t e. ap (λ (s : Step). s.down) (some_is t s (sym e ∙ is)) ∙ down)
+          exact-delivered plan m m' fed y d (take m.bundle rows) (lawful-timely plan m lawful) (slice_get_within plan.steps y s is) (λ t e. ap (λ (s : Step). s.down) (same_Some t s (sym e ∙ is)) ∙ down)
           (λ k es fs same. subst (λ z. SameSums (gives plan m k es) (extra y (take m.bundle rows) k ++ gives plan z k fs)) p.4
           (rows-gives plan m y l epoch serial floor mark rows passed others m.bundle d p.0 p.1 p.2 p.3 pulled further (transform_is plan y s is) calm k es fs same))
           (admits plan m m' (λ e. ap (λ x. floor_at x e) (sym p.4) ∙ floor-set m d.node d.lane p.0 (Moments.set_lane d.lane (Lanes.with_arrival serial floor (take m.bundle rows) p.1) p.0) p.1 (Lanes.with_arrival serial floor (take m.bundle rows) p.1) p.2 p.3 refl refl e)) exact
@@ -324,7 +324,7 @@ module _ (plan : Shape) (m m' : Moment) (fed : Stream → List Record) (lawful :
   end-exact (Close y l epoch serial floor mark rows passed, others) pulled held h =
       let a = bind_some (Moments.lane_at m (record { node = y; lane = l })) _ m' h in
       let c = cond_is_some passed _ m' a.2 in
-      go a.0 a.1 (subst (λ (x : CoreLane). Marks.first_is_closing x.conts ≡ true) (some_is held.lane a.0 (sym held.there ∙ a.1)) held.closing) (held.no_rows c.0) c.1
+      go a.0 a.1 (subst (λ (x : CoreLane). Marks.first_is_closing x.conts ≡ true) (same_Some held.lane a.0 (sym held.there ∙ a.1)) held.closing) (held.no_rows c.0) c.1
     where
       place_of : Down
       place_of = record { node = y; lane = l }
@@ -392,7 +392,7 @@ module _ (plan : Shape) (m m' : Moment) (fed : Stream → List Record) (lawful :
           let further : y < d.node = subst (λ (d : Down). y < d.node) down (lawful.below y s is).further in
           let calm : begun_mark (Lanes.with_arrival epoch floor images p.1) ≡ begun_mark p.1 = arrival_calm (bound_at plan d.node) epoch floor images p.1 (lawful.lanes d p.1 at) (omega arith) in
           let open_pulled : SameSums m.held (Work y l epoch floor number records false ∷ others) = λ g. pulled g ∙ ap (λ b. sum_by g (Work y l epoch floor number records b ∷ others)) f in
-          exact-delivered plan m m' fed y d images (lawful-timely plan m lawful) (slice_get_within plan.steps y s is) (λ t e. ap (λ (s : Step). s.down) (some_is t s (sym e ∙ is)) ∙ down)
+          exact-delivered plan m m' fed y d images (lawful-timely plan m lawful) (slice_get_within plan.steps y s is) (λ t e. ap (λ (s : Step). s.down) (same_Some t s (sym e ∙ is)) ∙ down)
           (λ k es fs same. subst (λ z. SameSums (gives plan m k es) (extra y images k ++ gives plan z k fs)) p.4
           (delivery-gives plan m op y l epoch floor number records others d p.0 p.1 p.2 p.3 open_pulled further e calm k es fs same))
           (admits plan m m' (λ e. ap (λ x. floor_at x e) (sym p.4) ∙ floor-set m d.node d.lane p.0 (Moments.set_lane d.lane (Lanes.with_arrival epoch floor images p.1) p.0) p.1 (Lanes.with_arrival epoch floor images p.1) p.2 p.3 refl refl e)) exact

@@ -29,7 +29,7 @@ use Rattle.sb_core.specs.Exactness.{waiting_in, waiting_from, working, undeliver
 use Rattle.sb_record.proofs.Sums.{SameSums, SameSums-map, SameSums-flat_map, SameSums-filter}
 use Rattle.sb_core.proofs.Lists.{waiting_of, of_cont, empty_is}
 use Rattle.sb_core.proofs.Nodes.{closed-set, sum_by-waiting_set, node_at-same, node_at-set_same, node_at-set_other}
-use Rattle.sb_core.proofs.Groupings.{grouped-order, all_records-append}
+use Rattle.sb_core.proofs.Groupings.{grouped-order, all_records-append, all_records-on_lane}
 use Rattle.sb_core.proofs.Gives.{sum_by-rest, gives-less}
 
 -- finishing moves nothing that waits
@@ -99,11 +99,7 @@ finishing-gives o k l epoch floor number node after held others records delivere
       where
         by_case : (d : Bool) → (d || is_empty (flat_map (outputs_of op) records)) ≡ true → flat_map (outputs_of op) (all_records (cond (eqb k k && not d) (on_lane l records) [])) ≡ []
         by_case true h = ap (λ b. flat_map (outputs_of op) (all_records (cond (b && false) (on_lane l records) []))) (eq-eqb k k refl)
-        by_case false h = ap (λ b. flat_map (outputs_of op) (all_records (cond (b && true) (on_lane l records) []))) (eq-eqb k k refl) ∙ ap (flat_map (outputs_of op)) (plain records) ∙ empty_is (flat_map (outputs_of op) records) h
-          where
-            plain : (r : List Record) → all_records (on_lane l r) ≡ r
-            plain [] = refl
-            plain (x ∷ r) = ap (λ r. x ∷ r) (plain r)
+        by_case false h = ap (λ b. flat_map (outputs_of op) (all_records (cond (b && true) (on_lane l records) []))) (eq-eqb k k refl) ∙ ap (flat_map (outputs_of op)) (all_records-on_lane l records) ∙ empty_is (flat_map (outputs_of op) records) h
 
     unfinished : (o : Operator) → is_pardo o ≡ false → (delivered ≡ true → is_pardo o ≡ true) → delivered ≡ false
     unfinished o never honest = by_case delivered honest

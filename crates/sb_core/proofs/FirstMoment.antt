@@ -2,13 +2,13 @@
 use Rattle.sb_record.proofs.Numbers.{bind_some}
 use Rattle.sb_pipeline.proofs.Steps.{place-at}
 use Rattle.sb_pipeline.proofs.Feeding
-use Rattle.sb_core.proofs.Orderly.{sound_of}
+use Rattle.sb_core.proofs.Orderly.{sound_of, IsLawful}
 use Rattle.std.proofs.Common.{◌≡◌, ℕ, suc, zero, ◌+◌, ◌≤◌, ◌<◌, true, false, not, cond, List, [], ◌∷◌, ◌++◌, length, map, Some, Option, sym, refl, ap, subst, ◌∙◌, arith, zero-add, ⊎_elim}
 use Rattle.std.specs.Prelude.{min, replicate, sum_by}
 use Rattle.std.specs.List.{flat_map, slice_get, slice_index_or, AllByRecursion}
 use Rattle.std.proofs.lemmas.Bool.{le-ltb, cases_lt}
 use Rattle.std.proofs.lemmas.List.Sums.{sum_by-cons}
-use Rattle.std.proofs.lemmas.Option.{get_or_from_slice_get}
+use Rattle.std.proofs.lemmas.Option.{get_or_from_slice_get, same_Some}
 use Rattle.std.specs.Ordering
 use Rattle.sb_record.specs.declared.item.Record.{Record}
 use Rattle.sb_pipeline.specs.declared.transform.KeptRec.{KeptRec}
@@ -33,13 +33,11 @@ use Rattle.sb_core.specs.Exactness.{waiting_from, gives, gives_by, IsExact}
 use Rattle.sb_core.specs.LaneOrder.{IsLane}
 use Rattle.sb_core.specs.Bounds.{bound_at}
 use Rattle.sb_core.specs.Closings.{is_pardo}
-use Rattle.sb_core.proofs.Orderly.{IsLawful}
 use Rattle.sb_core.specs.Soundness.{out_of, AreNumbered, Begins, IsOpenBelow, IsKeptAt, IsSound}
 use Rattle.sb_core.specs.Laws.{RunsAreSound}
 use Rattle.sb_record.proofs.Sums.{SameSums, SameSums-map, SameSums-flat_map}
 use Rattle.sb_core.proofs.Flow.{brought_none, flow_same}
 use Rattle.sb_core.proofs.Groupings.{grouped-order}
-use Rattle.sb_core.proofs.Lists.{some_is}
 use Rattle.sb_core.proofs.AfterSound.{runs-keep}
 
 -- ---- nodes
@@ -64,7 +62,7 @@ node_count (s ∷ steps) = let k : length (map (λ s. empty_node (operator_of s.
 
 same_lanes : (n l : ℕ) (lane : CoreLane) → slice_get (replicate n empty_lane) l ≡ Some lane → lane ≡ empty_lane
 same_lanes zero l lane h = cc
-same_lanes (suc n) zero lane h = sym (some_is empty_lane lane h)
+same_lanes (suc n) zero lane h = sym (same_Some empty_lane lane h)
 same_lanes (suc n) (suc l) lane h = same_lanes n l lane h
 
 at_lane : (n l : ℕ) → l < n → slice_get (replicate n empty_lane) l ≡ Some empty_lane
@@ -111,7 +109,7 @@ module _ (plan : Shape) (is_plan : IsPlan plan) (bundle : ℕ) where
   only_empty d lane h =
       let b = bind_some (slice_get (first plan bundle).nodes d.node) (λ node. slice_get node.lanes d.lane) lane h in
       let w : d.node ≤ length plan.steps = past_nodes plan.steps d.node b.0 b.1 in
-      let is : b.0 ≡ empty_node (operator_at (slice_get plan.steps d.node)) = some_is _ _ (sym b.1 ∙ at_node plan.steps d.node w) in
+      let is : b.0 ≡ empty_node (operator_at (slice_get plan.steps d.node)) = same_Some _ _ (sym b.1 ∙ at_node plan.steps d.node w) in
       same_lanes (lanes_of (operator_at (slice_get plan.steps d.node))) d.lane lane (ap (λ (x : Node). slice_get x.lanes d.lane) (sym is) ∙ b.2)
 
   in_place : (d : Down) → IsPlace plan.steps d → lane_at (first plan bundle) d ≡ Some empty_lane

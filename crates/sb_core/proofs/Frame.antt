@@ -4,6 +4,7 @@ use Rattle.std.specs.Prelude.{◌⊎◌, count_by, sum_by}
 use Rattle.std.specs.List.{slice_get, list_any, AllByRecursion}
 use Rattle.std.proofs.lemmas.Bool.{cases_eq}
 use Rattle.std.proofs.lemmas.List.Sums.{sum_by-cons}
+use Rattle.std.proofs.lemmas.Option.{same_Some}
 use Rattle.sb_core.specs.declared.moment.Cont.{Cont}
 use Rattle.sb_core.specs.declared.moment.CoreLane.{CoreLane}
 use Rattle.sb_pipeline.specs.declared.transform.Down.{Down}
@@ -20,7 +21,6 @@ use Rattle.sb_core.specs.Bounds.{bound_at}
 use Rattle.sb_core.specs.Holdings.{IsWork, IsHeld, is_unpassed}
 use Rattle.sb_core.specs.Soundness.{IsSealedBelow}
 use Rattle.sb_core.proofs.Orderly.{IsLawful}
-use Rattle.sb_core.proofs.Lists.{some_is}
 use Rattle.sb_core.proofs.Nodes.{begun_mark, lane_at-set, lane_at-cases, closed-changed, node_at-same, node_at-set_same, node_at-set_other}
 
 pub sum_by-set_at : {X : Type 0} (f : X → ℕ) (xs : List X) (i : ℕ) (x y : X) → slice_get xs i ≡ Some x → f y ≡ f x → sum_by f (slice_set xs i y) ≡ sum_by f xs
@@ -74,7 +74,7 @@ module _ (plan : Shape) (m : Moment) (d : Down) (node : Node) (lane with : CoreL
     where
       here : (◌≡◌ {A = Down} (record { node = k; lane = l }) d) × (lane_at now (record { node = k; lane = l }) ≡ Some with) × (lane_at m (record { node = k; lane = l }) ≡ Some lane) → IsWork plan now k l epoch floor number records delivered
       here c =
-          let same : h.lane ≡ lane = some_is h.lane lane (sym h.there ∙ c.2) in
+          let same : h.lane ≡ lane = same_Some h.lane lane (sym h.there ∙ c.2) in
           let o = kept.out epoch number h.cont (ap (λ (x : CoreLane). cont_at epoch x.conts) (sym same) ∙ h.of_epoch) h.is_out in
           record { lane = with; there = c.1; cont = o.0; of_epoch = o.1; floor_is = o.2 ∙ h.floor_is; is_out = o.3; times = h.times; only_pardo = h.only_pardo }
 
@@ -102,7 +102,7 @@ module _ (plan : Shape) (m : Moment) (d : Down) (node : Node) (lane with : CoreL
 
       here : (◌≡◌ {A = Down} (record { node = k; lane = l }) d) × (lane_at now (record { node = k; lane = l }) ≡ Some with) × (lane_at m (record { node = k; lane = l }) ≡ Some lane) → (x : CoreLane) × (lane_at now (record { node = k; lane = l }) ≡ Some x) × (first_is_closing x.conts ≡ true) × (epoch ≡ x.ended)
       here c =
-          let same : h.lane ≡ lane = some_is h.lane lane (sym h.there ∙ c.2) in
+          let same : h.lane ≡ lane = same_Some h.lane lane (sym h.there ∙ c.2) in
           (with, c.1, kept.closing ∙ ap (λ (x : CoreLane). first_is_closing x.conts) (sym same) ∙ h.closing, h.epoch_is ∙ ap (λ (x : CoreLane). x.ended) same ∙ sym kept.ended)
 
       there : lane_at now (record { node = k; lane = l }) ≡ lane_at m (record { node = k; lane = l }) → (x : CoreLane) × (lane_at now (record { node = k; lane = l }) ≡ Some x) × (first_is_closing x.conts ≡ true) × (epoch ≡ x.ended)
@@ -116,12 +116,12 @@ module _ (plan : Shape) (m : Moment) (d : Down) (node : Node) (lane with : CoreL
   frame lawful ok holds one closings unpassed =
       record {
         nodes = length-set m.nodes d.node (set_lane d.lane with node) ∙ lawful.nodes;
-        lanes = λ e x h. ⊎_elim (λ c. subst (λ y. IsLane (bound_at plan e.node) y) (some_is with x (sym c.1 ∙ h)) (subst (λ (e : Down). IsLane (bound_at plan e.node) with) (sym c.0) ok)) (λ c. lawful.lanes e x (sym c ∙ h)) (cases e);
+        lanes = λ e x h. ⊎_elim (λ c. subst (λ y. IsLane (bound_at plan e.node) y) (same_Some with x (sym c.1 ∙ h)) (subst (λ (e : Down). IsLane (bound_at plan e.node) with) (sym c.0) ok)) (λ c. lawful.lanes e x (sym c ∙ h)) (cases e);
         one_lane = λ k h. of_node (λ n. length n.lanes) (length-set node.lanes d.lane with) k ∙ lawful.one_lane k h;
         holds = holds;
         one_close = λ k. omega (arith, one k, lawful.one_close k);
         closing_held = λ e x h c. closings e ∙ ⊎_elim
-            (λ y. lawful.closing_held e lane y.2 (sym kept.closing ∙ ap (λ (x : CoreLane). first_is_closing x.conts) (some_is with x (sym y.1 ∙ h)) ∙ c))
+            (λ y. lawful.closing_held e lane y.2 (sym kept.closing ∙ ap (λ (x : CoreLane). first_is_closing x.conts) (same_Some with x (sym y.1 ∙ h)) ∙ c))
             (λ y. lawful.closing_held e x (sym y ∙ h) c) (cases e);
         below = λ k s is. below_still k s (lawful.below k s is);
         closings = λ k. of_node (λ n. n.closings) refl k ∙ lawful.closings k ∙ sym (of_node (λ n. sum_by begun n.lanes) (sum_by-set_at begun node.lanes d.lane lane with in_it begun_same) k);

@@ -5,6 +5,7 @@ use Rattle.std.specs.Prelude.{◌&&◌}
 use Rattle.std.specs.List.{flat_map, sum_by, slice_get}
 use Rattle.std.proofs.lemmas.List.Sums.{sum_by-append}
 use Rattle.std.proofs.lemmas.List.Concat.{flat_map-append}
+use Rattle.std.proofs.lemmas.Option.{same_Some}
 use Rattle.sb_record.specs.declared.item.Record.{Record}
 use Rattle.sb_pipeline.specs.declared.transform.KeptRec.{KeptRec}
 use Rattle.sb_core.specs.declared.moment.Node.{Node}
@@ -25,7 +26,6 @@ use Rattle.sb_core.specs.Moments.{lane_at, with_lane, set_lane, set_node, with_h
 use Rattle.sb_core.specs.Exactness.{waiting_in, waiting_from, working, undelivered, rest, gives_by, gives}
 use Rattle.sb_record.proofs.Sums.{SameSums, SameSums-map, SameSums-flat_map, SameSums-filter}
 use Rattle.sb_core.proofs.Flow.{brought}
-use Rattle.sb_core.proofs.Lists.{some_is}
 use Rattle.sb_core.proofs.Groupings.{grouped-order}
 use Rattle.sb_core.proofs.Nodes.{begun_mark, waiting-changed, kept-changed, closed-changed}
 
@@ -75,8 +75,8 @@ lane_at-parts m d lane h = bind_some (slice_get m.nodes d.node) _ lane h
 pub with_lane-is : (m : Moment) (d : Down) (node : Node) (lane : CoreLane) (m' : Moment) → slice_get m.nodes d.node ≡ Some node → with_lane d lane m ≡ Some m' → set_node d.node (set_lane d.lane lane node) m ≡ m'
 with_lane-is m d node lane m' at h =
     let b = bind_some (slice_get m.nodes d.node) _ m' h in
-    let same : b.0 ≡ node = some_is _ _ (sym b.1 ∙ at) in
-    ap (λ n. set_node d.node (set_lane d.lane lane n) m) (sym same) ∙ some_is _ _ b.2
+    let same : b.0 ≡ node = same_Some _ _ (sym b.1 ∙ at) in
+    ap (λ n. set_node d.node (set_lane d.lane lane n) m) (sym same) ∙ same_Some _ _ b.2
 
 -- a Work that is not delivered is work of its node
 pub working_is : (f : KeptRec → ℕ) (k : ℕ) (d : Down) (epoch floor number : ℕ) (records : List Record)

@@ -2,10 +2,12 @@
 use Rattle.std.proofs.Common.{◌≡◌, ℕ, ◌+◌, ◌-◌, ◌≤◌, ◌<◌, Bool, true, false, not, cond, eqb, ltb, List, [], ◌∷◌, ◌++◌, sym, refl, ap, ◌∙◌, arith, append-nil, ⊎_elim}
 use Rattle.std.specs.Prelude.{◌&&◌, nat_lt}
 use Rattle.std.specs.List.{filter, sum_by}
-use Rattle.std.proofs.lemmas.Bool.{lt-ltb, le-ltb, ltb-true, ltb-false, cases_lt}
-use Rattle.std.proofs.lemmas.List.Sums.{sum_by-append, sum_by-cons}
+use Rattle.std.proofs.Math.Bool.{and_comm}
+use Rattle.std.proofs.lemmas.Bool.{lt-ltb, le-ltb, ltb-true, ltb-false, cases_lt, and_parts, not-true}
+use Rattle.std.proofs.lemmas.List.{nil_from_length, map-append}
+use Rattle.std.proofs.lemmas.List.Sums.{sum_by-append, length-filter}
 use Rattle.std.proofs.lemmas.List.Filters.{sum_by-filter_both}
-use Rattle.std.proofs.lemmas.List.Elements.{filter-append}
+use Rattle.std.proofs.lemmas.List.Elements.{filter-append, filter_agree}
 use Rattle.sb_record.specs.declared.item.Record.{Record}
 use Rattle.sb_record.specs.Records.{record_cmp, sorted, before, at_least}
 use Rattle.sb_record.proofs.Sums.{SameSums, sum_by-map, SameSums-map, SameSums-filter}
@@ -19,7 +21,7 @@ use Rattle.sb_join.specs.declared.join.Combine.{Combine}
 use Rattle.sb_join.specs.Joins.{join_rows}
 use Rattle.sb_join.proofs.Pairs.{join_rows-same, join_rows-reordered}
 use Rattle.sb_pipeline.specs.declared.transform.KeptRec.{KeptRec}
-use Rattle.sb_pipeline.specs.Elements.{of_lane, all_records}
+use Rattle.sb_pipeline.specs.Elements.{on_lane, of_lane, all_records}
 use Rattle.sb_pipeline.specs.Operators.{WindowOperator, grouped}
 use Rattle.sb_pipeline.specs.Operators.WindowOperator.{Aggregated, Joined}
 use Rattle.sb_core.specs.Closings.{still_open}
@@ -35,13 +37,12 @@ filter_twice {X} p q (x ∷ l) = by_case (q x) (p x) refl (filter_twice p q l)
     by_case false true e h = h
     by_case false false e h = h
 
-filter_same : {X : Type 0} (p q : X → Bool) → ((x : X) → p x ≡ q x) → (l : List X) → filter p l ≡ filter q l
-filter_same p q same [] = refl
-filter_same p q same (x ∷ l) = λ i. cond (same x i) (x ∷ filter_same p q same l i) (filter_same p q same l i)
-
 pub all_records-append : (es fs : List KeptRec) → all_records (es ++ fs) ≡ all_records es ++ all_records fs
-all_records-append [] fs = refl
-all_records-append (e ∷ es) fs = ap (λ l. e.rec ∷ l) (all_records-append es fs)
+all_records-append = map-append (λ e. e.rec)
+
+pub all_records-on_lane : (l : ℕ) (rs : List Record) → all_records (on_lane l rs) ≡ rs
+all_records-on_lane l [] = refl
+all_records-on_lane l (r ∷ rs) = ap (λ rs. r ∷ rs) (all_records-on_lane l rs)
 
 pub all_records-filter : (p : Record → Bool) (es : List KeptRec) → all_records (filter (λ e. p e.rec) es) ≡ filter p (all_records es)
 all_records-filter p [] = refl
@@ -66,26 +67,13 @@ early_records : (mark : ℕ) (es : List KeptRec) → sum_by (early_one mark) es 
 early_records mark es h = sum_by-map (early mark) (λ e. e.rec) es ∙ h
 
 early_in_lane : (mark l : ℕ) (es : List KeptRec) → sum_by (early_one mark) es ≡ 0 → sum_by (early mark) (of_lane l es) ≡ 0
-early_in_lane mark l es late = sum_by-map (early mark) (λ (e : KeptRec). e.rec) (filter (λ e. eqb e.lane l) es) ∙ none es late
-  where
-    none : (es : List KeptRec) → sum_by (early_one mark) es ≡ 0 → sum_by (early_one mark) (filter (λ e. eqb e.lane l) es) ≡ 0
-    none [] h = refl
-    none (e ∷ es) h = by_case (eqb e.lane l) (omega (arith, sum_by-cons (early_one mark) e es)) (none es (omega (arith, sum_by-cons (early_one mark) e es)))
-      where
-        by_case : (b : Bool) → early_one mark e ≡ 0 → sum_by (early_one mark) (filter (λ e. eqb e.lane l) es) ≡ 0 → sum_by (early_one mark) (cond b (e ∷ filter (λ e. eqb e.lane l) es) (filter (λ e. eqb e.lane l) es)) ≡ 0
-        by_case true a k = sum_by-cons (early_one mark) e (filter (λ e. eqb e.lane l) es) ∙ (λ i. a i + k i)
-        by_case false a k = k
+early_in_lane mark l es late =
+    sum_by-map (early mark) (λ (e : KeptRec). e.rec) (filter (λ e. eqb e.lane l) es)
+    ∙ omega (arith, sum_by-filter_both (λ (e : KeptRec). eqb e.lane l) (λ e. not (eqb e.lane l)) (λ e. refl) (early_one mark) es, late)
 
 -- where none is early, none is before the mark
 pub none_before : (mark : ℕ) (coming : List Record) → sum_by (early mark) coming ≡ 0 → before mark coming ≡ []
-none_before mark [] h = refl
-none_before mark (r ∷ l) h =
-    let rest : before mark l ≡ [] = none_before mark l (omega (arith, sum_by-cons (early mark) r l)) in
-    λ i. cond (late (ltb r.time mark) refl (omega (arith, sum_by-cons (early mark) r l)) i) (r ∷ rest i) (rest i)
-  where
-    late : (b : Bool) → ltb r.time mark ≡ b → cond {A = ℕ} (ltb r.time mark) 1 0 ≡ 0 → ltb r.time mark ≡ false
-    late true e h = let k : cond {A = ℕ} (ltb r.time mark) 1 0 ≡ 1 = ap (λ b. cond {A = ℕ} b 1 0) e in absurd (omega (arith, h, k))
-    late false e h = e
+none_before mark coming h = nil_from_length (before mark coming) (length-filter (λ r. nat_lt r.time mark) coming ∙ h)
 
 -- ---- the same records in the keyed windows of some times
 -- in those closed at a mark, whatever comes late
@@ -130,14 +118,8 @@ grouped-below (Joined combine windows) t mark low kept es late =
 -- what of a lane stays open
 lane-open : (combine : Combine) (windows : Spacing) (mark l : ℕ) (kept : List KeptRec) → of_lane l (still_open (Joined combine windows) mark kept) ≡ filter (is_open_at windows mark) (of_lane l kept)
 lane-open combine windows mark l kept =
-    ap all_records (filter_twice (λ (e : KeptRec). eqb e.lane l) (λ e. is_open_at windows mark e.rec) kept ∙ filter_same _ (λ e. is_open_at windows mark e.rec && eqb e.lane l) (λ e. and_swap (eqb e.lane l) (is_open_at windows mark e.rec)) kept ∙ sym (filter_twice (λ (e : KeptRec). is_open_at windows mark e.rec) (λ e. eqb e.lane l) kept))
+    ap all_records (filter_twice (λ (e : KeptRec). eqb e.lane l) (λ e. is_open_at windows mark e.rec) kept ∙ filter_agree _ (λ e. is_open_at windows mark e.rec && eqb e.lane l) (λ e. and_comm (eqb e.lane l) (is_open_at windows mark e.rec)) kept ∙ sym (filter_twice (λ (e : KeptRec). is_open_at windows mark e.rec) (λ e. eqb e.lane l) kept))
     ∙ all_records-filter (is_open_at windows mark) (filter (λ e. eqb e.lane l) kept)
-  where
-    and_swap : (a b : Bool) → (a && b) ≡ (b && a)
-    and_swap true true = refl
-    and_swap true false = refl
-    and_swap false true = refl
-    and_swap false false = refl
 
 -- the rows of times from the mark on are given by what stays open
 grouped-above : (g : WindowOperator) (t : ℕ → Bool) (mark : ℕ) → ((x : ℕ) → t x ≡ true → mark ≤ x) → (kept es : List KeptRec) → when t (grouped g (kept ++ es)) ≡ when t (grouped g (still_open g mark kept ++ es))
@@ -174,11 +156,7 @@ grouped-closing g floor mark kept es rises late f =
     own = grouped g kept
 
     is_before : (x : ℕ) → (ltb x mark && not (ltb x floor)) ≡ true → x < mark
-    is_before x h = ltb-true x mark (first (ltb x mark) _ h)
-      where
-        first : (a b : Bool) → (a && b) ≡ true → a ≡ true
-        first true b h = refl
-        first false b h = cc
+    is_before x h = ltb-true x mark (and_parts (ltb x mark) _ h).0
 
     below : sum_by f (before mark (at_least floor all)) ≡ sum_by f (sorted (before mark (at_least floor own)))
     below =
@@ -192,15 +170,11 @@ grouped-closing g floor mark kept es rises late f =
     both x = ⊎_elim (λ b. (λ i. not (lt-ltb x mark b i) && not (ltb x floor)) ∙ sym (ap not (lt-ltb x mark b))) (λ a. (λ i. not (le-ltb x mark a i) && not (le-ltb x floor (omega arith) i)) ∙ sym (ap not (le-ltb x mark a))) (cases_lt x mark)
 
     from : (x : ℕ) → not (ltb x mark) ≡ true → mark ≤ x
-    from x h = by_case (ltb x mark) refl h
-      where
-        by_case : (b : Bool) → ltb x mark ≡ b → not b ≡ true → mark ≤ x
-        by_case true e h = cc
-        by_case false e h = ltb-false x mark e
+    from x h = ltb-false x mark (not-true (ltb x mark) h)
 
     above : sum_by f (at_least mark (at_least floor all)) ≡ sum_by f (at_least mark (grouped g (still_open g mark kept ++ es)))
     above =
         ap (sum_by f) (
         filter_twice (λ r. not (nat_lt r.time mark)) (λ r. not (nat_lt r.time floor)) all
-        ∙ filter_same _ (λ r. not (nat_lt r.time mark)) (λ r. both r.time) all
+        ∙ filter_agree _ (λ r. not (nat_lt r.time mark)) (λ r. both r.time) all
         ∙ grouped-above g (λ x. not (ltb x mark)) mark from kept es)

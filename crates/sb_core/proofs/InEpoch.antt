@@ -3,11 +3,20 @@ use Rattle.std.proofs.Common.{◌≡◌, ℕ, ◌+◌, ◌≤◌, ◌<◌, Bool,
 use Rattle.std.specs.Prelude.{◌≢◌}
 use Rattle.std.specs.List.{list_any, AllByRecursion}
 use Rattle.std.proofs.lemmas.Bool.{eq-eqb, ne_eqb, cases_eq, cases_lt, eqb-true, lt-ltb}
+use Rattle.std.proofs.lemmas.Option.{same_Some}
 use Rattle.sb_core.specs.declared.moment.Cont.{Cont}
 use Rattle.sb_core.specs.Lanes.{fresh, in_epoch}
 use Rattle.sb_core.specs.LaneOrder.{AreOpen, AreContainers, IsReady, cont_at}
-use Rattle.sb_core.proofs.Lists.{some_is}
 use Rattle.sb_core.proofs.LaneLaws.{passes_by}
+
+-- ---- containers of which none is closing
+pub tail_calm : (cs : List Cont) → AllByRecursion (λ c. c.closing ≡ false) cs → AllByRecursion (λ c. c.closing ≡ false) (drop 1 cs)
+tail_calm [] all = tt
+tail_calm (c ∷ cs) all = all.1
+
+pub ready_calm : (cs : List Cont) → AllByRecursion (λ c. c.closing ≡ false) cs → IsReady cs
+ready_calm [] all = tt
+ready_calm (c ∷ cs) all = λ h. let k : false ≡ true = sym all.0 ∙ h in cc
 
 -- ---- what is out stays out
 module _ (bound epoch floor : ℕ) (change : Cont → Cont) (epochs : (c : Cont) → (change c).epoch ≡ c.epoch) (floors : (c : Cont) → (change c).floor ≡ c.floor) (outs : (c : Cont) → (change c).out ≡ c.out) (closes : (c : Cont) → (change c).closing ≡ c.closing) where
@@ -41,7 +50,7 @@ module _ (bound epoch floor : ℕ) (change : Cont → Cont) (epochs : (c : Cont)
           (subst (λ z. (d : Cont) × (cond (eqb z at) (Some (change x)) (cont_at at cs) ≡ Some d) × (d.floor ≡ c.floor) × (list_any (λ n. eqb n number) d.out ≡ true)) (sym (epochs x)) (by_case (eqb x.epoch at) h))
         where
           by_case : (a : Bool) → cond a (Some x) (cont_at at cs) ≡ Some c → (d : Cont) × (cond a (Some (change x)) (cont_at at cs) ≡ Some d) × (d.floor ≡ c.floor) × (list_any (λ n. eqb n number) d.out ≡ true)
-          by_case true h = let k : x ≡ c = some_is x c h in (change x, refl, floors x ∙ ap (λ (c : Cont). c.floor) k, ap (list_any (λ n. eqb n number)) (outs x) ∙ ap (λ (c : Cont). list_any (λ n. eqb n number) c.out) k ∙ out)
+          by_case true h = let k : x ≡ c = same_Some x c h in (change x, refl, floors x ∙ ap (λ (c : Cont). c.floor) k, ap (list_any (λ n. eqb n number)) (outs x) ∙ ap (λ (c : Cont). list_any (λ n. eqb n number) c.out) k ∙ out)
           by_case false h = (c, h, refl, out)
 
       new : x.epoch ≢ epoch → epoch < x.epoch → (cont_at at cs ≡ Some c → (d : Cont) × (cont_at at (in_epoch epoch floor change cs) ≡ Some d) × (d.floor ≡ c.floor) × (list_any (λ n. eqb n number) d.out ≡ true))
@@ -97,14 +106,6 @@ module _ (bound epoch floor : ℕ) (change : Cont → Cont) (epochs : (c : Cont)
   pub open_calm : (n g e f : ℕ) (cs : List Cont) → AreOpen bound n g e f cs → AllByRecursion (λ c. c.closing ≡ false) cs
   open_calm n g e f [] are = tt
   open_calm n g e f (c ∷ cs) are = (are.0.not_closing, open_calm n g (c.epoch + 1) c.floor cs are.1)
-
-  pub tail_calm : (cs : List Cont) → AllByRecursion (λ c. c.closing ≡ false) cs → AllByRecursion (λ c. c.closing ≡ false) (drop 1 cs)
-  tail_calm [] all = tt
-  tail_calm (c ∷ cs) all = all.1
-
-  pub ready_calm : (cs : List Cont) → AllByRecursion (λ c. c.closing ≡ false) cs → IsReady cs
-  ready_calm [] all = tt
-  ready_calm (c ∷ cs) all = λ h. let k : false ≡ true = sym all.0 ∙ h in cc
 
   pub others_calm : (e f : ℕ) (ms : List ℕ) (cs : List Cont) → AreContainers bound e f ms cs → e + length ms ≤ epoch → AllByRecursion (λ c. c.closing ≡ false) (drop 1 cs) → AllByRecursion (λ c. c.closing ≡ false) (drop 1 (in_epoch epoch floor change cs))
   others_calm e f [] cs are h all = tail_calm (in_epoch epoch floor change cs) (all_calm cs (open_calm e f e f cs are))

@@ -4,6 +4,7 @@ use Rattle.std.proofs.Common.{◌≡◌, ℕ, ◌+◌, ◌≤◌, ◌<◌, Bool,
 use Rattle.std.specs.Prelude.{◌≢◌}
 use Rattle.std.specs.List.{filter, list_any, AllByRecursion}
 use Rattle.std.proofs.lemmas.Bool.{eq-eqb, ne_eqb, cases_eq, lt-ltb, le-ltb, cases_lt}
+use Rattle.std.proofs.lemmas.Option.{same_Some}
 use Rattle.sb_record.specs.declared.item.Record.{Record}
 use Rattle.sb_bundle.specs.declared.bundle.Bundle.{Bundle}
 use Rattle.sb_core.specs.declared.moment.Cont.{Cont}
@@ -13,7 +14,6 @@ use Rattle.sb_core.specs.Choices.{pulled}
 use Rattle.sb_core.specs.LaneOrder.{NeverFalls, IsWithin, IsBundleOf, IsSealed, IsOpen, AreOpen, AreContainers}
 use Rattle.sb_core.proofs.Fitting.{Fits}
 use Rattle.sb_core.proofs.HeldLists.{All-last}
-use Rattle.sb_core.proofs.Lists.{some_is}
 
 -- the last of the marks, or what was before them
 abbrev pub last_from : ℕ → List ℕ → ℕ
@@ -165,10 +165,10 @@ All-pulled P p [] q h all = cc
 All-pulled {X} P p (y ∷ xs) q h all = by_case (p y) h (λ r e. All-pulled P p xs r e all.1)
   where
     by_case : (b : Bool) → cond {A = Option (X × List X)} b (Some (y, xs)) (pulled p xs >>= λ q. Some (q.0, y ∷ q.1)) ≡ Some q → ((r : X × List X) → pulled p xs ≡ Some r → P r.0 × AllByRecursion P r.1) → P q.0 × AllByRecursion P q.1
-    by_case true h ih = subst (λ (r : X × List X). P r.0 × AllByRecursion P r.1) (some_is _ _ h) all
+    by_case true h ih = subst (λ (r : X × List X). P r.0 × AllByRecursion P r.1) (same_Some _ _ h) all
     by_case false h ih =
         let b = bind_some (pulled p xs) (λ (q : X × List X). Some (q.0, y ∷ q.1)) q h in
-        let same : ◌≡◌ {A = X × List X} (b.0.0, y ∷ b.0.1) q = some_is _ _ b.2 in
+        let same : ◌≡◌ {A = X × List X} (b.0.0, y ∷ b.0.1) q = same_Some _ _ b.2 in
         let k = ih b.0 b.1 in
         subst (λ (r : X × List X). P r.0 × AllByRecursion P r.1) same (k.0, (all.0, k.1))
 
@@ -219,11 +219,11 @@ take_from-differ bound number (c ∷ cs) q h = by_case (list_any (λ b. eqb b.nu
         → ((r : Bundle × List Cont) → take_from number cs ≡ Some r → DifferInBundles bound cs r.1) → DifferInBundles bound (c ∷ cs) q.1
     by_case true h ih =
         let b = bind_some (pulled (λ b. eqb b.number number) c.waiting) _ q h in
-        let same : ◌≡◌ {A = Bundle × List Cont} (b.0.0, record c { waiting = b.0.1; out = c.out ++ number ∷ [] } ∷ cs) q = some_is _ _ b.2 in
+        let same : ◌≡◌ {A = Bundle × List Cont} (b.0.0, record c { waiting = b.0.1; out = c.out ++ number ∷ [] } ∷ cs) q = same_Some _ _ b.2 in
         subst (λ (r : Bundle × List Cont). DifferInBundles bound (c ∷ cs) r.1) same (refl, λ all. (All-pulled (IsBundleOf bound c) (λ b. eqb b.number number) c.waiting b.0 b.1 all).1, differ-refl bound cs)
     by_case false h ih =
         let b = bind_some (take_from number cs) _ q h in
-        let same : ◌≡◌ {A = Bundle × List Cont} (b.0.0, c ∷ b.0.1) q = some_is _ _ b.2 in
+        let same : ◌≡◌ {A = Bundle × List Cont} (b.0.0, c ∷ b.0.1) q = same_Some _ _ b.2 in
         subst (λ (r : Bundle × List Cont). DifferInBundles bound (c ∷ cs) r.1) same (refl, λ all. all, ih b.0 b.1)
 
 pub finish_in-differ : (bound epoch number : ℕ) (cs : List Cont) → DifferInBundles bound cs (finish_in epoch number cs)

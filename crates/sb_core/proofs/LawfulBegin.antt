@@ -8,6 +8,7 @@ use Rattle.std.proofs.lemmas.Bool.{eq-eqb, ne_eqb, cases_eq, eqb-true, eqb-false
 use Rattle.std.proofs.lemmas.List.Sums.{sum_by-append, sum_by-cons}
 use Rattle.std.proofs.lemmas.List.Folds.{list_any-append}
 use Rattle.std.proofs.Math.Bool.{or-true}
+use Rattle.std.proofs.lemmas.Option.{same_Some}
 use Rattle.sb_record.specs.declared.item.Record.{Record}
 use Rattle.sb_bundle.specs.declared.bundle.Bundle.{Bundle}
 use Rattle.sb_core.specs.declared.moment.Cont.{Cont}
@@ -34,7 +35,7 @@ use Rattle.sb_core.specs.Bounds.{bound_at}
 use Rattle.sb_core.specs.Holdings.{IsWork, IsHeld, is_unpassed}
 use Rattle.sb_core.specs.Soundness.{IsSealedBelow}
 use Rattle.sb_core.proofs.Orderly.{IsLawful}
-use Rattle.sb_core.proofs.Lists.{some_is, cond_is_some, empty_is}
+use Rattle.sb_core.proofs.Lists.{cond_is_some, empty_is}
 use Rattle.sb_core.proofs.Nodes.{begun_mark, slice_get-set_same, lane_at-set, lane_at-cases, node_at-same, node_at-set_same, node_at-set_other}
 use Rattle.sb_core.proofs.HeldLists.{All-last}
 use Rattle.sb_core.proofs.InTime.{last_of_first-rises}
@@ -57,7 +58,7 @@ closable-is epoch (x ∷ cs) c h =
     let b = and_parts (eqb x.epoch epoch) _ a.0 in
     let d = and_parts (is_some x.mark) _ b.1 in
     let e = and_parts (is_empty x.waiting) (is_empty x.out) d.1 in
-    let same : x ≡ c = some_is x c a.1 in
+    let same : x ≡ c = same_Some x c a.1 in
     subst (IsClosable epoch (x ∷ cs)) same (record { rest = cs; is = refl; of_epoch = eqb-true x.epoch epoch b.0; marked = d.0; none_waits = empty_is x.waiting e.0; none_out = empty_is x.out e.1 })
 
 -- the least over the lanes rises with one of them
@@ -106,7 +107,7 @@ begun-out epoch number (x ∷ cs) c h out = by_case (eqb x.epoch epoch) refl h
     by_case : (b : Bool) → eqb x.epoch epoch ≡ b → cond b (Some x) (cont_at epoch cs) ≡ Some c
         → (d : Cont) × (cond (eqb x.epoch epoch) (Some (record x { closing = true })) (cont_at epoch cs) ≡ Some d) × (d.floor ≡ c.floor) × (list_any (λ n. eqb n number) d.out ≡ true)
     by_case true e h =
-        let k : x ≡ c = some_is x c h in
+        let k : x ≡ c = same_Some x c h in
         (record x { closing = true }, ap (λ b. cond b (Some (record x { closing = true })) (cont_at epoch cs)) e, ap (λ (c : Cont). c.floor) k, ap (λ (c : Cont). list_any (λ n. eqb n number) c.out) k ∙ out)
     by_case false e h = (c, ap (λ b. cond b (Some (record x { closing = true })) (cont_at epoch cs)) e ∙ h, refl, out)
 
@@ -216,7 +217,7 @@ module _ (plan : Shape) (m : Moment) (n l : ℕ) (node : Node) (lane : CoreLane)
     where
       here : (◌≡◌ {A = Down} (record { node = k; lane = i }) (record { node = n; lane = l })) × (lane_at after (record { node = k; lane = i }) ≡ Some begun_l) × (lane_at m (record { node = k; lane = i }) ≡ Some lane) → IsWork plan after k i epoch floor number records delivered
       here x =
-          let same : h.lane ≡ lane = some_is h.lane lane (sym h.there ∙ x.2) in
+          let same : h.lane ≡ lane = same_Some h.lane lane (sym h.there ∙ x.2) in
           let o = begun-out epoch number lane.conts h.cont (ap (λ (x : CoreLane). cont_at epoch x.conts) (sym same) ∙ h.of_epoch) h.is_out in
           record { lane = begun_l; there = x.1; cont = o.0; of_epoch = o.1; floor_is = o.2 ∙ h.floor_is; is_out = o.3; times = h.times; only_pardo = h.only_pardo }
 
@@ -295,7 +296,7 @@ module _ (plan : Shape) (m : Moment) (n l : ℕ) (node : Node) (lane : CoreLane)
     begin-lawful =
         record {
           nodes = length-set m.nodes n begun_n ∙ lawful.nodes;
-          lanes = λ e x h. ⊎_elim (λ y. subst (λ z. IsLane (bound_at plan e.node) z) (some_is begun_l x (sym y.1 ∙ h)) (subst (λ (e : Down). IsLane (bound_at plan e.node) begun_l) (sym y.0) ok.0)) (λ y. lawful.lanes e x (sym y ∙ h)) (cases e);
+          lanes = λ e x h. ⊎_elim (λ y. subst (λ z. IsLane (bound_at plan e.node) z) (same_Some begun_l x (sym y.1 ∙ h)) (subst (λ (e : Down). IsLane (bound_at plan e.node) begun_l) (sym y.0) ok.0)) (λ y. lawful.lanes e x (sym y ∙ h)) (cases e);
           one_lane = λ k h. ⊎_elim
               (λ e. ap (λ k. length (node_at after k).lanes) e ∙ ap (λ (x : Node). length x.lanes) this_node ∙ length-set node.lanes l begun_l ∙ ap (λ (x : Node). length x.lanes) (sym (node_at-same m n node node at)) ∙ ap (λ k. length (node_at m k).lanes) (sym e) ∙ lawful.one_lane k h)
               (λ ne. ap (λ (x : Node). length x.lanes) (other_node k ne) ∙ lawful.one_lane k h) (cases_eq k n);

@@ -9,6 +9,7 @@ use Rattle.std.proofs.lemmas.Bool.{eq-eqb, ne_eqb}
 use Rattle.std.proofs.lemmas.List.Sums.{sum_by-append}
 use Rattle.std.proofs.lemmas.List.Folds.{list_any-append}
 use Rattle.std.proofs.Math.Bool.{or-true, or-false}
+use Rattle.std.proofs.lemmas.Option.{same_Some}
 use Rattle.sb_bundle.specs.declared.bundle.Bundle.{Bundle}
 use Rattle.sb_core.specs.declared.moment.Cont.{Cont}
 use Rattle.sb_core.specs.declared.moment.CoreLane.{CoreLane}
@@ -28,7 +29,6 @@ use Rattle.sb_core.specs.LaneOrder.{IsWithin, IsBundleOf, AreOpen, AreContainers
 use Rattle.sb_core.specs.Bounds.{bound_at}
 use Rattle.sb_core.specs.Holdings.{IsHeld, is_unpassed}
 use Rattle.sb_core.proofs.Orderly.{IsLawful}
-use Rattle.sb_core.proofs.Lists.{some_is}
 use Rattle.sb_core.proofs.Nodes.{slice_get-set_same}
 use Rattle.sb_core.proofs.Frame.{IsKept, frame, holds_still}
 use Rattle.sb_core.proofs.Gives.{lane_at-parts, with_lane-is}
@@ -42,11 +42,10 @@ record IsTaken (bound number : ℕ) (b : Bundle) (cs : List Cont) : Type 0 where
   floor_is : cont.floor ≡ b.floor
   is_out : list_any (λ n. eqb n number) cont.out ≡ true
   times : IsWithin b.floor bound b.records
-  from : ℕ
 
 -- a container of an earlier epoch is passed over
 taken_later : (bound number : ℕ) (b : Bundle) (c : Cont) (cs : List Cont) → c.epoch < b.epoch → IsTaken bound number b cs → IsTaken bound number b (c ∷ cs)
-taken_later bound number b c cs h t = record { cont = t.cont; of_epoch = ap (λ a. cond a (Some c) (cont_at b.epoch cs)) (ne_eqb c.epoch b.epoch (λ e. omega arith)) ∙ t.of_epoch; floor_is = t.floor_is; is_out = t.is_out; times = t.times; from = 0 }
+taken_later bound number b c cs h t = record { cont = t.cont; of_epoch = ap (λ a. cond a (Some c) (cont_at b.epoch cs)) (ne_eqb c.epoch b.epoch (λ e. omega arith)) ∙ t.of_epoch; floor_is = t.floor_is; is_out = t.is_out; times = t.times }
 
 -- from the container in hand
 taken_here : (bound number : ℕ) (b : Bundle) (c : Cont) (waiting : List Bundle) (cs : List Cont) → IsBundleOf bound c b → IsTaken bound number b (record c { waiting = waiting; out = c.out ++ number ∷ [] } ∷ cs)
@@ -57,7 +56,6 @@ taken_here bound number b c waiting cs h =
       floor_is = sym h.floor;
       is_out = list_any-append (λ n. eqb n number) c.out (number ∷ []) ∙ ap (λ a. list_any (λ n. eqb n number) c.out || (a || false)) (eq-eqb number number refl) ∙ or-true (list_any (λ n. eqb n number) c.out);
       times = subst (λ n. IsWithin n bound b.records) (sym h.floor) h.times;
-      from = 0;
     }
 
 -- the bundle has an epoch from e on
@@ -74,12 +72,12 @@ take_step bound number c cs q h all ih = by_case (list_any (λ b. eqb b.number n
         → IsTakenFrom bound number c.epoch q.0 q.1
     by_case true h =
         let b = bind_some (pulled (λ b. eqb b.number number) c.waiting) _ q h in
-        let same : ◌≡◌ {A = Bundle × List Cont} (b.0.0, record c { waiting = b.0.1; out = c.out ++ number ∷ [] } ∷ cs) q = some_is _ _ b.2 in
+        let same : ◌≡◌ {A = Bundle × List Cont} (b.0.0, record c { waiting = b.0.1; out = c.out ++ number ∷ [] } ∷ cs) q = same_Some _ _ b.2 in
         let is = (All-pulled (IsBundleOf bound c) (λ b. eqb b.number number) c.waiting b.0 b.1 all).0 in
         subst (λ (r : Bundle × List Cont). IsTakenFrom bound number c.epoch r.0 r.1) same (record { taken = taken_here bound number b.0.0 c b.0.1 cs is; epoch_from = omega (arith, is.epoch) })
     by_case false h =
         let b = bind_some (take_from number cs) _ q h in
-        let same : ◌≡◌ {A = Bundle × List Cont} (b.0.0, c ∷ b.0.1) q = some_is _ _ b.2 in
+        let same : ◌≡◌ {A = Bundle × List Cont} (b.0.0, c ∷ b.0.1) q = same_Some _ _ b.2 in
         let k = ih b.0 b.1 in
         subst (λ (r : Bundle × List Cont). IsTakenFrom bound number c.epoch r.0 r.1) same (record { taken = taken_later bound number b.0.0 c b.0.1 (omega (arith, k.epoch_from)) k.taken; epoch_from = omega (arith, k.epoch_from) })
 
@@ -116,11 +114,11 @@ take_from-grows number (c ∷ cs) q h = by_case (list_any (λ b. eqb b.number nu
         → ((r : Bundle × List Cont) → take_from number cs ≡ Some r → OutGrows cs r.1) → OutGrows (c ∷ cs) q.1
     by_case true h ih =
         let b = bind_some (pulled (λ b. eqb b.number number) c.waiting) _ q h in
-        let same : ◌≡◌ {A = Bundle × List Cont} (b.0.0, record c { waiting = b.0.1; out = c.out ++ number ∷ [] } ∷ cs) q = some_is _ _ b.2 in
+        let same : ◌≡◌ {A = Bundle × List Cont} (b.0.0, record c { waiting = b.0.1; out = c.out ++ number ∷ [] } ∷ cs) q = same_Some _ _ b.2 in
         subst (λ (r : Bundle × List Cont). OutGrows (c ∷ cs) r.1) same (λ n k. list_any-append (λ x. eqb x n) c.out (number ∷ []) ∙ ap (λ a. a || list_any (λ x. eqb x n) (number ∷ [])) k, grows-refl cs)
     by_case false h ih =
         let b = bind_some (take_from number cs) _ q h in
-        let same : ◌≡◌ {A = Bundle × List Cont} (b.0.0, c ∷ b.0.1) q = some_is _ _ b.2 in
+        let same : ◌≡◌ {A = Bundle × List Cont} (b.0.0, c ∷ b.0.1) q = same_Some _ _ b.2 in
         subst (λ (r : Bundle × List Cont). OutGrows (c ∷ cs) r.1) same (λ n k. k, ih b.0 b.1)
 
 still_at : (bound epoch number : ℕ) (cs ds : List Cont) (c : Cont) → DifferInBundles bound cs ds → OutGrows cs ds → cont_at epoch cs ≡ Some c → list_any (λ n. eqb n number) c.out ≡ true
@@ -135,7 +133,7 @@ still_at bound epoch number (x ∷ cs) (y ∷ ds) c s g h out =
         → (cont_at epoch cs ≡ Some c → (d : Cont) × (cont_at epoch ds ≡ Some d) × (d.floor ≡ c.floor) × (list_any (λ n. eqb n number) d.out ≡ true))
         → (d : Cont) × (cont_at epoch (y ∷ ds) ≡ Some d) × (d.floor ≡ c.floor) × (list_any (λ n. eqb n number) d.out ≡ true)
     by_case true e h same ih =
-        let k : x ≡ c = some_is x c h in
+        let k : x ≡ c = same_Some x c h in
         (y, ap (λ b. cond b (Some y) (cont_at epoch ds)) (ap (λ n. eqb n epoch) same ∙ e), ap (λ (c : Cont). c.floor) (sym s.0) ∙ ap (λ (c : Cont). c.floor) k, g.0 number (subst (λ (c : Cont). list_any (λ n. eqb n number) c.out ≡ true) (sym k) out))
     by_case false e h same ih =
         let k = ih h in
@@ -171,7 +169,7 @@ take-ready number (c ∷ cs) q h ready = by_case c.closing refl
     by_case : (b : Bool) → c.closing ≡ b → IsReady q.1
     by_case true e =
         let b = bind_some (take_from number cs) _ q (sym (as_it_is (ready e).0) ∙ h) in
-        let same : ◌≡◌ {A = Bundle × List Cont} (b.0.0, c ∷ b.0.1) q = some_is _ _ b.2 in
+        let same : ◌≡◌ {A = Bundle × List Cont} (b.0.0, c ∷ b.0.1) q = same_Some _ _ b.2 in
         subst (λ (r : Bundle × List Cont). IsReady r.1) same ready
     by_case false e = not_closing q.1 (differ-closing 0 (c ∷ cs) q.1 (take_from-differ 0 number (c ∷ cs) q h) ∙ e)
       where

@@ -28,8 +28,7 @@ use Rattle.sb_core.specs.Soundness.{IsSealedBelow}
 use Rattle.sb_core.proofs.Orderly.{IsLawful}
 use Rattle.sb_record.proofs.Sums.{sum_by-flat_map, sum_by-map}
 use Rattle.sb_core.proofs.Nodes.{begun_mark}
-use Rattle.sb_core.proofs.Groupings.{early}
-use Rattle.sb_core.proofs.Groupings.{early_one}
+use Rattle.sb_core.proofs.Groupings.{early, early_one}
 use Rattle.sb_core.proofs.Timely.{zero_early, early_weaker, IsTimelyAt, IsTimely}
 use Rattle.sb_core.proofs.InTime.{lane_late, work_floor, begun_behind, closed_least}
 
@@ -152,9 +151,6 @@ module _ (plan : Shape) (m : Moment) (lawful : IsLawful plan m) where
         below = below;
         waiting = waiting_late;
         works = works_late;
-        seals = λ k l lane h. seals k l lane h;
+        seals = λ k l lane h. omega (arith, closed_before k l lane h, begun_behind (bound_at plan k) lane (lawful.lanes (record { node = k; lane = l }) lane h));
         sources = lawful.sources;
       }
-    where
-      seals : (k l : ℕ) (lane : CoreLane) → lane_at m (record { node = k; lane = l }) ≡ Some lane → closed (node_at m k).lanes ≤ next_floor lane
-      seals k l lane h = omega (arith, closed_before k l lane h, begun_behind (bound_at plan k) lane (lawful.lanes (record { node = k; lane = l }) lane h))

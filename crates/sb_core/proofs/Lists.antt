@@ -2,8 +2,10 @@
 use Rattle.sb_record.proofs.Numbers.{bind_some}
 use Rattle.std.proofs.Common.{◌≡◌, ℕ, ◌+◌, Bool, true, false, cond, eqb, ltb, List, [], ◌∷◌, ◌++◌, Some, None, Option, sym, refl, ap, ◌∙◌, arith, add_assoc}
 use Rattle.std.specs.List.{sum_by, flat_map, list_any}
+use Rattle.std.proofs.Math.Nat.{add_left_comm}
 use Rattle.std.proofs.lemmas.List.Sums.{sum_by-append, sum_by-cons}
 use Rattle.std.proofs.lemmas.List.Concat.{flat_map-append}
+use Rattle.std.proofs.lemmas.Option.{same_Some}
 use Rattle.sb_record.specs.declared.item.Record.{Record}
 use Rattle.sb_bundle.specs.declared.bundle.Bundle.{Bundle}
 use Rattle.sb_core.specs.declared.moment.Cont.{Cont}
@@ -16,16 +18,10 @@ pub cond_is_some : {X : Type 0} (b : Bool) (o : Option X) (x : X) → cond b o N
 cond_is_some true o x h = (refl, h)
 cond_is_some false o x h = cc
 
-pub some_is : {X : Type 0} (x y : X) → Some x ≡ Some y → x ≡ y
-some_is x y h = cc
-
 -- what the test for an empty list says
 pub empty_is : {X : Type 0} (l : List X) → is_empty l ≡ true → l ≡ []
 empty_is [] h = refl
 empty_is (x ∷ l) h = cc
-
-pub swap_front : (a b n : ℕ) → a + (b + n) ≡ b + (a + n)
-swap_front a b n = omega arith
 
 -- what was pulled out, and the rest
 pub SameSums-pulled : {X : Type 0} (p : X → Bool) (xs : List X) (q : X × List X) → pulled p xs ≡ Some q → SameSums xs (q.0 ∷ q.1)
@@ -34,12 +30,12 @@ SameSums-pulled {X} p (y ∷ xs) q h f = by_case (p y) h (λ r e. SameSums-pulle
   where
     by_case : (b : Bool) → cond {A = Option (X × List X)} b (Some (y, xs)) (pulled p xs >>= λ q. Some (q.0, y ∷ q.1)) ≡ Some q
         → ((r : X × List X) → pulled p xs ≡ Some r → sum_by f xs ≡ sum_by f (r.0 ∷ r.1)) → sum_by f (y ∷ xs) ≡ sum_by f (q.0 ∷ q.1)
-    by_case true h ih = ap (λ (r : X × List X). sum_by f (r.0 ∷ r.1)) (some_is _ _ h)
+    by_case true h ih = ap (λ (r : X × List X). sum_by f (r.0 ∷ r.1)) (same_Some _ _ h)
     by_case false h ih =
         let b = bind_some (pulled p xs) (λ (q : X × List X). Some (q.0, y ∷ q.1)) q h in
-        let same : ◌≡◌ {A = X × List X} (b.0.0, y ∷ b.0.1) q = some_is _ _ b.2 in
+        let same : ◌≡◌ {A = X × List X} (b.0.0, y ∷ b.0.1) q = same_Some _ _ b.2 in
         sum_by-cons f y xs ∙ ap (λ n. f y + n) (ih b.0 b.1 ∙ sum_by-cons f b.0.0 b.0.1)
-        ∙ swap_front (f y) (f b.0.0) (sum_by f b.0.1) ∙ sym (ap (λ n. f b.0.0 + n) (sum_by-cons f y b.0.1)) ∙ sym (sum_by-cons f b.0.0 (y ∷ b.0.1))
+        ∙ add_left_comm (f y) (f b.0.0) (sum_by f b.0.1) ∙ sym (ap (λ n. f b.0.0 + n) (sum_by-cons f y b.0.1)) ∙ sym (sum_by-cons f b.0.0 (y ∷ b.0.1))
         ∙ ap (λ (r : X × List X). sum_by f (r.0 ∷ r.1)) same
 
 -- the records that wait in containers
@@ -74,7 +70,7 @@ waiting-in_epoch epoch floor change more adds (c ∷ cs) f = by_case (eqb c.epoc
     on : sum_by f (waiting_of (in_epoch epoch floor change cs)) ≡ sum_by f (more ++ waiting_of cs) → sum_by f (waiting_of (c ∷ in_epoch epoch floor change cs)) ≡ sum_by f (more ++ waiting_of (c ∷ cs))
     on h =
         sum_by-append f (of_cont c) (waiting_of (in_epoch epoch floor change cs)) ∙ ap (λ n. sum_by f (of_cont c) + n) (h ∙ sum_by-append f more (waiting_of cs))
-        ∙ swap_front (sum_by f (of_cont c)) (sum_by f more) (sum_by f (waiting_of cs)) ∙ sym exact
+        ∙ add_left_comm (sum_by f (of_cont c)) (sum_by f more) (sum_by f (waiting_of cs)) ∙ sym exact
 
     by_case : (a b : Bool) → sum_by f (waiting_of (in_epoch epoch floor change cs)) ≡ sum_by f (more ++ waiting_of cs)
         → sum_by f (waiting_of (cond a (change c ∷ cs) (cond b (change (fresh epoch floor) ∷ c ∷ cs) (c ∷ in_epoch epoch floor change cs)))) ≡ sum_by f (more ++ waiting_of (c ∷ cs))
@@ -100,7 +96,7 @@ waiting-take_from number (c ∷ cs) q h f = by_case (list_any (λ b. eqb b.numbe
         → sum_by f (waiting_of (c ∷ cs)) ≡ sum_by f (q.0.records ++ waiting_of q.1)
     by_case true h ih =
         let b = bind_some (pulled (λ b. eqb b.number number) c.waiting) _ q h in
-        let same : ◌≡◌ {A = Bundle × List Cont} (b.0.0, record c { waiting = b.0.1; out = c.out ++ number ∷ [] } ∷ cs) q = some_is _ _ b.2 in
+        let same : ◌≡◌ {A = Bundle × List Cont} (b.0.0, record c { waiting = b.0.1; out = c.out ++ number ∷ [] } ∷ cs) q = same_Some _ _ b.2 in
         let got = SameSums-pulled (λ b. eqb b.number number) c.waiting b.0 b.1 (λ b. sum_by f b.records) in
         let one : sum_by f (of_cont c) ≡ sum_by f b.0.0.records + sum_by f (flat_map (λ b. b.records) b.0.1) =
         sum_by-flat_map f (λ b. b.records) c.waiting ∙ got ∙ sum_by-cons (λ b. sum_by f b.records) b.0.0 b.0.1 ∙ ap (λ n. sum_by f b.0.0.records + n) (sym (sum_by-flat_map f (λ b. b.records) b.0.1)) in
@@ -110,8 +106,8 @@ waiting-take_from number (c ∷ cs) q h f = by_case (list_any (λ b. eqb b.numbe
         ∙ ap (λ (r : Bundle × List Cont). sum_by f (r.0.records ++ waiting_of r.1)) same
     by_case false h ih =
         let b = bind_some (take_from number cs) _ q h in
-        let same : ◌≡◌ {A = Bundle × List Cont} (b.0.0, c ∷ b.0.1) q = some_is _ _ b.2 in
+        let same : ◌≡◌ {A = Bundle × List Cont} (b.0.0, c ∷ b.0.1) q = same_Some _ _ b.2 in
         sum_by-append f (of_cont c) (waiting_of cs) ∙ ap (λ n. sum_by f (of_cont c) + n) (ih b.0 b.1 ∙ sum_by-append f b.0.0.records (waiting_of b.0.1))
-        ∙ swap_front (sum_by f (of_cont c)) (sum_by f b.0.0.records) (sum_by f (waiting_of b.0.1))
+        ∙ add_left_comm (sum_by f (of_cont c)) (sum_by f b.0.0.records) (sum_by f (waiting_of b.0.1))
         ∙ ap (λ n. sum_by f b.0.0.records + n) (sym (sum_by-append f (of_cont c) (waiting_of b.0.1))) ∙ sym (sum_by-append f b.0.0.records (waiting_of (c ∷ b.0.1)))
         ∙ ap (λ (r : Bundle × List Cont). sum_by f (r.0.records ++ waiting_of r.1)) same

@@ -27,7 +27,7 @@ use Rattle.sb_record.proofs.Sums.{SameSums, SameSums-map, SameSums-flat_map}
 use Rattle.sb_core.proofs.Flow.{brought, sum_by-brought, in_flight, extra}
 use Rattle.sb_core.proofs.Lists.{waiting-in_epoch, waiting-with_bundle}
 use Rattle.sb_core.proofs.Nodes.{begun_mark, node_at-set_other}
-use Rattle.sb_core.proofs.Groupings.{all_records-append}
+use Rattle.sb_core.proofs.Groupings.{all_records-append, all_records-on_lane}
 use Rattle.sb_core.proofs.Gives.{sum_by-rest, lane-gives, sum_by-held_push}
 
 -- one more bundle waits
@@ -125,10 +125,6 @@ module _ (plan : Shape) (m : Moment) (op : Op) (y l epoch floor number : ℕ) (r
       other : node_at after_delivery y ≡ node_at m y
       other = node_at-set_other m d.node node (set_lane d.lane (with_arrival epoch floor images lane) node) at y (λ e. omega (arith, down))
 
-      plain : (r : List Record) → all_records (on_lane l r) ≡ r
-      plain [] = refl
-      plain (x ∷ r) = ap (λ r. x ∷ r) (plain r)
-
       rest_less : SameSums (rest y (node_at m y) m.held es) (on_lane l records ++ rest y (node_at m y) held_after fs)
       rest_less g =
           let a : sum_by g (rest y (node_at m y) m.held es) ≡ (sum_by g (waiting_from 0 (node_at m y).lanes) + sum_by g (flat_map (working y) m.held)) + sum_by g es = sum_by-rest g y (node_at m y) m.held es in
@@ -145,7 +141,7 @@ module _ (plan : Shape) (m : Moment) (op : Op) (y l epoch floor number : ℕ) (r
           let a : sum_by f (gives_by (ParDo op) y (node_at m y) m.held m.rows es) ≡ sum_by f (flat_map (undelivered y) m.held) + sum_by f (flat_map (outputs_of op) (all_records some)) = sum_by-append f (flat_map (undelivered y) m.held) (flat_map (outputs_of op) (all_records some)) in
           let b : sum_by f (flat_map (outputs_of op) (all_records some)) ≡ sum_by f images + sum_by f (flat_map (outputs_of op) (all_records left)) =
           SameSums-flat_map (outputs_of op) (all_records some) (all_records (on_lane l records ++ left)) (SameSums-map (λ e. e.rec) some (on_lane l records ++ left) rest_less) f
-          ∙ ap (λ r. sum_by f (flat_map (outputs_of op) r)) (all_records-append (on_lane l records) left ∙ ap (λ r. r ++ all_records left) (plain records))
+          ∙ ap (λ r. sum_by f (flat_map (outputs_of op) r)) (all_records-append (on_lane l records) left ∙ ap (λ r. r ++ all_records left) (all_records-on_lane l records))
           ∙ ap (sum_by f) (flat_map-append (outputs_of op) records (all_records left)) ∙ sum_by-append f images (flat_map (outputs_of op) (all_records left)) in
           let c : sum_by f (images ++ gives_by (ParDo op) y (node_at m y) held_after m.rows fs) ≡ sum_by f images + sum_by f (gives_by (ParDo op) y (node_at m y) held_after m.rows fs) = sum_by-append f images (gives_by (ParDo op) y (node_at m y) held_after m.rows fs) in
           let e : sum_by f (gives_by (ParDo op) y (node_at m y) held_after m.rows fs) ≡ sum_by f (flat_map (undelivered y) held_after) + sum_by f (flat_map (outputs_of op) (all_records left)) = sum_by-append f (flat_map (undelivered y) held_after) (flat_map (outputs_of op) (all_records left)) in

@@ -1,11 +1,11 @@
 -- A list taken node by node.
 use Rattle.std.proofs.Common.{◌≡◌, ℕ, suc, zero, ◌+◌, ◌≤◌, List, [], ◌∷◌, ◌++◌, length, take, Some, refl, ap, ◌∙◌, add-one, arith}
 use Rattle.std.specs.List.{slice_get}
-use Rattle.sb_core.proofs.Lists.{some_is}
+use Rattle.std.proofs.lemmas.Option.{same_Some}
 
 take_suc : {X : Type 0} (xs : List X) (k : ℕ) (x : X) → slice_get xs k ≡ Some x → take (suc k) xs ≡ take k xs ++ x ∷ []
 take_suc [] k x h = cc
-take_suc (y ∷ xs) zero x h = ap (λ y. y ∷ []) (some_is y x h)
+take_suc (y ∷ xs) zero x h = ap (λ y. y ∷ []) (same_Some y x h)
 take_suc (y ∷ xs) (suc k) x h = ap (λ l. y ∷ l) (take_suc xs k x h)
 
 pub take_more : {X : Type 0} (xs : List X) (k : ℕ) (x : X) → slice_get xs k ≡ Some x → take (k + 1) xs ≡ take k xs ++ x ∷ []

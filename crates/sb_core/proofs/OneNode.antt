@@ -7,6 +7,7 @@ use Rattle.sb_core.specs.Moments
 use Rattle.std.proofs.Common.{◌≡◌, ℕ, Bool, true, false, cond, eqb, List, Some, Option, sym, refl, ap, ◌∙◌, set as slice_set}
 use Rattle.std.specs.List.{slice_get}
 use Rattle.std.proofs.lemmas.Bool.{eqb-true, and_parts}
+use Rattle.std.proofs.lemmas.Option.{same_Some}
 use Rattle.sb_record.specs.declared.item.Record.{Record}
 use Rattle.sb_pipeline.specs.declared.transform.Down.{Down}
 use Rattle.sb_core.specs.declared.moment.Node.{Node}
@@ -18,7 +19,7 @@ use Rattle.sb_core.specs.declared.held.Held.{Held}
 use Rattle.sb_core.specs.declared.held.Held.TheVariants.{Work, Close}
 use Rattle.sb_record.specs.Reading.{◌>>=◌}
 use Rattle.sb_core.specs.Laws.{OneNodeChanges}
-use Rattle.sb_core.proofs.Lists.{cond_is_some, some_is}
+use Rattle.sb_core.proofs.Lists.{cond_is_some}
 use Rattle.sb_core.proofs.TidyLanes.{pulled-passes}
 
 -- the nodes are as they were but for one
@@ -28,7 +29,7 @@ ChangesAt m later k = (node : Node) × (later.nodes ≡ slice_set m.nodes k node
 lane_changes : (d : Down) (lane : CoreLane) (m later : Moment) → Moments.with_lane d lane m ≡ Some later → ChangesAt m later d.node
 lane_changes d lane m later h =
     let b = bind_some (slice_get m.nodes d.node) _ later h in
-    (Moments.set_lane d.lane lane b.0, sym (ap (λ (x : Moment). x.nodes) (some_is _ _ b.2)))
+    (Moments.set_lane d.lane lane b.0, sym (ap (λ (x : Moment). x.nodes) (same_Some _ _ b.2)))
 
 arrival_changes : (d : Down) (epoch floor : ℕ) (records : List Record) (m later : Moment) → Events.arrived_at d epoch floor records m ≡ Some later → ChangesAt m later d.node
 arrival_changes d epoch floor records m later h =
@@ -66,7 +67,7 @@ module _ (plan : Shape) (m later : Moment) where
       let a = bind_some (slice_get m.nodes k) _ later h in
       let b = bind_some (slice_get a.0.lanes i) _ later a.2 in
       let c = cond_is_some _ _ later b.2 in
-      (k, _, ap Some (sym (eqb-true k n (and_parts (eqb k n) _ t).0)), sym (ap (λ (x : Moment). x.nodes) (some_is _ _ c.1)))
+      (k, _, ap Some (sym (eqb-true k n (and_parts (eqb k n) _ t).0)), sym (ap (λ (x : Moment). x.nodes) (same_Some _ _ c.1)))
 
   of_pass : (n : ℕ) (q : Held × List Held) → Moments.is_close n q.0 ≡ true → Events.after_pass plan m q.0 q.1 ≡ Some later → Names plan m later (Events.below plan n >>= λ d. Some d.node)
   of_pass n (Work k i epoch floor number records delivered, others) t h = cc
@@ -117,7 +118,7 @@ one-node_changes plan m later (Begin node lane) h =
     let b = bind_some (slice_get a.0.lanes lane) _ later a.2 in
     let c = bind_some (Lanes.closable b.0.ended b.0.conts) _ later b.2 in
     let d = cond_is_some _ _ later c.2 in
-    (node, _, refl, sym (ap (λ (x : Moment). x.nodes) (some_is _ _ d.1)))
+    (node, _, refl, sym (ap (λ (x : Moment). x.nodes) (same_Some _ _ d.1)))
 one-node_changes plan m later (Pass node) h =
     let a = bind_some (Choices.pulled (Moments.is_close node) m.held) (λ q. Events.after_pass plan m q.0 q.1) later h in
     of_pass plan m later node a.0 (pulled-passes (Moments.is_close node) m.held a.0 a.1) a.2

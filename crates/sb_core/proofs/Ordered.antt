@@ -3,12 +3,12 @@ use Rattle.std.proofs.Common.{◌≡◌, ℕ, ◌+◌, ◌≤◌, ◌<◌, Bool,
 use Rattle.std.specs.Prelude.{◌&&◌, ◌||◌}
 use Rattle.std.specs.List.{list_any, AllByRecursion}
 use Rattle.std.proofs.lemmas.Bool.{eqb-true, eq-eqb, ne_eqb, and_parts}
+use Rattle.std.proofs.lemmas.Option.{same_Some}
 use Rattle.sb_core.specs.declared.moment.Cont.{Cont}
 use Rattle.sb_core.specs.declared.moment.CoreLane.{CoreLane}
 use Rattle.sb_core.specs.Marks.{begun, first_is_closing, last_of_first}
 use Rattle.sb_core.specs.LaneOrder.{NeverFalls, AreOpen, AreContainers, IsLane, cont_at}
 use Rattle.sb_core.proofs.Fitting.{Fits}
-use Rattle.sb_core.proofs.Lists.{some_is}
 use Rattle.sb_core.proofs.InTime.{ups, next_mark}
 use Rattle.sb_core.proofs.Nodes.{begun_mark}
 
@@ -44,7 +44,7 @@ found P epoch [] c all h = cc
 found P epoch (x ∷ cs) c all h = by_case (eqb x.epoch epoch) refl h (λ k. found P epoch cs c all.1 k)
   where
     by_case : (b : Bool) → eqb x.epoch epoch ≡ b → cond b (Some x) (cont_at epoch cs) ≡ Some c → (cont_at epoch cs ≡ Some c → P c × (c.epoch ≡ epoch)) → P c × (c.epoch ≡ epoch)
-    by_case true e h ih = let k : x ≡ c = some_is x c h in subst (λ c. P c × (c.epoch ≡ epoch)) k (all.0, eqb-true x.epoch epoch e)
+    by_case true e h ih = let k : x ≡ c = same_Some x c h in subst (λ c. P c × (c.epoch ≡ epoch)) k (all.0, eqb-true x.epoch epoch e)
     by_case false e h ih = ih h
 
 -- a container of the lane fits beside the others
@@ -58,7 +58,7 @@ own_fits e f epoch (x ∷ cs) c r h = by_case (eqb x.epoch epoch) refl h (λ k. 
 
     by_case : (b : Bool) → eqb x.epoch epoch ≡ b → cond b (Some x) (cont_at epoch cs) ≡ Some c → (cont_at epoch cs ≡ Some c → Fits epoch c.floor cs) → Fits epoch c.floor (x ∷ cs)
     by_case true q h ih =
-        let k : x ≡ c = some_is x c h in
+        let k : x ≡ c = same_Some x c h in
         let a : x.epoch ≡ epoch = eqb-true x.epoch epoch q in
         let b : x.floor ≡ c.floor = ap (λ (c : Cont). c.floor) k in
         ((λ k. absurd (omega arith), λ k. omega arith, λ _. b), after cs a b (all_from (x.epoch + 1) x.floor cs r.2))
@@ -81,13 +81,13 @@ first_floor bound e f [] [] c are h = cc
 first_floor bound e f [] (x ∷ cs) c are h = by_case (eqb x.epoch e) refl h
   where
     by_case : (b : Bool) → eqb x.epoch e ≡ b → cond b (Some x) (cont_at e cs) ≡ Some c → c.floor ≡ f
-    by_case true q h = let k : x ≡ c = some_is x c h in ap (λ (c : Cont). c.floor) (sym k) ∙ are.0.next_is (eqb-true x.epoch e q)
+    by_case true q h = let k : x ≡ c = same_Some x c h in ap (λ (c : Cont). c.floor) (sym k) ∙ are.0.next_is (eqb-true x.epoch e q)
     by_case false q h =
         let k = found (IsFrom (x.epoch + 1) x.floor) e cs c (all_from (x.epoch + 1) x.floor cs (rising-open bound e f (x.epoch + 1) x.floor cs are.1)) h in
         absurd (omega (arith, k.0.0, k.1, are.0.epoch_from))
 first_floor bound e f (m ∷ ms) [] c are h = absurd are
 first_floor bound e f (m ∷ ms) (x ∷ cs) c are h =
-    let k : x ≡ c = some_is x c (ap (λ b. cond b (Some x) (cont_at e cs)) (sym (eq-eqb x.epoch e are.0.epoch_is)) ∙ h) in
+    let k : x ≡ c = same_Some x c (ap (λ b. cond b (Some x) (cont_at e cs)) (sym (eq-eqb x.epoch e are.0.epoch_is)) ∙ h) in
     ap (λ (c : Cont). c.floor) (sym k) ∙ are.0.floor_is
 
 -- the same of each container of that epoch

@@ -11,6 +11,7 @@ use Rattle.std.specs.Prelude.{◌||◌}
 use Rattle.std.specs.List.{slice_get, slice_set, list_any}
 use Rattle.std.proofs.lemmas.Bool.{eqb-true, and_parts}
 use Rattle.std.proofs.lemmas.List.Sorted.{IsPermutation-append_comm}
+use Rattle.std.proofs.lemmas.Option.{same_Some}
 use Rattle.sb_record.specs.declared.item.Record.{Record}
 use Rattle.sb_pipeline.specs.declared.transform.Down.{Down}
 use Rattle.sb_pipeline.specs.Shapes.{Shape, source}
@@ -28,7 +29,7 @@ use Rattle.sb_core.specs.Moments.{with_held, set_node, set_lane, lane_at, with_l
 use Rattle.sb_core.specs.Events.{arrived_at}
 use Rattle.sb_core.specs.Laws.{fed_after}
 use Rattle.sb_core.specs.Parts.{PartsKeepSound, HeldPartsKeepSound, Part, only_node, put_in, with_part, PartsAreEvents, held_after, HeldPartsAreEvents}
-use Rattle.sb_core.proofs.Lists.{cond_is_some, some_is}
+use Rattle.sb_core.proofs.Lists.{cond_is_some}
 use Rattle.sb_core.proofs.AnyOrder.{held-in_any_order, idle-by_its_lanes}
 use Rattle.sb_core.proofs.AfterSound.{events-keep_sound}
 
@@ -52,7 +53,7 @@ module _ (m : Moment) (d : Down) (node : Node) (at : slice_get m.nodes d.node �
   put epoch floor records held p h =
       let a = bind_some (slice_get node.lanes d.lane) _ p h in
       let c = cond_is_some _ _ p a.2 in
-      let is : only_node held (set_lane d.lane (Lanes.with_arrival epoch floor records a.0) node) ≡ p = some_is _ _ c.1 in (
+      let is : only_node held (set_lane d.lane (Lanes.with_arrival epoch floor records a.0) node) ≡ p = same_Some _ _ c.1 in (
         chain (lane_at m d) _ a.0 _ (lane_there a.0 a.1) (passing _ _ _ c.0 (lane_put (Lanes.with_arrival epoch floor records a.0))) ∙ ap (λ (p : Part). Some (record m { nodes = slice_set m.nodes d.node p.node })) is,
         ap (λ (p : Part). p.held) (sym is),
         ap (λ (p : Part). p.rows) (sym is),
@@ -63,7 +64,7 @@ settle : (m : Moment) (k : ℕ) (rest held : List Held) (p : Part) → rest ++ p
 settle m k rest held p e r = λ i. record m { nodes = slice_set m.nodes k p.node; held = sym e i; rows = sym (ap (λ l. m.rows ++ l) r ∙ append-nil m.rows) i }
 
 names : (o : Option Down) (k : ℕ) → (o >>= λ d. Some d.node) ≡ Some k → (d : Down) × (o ≡ Some d) × (d.node ≡ k)
-names o k h = let a = bind_some o (λ d. Some d.node) k h in (a.0, a.1, some_is a.0.node k a.2)
+names o k h = let a = bind_some o (λ d. Some d.node) k h in (a.0, a.1, same_Some a.0.node k a.2)
 
 -- whether a lane of the list is closing
 none_closing : (lanes : List CoreLane) → not (list_any (λ (x : CoreLane). Marks.first_is_closing x.conts) lanes) ≡ true → (l : ℕ) (lane : CoreLane) → slice_get lanes l ≡ Some lane → Marks.first_is_closing lane.conts ≡ false
@@ -73,7 +74,7 @@ none_closing (x ∷ lanes) h l lane at = by_case (Marks.first_is_closing x.conts
     by_case : (b : Bool) → Marks.first_is_closing x.conts ≡ b → not (b || list_any (λ (x : CoreLane). Marks.first_is_closing x.conts) lanes) ≡ true → (l : ℕ) → slice_get (x ∷ lanes) l ≡ Some lane
         → (not (list_any (λ (x : CoreLane). Marks.first_is_closing x.conts) lanes) ≡ true → (l : ℕ) → slice_get lanes l ≡ Some lane → Marks.first_is_closing lane.conts ≡ false) → Marks.first_is_closing lane.conts ≡ false
     by_case true e h l at ih = cc
-    by_case false e h zero at ih = ap (λ (x : CoreLane). Marks.first_is_closing x.conts) (sym (some_is x lane at)) ∙ e
+    by_case false e h zero at ih = ap (λ (x : CoreLane). Marks.first_is_closing x.conts) (sym (same_Some x lane at)) ∙ e
     by_case false e h (suc l) at ih = ih h l at
 
 pub parts-are_events : PartsAreEvents
@@ -85,7 +86,7 @@ parts-are_events plan m (Arrive stream records) k node p sound named at h =
     let d = names (source plan stream) k named in
     let at_d : slice_get m.nodes d.0.node ≡ Some node = ap (slice_get m.nodes) d.2 ∙ at in
     let a = bind_some (source plan stream) _ p h in
-    let same : a.0 ≡ d.0 = some_is a.0 d.0 (sym a.1 ∙ d.1) in
+    let same : a.0 ≡ d.0 = same_Some a.0 d.0 (sym a.1 ∙ d.1) in
     let b = bind_some (slice_get node.lanes a.0.lane) _ p a.2 in
     let c = cond_is_some _ _ p b.2 in
     let at_a : slice_get m.nodes a.0.node ≡ Some node = ap (λ (d : Down). slice_get m.nodes d.node) same ∙ at_d in
@@ -97,27 +98,27 @@ parts-are_events plan m (Seal stream mark) k node p sound named at h =
     let d = names (source plan stream) k named in
     let at_d : slice_get m.nodes d.0.node ≡ Some node = ap (slice_get m.nodes) d.2 ∙ at in
     let a = bind_some (source plan stream) _ p h in
-    let same : a.0 ≡ d.0 = some_is a.0 d.0 (sym a.1 ∙ d.1) in
+    let same : a.0 ≡ d.0 = same_Some a.0 d.0 (sym a.1 ∙ d.1) in
     let b = bind_some (slice_get node.lanes a.0.lane) _ p a.2 in
     let c = cond_is_some _ _ p b.2 in
     let at_a : slice_get m.nodes a.0.node ≡ Some node = ap (λ (d : Down). slice_get m.nodes d.node) same ∙ at_d in
-    let is : only_node [] (set_lane a.0.lane (Lanes.with_seal mark b.0) node) ≡ p = some_is _ _ c.1 in
+    let is : only_node [] (set_lane a.0.lane (Lanes.with_seal mark b.0) node) ≡ p = same_Some _ _ c.1 in
     chain (source plan stream) _ a.0 _ a.1
     (chain (lane_at m a.0) _ b.0 _ (lane_there m a.0 node at_a b.0 b.1) (passing _ _ _ c.0 (lane_put m a.0 node at_a (Lanes.with_seal mark b.0))))
     ∙ ap Some (settle m a.0.node m.held m.held (only_node [] (set_lane a.0.lane (Lanes.with_seal mark b.0) node)) (append-nil m.held) refl) ∙ (λ i. Some (with_part ((ap (λ (d : Down). d.node) same ∙ d.2) i) m.held m (is i)))
 parts-are_events plan m (Take n l number) k node p sound named at h =
-    let same : n ≡ k = some_is n k named in
+    let same : n ≡ k = same_Some n k named in
     let at_n : slice_get m.nodes n ≡ Some node = ap (slice_get m.nodes) same ∙ at in
     let b = bind_some (slice_get node.lanes l) _ p h in
     let c = bind_some (Lanes.take_from number b.0.conts) _ p b.2 in
     let work : List Held = Work n l c.0.0.epoch c.0.0.floor number c.0.0.records false ∷ [] in
     let made : Part = only_node work (set_lane l (record b.0 { conts = c.0.1 }) node) in
-    let is : made ≡ p = some_is _ _ c.2 in
+    let is : made ≡ p = same_Some _ _ c.2 in
     chain (lane_at m (record { node = n; lane = l })) _ b.0 _ (lane_there m (record { node = n; lane = l }) node at_n b.0 b.1)
     (chain (Lanes.take_from number b.0.conts) _ c.0 _ c.1 (lane_put (with_held (m.held ++ work) m) (record { node = n; lane = l }) node at_n (record b.0 { conts = c.0.1 })))
     ∙ ap Some (settle m n m.held (m.held ++ work) made refl refl) ∙ (λ i. Some (with_part (same i) m.held m (is i)))
 parts-are_events plan m (Begin n l) k node p sound named at h =
-    let same : n ≡ k = some_is n k named in
+    let same : n ≡ k = same_Some n k named in
     let at_n : slice_get m.nodes n ≡ Some node = ap (slice_get m.nodes) same ∙ at in
     let b = bind_some (slice_get node.lanes l) _ p h in
     let c = bind_some (Lanes.closable b.0.ended b.0.conts) _ p b.2 in
@@ -126,7 +127,7 @@ parts-are_events plan m (Begin n l) k node p sound named at h =
     chain (slice_get m.nodes n) _ node _ at_n
     (chain (slice_get node.lanes l) _ b.0 _ b.1
     (chain (Lanes.closable b.0.ended b.0.conts) _ c.0 _ c.1 (passing _ _ _ (ap not idle) refl)))
-    ∙ (λ i. Some (with_part (same i) m.held m (some_is _ _ e.1 i)))
+    ∙ (λ i. Some (with_part (same i) m.held m (same_Some _ _ e.1 i)))
   where
     of_node : (n : ℕ) → slice_get m.nodes n ≡ Some node → (i : ℕ) (lane : CoreLane) → lane_at m (record { node = n; lane = i }) ≡ Some lane → slice_get node.lanes i ≡ Some lane
     of_node n at_n i lane z = sym (ap (λ (o : Option Node). o >>= λ x. slice_get x.lanes i) at_n) ∙ z
@@ -139,7 +140,7 @@ module _ (plan : Shape) (m : Moment) (rest : List Held) (k : ℕ) (node : Node) 
   at_below : (y n : ℕ) (d : Down) → y ≡ n → Events.below plan y ≡ Some d → (Events.below plan n >>= λ d. Some d.node) ≡ Some k → (d.node ≡ k) × (slice_get m.nodes d.node ≡ Some node)
   at_below y n d e is named =
       let z = names (Events.below plan n) k named in
-      let same : d ≡ z.0 = some_is d z.0 (sym is ∙ ap (Events.below plan) e ∙ z.1) in
+      let same : d ≡ z.0 = same_Some d z.0 (sym is ∙ ap (Events.below plan) e ∙ z.1) in
       let q : d.node ≡ k = ap (λ (d : Down). d.node) same ∙ z.2 in
       (q, ap (slice_get m.nodes) q ∙ at)
 
@@ -172,7 +173,7 @@ module _ (plan : Shape) (m : Moment) (rest : List Held) (k : ℕ) (node : Node) 
       let c = cond_is_some _ _ p b.2 in
       let same : y ≡ k = eqb-true y n (and_parts (eqb y n) _ t).0 ∙ named in
       let made : Part = only_node [] (record (set_lane i (record b.0 { conts = Lanes.finish_in epoch other b.0.conts }) node) { kept = node.kept ++ Closings.absorbed (operator_at (slice_get plan.steps y)) (on_lane i records) }) in
-      let is : made ≡ p = some_is _ _ c.1 in
+      let is : made ≡ p = same_Some _ _ c.1 in
       chain (slice_get m.nodes y) _ node _ (ap (slice_get m.nodes) same ∙ at)
       (chain (slice_get node.lanes i) _ b.0 _ b.1 (passing _ _ _ c.0 refl))
       ∙ ap Some (settle m y rest rest made (append-nil rest) refl) ∙ (λ j. Some (with_part (same j) rest m (is j)))
@@ -186,7 +187,7 @@ module _ (plan : Shape) (m : Moment) (rest : List Held) (k : ℕ) (node : Node) 
       let z = at_below y n a.0 (eqb-true y n t) a.1 named in
       let left : List Held = Close y i epoch serial floor mark rows true ∷ [] in
       let made : Part = only_node left (set_lane a.0.lane (Lanes.with_seal mark b.0) node) in
-      let is : made ≡ p = some_is _ _ c.1 in
+      let is : made ≡ p = same_Some _ _ c.1 in
       chain (Events.below plan y) _ a.0 _ a.1
       (chain (lane_at m a.0) _ b.0 _ (lane_there m a.0 node z.1 b.0 b.1) (passing _ _ _ c.0 (lane_put (with_held (rest ++ left) m) a.0 node z.1 (Lanes.with_seal mark b.0))))
       ∙ ap Some (settle m a.0.node rest (rest ++ left) made refl refl) ∙ (λ j. Some (with_part (z.0 j) rest m (is j)))
@@ -199,7 +200,7 @@ module _ (plan : Shape) (m : Moment) (rest : List Held) (k : ℕ) (node : Node) 
       let same : y ≡ k = eqb-true y n t ∙ named in
       let at_y : slice_get m.nodes y ≡ Some node = ap (slice_get m.nodes) same ∙ at in
       let made : Part = only_node [] (set_lane i (record b.0 { conts = drop 1 b.0.conts; ended = b.0.ended + 1 }) node) in
-      let is : made ≡ p = some_is _ _ c.1 in
+      let is : made ≡ p = same_Some _ _ c.1 in
       chain (lane_at m (record { node = y; lane = i })) _ b.0 _ (lane_there m (record { node = y; lane = i }) node at_y b.0 b.1)
       (passing passed _ _ c.0 (lane_put (with_held rest m) (record { node = y; lane = i }) node at_y (record b.0 { conts = drop 1 b.0.conts; ended = b.0.ended + 1 })))
       ∙ ap Some (settle m y rest rest made (append-nil rest) refl) ∙ (λ j. Some (with_part (same j) rest m (is j)))
@@ -210,11 +211,11 @@ held-parts_are_events plan m (Seal stream mark) h rest k node p c named at e = c
 held-parts_are_events plan m (Take n l number) h rest k node p c named at e = cc
 held-parts_are_events plan m (Begin n l) h rest k node p c named at e = cc
 held-parts_are_events plan m (Finish n l number) h rest k node p c named at e =
-    found (Moments.is_work n l number) h rest (λ q. Events.after_finish plan (with_held (h ∷ rest) m) q.0 q.1) (with_part k rest m p) c (finish_part plan m rest k node p at n l number h c (some_is n k named) e)
+    found (Moments.is_work n l number) h rest (λ q. Events.after_finish plan (with_held (h ∷ rest) m) q.0 q.1) (with_part k rest m p) c (finish_part plan m rest k node p at n l number h c (same_Some n k named) e)
 held-parts_are_events plan m (Pass n) h rest k node p c named at e =
     found (Moments.is_close n) h rest (λ q. Events.after_pass plan (with_held (h ∷ rest) m) q.0 q.1) (with_part k rest m p) c (pass_part plan m rest k node p at n h c named e)
 held-parts_are_events plan m (End n) h rest k node p c named at e =
-    found (Moments.is_close n) h rest (λ q. Events.after_end (with_held (h ∷ rest) m) q.0 q.1) (with_part k rest m p) c (end_part plan m rest k node p at n h c (some_is n k named) e)
+    found (Moments.is_close n) h rest (λ q. Events.after_end (with_held (h ∷ rest) m) q.0 q.1) (with_part k rest m p) c (end_part plan m rest k node p at n h c (same_Some n k named) e)
 held-parts_are_events plan m (Deliver n l number) h rest k node p c named at e = by_case (eqb number 0) c
   where
     by_case : (b : Bool) → cond b (Moments.is_close_of n l h) (Moments.is_work n l number h) ≡ true

@@ -3,13 +3,13 @@ use Rattle.std.proofs.Common.{◌≡◌, ℕ, suc, zero, ◌<◌, Bool, true, fa
 use Rattle.std.specs.Prelude.{◌≢◌, ◌||◌, insert, slice_get, slice_set}
 use Rattle.std.specs.List.{list_any}
 use Rattle.std.proofs.lemmas.Bool.{eq-eqb, ne_eqb, lt-ltb, le-ltb}
+use Rattle.std.proofs.lemmas.Option.{same_Some}
 use Rattle.sb_bundle.specs.declared.bundle.Bundle.{Bundle}
 use Rattle.sb_record.specs.Reading.{◌>>=◌}
 use Rattle.sb_record.proofs.Numbers.{bind_some}
 use Rattle.sb_core.specs.declared.moment.Cont.{Cont}
 use Rattle.sb_core.specs.Choices.{pulled}
 use Rattle.sb_core.specs.Lanes.{fresh, in_epoch, take_from}
-use Rattle.sb_core.proofs.Lists.{some_is}
 
 less_is_other : (a b : ℕ) → a < b → a ≢ b
 less_is_other a b h e = absurd (omega arith)
@@ -29,7 +29,7 @@ module _ (epoch floor : ℕ) (change : Cont → Cont) where
       → in_epoch epoch floor change cs ≡ slice_set cs i (change c)
   in_epoch-there [] i c before there is = cc
   in_epoch-there (x ∷ cs) zero c before there is =
-      let same : x ≡ c = some_is x c there in
+      let same : x ≡ c = same_Some x c there in
       ap (λ b. cond b (change x ∷ cs) (cond (ltb epoch x.epoch) (change (fresh epoch floor) ∷ x ∷ cs) (x ∷ in_epoch epoch floor change cs))) (eq-eqb x.epoch epoch (ap (λ (c : Cont). c.epoch) same ∙ is))
       ∙ ap (λ c. change c ∷ cs) same
   in_epoch-there (x ∷ cs) (suc i) c before there is =
@@ -39,7 +39,7 @@ module _ (epoch floor : ℕ) (change : Cont → Cont) where
       → in_epoch epoch floor change cs ≡ insert cs i (change (fresh epoch floor))
   in_epoch-new [] i c before there later = cc
   in_epoch-new (x ∷ cs) zero c before there later =
-      let same : x ≡ c = some_is x c there in
+      let same : x ≡ c = same_Some x c there in
       let e : x.epoch ≡ c.epoch = ap (λ (c : Cont). c.epoch) same in
       ap (λ b. cond b (change x ∷ cs) (cond (ltb epoch x.epoch) (change (fresh epoch floor) ∷ x ∷ cs) (x ∷ in_epoch epoch floor change cs))) (ne_eqb x.epoch epoch (more_is_other x.epoch epoch (omega arith)))
       ∙ ap (λ b. cond b (change (fresh epoch floor) ∷ x ∷ cs) (x ∷ in_epoch epoch floor change cs)) (lt-ltb epoch x.epoch (omega arith))
@@ -91,7 +91,7 @@ module _ (number : ℕ) where
       → take_from number cs ≡ Some (q.0, slice_set cs i (record c { waiting = q.1; out = c.out ++ number ∷ [] }))
   take_from-at [] i c q none there took = cc
   take_from-at (x ∷ cs) zero c q none there took =
-      let same : x ≡ c = some_is x c there in
+      let same : x ≡ c = same_Some x c there in
       ap (λ x. take_from number (x ∷ cs)) same
       ∙ ap (λ b. taking b c cs) (any-pulled (of_number number) c.waiting q took)
       ∙ ap (λ (o : Option (Bundle × List Bundle)). o >>= λ q. Some (q.0, record c { waiting = q.1; out = c.out ++ number ∷ [] } ∷ cs)) took

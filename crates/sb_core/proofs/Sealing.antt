@@ -6,6 +6,7 @@ use Rattle.std.specs.Prelude.{◌≢◌, ◌⊎◌, ◌&&◌, count_by}
 use Rattle.std.specs.List.{slice_get, list_any, AllByRecursion}
 use Rattle.std.proofs.lemmas.Bool.{eq-eqb, ne_eqb, cases_eq, eqb-false}
 use Rattle.std.proofs.lemmas.List.{get_or_append_left}
+use Rattle.std.proofs.lemmas.Option.{same_Some}
 use Rattle.sb_record.specs.declared.item.Record.{Record}
 use Rattle.sb_core.specs.declared.moment.Cont.{Cont}
 use Rattle.sb_core.specs.declared.moment.CoreLane.{CoreLane}
@@ -27,7 +28,6 @@ use Rattle.sb_core.specs.Holdings.{IsWork, IsClosing, IsHeld, is_unpassed}
 use Rattle.sb_core.specs.Soundness.{IsSealedBelow}
 use Rattle.sb_core.proofs.Orderly.{IsLawful}
 use Rattle.sb_record.proofs.Sums.{SameSums}
-use Rattle.sb_core.proofs.Lists.{some_is}
 use Rattle.sb_core.proofs.LaneLaws.{last_from, MarkFits, containers-seal}
 use Rattle.sb_core.proofs.Nodes.{begun_mark}
 use Rattle.sb_core.proofs.InEpoch.{containers_out, others_calm, still_ready}
@@ -140,7 +140,7 @@ module _ (plan : Shape) (m : Moment) (d : Down) (node : Node) (lane : CoreLane) 
       lawful_still plan m d.node d.lane node (set_lane d.lane with node) lane with at in_it refl refl sealed_begun sealed_mark held lawful (seal-lane (bound_at plan d.node) mark lane ok up fits) holds
       (λ k. omega (arith, counts (is_close k) (λ k i e s f c rows a b. refl), lawful.one_close k))
       (λ e x h c. any_same (is_close_of e.node e.lane) held m.held (counts (is_close_of e.node e.lane) (λ k i e s f c rows a b. refl)) ∙ ⊎_elim
-      (λ y. lawful.closing_held e lane y.2 (sym (seal-closing (bound_at plan d.node) mark lane ok up fits) ∙ ap (λ (x : CoreLane). first_is_closing x.conts) (some_is with x (sym y.1 ∙ h)) ∙ c))
+      (λ y. lawful.closing_held e lane y.2 (sym (seal-closing (bound_at plan d.node) mark lane ok up fits) ∙ ap (λ (x : CoreLane). first_is_closing x.conts) (same_Some with x (sym y.1 ∙ h)) ∙ c))
       (λ y. lawful.closing_held e x (sym y ∙ h) c) (sealed_cases e))
       below
 
@@ -204,7 +204,7 @@ pass-lawful plan is_plan m d node lane y l epoch serial floor mark rows others s
       where
         here : k ≡ y → IsSealedBelow after k t.down
         here e =
-            let same : t ≡ s = some_is t s (sym it ∙ ap (slice_get plan.steps) e ∙ is) in
+            let same : t ≡ s = same_Some t s (sym it ∙ ap (slice_get plan.steps) e ∙ is) in
             let to : t.down ≡ d = ap (λ (s : Step). s.down) same ∙ down in
             let was : lane_at m d ≡ Some lane = ap (λ (o : Option Node). o >>= λ x. slice_get x.lanes d.lane) at ∙ in_it in
             let now : lane_at after d ≡ Some (with_seal mark lane) = sealed_place plan m d node lane mark at in_it lawful up fits done in

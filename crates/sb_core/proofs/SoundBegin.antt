@@ -3,17 +3,14 @@ use Rattle.sb_record.proofs.Earlier.{ascending-join}
 use Rattle.sb_record.proofs.Numbers.{bind_some}
 use Rattle.sb_record.proofs.Elements.{All-join, All-passed, every}
 use Rattle.sb_core.proofs.WindowsAt.{windows-at}
-use Rattle.sb_core.proofs.Orderly.{lawful_of, tidy_of, sound_of}
+use Rattle.sb_core.proofs.Orderly.{lawful_of, tidy_of, sound_of, IsLawful, IsTidy}
 use Rattle.std.proofs.Common.{cond, eqb, length-set, ◌≡◌, ℕ, suc, zero, ◌+◌, ◌≤◌, ◌<◌, Bool, true, false, not, ltb, List, [], ◌∷◌, ◌++◌, length, Some, None, Option, sym, refl, ap, subst, ◌∙◌, arith, ⊎_elim, append-nil, set as slice_set, add-zero}
 use Rattle.std.specs.Prelude.{◌&&◌, min, ◌⊎◌, ◌≢◌, ◌||◌, nat_lt, sum_by}
 use Rattle.std.specs.List.{slice_get, list_any, AllByRecursion}
-use Rattle.std.specs.Ordering.{is_lt, nat_cmp, int_cmp, ordering_then}
-use Rattle.std.specs.Cmp.{nat_cmp_is}
-use Rattle.std.specs.declared.cmp.Ordering.TheVariants.{Greater}
 use Rattle.std.proofs.lemmas.Bool.{cases_eq, ltb-true, ltb-false, not-true}
 use Rattle.std.proofs.lemmas.List.Sums.{sum_by-cons}
 use Rattle.std.proofs.lemmas.List.Folds.{list_any-append}
-use Rattle.std.proofs.lemmas.Option.{slice_get_within}
+use Rattle.std.proofs.lemmas.Option.{slice_get_within, same_Some}
 use Rattle.sb_record.specs.declared.item.Record.{Record}
 use Rattle.sb_pipeline.specs.declared.transform.KeptRec.{KeptRec}
 use Rattle.sb_core.specs.declared.moment.Cont.{Cont}
@@ -40,13 +37,12 @@ use Rattle.sb_core.specs.Closings.{is_sink, kept_at, rows_at, collected, is_pard
 use Rattle.sb_core.specs.Events.{after_begin}
 use Rattle.sb_core.specs.Bounds.{bound_at}
 use Rattle.sb_core.specs.Holdings.{is_unpassed, IsCloseOf}
-use Rattle.sb_core.proofs.Orderly.{IsLawful, IsTidy}
 use Rattle.sb_core.specs.Soundness.{out_of, numbers_of, Begins, IsOpenBelow, IsKeptAt, IsSound}
-use Rattle.sb_core.proofs.Lists.{cond_is_some, some_is}
+use Rattle.sb_core.proofs.Lists.{cond_is_some}
 use Rattle.sb_core.proofs.Nodes.{lane_at-cases, node_at-same, node_at-set_same, node_at-set_other}
 use Rattle.sb_record.proofs.Sorting.{records_total, in_order-ascending, All-in_order}
 use Rattle.sb_core.proofs.EventLaws.{transform_is}
-use Rattle.sb_core.proofs.Beginning.{begun_lane, closing_mark, begun_node, new_close, after_beginning}
+use Rattle.sb_core.proofs.Beginning.{none_past, begun_lane, closing_mark, begun_node, new_close, after_beginning}
 use Rattle.sb_core.proofs.LawfulBegin.{IsClosable, closable-is, rises, begin-lawful}
 use Rattle.sb_core.proofs.HeldLists.{count_snoc, All-last}
 use Rattle.sb_core.proofs.TidyLanes.{SameEpochs, numbered-less, All-same, has-same, same-first_closing}
@@ -57,10 +53,6 @@ use Rattle.sb_core.proofs.WithinBound.{rows-bounded}
 first_closing_sum : (g : Cont → ℕ) → ((c : Cont) → g (record c { closing = true }) ≡ g c) → (cs : List Cont) → sum_by g (with_first_closing cs) ≡ sum_by g cs
 first_closing_sum g same [] = refl
 first_closing_sum g same (c ∷ cs) = sum_by-cons g (record c { closing = true }) cs ∙ ap (λ n. n + sum_by g cs) (same c) ∙ sym (sum_by-cons g c cs)
-
--- rows of later times come after
-later_greater : (w : ℕ) (x y : Record) → x.time < w → w ≤ y.time → is_lt (record_cmp y x) ≡ false
-later_greater w x y a b = ap (λ o. is_lt (ordering_then o (ordering_then (nat_cmp y.key x.key) (int_cmp y.value x.value)))) (sym (nat_cmp_is y.time x.time Greater (omega arith)))
 
 module _ (plan : Shape) (is_plan : IsPlan plan) (m : Moment) (n l : ℕ) (node : Node) (lane : CoreLane) (c : Cont) (at : slice_get m.nodes n ≡ Some node) (in_it : slice_get node.lanes l ≡ Some lane)
     (closes : IsClosable lane.ended lane.conts c) (idle : list_any (is_close n) m.held ≡ false) (sound : IsSound plan m) where
@@ -103,7 +95,7 @@ module _ (plan : Shape) (is_plan : IsPlan plan) (m : Moment) (n l : ℕ) (node :
   -- a place where the lane began to close, or a lane as it was
   lane_was : (P : CoreLane → CoreLane → Type 0) → P lane with → ((x : CoreLane) → P x x) → (d : Down) (x : CoreLane) → lane_at after d ≡ Some x → (y : CoreLane) × (lane_at m d ≡ Some y) × P y x
   lane_was P here same d x h = ⊎_elim
-      (λ z. (lane, z.2, subst (λ x. P lane x) (some_is with x (sym z.1 ∙ h)) here))
+      (λ z. (lane, z.2, subst (λ x. P lane x) (same_Some with x (sym z.1 ∙ h)) here))
       (λ z. (x, sym z ∙ h, same x)) (by_place d)
 
   abbrev IsAsBefore : CoreLane → CoreLane → Type 0
@@ -136,11 +128,7 @@ module _ (plan : Shape) (is_plan : IsPlan plan) (m : Moment) (n l : ℕ) (node :
   kept_after Sink w bound kept all = All-passed (IsKeptAt Sink w bound) (IsKeptAt Sink mark bound) _ (λ e h p. (from e.rec.time p, h.1)) kept all
     where
       from : (t : ℕ) → not (ltb t mark) ≡ true → mark ≤ t
-      from t h = by_case (ltb t mark) refl h
-        where
-          by_case : (b : Bool) → ltb t mark ≡ b → not b ≡ true → mark ≤ t
-          by_case true e h = cc
-          by_case false e h = ltb-false t mark e
+      from t h = ltb-false t mark (not-true (ltb t mark) h)
 
   -- ---- the rows of the sink
   abbrev Between : Record → Type 0
@@ -184,14 +172,9 @@ module _ (plan : Shape) (is_plan : IsPlan plan) (m : Moment) (n l : ℕ) (node :
   none_collected : n ≢ length plan.steps → collected o mark node.kept ≡ []
   none_collected ne = collects_none o (by_step (slice_get plan.steps n) refl)
     where
-      past : {X : Type 0} (xs : List X) (j : ℕ) → slice_get xs j ≡ None → length xs ≤ j
-      past [] j h = omega arith
-      past (x ∷ xs) zero h = cc
-      past (x ∷ xs) (suc j) h = let k : length xs ≤ j = past xs j h in omega arith
-
       by_step : (s : Option Step) → slice_get plan.steps n ≡ s → is_sink (operator_at (slice_get plan.steps n)) ≡ false
       by_step (Some s) e = transform_is plan n s e
-      by_step None e = absurd (let k : length plan.steps ≤ n = past plan.steps n e in ne (omega (arith, within)))
+      by_step None e = absurd (ne (omega (arith, within, none_past plan.steps n e)))
 
   sink_was : n ≡ length plan.steps → closed (node_at m (length plan.steps)).lanes ≡ closed node.lanes
   sink_was e = ap (λ k. closed (node_at m k).lanes) (sym e) ∙ ap (λ (x : Node). closed x.lanes) (node_at-same m n node new at)
@@ -294,4 +277,4 @@ begins-sound plan is_plan m m' n l h sound =
     let b = bind_some (slice_get a.0.lanes l) _ m' a.2 in
     let c = bind_some (closable b.0.ended b.0.conts) _ m' b.2 in
     let d = cond_is_some (not (list_any (is_close n) m.held)) _ m' c.2 in
-    subst (IsSound plan) (some_is _ _ d.1) (begin-sound plan is_plan m n l a.0 b.0 c.0 a.1 b.1 (closable-is b.0.ended b.0.conts c.0 c.1) (not-true (list_any (is_close n) m.held) d.0) sound)
+    subst (IsSound plan) (same_Some _ _ d.1) (begin-sound plan is_plan m n l a.0 b.0 c.0 a.1 b.1 (closable-is b.0.ended b.0.conts c.0 c.1) (not-true (list_any (is_close n) m.held) d.0) sound)

@@ -4,7 +4,7 @@ use Rattle.sb_record.proofs.Elements.{All-join, every}
 use Rattle.sb_core.specs.LaneOrder
 use Rattle.sb_core.specs.Moments
 use Rattle.sb_core.proofs.WindowsAt.{windows-at}
-use Rattle.sb_core.proofs.Orderly.{lawful_of, tidy_of, sound_of}
+use Rattle.sb_core.proofs.Orderly.{lawful_of, tidy_of, sound_of, IsTidy}
 use Rattle.std.proofs.Common.{◌≡◌, ℕ, suc, zero, ◌+◌, ◌*◌, ◌%◌, ◌/◌, ◌≤◌, ◌<◌, Bool, true, false, not, cond, eqb, List, [], ◌∷◌, ◌++◌, length, drop, Some, Option, sym, refl, ap, subst, ◌∙◌, arith, ⊎_elim, add-zero, zero-add}
 use Rattle.std.specs.Prelude.{◌≢◌, ◌&&◌, ◌||◌, nat_lt, count_by, sum_by}
 use Rattle.std.specs.List.{filter, slice_get, list_any, range_with_len, AllByRecursion}
@@ -12,6 +12,7 @@ use Rattle.std.proofs.lemmas.Bool.{eqb-false, eq-eqb, ne_eqb, cases_eq, eqb-true
 use Rattle.std.proofs.lemmas.List.Sums.{sum_by-cons}
 use Rattle.std.proofs.Math.Nat.{mul-mod_right, mod-add-div, mod-lt}
 use Rattle.std.proofs.Math.Bool.{or-true, and-false}
+use Rattle.std.proofs.lemmas.Option.{same_Some}
 use Rattle.sb_record.specs.declared.item.Record.{Record}
 use Rattle.sb_bundle.specs.declared.bundle.Bundle.{Bundle}
 use Rattle.sb_core.specs.declared.moment.Cont.{Cont}
@@ -39,9 +40,8 @@ use Rattle.sb_core.specs.LaneOrder.{IsWithin, IsLane, IsReady, AreContainers}
 use Rattle.sb_core.specs.Bounds.{bound_at}
 use Rattle.sb_core.specs.Holdings.{IsHeld, is_unpassed, IsCloseOf}
 use Rattle.sb_core.specs.Soundness.{out_of, numbers_of, has_cont, IsOpenBelow, IsKeptAt, IsSound}
-use Rattle.sb_core.proofs.Orderly.{IsTidy}
 use Rattle.sb_record.proofs.Sums.{SameSums}
-use Rattle.sb_core.proofs.Lists.{cond_is_some, some_is}
+use Rattle.sb_core.proofs.Lists.{cond_is_some}
 use Rattle.sb_core.proofs.Gives.{lane_at-parts, with_lane-is}
 use Rattle.sb_core.proofs.Nodes.{begun_mark, node_at-set_other}
 use Rattle.sb_core.proofs.InTime.{work_floor, closed_least}
@@ -155,7 +155,7 @@ finish-sound plan is_plan m m' sound (Work k l epoch floor number records delive
     let a = bind_some (slice_get m.nodes k) _ m' h in
     let b = bind_some (slice_get a.0.lanes l) _ m' a.2 in
     let c = cond_is_some _ _ m' b.2 in
-    subst (IsSound plan) (some_is _ _ c.1) (go a.0 b.0 a.1 b.1)
+    subst (IsSound plan) (same_Some _ _ c.1) (go a.0 b.0 a.1 b.1)
   where
     work : Held
     work = Work k l epoch floor number records delivered
@@ -190,7 +190,7 @@ finish-sound plan is_plan m m' sound (Work k l epoch floor number records delive
         was = ap (λ (o : Option Node). o >>= λ x. slice_get x.lanes l) at ∙ in_it
 
         is_lane : held.0.lane ≡ lane
-        is_lane = some_is held.0.lane lane (sym held.0.there ∙ was)
+        is_lane = same_Some held.0.lane lane (sym held.0.there ∙ was)
 
         ok : IsLane (bound_at plan k) lane
         ok = (lawful_of sound).lanes (record { node = k; lane = l }) lane was
@@ -290,7 +290,7 @@ end-sound plan is_plan m m' sound (Close y l epoch serial floor mark rows passed
     let c = cond_is_some passed _ m' a.2 in
     let p = lane_at-parts m (record { node = y; lane = l }) a.0 a.1 in
     subst (IsSound plan) (with_lane-is (with_held others m) (record { node = y; lane = l }) p.0 (shorter a.0) m' p.1 c.1)
-    (go p.0 a.0 p.1 p.2 (subst (λ (x : CoreLane). first_is_closing x.conts ≡ true) (some_is held.0.lane a.0 (sym held.0.there ∙ a.1)) held.0.closing)
+    (go p.0 a.0 p.1 p.2 (subst (λ (x : CoreLane). first_is_closing x.conts ≡ true) (same_Some held.0.lane a.0 (sym held.0.there ∙ a.1)) held.0.closing)
     (λ f. pulled f ∙ ap (λ b. sum_by f (Close y l epoch serial floor mark rows b ∷ others)) c.0))
   where
     go : (node : Node) (lane : CoreLane) → slice_get m.nodes y ≡ Some node → slice_get node.lanes l ≡ Some lane → first_is_closing lane.conts ≡ true → SameSums m.held (Close y l epoch serial floor mark rows true ∷ others)

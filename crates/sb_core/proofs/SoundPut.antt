@@ -4,12 +4,13 @@ use Rattle.sb_record.proofs.Elements.{every}
 use Rattle.sb_core.specs.LaneOrder
 use Rattle.sb_core.specs.Moments
 use Rattle.sb_pipeline.proofs.Feeding
-use Rattle.sb_core.proofs.Orderly.{lawful_of, tidy_of, sound_of}
+use Rattle.sb_core.proofs.Orderly.{lawful_of, tidy_of, sound_of, IsLawful, IsTidy}
 use Rattle.std.proofs.Common.{◌≡◌, ℕ, suc, zero, ◌+◌, ◌-◌, ◌^◌, ◌≤◌, ◌<◌, Bool, true, false, not, cond, eqb, List, [], ◌∷◌, ◌++◌, length, take, drop, Some, Option, sym, refl, ap, subst, ◌∙◌, arith, ⊎_elim}
 use Rattle.std.specs.Prelude.{◌&&◌, ◌||◌, nat_lt, nat_le, sum_by}
 use Rattle.std.specs.List.{flat_map, slice_get, list_any, list_all, AllByRecursion}
 use Rattle.std.proofs.lemmas.Bool.{cases_lt, eq-eqb, not-true, and_parts}
 use Rattle.std.proofs.Math.Bool.{or-false}
+use Rattle.std.proofs.lemmas.Option.{same_Some}
 use Rattle.sb_record.specs.declared.item.Record.{Record}
 use Rattle.sb_core.specs.declared.moment.Cont.{Cont}
 use Rattle.sb_core.specs.declared.moment.CoreLane.{CoreLane}
@@ -39,10 +40,9 @@ use Rattle.sb_core.proofs.Fitting.{Fits}
 use Rattle.sb_record.specs.Records.{record_cmp}
 use Rattle.sb_core.specs.Bounds.{bound_at}
 use Rattle.sb_core.specs.Holdings.{IsWork, IsClosing, IsHeld, is_unpassed, IsCloseOf}
-use Rattle.sb_core.proofs.Orderly.{IsLawful, IsTidy}
 use Rattle.sb_core.specs.Soundness.{has_cont, IsOpenBelow, IsSound}
 use Rattle.sb_record.proofs.Sums.{SameSums}
-use Rattle.sb_core.proofs.Lists.{cond_is_some, some_is}
+use Rattle.sb_core.proofs.Lists.{cond_is_some}
 use Rattle.sb_core.proofs.Gives.{lane_at-parts, with_lane-is}
 use Rattle.sb_core.proofs.Nodes.{begun_mark}
 use Rattle.sb_core.proofs.InTime.{work_floor, work_epoch}
@@ -64,7 +64,7 @@ arrive-sound plan is_plan m m' s records h sound =
     let c = cond_is_some _ _ m' b.2 in
     let e = bind_some (lane_at m a.0) _ m' c.1 in
     let g = cond_is_some _ _ m' e.2 in
-    go a.0 b.0 e.0 a.1 b.1 (some_is _ _ (sym e.1 ∙ b.1)) c.0 g.1
+    go a.0 b.0 e.0 a.1 b.1 (same_Some _ _ (sym e.1 ∙ b.1)) c.0 g.1
   where
     go : (d : Down) (lane again : CoreLane) → source plan s ≡ Some d → lane_at m d ≡ Some lane → again ≡ lane
         → (not (is_empty records) && (nat_le (length records) m.bundle && list_all (λ r. nat_le (next_floor lane) r.time && nat_le r.time MAX_TIME) records)) ≡ true

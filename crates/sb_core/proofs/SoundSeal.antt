@@ -3,11 +3,12 @@ use Rattle.sb_record.proofs.Numbers.{bind_some}
 use Rattle.sb_record.proofs.Elements.{every}
 use Rattle.sb_core.specs.Moments
 use Rattle.sb_pipeline.proofs.Feeding
-use Rattle.sb_core.proofs.Orderly.{lawful_of, tidy_of, sound_of}
+use Rattle.sb_core.proofs.Orderly.{lawful_of, tidy_of, sound_of, IsLawful, IsTidy}
 use Rattle.std.proofs.Common.{◌≡◌, ℕ, suc, zero, ◌+◌, ◌-◌, ◌≤◌, ◌<◌, Bool, true, false, not, cond, eqb, List, [], ◌∷◌, ◌++◌, length, Some, Option, sym, refl, ap, subst, ◌∙◌, arith, get_or, length-append}
 use Rattle.std.specs.Prelude.{◌≢◌, ◌&&◌, nat_le, count_by, sum_by}
 use Rattle.std.specs.List.{slice_get, list_any, AllByRecursion}
 use Rattle.std.proofs.lemmas.Bool.{ne_eqb, not-true, and_parts}
+use Rattle.std.proofs.lemmas.Option.{same_Some}
 use Rattle.sb_core.specs.declared.moment.Cont.{Cont}
 use Rattle.sb_core.specs.declared.moment.CoreLane.{CoreLane}
 use Rattle.sb_record.specs.declared.item.Stream.{Stream}
@@ -32,10 +33,9 @@ use Rattle.sb_core.specs.LaneOrder.{IsLane}
 use Rattle.sb_core.specs.Bounds.{bound_at}
 use Rattle.sb_core.specs.Closings.{is_pardo}
 use Rattle.sb_core.specs.Holdings.{IsClosing, IsHeld, is_unpassed, IsCloseOf}
-use Rattle.sb_core.proofs.Orderly.{IsLawful, IsTidy}
 use Rattle.sb_core.specs.Soundness.{has_cont, Begins, IsOpenBelow, IsSound}
 use Rattle.sb_record.proofs.Sums.{SameSums}
-use Rattle.sb_core.proofs.Lists.{cond_is_some, some_is, empty_is}
+use Rattle.sb_core.proofs.Lists.{cond_is_some, empty_is}
 use Rattle.sb_core.proofs.Gives.{lane_at-parts, with_lane-is}
 use Rattle.sb_core.proofs.Nodes.{begun_mark}
 use Rattle.sb_core.proofs.InTime.{begun_within}
@@ -178,7 +178,7 @@ pass-sound plan is_plan m m' sound (Close y l epoch serial floor mark rows passe
         subst (λ z. Begins (lane.marks ++ z ∷ []) own.marks) (sym mark_is) (begins-more lane.marks own.marks old (subst (λ (x : CoreLane). length lane.marks < length x.marks) (sym same) (omega arith)))
       where
         only : (own : CoreLane) (l : ℕ) (lane : CoreLane) → slice_get (own ∷ []) l ≡ Some lane → own ≡ lane
-        only own zero lane h = some_is own lane h
+        only own zero lane h = same_Some own lane h
         only own (suc l) lane h = cc
 
         last_is : (n : ℕ) (ms : List ℕ) → last_of_first (n + 1) ms ≡ get_or ms n 0
@@ -205,7 +205,7 @@ pass-sound plan is_plan m m' sound (Close y l epoch serial floor mark rows passe
           tidy = seal-tidy plan is_plan m d p.0 lane mark done p.1 p.2 lawful up fits (tidy_of sound)
               (λ k i j. count_swap (is_work k i j) m.held others (Close y l epoch serial floor mark rows false) (Close y l epoch serial floor mark rows true) first refl)
               (λ k t it ne u. any_swap (is_unpassed k) m.held others (Close y l epoch serial floor mark rows false) (Close y l epoch serial floor mark rows true) first
-              (other_node k (λ e. ne (ap (λ (t : Step). t.down) (some_is t s (sym it ∙ ap (slice_get plan.steps) e ∙ is)) ∙ down))) ∙ u)
+              (other_node k (λ e. ne (ap (λ (t : Step). t.down) (same_Some t s (sym it ∙ ap (slice_get plan.steps) e ∙ is)) ∙ down))) ∙ u)
               (λ k t own it e lone_is. marks close s lane own is under next (ap (λ k. (node_at m k).lanes) (Feeding.apart plan is_plan y k s t is it (down ∙ sym e)) ∙ lone_is))
               (All-last (IsCloseOf plan m) others (Close y l epoch serial floor mark rows true) closes.1 ((closes.0.0.0, ((λ _. refl), closes.0.0.1.1)), closes.0.1));
         })))

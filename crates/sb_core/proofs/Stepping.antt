@@ -1,6 +1,7 @@
 -- What an event does to a sound moment, and what one event more does to a list of events.
 use Rattle.std.proofs.Common.{◌≡◌, List, [], ◌∷◌, ◌++◌, Some, Option, refl, sym, ap, subst, ◌∙◌}
 use Rattle.std.specs.Prelude.{Result, Ok, Err, OnOk}
+use Rattle.std.proofs.lemmas.Option.{same_Some}
 use Rattle.sb_record.specs.declared.item.Record.{Record}
 use Rattle.sb_record.specs.declared.item.Stream.{Stream}
 use Rattle.sb_record.specs.Reading.{◌>>=◌}
@@ -17,7 +18,6 @@ use Rattle.sb_core.specs.Laws.{fed_after, fed_by}
 use Rattle.sb_core.specs.Soundness.{IsSound}
 use Rattle.sb_core.specs.Steps.{Becomes}
 use Rattle.sb_core.proofs.AfterSound.{events-keep_sound}
-use Rattle.sb_core.proofs.Lists.{some_is}
 
 module _ (plan : Shape) (is_plan : IsPlan plan) (old new : Moment) (event : Event) (sound : IsSound plan old) where
   pub step-sound : {T : Type 0} (r : Result T StepStop) → Becomes (Events.after plan old event) old new r → IsSound plan new
@@ -33,7 +33,7 @@ module _ (plan : Shape) (is_plan : IsPlan plan) (old new : Moment) (event : Even
 -- one event more
 pub run-more : (plan : Shape) (events : List Event) (event : Event) (old new next : Moment) → Events.run plan events old ≡ Some new → Events.after plan new event ≡ Some next → Events.run plan (events ++ event ∷ []) old ≡ Some next
 run-more plan [] event old new next done more =
-    ap (λ m. Events.after plan m event >>= Events.run plan []) (some_is old new done) ∙ ap (λ (o : Option Moment). o >>= Events.run plan []) more
+    ap (λ m. Events.after plan m event >>= Events.run plan []) (same_Some old new done) ∙ ap (λ (o : Option Moment). o >>= Events.run plan []) more
 run-more plan (e ∷ events) event old new next done more =
     let a = bind_some (Events.after plan old e) (Events.run plan events) new done in
     ap (λ (o : Option Moment). o >>= Events.run plan (events ++ event ∷ [])) a.1 ∙ run-more plan events event a.0 new next a.2 more

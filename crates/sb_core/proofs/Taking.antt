@@ -2,6 +2,7 @@
 use Rattle.sb_record.proofs.Numbers.{bind_some}
 use Rattle.std.proofs.Common.{◌≡◌, ℕ, ◌+◌, Bool, true, false, cond, eqb, List, [], ◌∷◌, ◌++◌, Some, Option, sym, refl, ap, subst, ◌∙◌, arith}
 use Rattle.std.specs.List.{flat_map, sum_by, list_any}
+use Rattle.std.proofs.lemmas.Option.{same_Some}
 use Rattle.sb_pipeline.specs.declared.transform.KeptRec.{KeptRec}
 use Rattle.sb_core.specs.declared.held.Held.{Held}
 use Rattle.sb_core.specs.declared.held.Held.TheVariants.{Work}
@@ -20,7 +21,7 @@ use Rattle.sb_core.specs.Choices.{pulled}
 use Rattle.sb_core.specs.Exactness.{waiting_in, working, undelivered, gives}
 use Rattle.sb_record.proofs.Sums.{SameSums}
 use Rattle.sb_core.proofs.Flow.{brought, sum_by-brought}
-use Rattle.sb_core.proofs.Lists.{some_is, waiting-take_from}
+use Rattle.sb_core.proofs.Lists.{waiting-take_from}
 use Rattle.sb_core.proofs.Nodes.{begun_mark}
 use Rattle.sb_core.proofs.Gives.{lane-gives, lane_at-parts, with_lane-is, working_is, sum_by-held_push}
 
@@ -33,11 +34,11 @@ take_from-closing number (c ∷ cs) q h = by_case (list_any (λ b. eqb b.number 
         → first_is_closing q.1 ≡ c.closing
     by_case true h =
         let b = bind_some (pulled (λ b. eqb b.number number) c.waiting) _ q h in
-        let same : ◌≡◌ {A = Bundle × List Cont} (b.0.0, record c { waiting = b.0.1; out = c.out ++ number ∷ [] } ∷ cs) q = some_is _ _ b.2 in
+        let same : ◌≡◌ {A = Bundle × List Cont} (b.0.0, record c { waiting = b.0.1; out = c.out ++ number ∷ [] } ∷ cs) q = same_Some _ _ b.2 in
         ap (λ (r : Bundle × List Cont). first_is_closing r.1) (sym same)
     by_case false h =
         let b = bind_some (take_from number cs) _ q h in
-        let same : ◌≡◌ {A = Bundle × List Cont} (b.0.0, c ∷ b.0.1) q = some_is _ _ b.2 in
+        let same : ◌≡◌ {A = Bundle × List Cont} (b.0.0, c ∷ b.0.1) q = same_Some _ _ b.2 in
         ap (λ (r : Bundle × List Cont). first_is_closing r.1) (sym same)
 
 pub take-gives : (plan : Shape) (m m' : Moment) (d : Down) (number : ℕ) → after_take m d number ≡ Some m' → (k : ℕ) (es fs : List KeptRec) → SameSums es fs → SameSums (gives plan m k es) (gives plan m' k fs)

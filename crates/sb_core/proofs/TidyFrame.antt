@@ -4,6 +4,7 @@ use Rattle.std.proofs.Common.{length-set, ◌≡◌, ℕ, suc, zero, ◌≤◌, 
 use Rattle.std.specs.Prelude.{min, ◌⊎◌, ◌≢◌, count_by, sum_by}
 use Rattle.std.specs.List.{slice_get, list_any, AllByRecursion}
 use Rattle.std.proofs.lemmas.Bool.{cases_eq}
+use Rattle.std.proofs.lemmas.Option.{same_Some}
 use Rattle.sb_core.specs.declared.moment.CoreLane.{CoreLane}
 use Rattle.sb_record.specs.declared.item.Stream.{Stream}
 use Rattle.sb_pipeline.specs.declared.transform.Down.{Down}
@@ -21,7 +22,6 @@ use Rattle.sb_core.specs.Bounds.{bound_at}
 use Rattle.sb_core.specs.Holdings.{is_unpassed, IsCloseOf}
 use Rattle.sb_core.specs.Soundness.{out_of, AreNumbered, Begins, IsOpenBelow, IsKeptAt}
 use Rattle.sb_core.proofs.Orderly.{IsTidy}
-use Rattle.sb_core.proofs.Lists.{some_is}
 use Rattle.sb_core.proofs.Nodes.{begun_mark, closed-set, node_at-same, node_at-set_same, node_at-set_other}
 use Rattle.sb_core.proofs.Changed.{cases, at_place, of_node, other, closed_same}
 
@@ -35,7 +35,7 @@ place_or n l d = ⊎_elim (λ e. ⊎_elim (λ f. inl (here e f)) (λ ne. inr (λ
 -- one lane of one
 pub lone_set : (lanes : List CoreLane) (l : ℕ) (lane with own : CoreLane) → slice_get lanes l ≡ Some lane → slice_set lanes l with ≡ own ∷ [] → (lanes ≡ lane ∷ []) × (own ≡ with)
 lone_set [] l lane with own at e = cc
-lone_set (x ∷ []) zero lane with own at e = let k : x ≡ lane = some_is x lane at in (ap (λ x. x ∷ []) k, cc)
+lone_set (x ∷ []) zero lane with own at e = let k : x ≡ lane = same_Some x lane at in (ap (λ x. x ∷ []) k, cc)
 lone_set (x ∷ []) (suc l) lane with own at e = cc
 lone_set (x ∷ y ∷ lanes) zero lane with own at e = cc
 lone_set (x ∷ y ∷ lanes) (suc zero) lane with own at e = cc
@@ -86,10 +86,10 @@ module _ (plan : Shape) (m : Moment) (n l : ℕ) (node new : Node) (lane with : 
       record {
         bundle = tidy.bundle;
         lanes = λ k b. of_node plan m n l node new lane with at in_it lanes closings_same begun_same mark_same held (λ x. length x.lanes) (ap length lanes ∙ length-set node.lanes l with) k ∙ tidy.lanes k b;
-        numbers = λ d x h. ⊎_elim (λ c. subst AreNumbered (some_is with x (sym c.1 ∙ h)) numbers) (λ c. tidy.numbers d x (sym c ∙ h)) (by_place d);
+        numbers = λ d x h. ⊎_elim (λ c. subst AreNumbered (same_Some with x (sym c.1 ∙ h)) numbers) (λ c. tidy.numbers d x (sym c ∙ h)) (by_place d);
         outs = outs;
         open_source = λ s d x is h. ⊎_elim
-            (λ e. subst (λ (x : CoreLane). AllByRecursion (λ c. next_epoch x ≤ c.epoch → c.epoch ≡ next_epoch x) x.conts) (some_is with x (sym (placed d e) ∙ h)) (source_here s (is ∙ ap Some e)))
+            (λ e. subst (λ (x : CoreLane). AllByRecursion (λ c. next_epoch x ≤ c.epoch → c.epoch ≡ next_epoch x) x.conts) (same_Some with x (sym (placed d e) ∙ h)) (source_here s (is ∙ ap Some e)))
             (λ ne. tidy.open_source s d x is (sym (elsewhere d ne) ∙ h)) (place_or n l d);
         open_below = open_below;
         own_marks = own_marks;
@@ -111,13 +111,13 @@ module _ (plan : Shape) (m : Moment) (n l : ℕ) (node new : Node) (lane with : 
 
       outs : (d : Down) (x : CoreLane) → lane_at now d ≡ Some x → (i : ℕ) → sum_by (out_of i) x.conts ≡ count_by (is_work d.node d.lane i) held
       outs d x h i = ⊎_elim
-          (λ e. ap (λ (x : CoreLane). sum_by (out_of i) x.conts) (sym (some_is with x (sym (placed d e) ∙ h))) ∙ outs_here i ∙ ap (λ (d : Down). count_by (is_work d.node d.lane i) held) (sym e))
+          (λ e. ap (λ (x : CoreLane). sum_by (out_of i) x.conts) (sym (same_Some with x (sym (placed d e) ∙ h))) ∙ outs_here i ∙ ap (λ (d : Down). count_by (is_work d.node d.lane i) held) (sym e))
           (λ ne. tidy.outs d x (sym (elsewhere d ne) ∙ h) i ∙ sym (outs_other d ne i)) (place_or n l d)
 
       open_below : (k : ℕ) (s : Step) (x : CoreLane) → slice_get plan.steps k ≡ Some s → lane_at now s.down ≡ Some x
           → AllByRecursion (λ c. next_epoch x ≤ c.epoch → IsOpenBelow (operator_at (slice_get plan.steps k)) (node_at now k).lanes (list_any (is_unpassed k) held) (next_epoch x) c.epoch c.floor) x.conts
       open_below k s x is h = ⊎_elim
-          (λ e. subst (λ (x : CoreLane). AllByRecursion (λ c. next_epoch x ≤ c.epoch → IsOpenBelow (operator_at (slice_get plan.steps k)) (node_at now k).lanes (list_any (is_unpassed k) held) (next_epoch x) c.epoch c.floor) x.conts) (some_is with x (sym (placed s.down e) ∙ h)) (below_here k s is e))
+          (λ e. subst (λ (x : CoreLane). AllByRecursion (λ c. next_epoch x ≤ c.epoch → IsOpenBelow (operator_at (slice_get plan.steps k)) (node_at now k).lanes (list_any (is_unpassed k) held) (next_epoch x) c.epoch c.floor) x.conts) (same_Some with x (sym (placed s.down e) ∙ h)) (below_here k s is e))
           (λ ne. let was : lane_at m s.down ≡ Some x = sym (elsewhere s.down ne) ∙ h in every (λ c z b. below_other k s x is ne was c.epoch c.floor b (z b)) x.conts (tidy.open_below k s x is was)) (place_or n l s.down)
 
       own_marks : (k : ℕ) (s : Step) (x own : CoreLane) → slice_get plan.steps k ≡ Some s → lane_at now s.down ≡ Some x → (node_at now k).lanes ≡ own ∷ [] → Begins x.marks own.marks
@@ -135,7 +135,7 @@ module _ (plan : Shape) (m : Moment) (n l : ℕ) (node new : Node) (lane with : 
           not_this : k ≢ n → Begins x.marks own.marks
           not_this ne =
               let z : (node_at m k).lanes ≡ own ∷ [] = ap (λ (x : Node). x.lanes) (sym (node_at-set_other m n node new at k ne)) ∙ lone in
-              ⊎_elim (λ e. subst (λ (x : CoreLane). Begins x.marks own.marks) (some_is with x (sym (placed s.down e) ∙ h)) (marks_here k s own is e z)) (λ o. tidy.own_marks k s x own is (sym (elsewhere s.down o) ∙ h) z) (place_or n l s.down)
+              ⊎_elim (λ e. subst (λ (x : CoreLane). Begins x.marks own.marks) (same_Some with x (sym (placed s.down e) ∙ h)) (marks_here k s own is e z)) (λ o. tidy.own_marks k s x own is (sym (elsewhere s.down o) ∙ h) z) (place_or n l s.down)
 
       kept_here : AllByRecursion (IsKeptAt (operator_at (slice_get plan.steps n)) (closed (node_at now n).lanes) (bound_at plan n)) (node_at now n).kept
       kept_here =

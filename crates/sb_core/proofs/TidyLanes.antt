@@ -6,6 +6,7 @@ use Rattle.std.specs.List.{filter, list_any, AllByRecursion}
 use Rattle.std.proofs.lemmas.Bool.{eqb-true, eqb-false, eq-eqb, ne_eqb, cases_eq, ltb-true}
 use Rattle.std.proofs.lemmas.List.Sums.{sum_by-cons}
 use Rattle.std.proofs.Math.Bool.{or-true}
+use Rattle.std.proofs.lemmas.Option.{same_Some}
 use Rattle.sb_record.specs.declared.item.Record.{Record}
 use Rattle.sb_bundle.specs.declared.bundle.Bundle.{Bundle}
 use Rattle.sb_core.specs.declared.moment.Cont.{Cont}
@@ -15,7 +16,7 @@ use Rattle.sb_core.specs.Lanes.{fresh, in_epoch, take_from, finish_in, with_firs
 use Rattle.sb_core.specs.Choices.{pulled}
 use Rattle.sb_core.specs.LaneOrder.{cont_at}
 use Rattle.sb_core.specs.Soundness.{out_of, numbers_of, AreNumbered}
-use Rattle.sb_core.proofs.Lists.{some_is, SameSums-pulled}
+use Rattle.sb_core.proofs.Lists.{SameSums-pulled}
 use Rattle.sb_core.proofs.LaneLaws.{DifferInBundles}
 use Rattle.sb_core.proofs.HeldLists.{any_count, count_snoc}
 
@@ -113,10 +114,10 @@ pulled-passes p [] q h = cc
 pulled-passes {X} p (x ∷ xs) q h = by_case (p x) refl h (λ r e. pulled-passes p xs r e)
   where
     by_case : (b : Bool) → p x ≡ b → cond {A = Option (X × List X)} b (Some (x, xs)) (pulled p xs >>= λ q. Some (q.0, x ∷ q.1)) ≡ Some q → ((r : X × List X) → pulled p xs ≡ Some r → p r.0 ≡ true) → p q.0 ≡ true
-    by_case true e h ih = subst (λ (r : X × List X). p r.0 ≡ true) (some_is _ _ h) e
+    by_case true e h ih = subst (λ (r : X × List X). p r.0 ≡ true) (same_Some _ _ h) e
     by_case false e h ih =
         let b = bind_some (pulled p xs) (λ (q : X × List X). Some (q.0, x ∷ q.1)) q h in
-        subst (λ (r : X × List X). p r.0 ≡ true) (some_is _ _ b.2) (ih b.0 b.1)
+        subst (λ (r : X × List X). p r.0 ≡ true) (same_Some _ _ b.2) (ih b.0 b.1)
 
 pub taken-sums : (number n : ℕ) (cs : List Cont) (q : Bundle × List Cont) → take_from number cs ≡ Some q
     → (sum_by (numbers_of n) q.1 ≡ sum_by (numbers_of n) cs) × (sum_by (out_of n) q.1 ≡ sum_by (out_of n) cs + cond (eqb number n) 1 0)
@@ -129,7 +130,7 @@ taken-sums number n (c ∷ cs) q h = by_case (list_any (λ b. eqb b.number numbe
         → (sum_by (numbers_of n) q.1 ≡ sum_by (numbers_of n) (c ∷ cs)) × (sum_by (out_of n) q.1 ≡ sum_by (out_of n) (c ∷ cs) + cond (eqb number n) 1 0)
     by_case true h ih =
         let b = bind_some (pulled (λ b. eqb b.number number) c.waiting) _ q h in
-        let same : ◌≡◌ {A = Bundle × List Cont} (b.0.0, record c { waiting = b.0.1; out = c.out ++ number ∷ [] } ∷ cs) q = some_is _ _ b.2 in
+        let same : ◌≡◌ {A = Bundle × List Cont} (b.0.0, record c { waiting = b.0.1; out = c.out ++ number ∷ [] } ∷ cs) q = same_Some _ _ b.2 in
         let is : b.0.0.number ≡ number = eqb-true b.0.0.number number (pulled-passes (λ b. eqb b.number number) c.waiting b.0 b.1) in
         let w : count_by (λ (b : Bundle). eqb b.number n) c.waiting ≡ cond (eqb number n) 1 0 + count_by (λ (b : Bundle). eqb b.number n) b.0.1 =
         SameSums-pulled (λ b. eqb b.number number) c.waiting b.0 b.1 (λ b. cond (eqb b.number n) 1 0) ∙ sum_by-cons (λ b. cond (eqb b.number n) 1 0) b.0.0 b.0.1 ∙ ap (λ z. cond (eqb z n) 1 0 + count_by (λ (b : Bundle). eqb b.number n) b.0.1) is in
@@ -143,7 +144,7 @@ taken-sums number n (c ∷ cs) q h = by_case (list_any (λ b. eqb b.number numbe
         (omega arith, omega arith)
     by_case false h ih =
         let b = bind_some (take_from number cs) _ q h in
-        let same : ◌≡◌ {A = Bundle × List Cont} (b.0.0, c ∷ b.0.1) q = some_is _ _ b.2 in
+        let same : ◌≡◌ {A = Bundle × List Cont} (b.0.0, c ∷ b.0.1) q = same_Some _ _ b.2 in
         let k = ih b.0 b.1 in
         subst (λ (r : Bundle × List Cont). (sum_by (numbers_of n) r.1 ≡ sum_by (numbers_of n) (c ∷ cs)) × (sum_by (out_of n) r.1 ≡ sum_by (out_of n) (c ∷ cs) + cond (eqb number n) 1 0)) same (
           sum_by-cons (numbers_of n) c b.0.1 ∙ ap (λ z. numbers_of n c + z) k.0 ∙ sym (sum_by-cons (numbers_of n) c cs),
@@ -192,7 +193,7 @@ has-at e f [] c h k = cc
 has-at e f (x ∷ cs) c h k = by_case (eqb x.epoch e) refl h (λ z. has-at e f cs c z k)
   where
     by_case : (b : Bool) → eqb x.epoch e ≡ b → cond b (Some x) (cont_at e cs) ≡ Some c → (cont_at e cs ≡ Some c → list_any (λ c. (eqb c.epoch e) && (eqb c.floor f)) cs ≡ true) → (((eqb x.epoch e) && (eqb x.floor f)) || list_any (λ c. (eqb c.epoch e) && (eqb c.floor f)) cs) ≡ true
-    by_case true q h ih = let z : x.floor ≡ f = ap (λ (c : Cont). c.floor) (some_is x c h) ∙ k in (λ i. (q i && eq-eqb x.floor f z i) || list_any (λ c. (eqb c.epoch e) && (eqb c.floor f)) cs)
+    by_case true q h ih = let z : x.floor ≡ f = ap (λ (c : Cont). c.floor) (same_Some x c h) ∙ k in (λ i. (q i && eq-eqb x.floor f z i) || list_any (λ c. (eqb c.epoch e) && (eqb c.floor f)) cs)
     by_case false q h ih = ap (λ b. ((eqb x.epoch e) && (eqb x.floor f)) || b) (ih h) ∙ or-true _
 
 -- ---- a Work is finished
@@ -264,7 +265,7 @@ finished-none epoch number (x ∷ cs) c h out once = by_case (eqb x.epoch epoch)
     by_case : (b : Bool) → cond b (Some x) (cont_at epoch cs) ≡ Some c → (cont_at epoch cs ≡ Some c → sum_by (out_of number) cs ≤ 1 → sum_by (out_of number) (finish_in epoch number cs) ≡ 0)
         → sum_by (out_of number) (cond b (record x { out = filter (λ x. not (eqb x number)) x.out }) x ∷ finish_in epoch number cs) ≡ 0
     by_case true h ih =
-        let k : x ≡ c = some_is x c h in
+        let k : x ≡ c = same_Some x c h in
         let o : 1 ≤ out_of number x = one_is x.out (ap (λ (c : Cont). list_any (λ x. eqb x number) c.out) k ∙ out) in
         sum_by-cons (out_of number) (record x { out = filter (λ x. not (eqb x number)) x.out }) (finish_in epoch number cs)
         ∙ (λ i. (filtered number number x.out ∙ ap (λ b. cond b 0 (count_by (λ x. eqb x number) x.out)) (eq-eqb number number refl)) i + least cs (omega (arith, s)) i)
@@ -278,5 +279,5 @@ finished-none epoch number (x ∷ cs) c h out once = by_case (eqb x.epoch epoch)
         somewhere (y ∷ l) h = pick (eqb y.epoch epoch) h (λ k. somewhere l k)
           where
             pick : (b : Bool) → cond b (Some y) (cont_at epoch l) ≡ Some c → (cont_at epoch l ≡ Some c → 1 ≤ sum_by (out_of number) l) → 1 ≤ sum_by (out_of number) (y ∷ l)
-            pick true h ih = let o : 1 ≤ out_of number y = one_is y.out (ap (λ (c : Cont). list_any (λ x. eqb x number) c.out) (some_is y c h) ∙ out) in omega (arith, sum_by-cons (out_of number) y l)
+            pick true h ih = let o : 1 ≤ out_of number y = one_is y.out (ap (λ (c : Cont). list_any (λ x. eqb x number) c.out) (same_Some y c h) ∙ out) in omega (arith, sum_by-cons (out_of number) y l)
             pick false h ih = omega (arith, sum_by-cons (out_of number) y l, ih h)

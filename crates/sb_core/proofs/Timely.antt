@@ -32,8 +32,7 @@ use Rattle.sb_record.specs.declared.item.TheConstants.{MAX_TIME}
 use Rattle.sb_core.specs.Exactness.{waiting_from, working, undelivered, rest, gives, gives_by, IsAdmissible}
 use Rattle.sb_record.proofs.Sums.{sum_by-flat_map, sum_by-map, sum_by-filter}
 use Rattle.sb_core.proofs.Flow.{brought}
-use Rattle.sb_core.proofs.Groupings.{early}
-use Rattle.sb_core.proofs.Groupings.{early_one}
+use Rattle.sb_core.proofs.Groupings.{early, early_one}
 use Rattle.sb_core.proofs.Gives.{sum_by-rest}
 
 -- 1 where the lane is not there, or the time is before the floor of its next epoch
