@@ -1,19 +1,16 @@
 -- What the code finds for a closing that is to begin.
-use Rattle.std.proofs.Common.{◌≡◌, ℕ, zero, suc, ◌+◌, ◌≤◌, ◌<◌, Bool, true, false, not, cond, List, [], ◌∷◌, ◌++◌, length, get_or, Some, None, Option, is_some, sym, refl, ap, subst, ◌∙◌, arith, ⊎_elim, set as slice_set}
-use Rattle.std.specs.Prelude.{All, ◌||◌, ◌&&◌, ◌==◌, sum_by}
+use Rattle.std.proofs.Common.{◌≡◌, ℕ, ◌+◌, ◌≤◌, ◌<◌, Bool, true, false, not, List, [], ◌∷◌, ◌++◌, length, get_or, Some, None, Option, is_some, sym, refl, ap, subst, ◌∙◌, arith, ⊎_elim, set as slice_set}
+use Rattle.std.specs.Prelude.{All, ◌&&◌, ◌==◌, sum_by}
 use Rattle.std.specs.List.{slice_get, list_any, AllByRecursion}
 use Rattle.std.specs.Option.{option_map}
-use Rattle.std.proofs.lemmas.Option.{slice_get_past, slice_get_within, slice_get-get_or, get_or_from_slice_get, same_Some}
-use Rattle.std.proofs.lemmas.Bool.{eq-eqb, ne_eqb, cases_lt}
+use Rattle.std.proofs.lemmas.Option.{slice_get_cases, slice_get_within, slice_get-get_or, get_or_from_slice_get, same_Some}
+use Rattle.std.proofs.lemmas.Bool.{eq-eqb, ne_eqb}
 use Rattle.std.proofs.lemmas.List.Elements.{All-from_recursion}
 use Rattle.sb_record.specs.declared.item.TheConstants.{END_MARK}
-use Rattle.sb_record.specs.Reading.{◌>>=◌}
 use Rattle.sb_record.proofs.Elements.{every}
 use Rattle.sb_pipeline.specs.declared.transform.KeptRec.{KeptRec}
-use Rattle.sb_pipeline.specs.declared.transform.Kind.{Kind}
-use Rattle.sb_pipeline.specs.declared.transform.Kind.TheVariants.{Do, Group, Join}
 use Rattle.sb_pipeline.specs.declared.transform.Step.{Step}
-use Rattle.sb_pipeline.specs.Operators.{Operator, operator_at, operator_of, lanes_of}
+use Rattle.sb_pipeline.specs.Operators.{Operator, operator_at, lanes_of}
 use Rattle.sb_pipeline.specs.Operators.Operator.{ParDo, Windowed, Sink}
 use Rattle.sb_pipeline.specs.Operators.WindowOperator.{Aggregated, Joined}
 use Rattle.sb_pipeline.specs.Plans.{IsPlan}
@@ -25,7 +22,7 @@ use Rattle.sb_core.specs.declared.moment.CoreLane.{CoreLane}
 use Rattle.sb_core.specs.declared.moment.Moment.{Moment}
 use Rattle.sb_core.specs.declared.moment.Node.{Node}
 use Rattle.sb_core.specs.Bounds.{bound_at}
-use Rattle.sb_core.specs.Choices.{is_empty, only_if, pulled}
+use Rattle.sb_core.specs.Choices.{is_empty, only_if}
 use Rattle.sb_core.specs.Beginnings.{IsBeginningOf}
 use Rattle.sb_core.specs.Closings.{collected, is_sink, kept_at, rows_at}
 use Rattle.sb_core.specs.Events.{after_begin}
@@ -37,20 +34,8 @@ use Rattle.sb_core.specs.Soundness.{IsSound, IsKeptAt}
 use Rattle.sb_core.proofs.TimeBounds.{bound-before_end}
 use Rattle.sb_core.proofs.InPlace.{then_some, lane-there}
 use Rattle.sb_core.proofs.InTime.{begun_within}
-use Rattle.sb_core.proofs.Lists.{cond_is_some}
-
--- an element passes just where there is a first that does
-is_some-then : {A B : Type 0} (o : Option A) (f : A → B) → is_some (o >>= λ x. Some (f x)) ≡ is_some o
-is_some-then None f = refl
-is_some-then (Some x) f = refl
-
-any-pulled : {X : Type 0} (p : X → Bool) (xs : List X) → list_any p xs ≡ is_some (pulled p xs)
-any-pulled p [] = refl
-any-pulled {X} p (x ∷ xs) = by_case (p x) (any-pulled p xs)
-  where
-    by_case : (b : Bool) → list_any p xs ≡ is_some (pulled p xs) → (b || list_any p xs) ≡ is_some (cond {A = Option (X × List X)} b (Some (x, xs)) (pulled p xs >>= λ q. Some (q.0, x ∷ q.1)))
-    by_case true h = refl
-    by_case false h = h ∙ sym (is_some-then (pulled p xs) (λ q. (q.0, x ∷ q.1)))
+use Rattle.sb_core.proofs.Lists.{cond_is_some, any-pulled}
+use Rattle.sb_core.proofs.Timely.{no_sink}
 
 pub any-first : {X : Type 0} (p : X → Bool) (xs : List X) (place : Option ℕ) → IsFirst p xs place → list_any p xs ≡ is_some place
 any-first p xs None none = any-pulled p xs ∙ ap is_some none
@@ -115,18 +100,8 @@ begin-refused plan m k l node lane c at in_it closes busy =
 -- the node after the transforms is the sink
 pub sink-last : (steps : List Step) (k count : ℕ) → count ≡ length steps → k ≤ length steps → (k == count) ≡ is_sink (operator_at (slice_get steps k))
 sink-last steps k count e within = ⊎_elim
-    (λ (lt : k < length steps). let s = slice_get-there steps k lt in ne_eqb k count (λ same. omega (arith, lt, e, same)) ∙ sym (ap (λ (o : Option Step). is_sink (operator_at o)) s.1 ∙ no_sink s.0.kind))
-    (λ (le : length steps ≤ k). eq-eqb k count (omega (arith, le, e, within)) ∙ sym (ap (λ (o : Option Step). is_sink (operator_at o)) (slice_get_past steps k le))) (cases_lt k (length steps))
-  where
-    no_sink : (kind : Kind) → is_sink (operator_of kind) ≡ false
-    no_sink (Do op) = refl
-    no_sink (Group agg windows) = refl
-    no_sink (Join combine windows) = refl
-
-    slice_get-there : (steps : List Step) (k : ℕ) → k < length steps → (s : Step) × (slice_get steps k ≡ Some s)
-    slice_get-there [] k lt = absurd (omega (arith, lt))
-    slice_get-there (s ∷ steps) zero lt = (s, refl)
-    slice_get-there (s ∷ steps) (suc k) lt = slice_get-there steps k (omega (arith, lt))
+    (λ a. ne_eqb k count (λ same. omega (arith, a.1, e, same)) ∙ sym (ap (λ (o : Option Step). is_sink (operator_at o)) a.2 ∙ no_sink a.0.kind))
+    (λ b. eq-eqb k count (omega (arith, b.0, e, within)) ∙ sym (ap (λ (o : Option Step). is_sink (operator_at o)) b.1)) (slice_get_cases steps k).1
 
 accepted : (b : Bool) (o : Option Moment) → b ≡ false → only_if (not b) o ≡ o
 accepted b o e = ap (λ b. only_if (not b) o) e

@@ -1,5 +1,5 @@
 -- A closing begins: each node gives what it gave.
-use Rattle.std.proofs.Common.{◌≡◌, ℕ, suc, zero, ◌+◌, ◌≤◌, true, not, cond, List, [], ◌∷◌, ◌++◌, length, Some, None, Option, sym, refl, ap, subst, ◌∙◌, arith, ⊎_elim, append-nil}
+use Rattle.std.proofs.Common.{◌≡◌, ℕ, ◌+◌, ◌≤◌, true, false, not, cond, List, [], ◌∷◌, ◌++◌, length, Some, None, Option, sym, refl, ap, subst, ◌∙◌, arith, ⊎_elim, append-nil}
 use Rattle.std.specs.Prelude.{◌≢◌, nat_lt}
 use Rattle.std.specs.List.{filter, flat_map, sum_by, slice_get, slice_set}
 use Rattle.std.proofs.lemmas.Bool.{eq-eqb, ne_eqb, cases_eq}
@@ -30,7 +30,7 @@ use Rattle.sb_core.specs.Moments.{set_lane, node_at}
 use Rattle.sb_core.specs.Exactness.{waiting_in, waiting_from, working, undelivered, rest, gives, gives_by}
 use Rattle.sb_record.proofs.Sums.{SameSums, sum_by-agree, SameSums-map, SameSums-flat_map, SameSums-filter}
 use Rattle.sb_core.proofs.Lists.{waiting_of}
-use Rattle.sb_core.proofs.Timely.{late, late_for, IsTimely, rest_in_time}
+use Rattle.sb_core.proofs.Timely.{late, late_for, IsTimely, no_sink, rest_in_time}
 use Rattle.sb_core.proofs.Nodes.{lane_at-set, sum_by-waiting_set, node_at-same, node_at-set_same, node_at-set_other}
 use Rattle.sb_core.proofs.Groupings.{early_one, all_records-append, all_records-filter, grouped-order, grouped-closing}
 use Rattle.sb_record.proofs.Sorting.{SameSums-in_order}
@@ -111,11 +111,6 @@ collects_none (Do op) mark es = refl
 collects_none (Group agg windows) mark es = refl
 collects_none (Join combine windows) mark es = refl
 
-transform_no_sink : (kind : Kind) → is_sink (operator_of kind) ≡ true → ⊥
-transform_no_sink (Do op) h = cc
-transform_no_sink (Group agg windows) h = cc
-transform_no_sink (Join combine windows) h = cc
-
 pub none_past : {X : Type 0} (xs : List X) (j : ℕ) → slice_get xs j ≡ None → length xs ≤ j
 none_past xs j h = ⊎_elim (λ a. let k : Some a.0 ≡ None = sym a.2 ∙ h in cc) (λ b. b.0) (slice_get_cases xs j).1
 
@@ -129,7 +124,7 @@ rows_of_others plan k n mark rows es within_k within_n ne sink = by_case (slice_
 
     by_case : (o : Option Step) → slice_get plan.steps n ≡ o → (p : Option Step) → slice_get plan.steps k ≡ p → is_sink (operator_at p) ≡ true → rows ++ collected (operator_at o) mark es ≡ rows
     by_case (Some s) e p f sink = ap (λ l. rows ++ l) (collects_none s.kind mark es) ∙ append-nil rows
-    by_case None e (Some s) f sink = absurd (transform_no_sink s.kind sink)
+    by_case None e (Some s) f sink = let k : false ≡ true = sym (no_sink s.kind) ∙ sink in cc
     by_case None e None f sink = absurd (ne (past k within_k f ∙ sym (past n within_n e)))
 
 -- ---- the event

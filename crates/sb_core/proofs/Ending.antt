@@ -25,7 +25,7 @@ use Rattle.sb_core.proofs.Orderly.{IsLawful}
 use Rattle.sb_record.proofs.Sums.{SameSums}
 use Rattle.sb_core.proofs.LaneLaws.{DifferInBundles, containers-differ, finish_in-differ}
 use Rattle.sb_core.proofs.Nodes.{begun_mark}
-use Rattle.sb_core.proofs.InTime.{next_mark}
+use Rattle.sb_core.proofs.InTime.{next_mark, out_behind}
 use Rattle.sb_core.proofs.InEpoch.{tail_calm, ready_calm}
 use Rattle.sb_core.proofs.LawfulTake.{differ-closing, differ-tail}
 use Rattle.sb_core.proofs.HeldLists.{any_gone, count_gone, none_left, every_both}
@@ -82,13 +82,7 @@ module _ (bound : ℕ) (lane : CoreLane) (ok : IsLane bound lane) (closing : fir
     where
       go : (cs : List Cont) → IsReady cs → first_is_closing cs ≡ true → cont_at epoch cs ≡ Some o.0 → (c : Cont) × (cont_at epoch (drop 1 cs) ≡ Some c) × (c.floor ≡ floor) × (list_any (λ n. eqb n number) c.out ≡ true)
       go [] ready c h = cc
-      go (x ∷ cs) ready c h = by_case (eqb x.epoch epoch) h
-        where
-          by_case : (b : Bool) → cond b (Some x) (cont_at epoch cs) ≡ Some o.0 → (c : Cont) × (cont_at epoch cs ≡ Some c) × (c.floor ≡ floor) × (list_any (λ n. eqb n number) c.out ≡ true)
-          by_case true h =
-              let k : x ≡ o.0 = cc in
-              let n : false ≡ true = sym (ap (λ (c : Cont). list_any (λ n. eqb n number) c.out) (sym k) ∙ ap (list_any (λ n. eqb n number)) (ready c).1) ∙ o.3 in cc
-          by_case false h = (o.0, h, o.2, o.3)
+      go (x ∷ cs) ready c h = (o.0, out_behind epoch number o.0 x cs o.3 (ready c).1 h, o.2, o.3)
 
 -- ---- a closing ends
 pub end-lawful : (plan : Shape) (m : Moment) (node : Node) (lane : CoreLane) (y l epoch serial floor mark : ℕ) (rows : List Record) (others : List Held)

@@ -39,11 +39,9 @@ use Rattle.sb_core.specs.Closings.{is_pardo}
 use Rattle.sb_core.proofs.Orderly.{IsLawful}
 use Rattle.sb_record.proofs.Sums.{SameSums, SameSums-flat_map}
 use Rattle.sb_core.proofs.Lists.{cond_is_some, waiting_of, SameSums-pulled}
-use Rattle.sb_pipeline.specs.Operators.{Operator, operator_of, operator_at}
+use Rattle.sb_pipeline.specs.Operators.{Operator, operator_at}
 use Rattle.sb_pardo.specs.Outputs.{outputs_of}
 use Rattle.sb_pipeline.specs.Operators.Operator.{ParDo, Windowed, Sink}
-use Rattle.sb_pipeline.specs.declared.transform.Kind.{Kind}
-use Rattle.sb_pipeline.specs.declared.transform.Kind.TheVariants.{Do, Group, Join}
 use Rattle.sb_core.specs.Holdings.{IsHeld}
 use Rattle.sb_core.proofs.LaneLaws.{All-pulled}
 use Rattle.sb_core.proofs.Nodes.{begun_mark, lane_at-set, lane_at-cases, node_at-same, node_at-set_same}
@@ -54,7 +52,7 @@ use Rattle.sb_core.proofs.Flow.{extra}
 use Rattle.sb_core.proofs.Gives.{lane_at-parts, with_lane-is, sum_by-held_push}
 use Rattle.sb_core.proofs.Taking.{take-gives}
 use Rattle.sb_core.proofs.Exactly.{exact-same, exact-arrived, exact-delivered, with_more, fed_more}
-use Rattle.sb_core.proofs.Timely.{IsTimely}
+use Rattle.sb_core.proofs.Timely.{IsTimely, no_sink}
 use Rattle.sb_core.proofs.InTime.{begun_within}
 use Rattle.sb_core.proofs.LawfulTimely.{lawful-timely}
 
@@ -242,11 +240,6 @@ below-is plan k d h = let b = bind_some (slice_get plan.steps k) (λ s. Some s.d
 
 pub transform_is : (plan : Shape) (k : ℕ) (s : Step) → slice_get plan.steps k ≡ Some s → Closings.is_sink (operator_at (slice_get plan.steps k)) ≡ false
 transform_is plan k s is = ap (λ o. Closings.is_sink (operator_at o)) is ∙ no_sink s.kind
-  where
-    no_sink : (kind : Kind) → Closings.is_sink (operator_of kind) ≡ false
-    no_sink (Do op) = refl
-    no_sink (Group agg windows) = refl
-    no_sink (Join combine windows) = refl
 
 module _ (plan : Shape) (m m' : Moment) (fed : Stream → List Record) (lawful : IsLawful plan m) (exact : IsExact plan m fed) where
   arrived : (d : Down) (epoch floor : ℕ) (records : List Record) (held : List Held) → Events.arrived_at d epoch floor records (Moments.with_held held m) ≡ Some m'

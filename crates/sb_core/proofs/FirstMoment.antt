@@ -5,11 +5,12 @@ use Rattle.sb_pipeline.proofs.Feeding
 use Rattle.sb_core.proofs.Orderly.{sound_of, IsLawful}
 use Rattle.std.proofs.Common.{◌≡◌, ℕ, suc, zero, ◌+◌, ◌≤◌, ◌<◌, true, false, not, cond, List, [], ◌∷◌, ◌++◌, length, map, Some, Option, sym, refl, ap, subst, ◌∙◌, arith, zero-add, ⊎_elim}
 use Rattle.std.specs.Prelude.{min, replicate, sum_by}
-use Rattle.std.specs.List.{flat_map, slice_get, slice_index_or, AllByRecursion}
+use Rattle.std.specs.List.{flat_map, slice_get, AllByRecursion}
 use Rattle.std.proofs.lemmas.Bool.{le-ltb, cases_lt}
 use Rattle.std.proofs.lemmas.List.Sums.{sum_by-cons}
-use Rattle.std.proofs.lemmas.Option.{get_or_from_slice_get, same_Some}
+use Rattle.std.proofs.lemmas.Option.{get_or_from_slice_get, same_Some, slice_get-get_or, slice_get_within}
 use Rattle.std.specs.Ordering
+use Rattle.std.proofs.lemmas.List.{length-replicate, get_or-replicate, get_or_past}
 use Rattle.sb_record.specs.declared.item.Record.{Record}
 use Rattle.sb_pipeline.specs.declared.transform.KeptRec.{KeptRec}
 use Rattle.sb_pipeline.specs.declared.transform.Down.{Down}
@@ -17,7 +18,6 @@ use Rattle.sb_pipeline.specs.declared.transform.Step.{Step}
 use Rattle.sb_core.specs.declared.moment.Node.{Node}
 use Rattle.sb_core.specs.declared.moment.CoreLane.{CoreLane}
 use Rattle.sb_pipeline.specs.Shapes.{Shape}
-use Rattle.sb_core.specs.declared.moment.Moment.{Moment}
 use Rattle.sb_record.specs.Records.{record_cmp, at_least}
 use Rattle.sb_pipeline.specs.Operators.{Operator, operator_of, operator_at, lanes_of, grouped, output}
 use Rattle.sb_pardo.specs.Outputs.{outputs_of}
@@ -41,9 +41,6 @@ use Rattle.sb_core.proofs.Groupings.{grouped-order}
 use Rattle.sb_core.proofs.AfterSound.{runs-keep}
 
 -- ---- nodes
-nodes_of : List Step → List Node
-nodes_of steps = map (λ s. empty_node (operator_of s.kind)) steps ++ empty_node Sink ∷ []
-
 pub at_node : (steps : List Step) (k : ℕ) → k ≤ length steps → slice_get (map (λ s. empty_node (operator_of s.kind)) steps ++ empty_node Sink ∷ []) k ≡ Some (empty_node (operator_at (slice_get steps k)))
 at_node [] zero b = refl
 at_node [] (suc k) b = absurd (omega arith)
@@ -60,15 +57,11 @@ pub node_count : (steps : List Step) → length (map (λ s. empty_node (operator
 node_count [] = refl
 node_count (s ∷ steps) = let k : length (map (λ s. empty_node (operator_of s.kind)) steps ++ empty_node Sink ∷ []) ≡ length steps + 1 = node_count steps in omega arith
 
-same_lanes : (n l : ℕ) (lane : CoreLane) → slice_get (replicate n empty_lane) l ≡ Some lane → lane ≡ empty_lane
-same_lanes zero l lane h = cc
-same_lanes (suc n) zero lane h = sym (same_Some empty_lane lane h)
-same_lanes (suc n) (suc l) lane h = same_lanes n l lane h
-
 at_lane : (n l : ℕ) → l < n → slice_get (replicate n empty_lane) l ≡ Some empty_lane
-at_lane zero l b = absurd (omega arith)
-at_lane (suc n) zero b = refl
-at_lane (suc n) (suc l) b = at_lane n l (omega arith)
+at_lane n l b = slice_get-get_or (replicate n empty_lane) l empty_lane (omega (arith, b, length-replicate n empty_lane)) ∙ ap Some (get_or-replicate n l empty_lane empty_lane b)
+
+same_lanes : (n l : ℕ) (lane : CoreLane) → slice_get (replicate n empty_lane) l ≡ Some lane → lane ≡ empty_lane
+same_lanes n l lane h = same_Some lane empty_lane (sym h ∙ at_lane n l (omega (arith, length-replicate n empty_lane, slice_get_within (replicate n empty_lane) l lane h)))
 
 none_closed : (n : ℕ) → closed (replicate n empty_lane) ≡ 0
 none_closed zero = refl
@@ -83,19 +76,7 @@ none_waits : (i n : ℕ) → waiting_from i (replicate n empty_lane) ≡ []
 none_waits i zero = refl
 none_waits i (suc n) = none_waits (i + 1) n
 
-lane_count : (n : ℕ) → length (replicate n empty_lane) ≡ n
-lane_count zero = refl
-lane_count (suc n) = ap suc (lane_count n)
-
-past_end : (xs : List Node) (k : ℕ) → length xs ≤ k → slice_index_or xs k no_node ≡ no_node
-past_end [] k b = refl
-past_end (x ∷ xs) zero b = absurd (omega arith)
-past_end (x ∷ xs) (suc k) b = past_end xs k (omega arith)
-
 module _ (plan : Shape) (is_plan : IsPlan plan) (bundle : ℕ) where
-  abbrev start : Moment
-  start = first plan bundle
-
   -- a node of the plan, or none
   node_is : (k : ℕ) → k ≤ length plan.steps → node_at (first plan bundle) k ≡ empty_node (operator_at (slice_get plan.steps k))
   node_is k b = get_or_from_slice_get (first plan bundle).nodes k (empty_node (operator_at (slice_get plan.steps k))) no_node (at_node plan.steps k b)
@@ -103,7 +84,7 @@ module _ (plan : Shape) (is_plan : IsPlan plan) (bundle : ℕ) where
   by_node : (P : Node → Type 0) → ((o : Operator) → P (empty_node o)) → P no_node → (k : ℕ) → P (node_at (first plan bundle) k)
   by_node P one none k = ⊎_elim
       (λ b. subst P (sym (node_is k (omega arith))) (one (operator_at (slice_get plan.steps k))))
-      (λ b. subst P (sym (past_end (first plan bundle).nodes k (subst (λ z. z ≤ k) (sym (node_count plan.steps)) b))) none) (cases_lt k (length plan.steps + 1))
+      (λ b. subst P (sym (get_or_past (first plan bundle).nodes k no_node (subst (λ z. z ≤ k) (sym (node_count plan.steps)) b))) none) (cases_lt k (length plan.steps + 1))
 
   only_empty : (d : Down) (lane : CoreLane) → lane_at (first plan bundle) d ≡ Some lane → lane ≡ empty_lane
   only_empty d lane h =
@@ -169,7 +150,7 @@ module _ (plan : Shape) (is_plan : IsPlan plan) (bundle : ℕ) where
         lawful = first-lawful;
         tidy = record {
           bundle = (low, high);
-          lanes = λ k b. ap (λ (x : Node). length x.lanes) (node_is k b) ∙ lane_count (lanes_of (operator_at (slice_get plan.steps k)));
+          lanes = λ k b. ap (λ (x : Node). length x.lanes) (node_is k b) ∙ length-replicate (lanes_of (operator_at (slice_get plan.steps k))) empty_lane;
           numbers = λ d lane h. subst AreNumbered (sym (only_empty d lane h)) numbered_none;
           outs = λ d lane h n. ap (λ (x : CoreLane). sum_by (out_of n) x.conts) (only_empty d lane h);
           open_source = λ s d lane is h. subst (λ (x : CoreLane). AllByRecursion (λ c. next_epoch x ≤ c.epoch → c.epoch ≡ next_epoch x) x.conts) (sym (only_empty d lane h)) tt;

@@ -1,9 +1,8 @@
 -- A lane changes in its bundles alone: what stays lawful.
-use Rattle.std.proofs.Common.{◌≡◌, ℕ, suc, zero, ◌+◌, ◌-◌, ◌≤◌, true, cond, eqb, List, [], ◌∷◌, length, Some, sym, refl, ap, subst, ◌∙◌, arith, ⊎_elim, get_or, set as slice_set, length-set}
+use Rattle.std.proofs.Common.{◌≡◌, ℕ, ◌+◌, ◌-◌, ◌≤◌, true, cond, eqb, List, length, Some, sym, refl, ap, subst, ◌∙◌, arith, ⊎_elim, get_or, set as slice_set, length-set}
 use Rattle.std.specs.Prelude.{◌⊎◌, count_by, sum_by}
 use Rattle.std.specs.List.{slice_get, list_any, AllByRecursion}
 use Rattle.std.proofs.lemmas.Bool.{cases_eq}
-use Rattle.std.proofs.lemmas.List.Sums.{sum_by-cons}
 use Rattle.std.proofs.lemmas.Option.{same_Some}
 use Rattle.sb_core.specs.declared.moment.Cont.{Cont}
 use Rattle.sb_core.specs.declared.moment.CoreLane.{CoreLane}
@@ -21,12 +20,10 @@ use Rattle.sb_core.specs.Bounds.{bound_at}
 use Rattle.sb_core.specs.Holdings.{IsWork, IsHeld, is_unpassed}
 use Rattle.sb_core.specs.Soundness.{IsSealedBelow}
 use Rattle.sb_core.proofs.Orderly.{IsLawful}
-use Rattle.sb_core.proofs.Nodes.{begun_mark, lane_at-set, lane_at-cases, closed-changed, node_at-same, node_at-set_same, node_at-set_other}
+use Rattle.sb_core.proofs.Nodes.{begun_mark, lane_at-set, lane_at-cases, closed-changed, node_at-same, node_at-set_same, node_at-set_other, sum_by-set_get}
 
 pub sum_by-set_at : {X : Type 0} (f : X → ℕ) (xs : List X) (i : ℕ) (x y : X) → slice_get xs i ≡ Some x → f y ≡ f x → sum_by f (slice_set xs i y) ≡ sum_by f xs
-sum_by-set_at f [] i x y h e = cc
-sum_by-set_at f (z ∷ xs) zero x y h e = let k : z ≡ x = cc in sum_by-cons f y xs ∙ ap (λ n. n + sum_by f xs) (e ∙ ap f (sym k)) ∙ sym (sum_by-cons f z xs)
-sum_by-set_at f (z ∷ xs) (suc i) x y h e = sum_by-cons f z (slice_set xs i y) ∙ ap (λ n. f z + n) (sum_by-set_at f xs i x y h e) ∙ sym (sum_by-cons f z xs)
+sum_by-set_at f xs i x y h e = omega (arith, sum_by-set_get f xs i x y h, e)
 
 -- the lane has the same marks, ends and closing, and each bundle that was out of a container is out of it
 pub record IsKept (lane with : CoreLane) : Type 0 where
@@ -97,9 +94,6 @@ module _ (plan : Shape) (m : Moment) (d : Down) (node : Node) (lane with : CoreL
         next_under = λ p s is. epoch_same s.down ∙ h.next_under p s is;
       }
     where
-      Now : Type 0
-      Now = (x : CoreLane) × (lane_at now (record { node = k; lane = l }) ≡ Some x) × (first_is_closing x.conts ≡ true) × (epoch ≡ x.ended)
-
       here : (◌≡◌ {A = Down} (record { node = k; lane = l }) d) × (lane_at now (record { node = k; lane = l }) ≡ Some with) × (lane_at m (record { node = k; lane = l }) ≡ Some lane) → (x : CoreLane) × (lane_at now (record { node = k; lane = l }) ≡ Some x) × (first_is_closing x.conts ≡ true) × (epoch ≡ x.ended)
       here c =
           let same : h.lane ≡ lane = same_Some h.lane lane (sym h.there ∙ c.2) in

@@ -169,12 +169,9 @@ grouped-closing g floor mark kept es rises late f =
     both : (x : ℕ) → (not (ltb x mark) && not (ltb x floor)) ≡ not (ltb x mark)
     both x = ⊎_elim (λ b. (λ i. not (lt-ltb x mark b i) && not (ltb x floor)) ∙ sym (ap not (lt-ltb x mark b))) (λ a. (λ i. not (le-ltb x mark a i) && not (le-ltb x floor (omega arith) i)) ∙ sym (ap not (le-ltb x mark a))) (cases_lt x mark)
 
-    from : (x : ℕ) → not (ltb x mark) ≡ true → mark ≤ x
-    from x h = ltb-false x mark (not-true (ltb x mark) h)
-
     above : sum_by f (at_least mark (at_least floor all)) ≡ sum_by f (at_least mark (grouped g (still_open g mark kept ++ es)))
     above =
         ap (sum_by f) (
         filter_twice (λ r. not (nat_lt r.time mark)) (λ r. not (nat_lt r.time floor)) all
         ∙ filter_agree _ (λ r. not (nat_lt r.time mark)) (λ r. both r.time) all
-        ∙ grouped-above g (λ x. not (ltb x mark)) mark from kept es)
+        ∙ grouped-above g (λ x. not (ltb x mark)) mark (λ x h. ltb-false x mark (not-true (ltb x mark) h)) kept es)

@@ -1,22 +1,14 @@
 -- Counts over what is held, where one of it changes or goes.
 use Rattle.std.proofs.Common.{◌≡◌, ℕ, ◌+◌, ◌≤◌, Bool, true, false, cond, ltb, List, [], ◌∷◌, ◌++◌, sym, refl, ap, ◌∙◌, arith}
-use Rattle.std.specs.Prelude.{◌||◌, count_by}
+use Rattle.std.specs.Prelude.{count_by}
 use Rattle.std.specs.List.{list_any, AllByRecursion}
-use Rattle.std.proofs.lemmas.Bool.{lt-ltb}
 use Rattle.std.proofs.lemmas.List.Sums.{sum_by-append, sum_by-cons}
-use Rattle.sb_record.proofs.Sums.{SameSums}
-
-pub any_count : {X : Type 0} (p : X → Bool) (xs : List X) → list_any p xs ≡ ltb 0 (count_by p xs)
-any_count p [] = refl
-any_count p (x ∷ xs) = by_case (p x) (any_count p xs) ∙ ap (ltb 0) (sym (sum_by-cons (λ x. cond (p x) 1 0) x xs))
-  where
-    by_case : (b : Bool) → list_any p xs ≡ ltb 0 (count_by p xs) → (b || list_any p xs) ≡ ltb 0 (cond b 1 0 + count_by p xs)
-    by_case true h = sym (lt-ltb 0 (1 + count_by p xs) (omega arith))
-    by_case false h = h ∙ ap (ltb 0) (omega arith)
+use Rattle.sb_record.proofs.Sums.{SameSums, any_by_count}
+use Rattle.sb_record.proofs.Elements.{All-join}
 
 -- as many, so as well any
 pub any_same : {X : Type 0} (p : X → Bool) (xs ys : List X) → count_by p xs ≡ count_by p ys → list_any p xs ≡ list_any p ys
-any_same p xs ys e = any_count p xs ∙ ap (ltb 0) e ∙ sym (any_count p ys)
+any_same p xs ys e = any_by_count p xs ∙ ap (ltb 0) e ∙ sym (any_by_count p ys)
 
 pub count_gone : {X : Type 0} (p : X → Bool) (xs ys : List X) (x : X) → SameSums xs (x ∷ ys) → count_by p xs ≡ cond (p x) 1 0 + count_by p ys
 count_gone p xs ys x h = h (λ x. cond (p x) 1 0) ∙ sum_by-cons (λ x. cond (p x) 1 0) x ys
@@ -59,5 +51,4 @@ every_both f [] a b = tt
 every_both f (x ∷ xs) a b = (f x a.0 b.0, every_both f xs a.1 b.1)
 
 pub All-last : {X : Type 0} (P : X → Type 0) (xs : List X) (x : X) → AllByRecursion P xs → P x → AllByRecursion P (xs ++ x ∷ [])
-All-last P [] x all h = (h, tt)
-All-last P (y ∷ xs) x all h = (all.0, All-last P xs x all.1 h)
+All-last P xs x all h = All-join P xs (x ∷ []) all (h, tt)

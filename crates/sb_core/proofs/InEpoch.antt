@@ -35,15 +35,6 @@ module _ (bound epoch floor : ℕ) (change : Cont → Cont) (epochs : (c : Cont)
   open_out n g e f at number c [] are out h = cc
   open_out n g e f at number c (x ∷ cs) are out h = ⊎_elim here (λ ne. ⊎_elim (new ne) (past ne) (cases_lt epoch x.epoch)) (cases_eq x.epoch epoch) (open_out n g (x.epoch + 1) x.floor at number c cs are.1 out)
     where
-      After : List Cont → Type 0
-      After l = (d : Cont) × (cont_at at l ≡ Some d) × (d.floor ≡ c.floor) × (list_any (λ n. eqb n number) d.out ≡ true)
-
-      Ih : Type 0
-      Ih = cont_at at cs ≡ Some c → (d : Cont) × (cont_at at (in_epoch epoch floor change cs) ≡ Some d) × (d.floor ≡ c.floor) × (list_any (λ n. eqb n number) d.out ≡ true)
-
-      exact : List Cont
-      exact = cond (eqb x.epoch epoch) (change x ∷ cs) (cond (ltb epoch x.epoch) (change (fresh epoch floor) ∷ x ∷ cs) (x ∷ in_epoch epoch floor change cs))
-
       here : x.epoch ≡ epoch → (cont_at at cs ≡ Some c → (d : Cont) × (cont_at at (in_epoch epoch floor change cs) ≡ Some d) × (d.floor ≡ c.floor) × (list_any (λ n. eqb n number) d.out ≡ true))
           → (d : Cont) × (cont_at at (in_epoch epoch floor change (x ∷ cs)) ≡ Some d) × (d.floor ≡ c.floor) × (list_any (λ n. eqb n number) d.out ≡ true)
       here e ih = subst (λ a. (d : Cont) × (cont_at at (cond a (change x ∷ cs) (cond (ltb epoch x.epoch) (change (fresh epoch floor) ∷ x ∷ cs) (x ∷ in_epoch epoch floor change cs))) ≡ Some d) × (d.floor ≡ c.floor) × (list_any (λ n. eqb n number) d.out ≡ true)) (sym (eq-eqb x.epoch epoch e))
@@ -90,9 +81,6 @@ module _ (bound epoch floor : ℕ) (change : Cont → Cont) (epochs : (c : Cont)
       (behind at number c x cs (in_epoch epoch floor change cs) out is (λ z. containers_out (e + 1) m at number ms c cs are.1 (omega arith) out z))
 
   -- ---- what is closing
-  NotClosing : Cont → Type 0
-  NotClosing c = c.closing ≡ false
-
   pub all_calm : (cs : List Cont) → AllByRecursion (λ c. c.closing ≡ false) cs → AllByRecursion (λ c. c.closing ≡ false) (in_epoch epoch floor change cs)
   all_calm [] all = (closes (fresh epoch floor), tt)
   all_calm (x ∷ cs) all = by_case (eqb x.epoch epoch) (ltb epoch x.epoch) (all_calm cs all.1)

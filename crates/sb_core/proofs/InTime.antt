@@ -5,6 +5,7 @@ use Rattle.std.specs.List.{flat_map, sum_by, slice_get, list_any, AllByRecursion
 use Rattle.std.proofs.lemmas.Bool.{eqb-true, eq-eqb, ne_eqb, cases_eq}
 use Rattle.std.proofs.lemmas.List.Sums.{sum_by-append, sum_by-cons}
 use Rattle.std.proofs.Math.Numerals.{sub-one}
+use Rattle.std.proofs.lemmas.Option.{same_Some}
 use Rattle.sb_record.specs.declared.item.Record.{Record}
 use Rattle.sb_bundle.specs.declared.bundle.Bundle.{Bundle}
 use Rattle.sb_core.specs.declared.moment.Cont.{Cont}
@@ -102,11 +103,16 @@ container_floor bound e f epoch (m ∷ ms) (x ∷ cs) c are up h = by_case (eqb 
     by_case true h ih = let k : x ≡ c = cc in subst (λ (c : Cont). f ≤ c.floor) k (omega (arith, are.0.floor_is))
     by_case false h ih = let k : m ≤ c.floor = ih h in omega (arith, up.0)
 
+-- what is out is not of a container that has nothing out
+pub out_behind : (epoch number : ℕ) (c x : Cont) (cs : List Cont) → list_any (λ n. eqb n number) c.out ≡ true → x.out ≡ [] → cont_at epoch (x ∷ cs) ≡ Some c → cont_at epoch cs ≡ Some c
+out_behind epoch number c x cs out none at = by_case (eqb x.epoch epoch) at
+  where
+    by_case : (b : Bool) → cond b (Some x) (cont_at epoch cs) ≡ Some c → cont_at epoch cs ≡ Some c
+    by_case true h = let n : false ≡ true = sym (ap (λ (c : Cont). list_any (λ n. eqb n number) c.out) (sym (same_Some x c h)) ∙ ap (list_any (λ n. eqb n number)) none) ∙ out in cc
+    by_case false h = h
+
 -- ---- a lane: what waits and works there is from the last begun mark on
 module _ (bound : ℕ) (lane : CoreLane) (ok : IsLane bound lane) where
-  f0 : ℕ
-  f0 = last_of_first lane.ended lane.marks
-
   pub ups : NeverFalls (last_of_first lane.ended lane.marks) (drop lane.ended lane.marks)
   ups = falls-drop 0 lane.marks lane.ended ok.rising ok.ended_in
 
@@ -144,17 +150,10 @@ module _ (bound : ℕ) (lane : CoreLane) (ok : IsLane bound lane) where
           subst (λ b. last_of_first (cond b (lane.ended + 1) lane.ended) lane.marks ≤ c.floor) (sym are.0.not_closing) (container_floor bound lane.ended (last_of_first lane.ended lane.marks) epoch [] (x ∷ cs) c are tt at)
       go (x ∷ cs) e (m ∷ ms) em are ready up at out = by_case x.closing refl
         where
-          none_out : (b : Bool) → x.out ≡ [] → cond b (Some x) (cont_at epoch cs) ≡ Some c → cont_at epoch cs ≡ Some c
-          none_out true z h =
-              let k : x ≡ c = cc in
-              let n : false ≡ true = sym (ap (λ (c : Cont). list_any (λ n. eqb n number) c.out) (sym k) ∙ ap (list_any (λ n. eqb n number)) z) ∙ out in
-              cc
-          none_out false z h = h
-
           by_case : (b : Bool) → x.closing ≡ b → last_of_first (cond x.closing (lane.ended + 1) lane.ended) lane.marks ≤ c.floor
           by_case true h =
               subst (λ b. last_of_first (cond b (lane.ended + 1) lane.ended) lane.marks ≤ c.floor) (sym h)
-              (subst (λ n. n ≤ c.floor) (sym (next_mark m ms em)) (container_floor bound (lane.ended + 1) m epoch ms cs c are.1 up.1 (none_out (eqb x.epoch epoch) (ready h).1 at)))
+              (subst (λ n. n ≤ c.floor) (sym (next_mark m ms em)) (container_floor bound (lane.ended + 1) m epoch ms cs c are.1 up.1 (out_behind epoch number c x cs out (ready h).1 at)))
           by_case false h =
               subst (λ b. last_of_first (cond b (lane.ended + 1) lane.ended) lane.marks ≤ c.floor) (sym h) (container_floor bound lane.ended (last_of_first lane.ended lane.marks) epoch (m ∷ ms) (x ∷ cs) c are up at)
 
@@ -184,15 +183,8 @@ module _ (bound : ℕ) (lane : CoreLane) (ok : IsLane bound lane) where
       go (x ∷ cs) [] are ready h out = subst (λ b. cond b (lane.ended + 1) lane.ended ≤ epoch) (sym are.0.not_closing) (of_all lane.ended (last_of_first lane.ended lane.marks) [] (x ∷ cs) are h)
       go (x ∷ cs) (m ∷ ms) are ready h out = by_case x.closing refl
         where
-          later : (b : Bool) → x.out ≡ [] → cond b (Some x) (cont_at epoch cs) ≡ Some c → cont_at epoch cs ≡ Some c
-          later true z h =
-              let k : x ≡ c = cc in
-              let n : false ≡ true = sym (ap (λ (c : Cont). list_any (λ n. eqb n number) c.out) (sym k) ∙ ap (list_any (λ n. eqb n number)) z) ∙ out in
-              cc
-          later false z h = h
-
           by_case : (b : Bool) → x.closing ≡ b → cond x.closing (lane.ended + 1) lane.ended ≤ epoch
-          by_case true e = subst (λ b. cond b (lane.ended + 1) lane.ended ≤ epoch) (sym e) (of_all (lane.ended + 1) m ms cs are.1 (later (eqb x.epoch epoch) (ready e).1 h))
+          by_case true e = subst (λ b. cond b (lane.ended + 1) lane.ended ≤ epoch) (sym e) (of_all (lane.ended + 1) m ms cs are.1 (out_behind epoch number c x cs out (ready e).1 h))
           by_case false e = subst (λ b. cond b (lane.ended + 1) lane.ended ≤ epoch) (sym e) (of_all lane.ended (last_of_first lane.ended lane.marks) (m ∷ ms) (x ∷ cs) are h)
 
   -- a lane has begun no more than is sealed

@@ -1,6 +1,6 @@
 -- The changes of a lane keep its containers in order.
 use Rattle.sb_record.proofs.Numbers.{bind_some}
-use Rattle.std.proofs.Common.{◌≡◌, ℕ, ◌+◌, ◌≤◌, ◌<◌, Bool, true, false, not, cond, eqb, ltb, List, [], ◌∷◌, ◌++◌, length, Some, Option, sym, refl, subst, arith, ⊎_elim}
+use Rattle.std.proofs.Common.{◌≡◌, ℕ, ◌+◌, ◌≤◌, ◌<◌, Bool, true, false, not, cond, eqb, ltb, List, [], ◌∷◌, ◌++◌, length, Some, Option, sym, ◌∙◌, refl, subst, arith, ⊎_elim}
 use Rattle.std.specs.Prelude.{◌≢◌}
 use Rattle.std.specs.List.{filter, list_any, AllByRecursion}
 use Rattle.std.proofs.lemmas.Bool.{eq-eqb, ne_eqb, cases_eq, lt-ltb, le-ltb, cases_lt}
@@ -9,6 +9,7 @@ use Rattle.sb_record.specs.declared.item.Record.{Record}
 use Rattle.sb_bundle.specs.declared.bundle.Bundle.{Bundle}
 use Rattle.sb_core.specs.declared.moment.Cont.{Cont}
 use Rattle.sb_record.specs.Reading.{◌>>=◌}
+use Rattle.sb_record.proofs.Elements.{every}
 use Rattle.sb_core.specs.Lanes.{fresh, in_epoch, with_bundle, take_from, finish_in, next_floor}
 use Rattle.sb_core.specs.Choices.{pulled}
 use Rattle.sb_core.specs.LaneOrder.{NeverFalls, IsWithin, IsBundleOf, IsSealed, IsOpen, AreOpen, AreContainers}
@@ -25,20 +26,17 @@ pub passes_by : (epoch floor : ℕ) (c : Cont) (cs : List Cont) (change : Cont �
 passes_by epoch floor c cs change b =
     (λ i. cond (ne_eqb c.epoch epoch (λ e. omega arith) i) (change c ∷ cs) (cond (le-ltb epoch c.epoch (omega arith) i) (change (fresh epoch floor) ∷ c ∷ cs) (c ∷ in_epoch epoch floor change cs)))
 
+-- the bundles of a container are those of any with its epoch and floor
+pub same-bundles : (bound : ℕ) (c d : Cont) → d.epoch ≡ c.epoch → d.floor ≡ c.floor → (l : List Bundle) → AllByRecursion (IsBundleOf bound c) l → AllByRecursion (IsBundleOf bound d) l
+same-bundles bound c d e f = every (λ b h. record { epoch = h.epoch ∙ sym e; floor = h.floor ∙ sym f; times = subst (λ n. IsWithin n bound b.records) (sym f) h.times })
+
 -- ---- a bundle comes
 module _ (bound epoch floor number : ℕ) (records : List Record) (times : IsWithin floor bound records) where
-  new_bundle : Bundle
-  new_bundle = record { number = number; epoch = epoch; floor = floor; records = records }
-
   in_its_epoch : (c : Cont) → c.epoch ≡ epoch → c.floor ≡ floor → AllByRecursion (IsBundleOf bound c) c.waiting → AllByRecursion (IsBundleOf bound (with_bundle (record { number = number; epoch = epoch; floor = floor; records = records }) c)) (c.waiting ++ record { number = number; epoch = epoch; floor = floor; records = records } ∷ [])
   in_its_epoch c e f all =
       All-last (IsBundleOf bound (with_bundle (record { number = number; epoch = epoch; floor = floor; records = records }) c)) c.waiting _
-      (same c.waiting all)
+      (same-bundles bound c _ refl refl c.waiting all)
       (record { epoch = sym e; floor = sym f; times = subst (λ n. IsWithin n bound records) (sym f) times })
-    where
-      same : (l : List Bundle) → AllByRecursion (IsBundleOf bound c) l → AllByRecursion (IsBundleOf bound (with_bundle (record { number = number; epoch = epoch; floor = floor; records = records }) c)) l
-      same [] all = all
-      same (b ∷ l) all = (record { epoch = all.0.epoch; floor = all.0.floor; times = all.0.times }, same l all.1)
 
   open-arrival : (next next_floor e f : ℕ) (cs : List Cont) → AreOpen bound next next_floor e f cs → e ≤ epoch → f ≤ floor → (epoch ≡ next → floor ≡ next_floor) → Fits epoch floor cs
       → AreOpen bound next next_floor e f (in_epoch epoch floor (with_bundle (record { number = number; epoch = epoch; floor = floor; records = records })) cs)
@@ -97,9 +95,6 @@ abbrev pub MarkFits : ℕ → ℕ → List Cont → Type 0
 MarkFits mark next cs = AllByRecursion (λ c. next < c.epoch → (mark ≤ c.floor) × (c.epoch ≡ next + 1 → c.floor ≡ mark)) cs
 
 module _ (bound mark : ℕ) where
-  sealed_by : Cont → Cont
-  sealed_by c = record c { mark = Some mark }
-
   reopened : (next g e f : ℕ) (cs : List Cont) → AreOpen bound next g e f cs → next + 1 ≤ e → (low : ℕ) → low ≤ f → MarkFits mark next cs → (low ≡ mark → Unit {0}) → AreOpen bound (next + 1) mark e f cs
   reopened next g e f [] are from low h fits z = tt
   reopened next g e f (c ∷ cs) are from low h fits z = (
@@ -126,14 +121,10 @@ module _ (bound mark : ℕ) where
       goal : List Cont → Type 0
       goal l = AreContainers bound next g (mark ∷ []) l
 
-      moved : (l : List Bundle) → AllByRecursion (IsBundleOf bound c) l → AllByRecursion (IsBundleOf bound (record c { mark = Some mark })) l
-      moved [] all = all
-      moved (b ∷ l) all = (record { epoch = all.0.epoch; floor = all.0.floor; times = all.0.times }, moved l all.1)
-
       here : c.epoch ≡ next → goal (cond (eqb c.epoch next) (record c { mark = Some mark } ∷ cs) (cond (ltb next c.epoch) (record (fresh next g) { mark = Some mark } ∷ c ∷ cs) (c ∷ in_epoch next g (λ c. record c { mark = Some mark }) cs)))
       here e =
           subst (λ b. AreContainers bound next g (mark ∷ []) (cond b (record c { mark = Some mark } ∷ cs) (cond (ltb next c.epoch) (record (fresh next g) { mark = Some mark } ∷ c ∷ cs) (c ∷ in_epoch next g (λ c. record c { mark = Some mark }) cs)))) (sym (eq-eqb c.epoch next e))
-          (record { epoch_is = e; floor_is = are.0.next_is e; mark_is = refl; bundles = moved c.waiting are.0.bundles }, after_seal next g (c.epoch + 1) c.floor cs are.1 (omega arith) fits.1)
+          (record { epoch_is = e; floor_is = are.0.next_is e; mark_is = refl; bundles = same-bundles bound c _ refl refl c.waiting are.0.bundles }, after_seal next g (c.epoch + 1) c.floor cs are.1 (omega arith) fits.1)
 
       new : c.epoch ≢ next → goal (cond (eqb c.epoch next) (record c { mark = Some mark } ∷ cs) (cond (ltb next c.epoch) (record (fresh next g) { mark = Some mark } ∷ c ∷ cs) (c ∷ in_epoch next g (λ c. record c { mark = Some mark }) cs)))
       new ne =
@@ -173,16 +164,12 @@ All-pulled {X} P p (y ∷ xs) q h all = by_case (p y) h (λ r e. All-pulled P p 
         subst (λ (r : X × List X). P r.0 × AllByRecursion P r.1) same (k.0, (all.0, k.1))
 
 -- a container with fewer waiting, and others out
-All-other : (bound : ℕ) (c : Cont) (out : List ℕ) (waiting l : List Bundle) → AllByRecursion (IsBundleOf bound c) l → AllByRecursion (IsBundleOf bound (record c { waiting = waiting; out = out })) l
-All-other bound c out waiting [] all = all
-All-other bound c out waiting (b ∷ l) all = (record { epoch = all.0.epoch; floor = all.0.floor; times = all.0.times }, All-other bound c out waiting l all.1)
-
 sealed-other : (bound e f m : ℕ) (c : Cont) (out : List ℕ) (waiting : List Bundle) → IsSealed bound e f m c → AllByRecursion (IsBundleOf bound c) waiting → IsSealed bound e f m (record c { waiting = waiting; out = out })
-sealed-other bound e f m c out waiting s all = record { epoch_is = s.epoch_is; floor_is = s.floor_is; mark_is = s.mark_is; bundles = All-other bound c out waiting waiting all }
+sealed-other bound e f m c out waiting s all = record { epoch_is = s.epoch_is; floor_is = s.floor_is; mark_is = s.mark_is; bundles = same-bundles bound c _ refl refl waiting all }
 
 open-other : (bound n g e f : ℕ) (c : Cont) (out : List ℕ) (waiting : List Bundle) → IsOpen bound n g e f c → AllByRecursion (IsBundleOf bound c) waiting → IsOpen bound n g e f (record c { waiting = waiting; out = out })
 open-other bound n g e f c out waiting s all =
-    record { epoch_from = s.epoch_from; floor_from = s.floor_from; next_is = s.next_is; no_mark = s.no_mark; not_closing = s.not_closing; bundles = All-other bound c out waiting waiting all }
+    record { epoch_from = s.epoch_from; floor_from = s.floor_from; next_is = s.next_is; no_mark = s.no_mark; not_closing = s.not_closing; bundles = same-bundles bound c _ refl refl waiting all }
 
 -- containers that differ in what waits and is out alone
 abbrev pub DifferInBundles : ℕ → List Cont → List Cont → Type 0

@@ -1,16 +1,16 @@
 -- A closing begins: the moment stays lawful.
-use Rattle.sb_record.proofs.Elements.{All-passed, All-anything}
+use Rattle.sb_record.proofs.Elements.{All-passed}
+use Rattle.sb_record.proofs.Earlier.{at_least-high}
 use Rattle.sb_record.proofs.Sorting.{All-in_order}
-use Rattle.std.proofs.Common.{◌^◌, ◌≡◌, ℕ, suc, zero, ◌+◌, ◌≤◌, ◌<◌, Bool, true, false, not, cond, eqb, ltb, List, [], ◌∷◌, ◌++◌, length, drop, Some, Option, sym, refl, ap, subst, ◌∙◌, arith, ⊎_elim, length-drop, set as slice_set, length-set}
+use Rattle.std.proofs.Common.{◌^◌, ◌≡◌, ℕ, suc, zero, ◌+◌, ◌≤◌, ◌<◌, Bool, true, false, not, cond, eqb, List, [], ◌∷◌, ◌++◌, length, drop, Some, Option, sym, refl, ap, subst, ◌∙◌, arith, ⊎_elim, length-drop, set as slice_set, length-set}
 use Rattle.std.specs.Prelude.{◌&&◌, ◌||◌, ◌≢◌, ◌⊎◌, count_by, sum_by, nat_lt, is_some}
 use Rattle.std.specs.List.{slice_get, list_any, AllByRecursion}
-use Rattle.std.proofs.lemmas.Bool.{eq-eqb, ne_eqb, cases_eq, eqb-true, eqb-false, ltb-true, ltb-false, and_parts}
-use Rattle.std.proofs.lemmas.List.Sums.{sum_by-append, sum_by-cons}
+use Rattle.std.proofs.lemmas.Bool.{eq-eqb, ne_eqb, cases_eq, eqb-true, eqb-false, ltb-true, ltb-false, and_parts, or_parts}
+use Rattle.std.proofs.lemmas.List.Sums.{sum_by-append}
 use Rattle.std.proofs.lemmas.List.Folds.{list_any-append}
 use Rattle.std.proofs.Math.Bool.{or-true}
 use Rattle.std.proofs.lemmas.Option.{same_Some}
 use Rattle.sb_record.specs.declared.item.Record.{Record}
-use Rattle.sb_bundle.specs.declared.bundle.Bundle.{Bundle}
 use Rattle.sb_core.specs.declared.moment.Cont.{Cont}
 use Rattle.sb_core.specs.declared.moment.CoreLane.{CoreLane}
 use Rattle.sb_pipeline.specs.declared.transform.Down.{Down}
@@ -25,22 +25,24 @@ use Rattle.sb_record.specs.Records.{record_cmp, before, at_least}
 use Rattle.sb_pipeline.specs.Operators.{Operator, operator_at, grouped}
 use Rattle.sb_pipeline.specs.Operators.Operator.{ParDo, Windowed, Sink}
 use Rattle.sb_record.specs.Reading.{◌>>=◌}
+use Rattle.sb_record.proofs.Sums.{any_by_count}
 use Rattle.sb_core.specs.Marks.{begun, closed, last_of_first, first_is_closing}
 use Rattle.sb_core.specs.Lanes.{closable, with_first_closing}
 use Rattle.sb_core.specs.Choices.{is_empty}
 use Rattle.sb_core.specs.Closings.{is_sink, rows_at}
 use Rattle.sb_core.specs.Moments.{is_close, is_close_of, lane_at, node_at, floor_of, floor_at, epoch_of, epoch_at}
-use Rattle.sb_core.specs.LaneOrder.{IsWithin, IsBundleOf, AreContainers, IsLane, cont_at}
+use Rattle.sb_core.specs.LaneOrder.{IsWithin, AreContainers, IsLane, cont_at}
 use Rattle.sb_core.specs.Bounds.{bound_at}
 use Rattle.sb_core.specs.Holdings.{IsWork, IsHeld, is_unpassed}
 use Rattle.sb_core.specs.Soundness.{IsSealedBelow}
 use Rattle.sb_core.proofs.Orderly.{IsLawful}
 use Rattle.sb_core.proofs.Lists.{cond_is_some, empty_is}
-use Rattle.sb_core.proofs.Nodes.{begun_mark, slice_get-set_same, lane_at-set, lane_at-cases, node_at-same, node_at-set_same, node_at-set_other}
+use Rattle.sb_core.proofs.Nodes.{begun_mark, slice_get-set_same, lane_at-set, lane_at-cases, node_at-same, node_at-set_same, node_at-set_other, sum_by-set_get}
 use Rattle.sb_core.proofs.HeldLists.{All-last}
 use Rattle.sb_core.proofs.InTime.{last_of_first-rises}
 use Rattle.sb_core.proofs.EventLaws.{transform_is}
 use Rattle.sb_core.proofs.Beginning.{begun_lane, closing_mark, begun_node, new_close, after_beginning}
+use Rattle.sb_core.proofs.LaneLaws.{same-bundles}
 
 -- ---- the first container may close
 pub record IsClosable (epoch : ℕ) (cs : List Cont) (c : Cont) : Type 0 where
@@ -74,10 +76,6 @@ closed-set_rises (first ∷ second ∷ lanes) (suc (suc l)) lane with h e = let 
 begun-lane : (bound : ℕ) (lane : CoreLane) (c : Cont) → IsLane bound lane → IsClosable lane.ended lane.conts c → IsLane bound (record lane { conts = with_first_closing lane.conts }) × (lane.ended + 1 ≤ length lane.marks)
 begun-lane bound lane c ok h = go lane.conts h.is (drop lane.ended lane.marks) refl ok.containers ok.others
   where
-    moved : (c : Cont) (l : List Bundle) → AllByRecursion (IsBundleOf bound c) l → AllByRecursion (IsBundleOf bound (record c { closing = true })) l
-    moved c [] all = all
-    moved c (b ∷ l) all = (record { epoch = all.0.epoch; floor = all.0.floor; times = all.0.times }, moved c l all.1)
-
     go : (cs : List Cont) → cs ≡ c ∷ h.rest → (ms : List ℕ) → drop lane.ended lane.marks ≡ ms → AreContainers bound lane.ended (last_of_first lane.ended lane.marks) ms cs → AllByRecursion (λ c. c.closing ≡ false) (drop 1 cs)
         → IsLane bound (record lane { conts = with_first_closing cs }) × (lane.ended + 1 ≤ length lane.marks)
     go [] e ms em are others = cc
@@ -91,7 +89,7 @@ begun-lane bound lane c ok h = go lane.conts h.is (drop lane.ended lane.marks) r
             ended_in = ok.ended_in;
             rising = ok.rising;
             containers = subst (λ ms. AreContainers bound lane.ended (last_of_first lane.ended lane.marks) ms (record x { closing = true } ∷ cs)) (sym em)
-                (record { epoch_is = are.0.epoch_is; floor_is = are.0.floor_is; mark_is = are.0.mark_is; bundles = moved x x.waiting are.0.bundles }, are.1);
+                (record { epoch_is = are.0.epoch_is; floor_is = are.0.floor_is; mark_is = are.0.mark_is; bundles = same-bundles bound x _ refl refl x.waiting are.0.bundles }, are.1);
             ready = λ _. (ap (λ (c : Cont). c.waiting) same ∙ h.none_waits, ap (λ (c : Cont). c.out) same ∙ h.none_out);
             others = others;
           },
@@ -111,11 +109,6 @@ begun-out epoch number (x ∷ cs) c h out = by_case (eqb x.epoch epoch) refl h
         (record x { closing = true }, ap (λ b. cond b (Some (record x { closing = true })) (cont_at epoch cs)) e, ap (λ (c : Cont). c.floor) k, ap (λ (c : Cont). list_any (λ n. eqb n number) c.out) k ∙ out)
     by_case false e h = (c, ap (λ b. cond b (Some (record x { closing = true })) (cont_at epoch cs)) e ∙ h, refl, out)
 
-sum_by-set_get : {X : Type 0} (f : X → ℕ) (xs : List X) (i : ℕ) (x y : X) → slice_get xs i ≡ Some x → sum_by f (slice_set xs i y) + f x ≡ sum_by f xs + f y
-sum_by-set_get f [] i x y h = cc
-sum_by-set_get f (z ∷ xs) zero x y h = let k : f z ≡ f x = cc in omega (arith, sum_by-cons f y xs, sum_by-cons f z xs)
-sum_by-set_get f (z ∷ xs) (suc i) x y h = omega (arith, sum_by-cons f z (slice_set xs i y), sum_by-cons f z xs, sum_by-set_get f xs i x y h)
-
 -- ---- the rows of a Close lie from its floor to its mark
 -- between floor and mark
 abbrev IsBetween : ℕ → ℕ → Record → Type 0
@@ -126,19 +119,29 @@ rows-between (ParDo op) floor mark kept = tt
 rows-between (Windowed g) floor mark kept =
     All-in_order (IsBetween floor mark) record_cmp (before mark (at_least floor (grouped g kept)))
     (All-passed (λ r. floor ≤ r.time) (IsBetween floor mark) (λ r. nat_lt r.time mark) (λ r a b. (a, ltb-true r.time mark b)) (at_least floor (grouped g kept))
-    (All-passed (λ r. Unit {0}) (λ r. floor ≤ r.time) (λ r. not (nat_lt r.time floor)) (λ r _ b. from r.time b) (grouped g kept) (All-anything (grouped g kept))))
-  where
-    from : (t : ℕ) → not (ltb t floor) ≡ true → floor ≤ t
-    from t h = by_case (ltb t floor) refl h
-      where
-        by_case : (b : Bool) → ltb t floor ≡ b → not b ≡ true → floor ≤ t
-        by_case true e h = cc
-        by_case false e h = ltb-false t floor e
+    (at_least-high floor (grouped g kept)))
 rows-between Sink floor mark kept = tt
 
 both_within : (floor mark bound : ℕ) (l : List Record) → AllByRecursion (IsBetween floor mark) l → AllByRecursion (λ r. r.time ≤ bound) l → IsWithin floor bound l × AllByRecursion (λ r. r.time < mark) l
 both_within floor mark bound [] a b = (tt, tt)
 both_within floor mark bound (r ∷ l) a b = let k = both_within floor mark bound l a.1 b.1 in (((a.0.0, b.0), k.0), (a.0.1, k.1))
+
+-- nothing of a node without a Close is closing
+pub idle-calm : (plan : Shape) (m : Moment) (n : ℕ) (node : Node) → slice_get m.nodes n ≡ Some node → list_any (is_close n) m.held ≡ false → IsLawful plan m → (i : ℕ) (x : CoreLane) → slice_get node.lanes i ≡ Some x → first_is_closing x.conts ≡ false
+idle-calm plan m n node at idle lawful i x h = by_case (first_is_closing x.conts) refl
+  where
+    of_lane : (hs : List Held) → list_any (is_close_of n i) hs ≡ true → list_any (is_close n) hs ≡ true
+    of_lane [] h = cc
+    of_lane (Work k j epoch floor number records delivered ∷ hs) h = of_lane hs h
+    of_lane (Close k j epoch serial floor _ rows passed ∷ hs) h = one (eqb k n) (eqb j i) h (λ k. of_lane hs k)
+      where
+        one : (a b : Bool) → ((a && b) || list_any (is_close_of n i) hs) ≡ true → (list_any (is_close_of n i) hs ≡ true → list_any (is_close n) hs ≡ true) → (a || list_any (is_close n) hs) ≡ true
+        one true b h ih = refl
+        one false b h ih = ih h
+
+    by_case : (b : Bool) → first_is_closing x.conts ≡ b → b ≡ false
+    by_case true e = sym (of_lane m.held (lawful.closing_held (record { node = n; lane = i }) x (ap (λ (o : Option Node). o >>= λ z. slice_get z.lanes i) at ∙ h) e)) ∙ idle
+    by_case false e = refl
 
 -- ---- the event
 module _ (plan : Shape) (m : Moment) (n l : ℕ) (node : Node) (lane : CoreLane) (c : Cont) (at : slice_get m.nodes n ≡ Some node) (in_it : slice_get node.lanes l ≡ Some lane)
@@ -169,20 +172,7 @@ module _ (plan : Shape) (m : Moment) (n l : ℕ) (node : Node) (lane : CoreLane)
 
   -- nothing of the lane was closing
   idle_lane : first_is_closing lane.conts ≡ false
-  idle_lane = by_case (first_is_closing lane.conts) refl
-    where
-      of_lane : (hs : List Held) → list_any (is_close_of n l) hs ≡ true → list_any (is_close n) hs ≡ true
-      of_lane [] h = cc
-      of_lane (Work k i epoch floor number records delivered ∷ hs) h = of_lane hs h
-      of_lane (Close k i epoch serial floor mark rows passed ∷ hs) h = one (eqb k n) (eqb i l) h (λ k. of_lane hs k)
-        where
-          one : (a b : Bool) → ((a && b) || list_any (is_close_of n l) hs) ≡ true → (list_any (is_close_of n l) hs ≡ true → list_any (is_close n) hs ≡ true) → (a || list_any (is_close n) hs) ≡ true
-          one true b h ih = refl
-          one false b h ih = ih h
-
-      by_case : (b : Bool) → first_is_closing lane.conts ≡ b → b ≡ false
-      by_case true e = sym (of_lane m.held (lawful.closing_held (record { node = n; lane = l }) lane was e)) ∙ idle
-      by_case false e = refl
+  idle_lane = idle-calm plan m n node at idle lawful l lane in_it
 
   begun_closing : first_is_closing begun_l.conts ≡ true
   begun_closing = ap (λ cs. first_is_closing (with_first_closing cs)) closes.is
@@ -242,11 +232,7 @@ module _ (plan : Shape) (m : Moment) (n l : ℕ) (node : Node) (lane : CoreLane)
 
   none_is : (hs : List Held) → list_any (is_close n) hs ≡ false → AllByRecursion (IsHeld plan m) hs → AllByRecursion (IsHeld plan after) hs
   none_is [] h all = tt
-  none_is (x ∷ hs) h all = let k = or_is_false (is_close n x) (list_any (is_close n) hs) h in (holds_still x k.0 all.0, none_is hs k.1 all.1)
-    where
-      or_is_false : (a b : Bool) → (a || b) ≡ false → (a ≡ false) × (b ≡ false)
-      or_is_false true b h = cc
-      or_is_false false b h = (refl, h)
+  none_is (x ∷ hs) h all = let k = or_parts (is_close n x) (list_any (is_close n) hs) h in (holds_still x k.0 all.0, none_is hs k.1 all.1)
 
   unpassed_is : (k : ℕ) (hs : List Held) → list_any (is_close k) hs ≡ false → list_any (is_unpassed k) hs ≡ false
   unpassed_is k [] h = refl
@@ -282,15 +268,7 @@ module _ (plan : Shape) (m : Moment) (n l : ℕ) (node : Node) (lane : CoreLane)
         no_rows Sink h = refl
 
     count_none : (k : ℕ) (hs : List Held) → list_any (is_close k) hs ≡ false → count_by (is_close k) hs ≡ 0
-    count_none k [] h = refl
-    count_none k (x ∷ hs) h = sum_by-cons (λ h. cond (is_close k h) 1 0) x hs ∙ one (is_close k x) h (λ z. count_none k hs z)
-      where
-        one : (a : Bool) → (a || list_any (is_close k) hs) ≡ false → (list_any (is_close k) hs ≡ false → count_by (is_close k) hs ≡ 0) → cond a 1 0 + count_by (is_close k) hs ≡ 0
-        one true h ih = cc
-        one false h ih = zero_plus (ih h)
-          where
-            zero_plus : count_by (is_close k) hs ≡ 0 → 0 + count_by (is_close k) hs ≡ 0
-            zero_plus e = omega arith
+    count_none k hs h = omega (arith, ltb-false 0 (count_by (is_close k) hs) (sym (any_by_count (is_close k) hs) ∙ h))
 
     pub begin-lawful : IsLawful plan after
     begin-lawful =
@@ -332,22 +310,14 @@ module _ (plan : Shape) (m : Moment) (n l : ℕ) (node : Node) (lane : CoreLane)
             }
           where
             old : (k : ℕ) → list_any (is_unpassed k) (m.held ++ close ∷ []) ≡ false → list_any (is_unpassed k) m.held ≡ false
-            old k h = first (list_any (is_unpassed k) m.held) _ (sym (list_any-append (is_unpassed k) m.held (close ∷ [])) ∙ h)
-              where
-                first : (a b : Bool) → (a || b) ≡ false → a ≡ false
-                first true b h = cc
-                first false b h = refl
+            old k h = (or_parts (list_any (is_unpassed k) m.held) _ (sym (list_any-append (is_unpassed k) m.held (close ∷ [])) ∙ h)).0
 
             never : (k : ℕ) (s : Step) → slice_get plan.steps k ≡ Some s → k ≡ n → list_any (is_unpassed k) (m.held ++ close ∷ []) ≡ false → ⊥
             never k s is e h =
                 let a : (list_any (is_unpassed k) m.held || ((eqb n k && not (is_sink (operator_at (slice_get plan.steps n)))) || false)) ≡ false = sym (list_any-append (is_unpassed k) m.held (close ∷ [])) ∙ h in
                 let t : is_sink (operator_at (slice_get plan.steps n)) ≡ false = ap (λ k. is_sink (operator_at (slice_get plan.steps k))) (sym e) ∙ transform_is plan k s is in
                 let b : (list_any (is_unpassed k) m.held || ((true && not false) || false)) ≡ false = (λ i. list_any (is_unpassed k) m.held || ((sym (eq-eqb n k (sym e)) i && not (sym t i)) || false)) ∙ a in
-                true_or (list_any (is_unpassed k) m.held) b
-              where
-                true_or : (a : Bool) → (a || true) ≡ false → ⊥
-                true_or true h = cc
-                true_or false h = cc
+                let c : true ≡ false = sym (or-true (list_any (is_unpassed k) m.held)) ∙ b in cc
 
         closings : (k : ℕ) → (node_at after k).closings ≡ sum_by begun (node_at after k).lanes
         closings k = ⊎_elim here (λ ne. ap (λ (x : Node). x.closings) (other_node k ne) ∙ lawful.closings k ∙ ap (λ (x : Node). sum_by begun x.lanes) (sym (other_node k ne))) (cases_eq k n)

@@ -6,6 +6,7 @@ use Rattle.std.proofs.Math.Nat.{add_left_comm}
 use Rattle.std.proofs.lemmas.List.Sums.{sum_by-append, sum_by-cons}
 use Rattle.std.proofs.lemmas.List.Concat.{flat_map-append}
 use Rattle.std.proofs.lemmas.Option.{same_Some}
+use Rattle.std.specs.Prelude.{is_some, ◌||◌}
 use Rattle.sb_record.specs.declared.item.Record.{Record}
 use Rattle.sb_bundle.specs.declared.bundle.Bundle.{Bundle}
 use Rattle.sb_core.specs.declared.moment.Cont.{Cont}
@@ -37,6 +38,19 @@ SameSums-pulled {X} p (y ∷ xs) q h f = by_case (p y) h (λ r e. SameSums-pulle
         sum_by-cons f y xs ∙ ap (λ n. f y + n) (ih b.0 b.1 ∙ sum_by-cons f b.0.0 b.0.1)
         ∙ add_left_comm (f y) (f b.0.0) (sum_by f b.0.1) ∙ sym (ap (λ n. f b.0.0 + n) (sum_by-cons f y b.0.1)) ∙ sym (sum_by-cons f b.0.0 (y ∷ b.0.1))
         ∙ ap (λ (r : X × List X). sum_by f (r.0 ∷ r.1)) same
+
+-- an element passes just where one is pulled out
+is_some-then : {A B : Type 0} (o : Option A) (f : A → B) → is_some (o >>= λ x. Some (f x)) ≡ is_some o
+is_some-then None f = refl
+is_some-then (Some x) f = refl
+
+pub any-pulled : {X : Type 0} (p : X → Bool) (xs : List X) → list_any p xs ≡ is_some (pulled p xs)
+any-pulled p [] = refl
+any-pulled {X} p (x ∷ xs) = by_case (p x) (any-pulled p xs)
+  where
+    by_case : (b : Bool) → list_any p xs ≡ is_some (pulled p xs) → (b || list_any p xs) ≡ is_some (cond {A = Option (X × List X)} b (Some (x, xs)) (pulled p xs >>= λ q. Some (q.0, x ∷ q.1)))
+    by_case true h = refl
+    by_case false h = h ∙ sym (is_some-then (pulled p xs) (λ q. (q.0, x ∷ q.1)))
 
 -- the records that wait in containers
 abbrev pub waiting_of : List Cont → List Record

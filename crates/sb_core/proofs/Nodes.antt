@@ -3,7 +3,7 @@ use Rattle.std.proofs.Common.{◌≡◌, ℕ, suc, zero, ◌+◌, Bool, true, fa
 use Rattle.std.specs.Prelude.{◌≢◌, ◌⊎◌, min}
 use Rattle.std.specs.List.{sum_by, slice_get, slice_set}
 use Rattle.std.proofs.lemmas.List.{get_or-set_same, get_or-set_other}
-use Rattle.std.proofs.lemmas.List.Sums.{sum_by-append}
+use Rattle.std.proofs.lemmas.List.Sums.{sum_by-append, sum_by-set}
 use Rattle.std.proofs.lemmas.Option.{slice_get_within, get_or_from_slice_get}
 use Rattle.std.proofs.lemmas.Bool.{eq-eqb, ne_eqb, cases_eq}
 use Rattle.sb_pipeline.specs.declared.transform.KeptRec.{KeptRec}
@@ -115,6 +115,9 @@ module _ (m : Moment) (d : Down) (node : Node) (lane with : CoreLane) (at : slic
           ∙ ap (λ (n : Node). closed n.lanes) (sym (ap (node_at m) e ∙ node_at-same m d.node node (set_lane d.lane with node) at))
 
 -- ---- what is at an index after a write
+pub sum_by-set_get : {X : Type 0} (f : X → ℕ) (xs : List X) (i : ℕ) (x y : X) → slice_get xs i ≡ Some x → sum_by f (slice_set xs i y) + f x ≡ sum_by f xs + f y
+sum_by-set_get f xs i x y h = ap (λ z. sum_by f (slice_set xs i y) + f z) (sym (get_or_from_slice_get xs i x x h)) ∙ sum_by-set f xs i y x (slice_get_within xs i x h)
+
 pub slice_get-set_same : {X : Type 0} (xs : List X) (i : ℕ) (x y : X) → slice_get xs i ≡ Some x → slice_get (slice_set xs i y) i ≡ Some y
 slice_get-set_same [] i x y h = cc
 slice_get-set_same (z ∷ xs) zero x y h = refl

@@ -11,6 +11,7 @@ use Rattle.sb_core.specs.LaneOrder.{NeverFalls, AreOpen, AreContainers, IsLane, 
 use Rattle.sb_core.proofs.Fitting.{Fits}
 use Rattle.sb_core.proofs.InTime.{ups, next_mark}
 use Rattle.sb_core.proofs.Nodes.{begun_mark}
+use Rattle.sb_record.proofs.Elements.{every}
 
 -- epochs rise, and floors do not fall
 abbrev pub AreRising : ℕ → ℕ → List Cont → Type 0
@@ -93,17 +94,9 @@ first_floor bound e f (m ∷ ms) (x ∷ cs) c are h =
 -- the same of each container of that epoch
 first_floors : (bound e f : ℕ) (ms : List ℕ) (cs : List Cont) → AreContainers bound e f ms cs → NeverFalls f ms → AllByRecursion (λ c. c.epoch ≡ e → c.floor ≡ f) cs
 first_floors bound e f [] [] are up = tt
-first_floors bound e f [] (x ∷ cs) are up = (are.0.next_is, later cs (all_from (x.epoch + 1) x.floor cs (rising-open bound e f (x.epoch + 1) x.floor cs are.1)))
-  where
-    later : (l : List Cont) → AllByRecursion (IsFrom (x.epoch + 1) x.floor) l → AllByRecursion (λ c. c.epoch ≡ e → c.floor ≡ f) l
-    later [] all = tt
-    later (y ∷ l) all = (λ k. absurd (omega (arith, all.0.0, are.0.epoch_from)), later l all.1)
+first_floors bound e f [] (x ∷ cs) are up = (are.0.next_is, every (λ y h k. absurd (omega (arith, h.0, are.0.epoch_from))) cs (all_from (x.epoch + 1) x.floor cs (rising-open bound e f (x.epoch + 1) x.floor cs are.1)))
 first_floors bound e f (m ∷ ms) [] are up = absurd are
-first_floors bound e f (m ∷ ms) (x ∷ cs) are up = (λ _. are.0.floor_is, later cs (all_from (e + 1) m cs (rising-containers bound (e + 1) m ms cs are.1 up.1)))
-  where
-    later : (l : List Cont) → AllByRecursion (IsFrom (e + 1) m) l → AllByRecursion (λ c. c.epoch ≡ e → c.floor ≡ f) l
-    later [] all = tt
-    later (y ∷ l) all = (λ k. absurd (omega (arith, all.0.0)), later l all.1)
+first_floors bound e f (m ∷ ms) (x ∷ cs) are up = (λ _. are.0.floor_is, every (λ y h k. absurd (omega (arith, h.0))) cs (all_from (e + 1) m cs (rising-containers bound (e + 1) m ms cs are.1 up.1)))
 
 module _ (bound : ℕ) (lane : CoreLane) (ok : IsLane bound lane) where
   -- a container of the epoch that is next to begin has the floor where the lane has begun
@@ -126,9 +119,6 @@ module _ (bound : ℕ) (lane : CoreLane) (ok : IsLane bound lane) where
   lane-fits epoch c h = own_fits lane.ended (last_of_first lane.ended lane.marks) epoch lane.conts c (rising-containers bound lane.ended (last_of_first lane.ended lane.marks) (drop lane.ended lane.marks) lane.conts ok.containers (ups bound lane ok)) h
 
   -- while its first container is closing: those of later epochs fit its mark
-  abbrev pub FitsMark : ℕ → ℕ → Cont → Type 0
-  FitsMark mark next c = next < c.epoch → (mark ≤ c.floor) × (c.epoch ≡ next + 1 → c.floor ≡ mark)
-
   pub closing_fits : first_is_closing lane.conts ≡ true → AllByRecursion (λ c. lane.ended < c.epoch → (begun_mark lane ≤ c.floor) × (c.epoch ≡ lane.ended + 1 → c.floor ≡ begun_mark lane)) lane.conts
   closing_fits closing = subst (λ n. AllByRecursion (λ c. lane.ended < c.epoch → (n ≤ c.floor) × (c.epoch ≡ lane.ended + 1 → c.floor ≡ n)) lane.conts) (sym (ap (λ b. last_of_first (cond b (lane.ended + 1) lane.ended) lane.marks) closing)) (go lane.conts (drop lane.ended lane.marks) refl ok.containers (ups bound lane ok) closing)
     where

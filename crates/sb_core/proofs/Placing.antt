@@ -1,15 +1,14 @@
 -- Where the container of an epoch is, and where a bundle waits: from what the code sees.
-use Rattle.std.proofs.Common.{◌≡◌, ℕ, suc, zero, ◌<◌, Bool, true, false, cond, eqb, ltb, List, [], ◌∷◌, ◌++◌, length, get_or, Some, None, Option, refl, ap, ◌∙◌, arith}
-use Rattle.std.specs.Prelude.{◌≢◌, ◌||◌, insert, slice_get, slice_set}
-use Rattle.std.specs.List.{list_any}
+use Rattle.std.proofs.Common.{◌≡◌, ℕ, suc, zero, ◌<◌, Bool, cond, eqb, ltb, List, [], ◌∷◌, ◌++◌, length, get_or, Some, None, Option, refl, ap, ◌∙◌, arith}
+use Rattle.std.specs.Prelude.{◌≢◌, insert, slice_get, slice_set, is_some}
 use Rattle.std.proofs.lemmas.Bool.{eq-eqb, ne_eqb, lt-ltb, le-ltb}
 use Rattle.std.proofs.lemmas.Option.{same_Some}
 use Rattle.sb_bundle.specs.declared.bundle.Bundle.{Bundle}
 use Rattle.sb_record.specs.Reading.{◌>>=◌}
-use Rattle.sb_record.proofs.Numbers.{bind_some}
 use Rattle.sb_core.specs.declared.moment.Cont.{Cont}
 use Rattle.sb_core.specs.Choices.{pulled}
 use Rattle.sb_core.specs.Lanes.{fresh, in_epoch, take_from}
+use Rattle.sb_core.proofs.Lists.{any-pulled}
 
 less_is_other : (a b : ℕ) → a < b → a ≢ b
 less_is_other a b h e = absurd (omega arith)
@@ -51,28 +50,6 @@ module _ (epoch floor : ℕ) (change : Cont → Cont) where
   in_epoch-last (x ∷ cs) before = in_epoch-past x cs (before 0 x (omega arith)) ∙ ap (λ l. x ∷ l) (in_epoch-last cs (λ k d h. before (suc k) d (omega arith)))
 
 -- ---- a waiting bundle
-pub any-pulled : {X : Type 0} (p : X → Bool) (xs : List X) (q : X × List X) → pulled p xs ≡ Some q → list_any p xs ≡ true
-any-pulled p [] q h = cc
-any-pulled {X} p (x ∷ xs) q h = by_case (p x) h (any-pulled p xs)
-  where
-    by_case : (b : Bool) → cond {A = Option (X × List X)} b (Some (x, xs)) (pulled p xs >>= λ q. Some (q.0, x ∷ q.1)) ≡ Some q
-        → ((q : X × List X) → pulled p xs ≡ Some q → list_any p xs ≡ true) → (b || list_any p xs) ≡ true
-    by_case true h ih = refl
-    by_case false h ih = let b = bind_some (pulled p xs) (λ (q : X × List X). Some (q.0, x ∷ q.1)) q h in ih b.0 b.1
-
-bind_none : {A B : Type 0} (o : Option A) (f : A → B) → (o >>= λ q. Some (f q)) ≡ None → o ≡ None
-bind_none None f h = refl
-bind_none (Some q) f h = cc
-
-pub none-pulled : {X : Type 0} (p : X → Bool) (xs : List X) → pulled p xs ≡ None → list_any p xs ≡ false
-none-pulled p [] h = refl
-none-pulled {X} p (x ∷ xs) h = by_case (p x) h (none-pulled p xs)
-  where
-    by_case : (b : Bool) → cond {A = Option (X × List X)} b (Some (x, xs)) (pulled p xs >>= λ q. Some (q.0, x ∷ q.1)) ≡ None
-        → (pulled p xs ≡ None → list_any p xs ≡ false) → (b || list_any p xs) ≡ false
-    by_case true h ih = cc
-    by_case false h ih = ih (bind_none (pulled p xs) (λ (q : X × List X). (q.0, x ∷ q.1)) h)
-
 abbrev pub of_number : ℕ → Bundle → Bool
 of_number number b = eqb b.number number
 
@@ -84,7 +61,7 @@ module _ (number : ℕ) where
       (take_from number cs >>= λ q. Some (q.0, c ∷ q.1))
 
   take_from-past : (x : Cont) (cs : List Cont) → pulled (of_number number) x.waiting ≡ None → take_from number (x ∷ cs) ≡ (take_from number cs >>= λ q. Some (q.0, x ∷ q.1))
-  take_from-past x cs none = ap (λ b. taking b x cs) (none-pulled (of_number number) x.waiting none)
+  take_from-past x cs none = ap (λ b. taking b x cs) (any-pulled (of_number number) x.waiting ∙ ap is_some none)
 
   pub take_from-at : (cs : List Cont) (i : ℕ) (c : Cont) (q : Bundle × List Bundle) → ((k : ℕ) (d : Cont) → k < i → pulled (of_number number) (get_or cs k d).waiting ≡ None)
       → slice_get cs i ≡ Some c → pulled (of_number number) c.waiting ≡ Some q
@@ -93,7 +70,7 @@ module _ (number : ℕ) where
   take_from-at (x ∷ cs) zero c q none there took =
       let same : x ≡ c = same_Some x c there in
       ap (λ x. take_from number (x ∷ cs)) same
-      ∙ ap (λ b. taking b c cs) (any-pulled (of_number number) c.waiting q took)
+      ∙ ap (λ b. taking b c cs) (any-pulled (of_number number) c.waiting ∙ ap is_some took)
       ∙ ap (λ (o : Option (Bundle × List Bundle)). o >>= λ q. Some (q.0, record c { waiting = q.1; out = c.out ++ number ∷ [] } ∷ cs)) took
   take_from-at (x ∷ cs) (suc i) c q none there took =
       take_from-past x cs (none 0 x (omega arith))

@@ -34,7 +34,7 @@ use Rattle.sb_core.proofs.InEpoch.{containers_out, others_calm, still_ready}
 use Rattle.sb_core.proofs.LawfulArrive.{last-next_floor}
 use Rattle.sb_core.proofs.EventLaws.{calm, seal_calm, sealed_floor}
 use Rattle.sb_core.proofs.HeldLists.{any_same, any_swap, count_swap, none_left, every_both, All-last}
-use Rattle.sb_core.proofs.Changed.{IsOutAt, cases, at_place, closed_same, other, work_still, close_still, below_still, lawful_still}
+use Rattle.sb_core.proofs.Changed.{IsOutAt, cases, at_place, other, work_still, close_still, below_still, lawful_still}
 
 falls-snoc : (low mark : ℕ) (ms : List ℕ) → NeverFalls low ms → last_from low ms ≤ mark → NeverFalls low (ms ++ mark ∷ [])
 falls-snoc low mark [] up h = (h, tt)
@@ -53,8 +53,7 @@ last_of_first-longer n mark marks h = ⊎_elim
 
 -- where no container is of an epoch after the next one
 pub marks_fit : (mark next : ℕ) (cs : List Cont) → AllByRecursion (λ c. next ≤ c.epoch → c.epoch ≡ next) cs → MarkFits mark next cs
-marks_fit mark next [] all = tt
-marks_fit mark next (c ∷ cs) all = (λ h. absurd (let k : c.epoch ≡ next = all.0 (omega arith) in omega arith), marks_fit mark next cs all.1)
+marks_fit mark next = every (λ c h low. absurd (let k : c.epoch ≡ next = h (omega arith) in omega arith))
 
 module _ (bound mark : ℕ) (lane : CoreLane) (ok : IsLane bound lane) (up : next_floor lane ≤ mark) (fits : MarkFits mark (next_epoch lane) lane.conts) where
   sealed_all : lane.ended + length (drop lane.ended lane.marks) ≡ next_epoch lane
@@ -115,9 +114,6 @@ module _ (plan : Shape) (m : Moment) (d : Down) (node : Node) (lane : CoreLane) 
 
   pub sealed_other : (e : Down) → e ≢ d → lane_at now e ≡ lane_at m e
   sealed_other e ne = other plan m d.node d.lane node (set_lane d.lane with node) lane with at in_it refl refl sealed_begun sealed_mark held e ne
-
-  pub sealed_closed : (k : ℕ) → closed (node_at now k).lanes ≡ closed (node_at m k).lanes
-  sealed_closed k = closed_same plan m d.node d.lane node (set_lane d.lane with node) lane with at in_it refl refl sealed_begun sealed_mark held k
 
   pub sealed_work : (k i epoch floor number : ℕ) (records : List Record) (delivered : Bool) → IsWork plan m k i epoch floor number records delivered → IsWork plan now k i epoch floor number records delivered
   sealed_work k i epoch floor number records delivered h =

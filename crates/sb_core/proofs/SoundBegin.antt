@@ -4,14 +4,13 @@ use Rattle.sb_record.proofs.Numbers.{bind_some}
 use Rattle.sb_record.proofs.Elements.{All-join, All-passed, every}
 use Rattle.sb_core.proofs.WindowsAt.{windows-at}
 use Rattle.sb_core.proofs.Orderly.{lawful_of, tidy_of, sound_of, IsLawful, IsTidy}
-use Rattle.std.proofs.Common.{cond, eqb, length-set, ◌≡◌, ℕ, suc, zero, ◌+◌, ◌≤◌, ◌<◌, Bool, true, false, not, ltb, List, [], ◌∷◌, ◌++◌, length, Some, None, Option, sym, refl, ap, subst, ◌∙◌, arith, ⊎_elim, append-nil, set as slice_set, add-zero}
-use Rattle.std.specs.Prelude.{◌&&◌, min, ◌⊎◌, ◌≢◌, ◌||◌, nat_lt, sum_by}
+use Rattle.std.proofs.Common.{cond, length-set, ◌≡◌, ℕ, suc, ◌+◌, ◌≤◌, ◌<◌, true, false, not, ltb, List, [], ◌∷◌, ◌++◌, length, Some, None, Option, sym, refl, ap, subst, ◌∙◌, arith, ⊎_elim, append-nil, set as slice_set, add-zero}
+use Rattle.std.specs.Prelude.{min, ◌⊎◌, ◌≢◌, ◌||◌, nat_lt, sum_by}
 use Rattle.std.specs.List.{slice_get, list_any, AllByRecursion}
 use Rattle.std.proofs.lemmas.Bool.{cases_eq, ltb-true, ltb-false, not-true}
 use Rattle.std.proofs.lemmas.List.Sums.{sum_by-cons}
 use Rattle.std.proofs.lemmas.List.Folds.{list_any-append}
 use Rattle.std.proofs.lemmas.Option.{slice_get_within, same_Some}
-use Rattle.sb_record.specs.declared.item.Record.{Record}
 use Rattle.sb_pipeline.specs.declared.transform.KeptRec.{KeptRec}
 use Rattle.sb_core.specs.declared.moment.Cont.{Cont}
 use Rattle.sb_core.specs.declared.moment.CoreLane.{CoreLane}
@@ -29,9 +28,10 @@ use Rattle.sb_pipeline.specs.Elements.{all_records}
 use Rattle.sb_pipeline.specs.Plans.{IsPlan}
 use Rattle.sb_pipeline.specs.Operators.Operator.{ParDo, Windowed, Sink}
 use Rattle.sb_pipeline.specs.Operators.WindowOperator.{Aggregated, Joined}
+use Rattle.sb_pipeline.proofs.Elements.{All-all_records}
 use Rattle.sb_record.specs.Reading.{◌>>=◌}
 use Rattle.sb_core.specs.Marks.{before_closing, first_is_closing, last_of_first, closed}
-use Rattle.sb_core.specs.Moments.{is_close_of, is_close, is_work, lane_at, node_at}
+use Rattle.sb_core.specs.Moments.{is_close, is_work, lane_at, node_at}
 use Rattle.sb_core.specs.Lanes.{closable, next_epoch, with_first_closing}
 use Rattle.sb_core.specs.Closings.{is_sink, kept_at, rows_at, collected, is_pardo}
 use Rattle.sb_core.specs.Events.{after_begin}
@@ -43,9 +43,9 @@ use Rattle.sb_core.proofs.Nodes.{lane_at-cases, node_at-same, node_at-set_same, 
 use Rattle.sb_record.proofs.Sorting.{records_total, in_order-ascending, All-in_order}
 use Rattle.sb_core.proofs.EventLaws.{transform_is}
 use Rattle.sb_core.proofs.Beginning.{none_past, begun_lane, closing_mark, begun_node, new_close, after_beginning}
-use Rattle.sb_core.proofs.LawfulBegin.{IsClosable, closable-is, rises, begin-lawful}
+use Rattle.sb_core.proofs.LawfulBegin.{IsClosable, closable-is, rises, begin-lawful, idle-calm}
 use Rattle.sb_core.proofs.HeldLists.{count_snoc, All-last}
-use Rattle.sb_core.proofs.TidyLanes.{SameEpochs, numbered-less, All-same, has-same, same-first_closing}
+use Rattle.sb_core.proofs.TidyLanes.{SameEpochs, numbered-less, All-same, has-same, same_epochs, same-first_closing}
 use Rattle.sb_core.proofs.TidyFrame.{before-set, lone_set}
 use Rattle.sb_core.proofs.TidyPut.{open_moves, lanes_move}
 use Rattle.sb_core.proofs.WithinBound.{rows-bounded}
@@ -101,10 +101,6 @@ module _ (plan : Shape) (is_plan : IsPlan plan) (m : Moment) (n l : ℕ) (node :
   abbrev IsAsBefore : CoreLane → CoreLane → Type 0
   IsAsBefore y x = (x.marks ≡ y.marks) × (SameEpochs y.conts x.conts) × (x.arrived ≡ y.arrived) × ((i : ℕ) → (sum_by (numbers_of i) x.conts ≡ sum_by (numbers_of i) y.conts) × (sum_by (out_of i) x.conts ≡ sum_by (out_of i) y.conts))
 
-  same_epochs : (cs : List Cont) → SameEpochs cs cs
-  same_epochs [] = tt
-  same_epochs (c ∷ cs) = ((refl, refl), same_epochs cs)
-
   as_before : (d : Down) (x : CoreLane) → lane_at after d ≡ Some x → (y : CoreLane) × (lane_at m d ≡ Some y) × IsAsBefore y x
   as_before = lane_was IsAsBefore
       (refl, same-first_closing lane.conts, refl, λ i. (first_closing_sum (numbers_of i) (λ c. refl) lane.conts, first_closing_sum (out_of i) (λ c. refl) lane.conts))
@@ -125,25 +121,15 @@ module _ (plan : Shape) (is_plan : IsPlan plan) (m : Moment) (n l : ℕ) (node :
   kept_after (ParDo op) w bound kept all = all
   kept_after (Windowed (Aggregated agg windows)) w bound kept all = All-passed (IsKeptAt (Windowed (Aggregated agg windows)) w bound) (IsKeptAt (Windowed (Aggregated agg windows)) mark bound) _ (λ e h p. (p, h.1)) kept all
   kept_after (Windowed (Joined combine windows)) w bound kept all = All-passed (IsKeptAt (Windowed (Joined combine windows)) w bound) (IsKeptAt (Windowed (Joined combine windows)) mark bound) _ (λ e h p. (p, h.1)) kept all
-  kept_after Sink w bound kept all = All-passed (IsKeptAt Sink w bound) (IsKeptAt Sink mark bound) _ (λ e h p. (from e.rec.time p, h.1)) kept all
-    where
-      from : (t : ℕ) → not (ltb t mark) ≡ true → mark ≤ t
-      from t h = ltb-false t mark (not-true (ltb t mark) h)
+  kept_after Sink w bound kept all = All-passed (IsKeptAt Sink w bound) (IsKeptAt Sink mark bound) _ (λ e h p. (ltb-false e.rec.time mark (not-true (ltb e.rec.time mark) p), h.1)) kept all
 
   -- ---- the rows of the sink
-  abbrev Between : Record → Type 0
-  Between r = (closed node.lanes ≤ r.time) × (r.time < mark)
-
   collected_between : (o : Operator) → AllByRecursion (IsKeptAt o (closed node.lanes) (bound_at plan n)) node.kept → AllByRecursion (λ r. (closed node.lanes ≤ r.time) × (r.time < mark)) (collected o mark node.kept)
   collected_between (ParDo op) all = tt
   collected_between (Windowed g) all = tt
   collected_between Sink all =
       All-in_order (λ r. (closed node.lanes ≤ r.time) × (r.time < mark)) record_cmp (before mark (all_records node.kept))
-      (All-passed (λ r. closed node.lanes ≤ r.time) (λ r. (closed node.lanes ≤ r.time) × (r.time < mark)) (λ r. nat_lt r.time mark) (λ r a b. (a, ltb-true r.time mark b)) (all_records node.kept) (recs node.kept all))
-    where
-      recs : (es : List KeptRec) → AllByRecursion (IsKeptAt Sink (closed node.lanes) (bound_at plan n)) es → AllByRecursion (λ r. closed node.lanes ≤ r.time) (all_records es)
-      recs [] all = tt
-      recs (e ∷ es) all = (all.0.0, recs es all.1)
+      (All-passed (λ r. closed node.lanes ≤ r.time) (λ r. (closed node.lanes ≤ r.time) × (r.time < mark)) (λ r. nat_lt r.time mark) (λ r a b. (a, ltb-true r.time mark b)) (all_records node.kept) (All-all_records (λ r. closed node.lanes ≤ r.time) node.kept (every (λ e h. h.0) node.kept all)))
 
   collected_sorted : (o : Operator) → IsAscending record_cmp (collected o mark node.kept)
   collected_sorted (ParDo op) = tt
@@ -209,30 +195,13 @@ module _ (plan : Shape) (is_plan : IsPlan plan) (m : Moment) (n l : ℕ) (node :
         (λ ne. ap (λ (x : Node). before_closing x.lanes) (sym (node_at-set_other m n node new at k ne))) (cases_eq k n),
   )
 
-  -- nothing of the node was closing
-  calm : (i : ℕ) (x : CoreLane) → slice_get node.lanes i ≡ Some x → first_is_closing x.conts ≡ false
-  calm i x h = by_case (first_is_closing x.conts) refl
-    where
-      of_lane : (hs : List Held) → list_any (is_close_of n i) hs ≡ true → list_any (is_close n) hs ≡ true
-      of_lane [] h = cc
-      of_lane (Work k j epoch floor number records delivered ∷ hs) h = of_lane hs h
-      of_lane (Close k j epoch serial floor _ rows passed ∷ hs) h = one (eqb k n) (eqb j i) h (λ k. of_lane hs k)
-        where
-          one : (a b : Bool) → ((a && b) || list_any (is_close_of n i) hs) ≡ true → (list_any (is_close_of n i) hs ≡ true → list_any (is_close n) hs ≡ true) → (a || list_any (is_close n) hs) ≡ true
-          one true b h ih = refl
-          one false b h ih = ih h
-
-      by_case : (b : Bool) → first_is_closing x.conts ≡ b → b ≡ false
-      by_case true e = sym (of_lane m.held (lawful.closing_held (record { node = n; lane = i }) x (ap (λ (o : Option Node). o >>= λ z. slice_get z.lanes i) at ∙ h) e)) ∙ idle
-      by_case false e = refl
-
   calm_closed : (lanes : List CoreLane) → ((i : ℕ) (x : CoreLane) → slice_get lanes i ≡ Some x → first_is_closing x.conts ≡ false) → closed lanes ≡ before_closing lanes
   calm_closed [] each = refl
   calm_closed (x ∷ []) each = ap (λ b. last_of_first (cond b (x.ended + 1) x.ended) x.marks) (each 0 x refl)
   calm_closed (x ∷ y ∷ lanes) each = λ i. min (last_of_first (cond (each 0 x refl i) (x.ended + 1) x.ended) x.marks) (calm_closed (y ∷ lanes) (λ j z h. each (suc j) z h) i)
 
   floor_is : closed node.lanes ≡ before_closing (node_at after n).lanes
-  floor_is = calm_closed node.lanes calm ∙ sym before_node ∙ ap (λ (x : Node). before_closing x.lanes) (sym (node_at-set_same m n node new at))
+  floor_is = calm_closed node.lanes (idle-calm plan m n node at idle lawful) ∙ sym before_node ∙ ap (λ (x : Node). before_closing x.lanes) (sym (node_at-set_same m n node new at))
 
   pub begin-sound : IsSound plan after
   begin-sound =

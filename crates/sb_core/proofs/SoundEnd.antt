@@ -9,7 +9,7 @@ use Rattle.std.proofs.Common.{◌≡◌, ℕ, suc, zero, ◌+◌, ◌*◌, ◌%�
 use Rattle.std.specs.Prelude.{◌≢◌, ◌&&◌, ◌||◌, nat_lt, count_by, sum_by}
 use Rattle.std.specs.List.{filter, slice_get, list_any, range_with_len, AllByRecursion}
 use Rattle.std.proofs.lemmas.Bool.{eqb-false, eq-eqb, ne_eqb, cases_eq, eqb-true, lt-ltb}
-use Rattle.std.proofs.lemmas.List.Sums.{sum_by-cons}
+use Rattle.std.proofs.lemmas.List.Sums.{sum_by-cons, sum_by-le-sum_by}
 use Rattle.std.proofs.Math.Nat.{mul-mod_right, mod-add-div, mod-lt}
 use Rattle.std.proofs.Math.Bool.{or-true, and-false}
 use Rattle.std.proofs.lemmas.Option.{same_Some}
@@ -138,12 +138,8 @@ ends-later windows mark t are h =
     more m q = omega arith
 
 -- ---- a Work is finished
-sum_less : {X : Type 0} (f g : X → ℕ) → ((x : X) → f x ≤ g x) → (xs : List X) → sum_by f xs ≤ sum_by g xs
-sum_less f g h [] = omega arith
-sum_less f g h (x ∷ xs) = omega (arith, sum_by-cons f x xs, sum_by-cons g x xs, h x, sum_less f g h xs)
-
 pub out_once : (plan : Shape) (m : Moment) → IsTidy plan m → (d : Down) (lane : CoreLane) → lane_at m d ≡ Some lane → (n : ℕ) → sum_by (out_of n) lane.conts ≤ 1
-out_once plan m tidy d lane at n = omega (arith, sum_less (out_of n) (numbers_of n) (λ c. more _ _) lane.conts, (tidy.numbers d lane at).once n)
+out_once plan m tidy d lane at n = omega (arith, sum_by-le-sum_by (out_of n) (numbers_of n) lane.conts (λ c. more _ _), (tidy.numbers d lane at).once n)
   where
     more : (a b : ℕ) → b ≤ a + b
     more a b = omega arith

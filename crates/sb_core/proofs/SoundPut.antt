@@ -11,6 +11,7 @@ use Rattle.std.specs.List.{flat_map, slice_get, list_any, list_all, AllByRecursi
 use Rattle.std.proofs.lemmas.Bool.{cases_lt, eq-eqb, not-true, and_parts}
 use Rattle.std.proofs.Math.Bool.{or-false}
 use Rattle.std.proofs.lemmas.Option.{same_Some}
+use Rattle.std.proofs.lemmas.List.{drop_all}
 use Rattle.sb_record.specs.declared.item.Record.{Record}
 use Rattle.sb_core.specs.declared.moment.Cont.{Cont}
 use Rattle.sb_core.specs.declared.moment.CoreLane.{CoreLane}
@@ -137,17 +138,13 @@ module _ (plan : Shape) (is_plan : IsPlan plan) (m m' : Moment) (sound : IsSound
                 (λ t it. absurd (Feeding.sources_apart plan is_plan t d y s it is down))
                 (λ k t it q. subst (λ k. IsOpenBelow (operator_at (slice_get plan.steps k)) (node_at m k).lanes (list_any (is_unpassed k) m.held) (next_epoch p.1) serial floor) (Feeding.apart plan is_plan y k s t is it (down ∙ sym q))
                 (open_is (operator_at (slice_get plan.steps y)) (transform_is plan y s is) (λ z. closes.0.0.1.1 z) some (node_at m y).lanes (list_any (is_unpassed y) m.held) (next_epoch p.1) (unpassed_first y l epoch serial floor mark rows others first) (sym next)))
-                (All-last (IsCloseOf plan m) others (Close y l epoch serial floor mark (drop m.bundle rows) false) closes.1 ((ascending-drop m.bundle rows closes.0.0.0, ((λ z. sym e ∙ closes.0.0.1.0 z), (λ z. let k : rows ≡ [] = closes.0.0.1.1 z in ap (drop m.bundle) k ∙ drop_none m.bundle))), closes.0.1));
+                (All-last (IsCloseOf plan m) others (Close y l epoch serial floor mark (drop m.bundle rows) false) closes.1 ((ascending-drop m.bundle rows closes.0.0.0, ((λ z. sym e ∙ closes.0.0.1.0 z), (λ z. let k : rows ≡ [] = closes.0.0.1.1 z in ap (drop m.bundle) k ∙ drop_all m.bundle [] (omega arith)))), closes.0.1));
           })))
         where
           open_is : (o : Operator) → is_sink o ≡ false → (is_pardo o ≡ true → rows ≡ []) → not (is_empty rows) ≡ true → (lanes : List CoreLane) (unpassed : Bool) (next : ℕ) → unpassed ≡ true → serial ≡ next → IsOpenBelow o lanes unpassed next serial floor
           open_is (ParDo op) sink none some lanes unpassed next u n = let z : false ≡ true = sym (ap (λ l. not (is_empty l)) (none refl)) ∙ some in cc
           open_is (Windowed g) sink none some lanes unpassed next u n = (u, n)
           open_is Sink sink none some lanes unpassed next u n = cc
-
-          drop_none : {X : Type 0} (n : ℕ) → drop {A = X} n [] ≡ []
-          drop_none zero = refl
-          drop_none (suc n) = refl
 
           ascending-drop : (n : ℕ) (l : List Record) → IsAscending record_cmp l → IsAscending record_cmp (drop n l)
           ascending-drop zero l up = up

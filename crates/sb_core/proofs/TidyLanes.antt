@@ -12,13 +12,14 @@ use Rattle.sb_bundle.specs.declared.bundle.Bundle.{Bundle}
 use Rattle.sb_core.specs.declared.moment.Cont.{Cont}
 use Rattle.sb_core.specs.declared.moment.CoreLane.{CoreLane}
 use Rattle.sb_record.specs.Reading.{◌>>=◌}
+use Rattle.sb_record.proofs.Sums.{any_by_count}
 use Rattle.sb_core.specs.Lanes.{fresh, in_epoch, take_from, finish_in, with_first_closing, with_bundle, with_arrival, with_seal}
 use Rattle.sb_core.specs.Choices.{pulled}
 use Rattle.sb_core.specs.LaneOrder.{cont_at}
 use Rattle.sb_core.specs.Soundness.{out_of, numbers_of, AreNumbered}
 use Rattle.sb_core.proofs.Lists.{SameSums-pulled}
 use Rattle.sb_core.proofs.LaneLaws.{DifferInBundles}
-use Rattle.sb_core.proofs.HeldLists.{any_count, count_snoc}
+use Rattle.sb_core.proofs.HeldLists.{count_snoc}
 
 -- ---- a change in an epoch
 pub sum-in_epoch : (g : Cont → ℕ) (more epoch floor : ℕ) (change : Cont → Cont) → ((c : Cont) → g (change c) ≡ more + g c) → g (fresh epoch floor) ≡ 0 → (cs : List Cont) → sum_by g (in_epoch epoch floor change cs) ≡ more + sum_by g cs
@@ -167,13 +168,13 @@ same-differ bound [] (d ∷ ds) s = absurd s
 same-differ bound (c ∷ cs) [] s = absurd s
 same-differ bound (c ∷ cs) (d ∷ ds) s = ((ap (λ (c : Cont). c.epoch) s.0, ap (λ (c : Cont). c.floor) s.0), same-differ bound cs ds s.2)
 
+pub same_epochs : (cs : List Cont) → SameEpochs cs cs
+same_epochs [] = tt
+same_epochs (c ∷ cs) = ((refl, refl), same_epochs cs)
+
 pub same-first_closing : (cs : List Cont) → SameEpochs cs (with_first_closing cs)
 same-first_closing [] = tt
-same-first_closing (c ∷ cs) = ((refl, refl), all_same cs)
-  where
-    all_same : (cs : List Cont) → SameEpochs cs cs
-    all_same [] = tt
-    all_same (c ∷ cs) = ((refl, refl), all_same cs)
+same-first_closing (c ∷ cs) = ((refl, refl), same_epochs cs)
 
 pub All-same : (P : ℕ → ℕ → Type 0) (cs ds : List Cont) → SameEpochs cs ds → AllByRecursion (λ c. P c.epoch c.floor) cs → AllByRecursion (λ c. P c.epoch c.floor) ds
 All-same P [] [] s all = tt
@@ -257,10 +258,7 @@ finished-none epoch number (x ∷ cs) c h out once = by_case (eqb x.epoch epoch)
         two false ih = sum_by-cons (out_of number) y (finish_in epoch number cs) ∙ omega (arith, sum_by-cons (out_of number) y cs)
 
     one_is : (l : List ℕ) → list_any (λ x. eqb x number) l ≡ true → 1 ≤ count_by (λ x. eqb x number) l
-    one_is l h = some_of (count_by (λ x. eqb x number) l) (sym (any_count (λ x. eqb x number) l) ∙ h)
-      where
-        some_of : (n : ℕ) → ltb 0 n ≡ true → 1 ≤ n
-        some_of n h = omega (arith, ltb-true 0 n h)
+    one_is l h = omega (arith, ltb-true 0 (count_by (λ x. eqb x number) l) (sym (any_by_count (λ x. eqb x number) l) ∙ h))
 
     by_case : (b : Bool) → cond b (Some x) (cont_at epoch cs) ≡ Some c → (cont_at epoch cs ≡ Some c → sum_by (out_of number) cs ≤ 1 → sum_by (out_of number) (finish_in epoch number cs) ≡ 0)
         → sum_by (out_of number) (cond b (record x { out = filter (λ x. not (eqb x number)) x.out }) x ∷ finish_in epoch number cs) ≡ 0

@@ -57,6 +57,12 @@ pub record IsTimely (plan : Shape) (m : Moment) : Type 0 where
   pub seals : (k l : ℕ) (lane : CoreLane) → lane_at m (record { node = k; lane = l }) ≡ Some lane → closed (node_at m k).lanes ≤ next_floor lane
   pub sources : (s : Stream) (d : Down) → source plan s ≡ Some d → (lane : CoreLane) × (lane_at m d ≡ Some lane)
 
+-- a transform is no sink
+pub no_sink : (kind : Kind) → is_sink (operator_of kind) ≡ false
+no_sink (Do op) = refl
+no_sink (Group agg windows) = refl
+no_sink (Join combine windows) = refl
+
 -- ---- sums of ones that are zero
 pub zero_by : {X : Type 0} (f g : X → ℕ) → ((x : X) → f x ≡ 0 → g x ≡ 0) → (l : List X) → sum_by f l ≡ 0 → sum_by g l ≡ 0
 zero_by f g h [] e = refl
@@ -122,13 +128,8 @@ module _ (plan : Shape) (m : Moment) (timely : IsTimely plan m) where
       let t = timely.below k s is in
       ap (λ o. sum_by (λ r. late_for o r.time) (gives plan m k es)) t.there
       ∙ ap (λ o. sum_by (early (next_floor t.lane)) (gives_by (operator_at o) k (node_at m k) m.held m.rows es)) is
-      ∙ by_operator (operator_of s.kind) (transform s.kind) t.lane t.rows t.behind
+      ∙ by_operator (operator_of s.kind) (no_sink s.kind) t.lane t.rows t.behind
     where
-      transform : (kind : Kind) → is_sink (operator_of kind) ≡ false
-      transform (Do op) = refl
-      transform (Group agg windows) = refl
-      transform (Join combine windows) = refl
-
       by_operator : (o : Operator) → is_sink o ≡ false → (lane : CoreLane) → sum_by (early (next_floor lane)) (flat_map (undelivered k) m.held) ≡ 0 → next_floor lane ≤ closed (node_at m k).lanes
           → sum_by (early (next_floor lane)) (gives_by o k (node_at m k) m.held m.rows es) ≡ 0
       by_operator (ParDo op) not_sink lane rows behind =

@@ -1,5 +1,6 @@
 use Rattle.std.proofs.Common.{◌≡◌, ◌≤◌, [], ◌∷◌, ◌++◌, length, rules, sym, ap, subst, ◌∙◌, arith}
 use Rattle.std.specs.Prelude.{replicate, slice_get}
+use Rattle.std.proofs.lemmas.List.{take_all}
 use Rattle.sb_pipeline.specs.Operators.{operator_at}
 use Rattle.sb_core.specs.declared.moment.Node.{Node}
 use Rattle.sb_core.specs.declared.moment.Moment.{Moment}
@@ -7,7 +8,7 @@ use Rattle.sb_core.specs.Exactness.{IsExact}
 use Rattle.sb_core.specs.Soundness.{IsSound}
 use Rattle.sb_core.specs.Moments.{empty_lane, empty_node, first}
 use Rattle.sb_core.proofs.FirstMoment.{at_node, node_count, first-sound, first-exact}
-use Rattle.sb_core.proofs.Nodewise.{take_more, take_whole}
+use Rattle.sb_core.proofs.Nodewise.{take_more}
 use Rattle.sb_core.proofs.machine.first.Goals as goal
 
 pub loop-node-preserved : goal.loop-node-preserved
@@ -27,7 +28,7 @@ returns c =
     let plan = c.args.plan.now in
     let bundle = c.args.bundle in
     let past : length (first plan bundle).nodes ≤ c.loop-node.node = omega (arith, c.loop-node-test.false, c.transforms-node-end.ensures.value, node_count plan.steps) in
-    let nodes : c.new-2.result ≡ (first plan bundle).nodes = c.new-2.ensures ∙ c.loop-node.invariant ∙ take_whole (first plan bundle).nodes c.loop-node.node past in
+    let nodes : c.new-2.result ≡ (first plan bundle).nodes = c.new-2.ensures ∙ c.loop-node.invariant ∙ take_all c.loop-node.node (first plan bundle).nodes past in
     let is : ◌≡◌ {A = Moment} (record { bundle = bundle; nodes = c.new-2.result; held = c.new-4.result; rows = c.new-6.result }) (first plan bundle) =
     λ i. record { bundle = bundle; nodes = nodes i; held = (c.new-4.ensures ∙ c.new-3.ensures.items) i; rows = (c.new-6.ensures ∙ c.new-5.ensures.items) i } in
     record {

@@ -1,10 +1,11 @@
 use Rattle.std.proofs.Common.{◌≡◌, ◌+◌, [], ◌∷◌, ◌++◌, length, take, refl, sym, ap, subst, ◌∙◌}
 use Rattle.std.proofs.lemmas.Option.{slice_get_read}
+use Rattle.std.proofs.lemmas.List.{take_all}
 use Rattle.sb_core.specs.declared.event.Event.{Event}
 use Rattle.sb_core.specs.Events
 use Rattle.sb_core.specs.Exactness.{IsExact}
 use Rattle.sb_core.specs.Laws.{fed_by}
-use Rattle.sb_core.proofs.Nodewise.{take_more, take_whole}
+use Rattle.sb_core.proofs.Nodewise.{take_more}
 use Rattle.sb_core.proofs.Stepping.{run-more, fed_by-more}
 use Rattle.sb_core.proofs.machine.run.Goals as goal
 
@@ -27,4 +28,4 @@ loop-at-preserved c =
 pub returns-clause-exact : goal.returns-clause-exact
 returns-clause-exact c =
     λ fed exact.
-    subst (λ l. IsExact c.args.plan.now c.loop-at.moment (fed_by l fed)) (take_whole c.args.events.now c.loop-at.at c.loop-at-test.false) (c.loop-at.invariant.exact fed exact)
+    subst (λ l. IsExact c.args.plan.now c.loop-at.moment (fed_by l fed)) (take_all c.loop-at.at c.args.events.now c.loop-at-test.false) (c.loop-at.invariant.exact fed exact)
