@@ -57,18 +57,19 @@ pub struct Intake {
 impl Model for Intake {
     ghost use Rattle.sb_record.specs.Progress.{Progress};
     ghost use Rattle.std.specs.Prelude.{◌≤◌};
+    ghost use Rattle.sb_record.specs.declared.intake.TheConstants.{MAX_LINES};
 
     ghost Value = { Progress };
 
     ghost view = { λ s. record { streams = s.streams; mark_a = s.mark_a; mark_b = s.mark_b; lines = s.before } };
 
-    ghost invariant = { λ s. s.before ≤ 4294967295 };
+    ghost invariant = { λ s. s.before ≤ MAX_LINES };
 }
 
 impl Intake {
     /// The intake of an input after its first `before` lines, at most 4,294,967,295, none of them a watermark.
     pub fn new(streams: Streams, before: u64) -> Intake
-        requires { before ≤ 4294967295 }
+        requires { before ≤ MAX_LINES }
         ensures { result ≡ spec.started streams before }
     {
         Intake {
@@ -102,12 +103,12 @@ impl Intake {
     /// Tests the next line, of at most 128 bytes, and gives its item. An accepted line is counted, and its watermark is
     /// kept. A refused line changes nothing.
     pub fn accept(&mut self, line: &[u8]) -> Result<Item, Refusal>
-        requires { length line.now ≤ 128 }
+        requires { length line.now ≤ MAX_LINE_LENGTH }
         ensures value { result ≡ spec.tested self.old line.now }
         ensures ok { IfOk result (λ i. self.new ≡ spec.after i self.old) }
         ensures err { OnErr result (self.new ≡ self.old) }
         ensures item { IfOk result (λ i. IsTextOf i line.now) }
-        ensures room { IfOk result (λ _. self.old.lines < 4294967295) }
+        ensures room { IfOk result (λ _. self.old.lines < MAX_LINES) }
     {
         let item = self.tested(line)?;
         self.before += 1;
@@ -121,10 +122,10 @@ impl Intake {
 
     /// The item of the next line, or the first test that it fails.
     fn tested(&self, line: &[u8]) -> Result<Item, Refusal>
-        requires { length line.now ≤ 128 }
+        requires { length line.now ≤ MAX_LINE_LENGTH }
         ensures value { result ≡ spec.tested self.now line.now }
         ensures item { IfOk result (λ i. IsTextOf i line.now) }
-        ensures room { IfOk result (λ _. self.now.lines < 4294967295) }
+        ensures room { IfOk result (λ _. self.now.lines < MAX_LINES) }
     {
         if self.before >= MAX_LINES {
             return Err(Refusal::TooMany);

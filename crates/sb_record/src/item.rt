@@ -1,5 +1,9 @@
 //! Records, streams and items: the types that the whole engine speaks of.
 
+ghost use Rattle.std.specs.Prelude.{⊤};
+
+use std::alloc::{AllocError, AllocFailed};
+
 /// The greatest time of a record or a watermark of an input. A time is a whole number without a unit of its own: what
 /// it counts (seconds, milliseconds) is up to whoever writes the input.
 pub const MAX_TIME: u64 = 1_000_000_000_000_000;
@@ -13,6 +17,22 @@ pub const END_MARK: u64 = 2_000_000_000_000_000;
 /// There was not enough memory.
 #[derive(Clone, Copy, Debug, PartialEq, Eq)]
 pub struct NoMemory;
+
+impl From<AllocError> for NoMemory {
+    ghost from_gives = { λ _ _. ⊤ };
+
+    fn from(_: AllocError) -> NoMemory {
+        NoMemory
+    }
+}
+
+impl<T: Drop> From<AllocFailed<T>> for NoMemory {
+    ghost from_gives = { λ _ _. ⊤ };
+
+    fn from(_: AllocFailed<T>) -> NoMemory {
+        NoMemory
+    }
+}
 
 /// An event: when it happened, what it is about, and a number. Records are ordered by time, then key, then value.
 #[derive(Clone, Copy, Debug, PartialEq, Eq, PartialOrd, Ord)]
