@@ -7,3 +7,4 @@ pub mod Progress
 pub mod Intake
 pub mod Inputs
 pub mod Rows
+pub mod Laws

@@ -2,11 +2,12 @@
 //!
 //! An input is a list of lines. A line gives an [`Item`]: a record of a stream, a watermark of a stream, or nothing.
 //! [`read_line`] reads one line, [`Intake`] tests the lines of an input in their order, and [`row_bytes`] prints a row.
-//! Nothing in this crate allocates memory.
+//! [`laws`] has the limits as numbers, and what every other crate rests on. Nothing in this crate allocates memory.
 #![tactic(auto)]
 
 mod intake;
 mod item;
+pub mod laws;
 mod line;
 mod number;
 mod row;
