@@ -1,12 +1,18 @@
--- The laws of windows and of aggregations.
-use Rattle.std.specs.Prelude.{◌≡◌, ℕ, ℤ, ◌+◌, ◌/◌, ◌%◌, ◌≤◌, ◌<◌, List, length, All}
+-- The laws of windows and of aggregations, and the limits of windows as numbers.
+use Rattle.std.specs.Prelude.{◌≡◌, ℕ, ℤ, ◌+◌, ◌/◌, ◌%◌, ◌^◌, ◌≤◌, ◌<◌, List, length, All}
 use Rattle.std.specs.List.Sorted.{IsStrictlyIncreasing}
 use Rattle.sb_record.specs.declared.item.Record.{Record}
 use Rattle.sb_record.specs.Records.{before}
+use Rattle.sb_window.specs.declared.windows.TheConstants.{MAX_SIZE, MAX_WINDOWS_OF_A_TIME}
 use Rattle.sb_window.specs.Spacing.{Spacing, AreWindows}
 use Rattle.sb_window.specs.Windows.{window_ends}
 use Rattle.sb_window.specs.Aggregations.{rows_by, sum_values}
 use Rattle.sb_window.specs.Reorderings.{IsReordered, IgnoresOrder}
+
+-- the greatest size of a window, and in how many windows a time may lie
+pub record Limits : Type 0 where
+  pub size : MAX_SIZE ≡ 10 ^ 12
+  pub windows_of_a_time : MAX_WINDOWS_OF_A_TIME ≡ 64
 
 -- the ends of the windows that a time lies in, and all of them
 pub record AreEndsOf (windows : Spacing) (t : ℕ) (ends : List ℕ) : Type 0 where
