@@ -1,12 +1,18 @@
--- The laws of every operation.
+-- The laws of every operation, and the limits of operations as numbers.
 use Rattle.std.specs.Prelude.{◌≡◌, ◌≤◌, List, ◌++◌, flat_map, length}
 use Rattle.std.specs.List.{AllByRecursion}
 use Rattle.sb_record.specs.declared.item.Record.{Record}
 use Rattle.sb_record.specs.declared.item.TheConstants.{MAX_KEY}
 use Rattle.sb_pardo.specs.declared.operation.TheConstants.{MAX_ADDENDS}
 use Rattle.sb_pardo.specs.declared.operation.Op.{Op}
+use Rattle.sb_pardo.specs.declared.table_file.TheConstants.{MAX_ROWS}
 use Rattle.sb_pardo.specs.Outputs.{most_outputs, outputs_of}
 use Rattle.sb_pardo.specs.Validity.{IsValid}
+
+-- the most rows of a table, and the most addends of an expansion
+pub record Limits : Type 0 where
+  pub rows : MAX_ROWS ≡ 100000
+  pub addends : MAX_ADDENDS ≡ 8
 
 -- for two lists, one after the other, it gives what it gives for the first, and then what it gives for the second
 abbrev pub OutputsOverAJoinedListAreJoined : Type 0

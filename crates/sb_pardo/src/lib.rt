@@ -7,7 +7,7 @@
 
 mod changes;
 mod filters;
-mod laws;
+pub mod laws;
 mod operation;
 mod outputs;
 mod table;
@@ -16,7 +16,6 @@ mod table_rows;
 #[cfg(test)]
 mod tests;
 
-pub use laws::{outputs_are_few, outputs_keep_the_time, outputs_over_a_joined_list_are_joined};
 pub use operation::{Change, Field, MAX_ADDENDS, Op, Test, is_valid};
 pub use outputs::apply;
 pub use table::Table;

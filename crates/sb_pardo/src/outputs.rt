@@ -45,12 +45,8 @@ fn make_room(records: usize, outputs: usize, into: &mut Vec<Record>) -> Result<(
     ensures ok { OnOk result (vec_len into.new + records * outputs ≤ vec_capacity into.new) }
     ensures full { OnErr result (vec_capacity into.old < vec_len into.old + records * outputs) }
 {
-    let Some(room) = records.checked_mul(outputs) else {
-        return Err(NoMemory);
-    };
-    if into.reserve(room).is_err() {
-        return Err(NoMemory);
-    }
+    let room = records.checked_mul(outputs).ok_or(NoMemory)?;
+    into.reserve(room)?;
     Ok(())
 }
 

@@ -50,10 +50,7 @@ impl Table {
         ensures new_key { OnErr result (map.get self.old key ≡ None) }
         ensures err { OnErr result (self.new ≡ self.old) }
     {
-        let Ok(before) = self.images.insert(key, image) else {
-            return Err(NoMemory);
-        };
-        Ok(before)
+        Ok(self.images.insert(key, image)?)
     }
 
     /// Whether each image is at most [`MAX_KEY`], as it is in every table.

@@ -113,9 +113,9 @@ fn refuses_what_a_plan_may_not_have(rt: HostRuntime) -> Result<(), Fail> {
     let changes = [
         Change::KeyMod(0),
         Change::KeyDiv(0),
-        Change::KeyMod(MAX_KEY + 1),
-        Change::KeyDiv(MAX_KEY + 1),
-        Change::KeySet(MAX_KEY + 1),
+        Change::KeyMod(1_000_000_000_000_000_001),
+        Change::KeyDiv(1_000_000_000_000_000_001),
+        Change::KeySet(1_000_000_000_000_000_001),
     ];
     for change in changes {
         assert!(rt; !is_valid(&Op::Map(change)), "{change:?}");
