@@ -88,7 +88,7 @@ fn pair_with_each(
     ensures succeeds { vec_len into.old + length right.now ≤ vec_capacity into.old → IsOk result }
 {
     for &y in right {
-        into.push(combine.combine(left, y)).map_err(|_| NoMemory)?;
+        into.push(combine.combine(left, y))?;
     }
     Ok(())
 }
