@@ -1,15 +1,21 @@
--- The laws of plans.
-use Rattle.std.specs.Prelude.{◌≡◌, ◌≤◌, ℕ, List, ◌++◌}
+-- The laws of plans, and their limit as a number.
+use Rattle.std.specs.Prelude.{◌≡◌, ◌≤◌, ℕ, List, ◌++◌, All}
 use Rattle.sb_record.specs.declared.item.Record.{Record}
 use Rattle.sb_record.specs.declared.item.Stream.{Stream}
 use Rattle.sb_record.specs.declared.item.Stream.TheVariants.{A}
+use Rattle.sb_record.specs.Lines.{IsInRange}
 use Rattle.sb_record.specs.Records.{before, sorted}
 use Rattle.sb_window.specs.declared.windows.TheConstants.{MAX_SIZE}
 use Rattle.sb_window.specs.Spacing.{fixed}
 use Rattle.sb_window.specs.Aggregations.{sum_rows}
+use Rattle.sb_pipeline.specs.declared.transform.TheConstants.{MAX_TRANSFORMS}
 use Rattle.sb_pipeline.specs.Plans.{IsPlan}
-use Rattle.sb_pipeline.specs.Results.{rows_below}
+use Rattle.sb_pipeline.specs.Results.{all_rows, output_of, rows_below}
 use Rattle.sb_pipeline.specs.Shapes.{Shape, sum_shape}
+
+-- the most transforms of a plan
+pub record Limits : Type 0 where
+  pub transforms : MAX_TRANSFORMS ≡ 12
 
 -- the plan of one sum is a plan
 abbrev pub SumPlanIsPlan : Type 0
@@ -23,3 +29,8 @@ SumPlanGivesSums = (size w : ℕ) (streams : Stream → List Record) → rows_be
 abbrev pub RowsOfEarlierWatermarksComeFirst : Type 0
 RowsOfEarlierWatermarksComeFirst =
     (v w : ℕ) (plan : Shape) (streams : Stream → List Record) → v ≤ w → (more : List Record) × (rows_below w plan streams ≡ rows_below v plan streams ++ more)
+
+-- no row of a plan over records that lines can give is too late: all rows are all that the plan gives, sorted
+abbrev pub AllRowsAreTheSortedOutput : Type 0
+AllRowsAreTheSortedOutput =
+    (plan : Shape) → IsPlan plan → (streams : Stream → List Record) → ((s : Stream) → All IsInRange (streams s)) → all_rows plan streams ≡ sorted (output_of plan streams)

@@ -130,7 +130,7 @@ pub fn sum_plan(alloc: Global, size: u64) -> Result<Plan, NoMemory>
         kind: Kind::Group(Agg::Sum, windows),
         down: Down { node: 1, lane: 0 },
     };
-    let steps = vec![in alloc; sum].map_err(|_| NoMemory)?;
+    let steps = vec![in alloc; sum]?;
     Ok(Plan {
         steps: Sequence::new(steps),
         source_a: Some(Down { node: 0, lane: 0 }),
