@@ -1,6 +1,6 @@
 //! How records flow through a plan, where each transform takes whole lists.
 
-ghost use Rattle.std.specs.Prelude.{◌≡◌, ◌≤◌, ◌<◌, ◌++◌, [], ◌∷◌, All, OnOk, IfOk};
+ghost use Rattle.std.specs.Prelude.{◌≡◌, ◌+◌, ◌≤◌, ◌<◌, ◌++◌, [], ◌∷◌, ℕ, All, length, take, vec_len, vec_capacity, IsOk, OnOk, OnErr, IfOk};
 ghost use Rattle.sb_record.specs.Streams as streams_spec;
 ghost use Rattle.sb_pipeline.specs.Elements.{on_lane};
 ghost use Rattle.sb_pipeline.specs.Flow as flow;
@@ -85,7 +85,7 @@ fn send_stream(
     let Some(down) = plan.source(stream) else {
         return Ok(());
     };
-    let records = records_of(alloc, stream, items).map_err(|_| NoMemory)?;
+    let records = records_of(alloc, stream, items)?;
     send(down, records, sent)
 }
 
@@ -94,7 +94,8 @@ fn send(down: Down, records: Vec<Record>, sent: &mut Vec<Sent>) -> Result<(), No
     ensures { OnOk result (sent.new.items ≡ sent.old.items ++ record { down = down; records = records.items } ∷ []) }
 {
     let records = Sequence::new(records);
-    sent.push(Sent { down, records }).map_err(|_| NoMemory)
+    sent.push(Sent { down, records })?;
+    Ok(())
 }
 
 /// What arrives at a node, of all that was sent.
@@ -110,18 +111,23 @@ fn arriving(alloc: Global, node: u32, sent: &[Sent]) -> Result<Vec<KeptRec>, NoM
     Ok(elements)
 }
 
-/// Appends the records, on a lane.
+/// Appends the records, on a lane. It takes no memory if there is room for all of them.
+///
+/// # Errors
+///
+/// [`NoMemory`] if there is no memory for one of them; those before it are appended.
 pub fn push_on_lane(
     lane: u32,
     records: &[Record],
     elements: &mut Vec<KeptRec>,
 ) -> Result<(), NoMemory>
-    ensures { OnOk result (elements.new.items ≡ elements.old.items ++ on_lane lane records.now) }
+    ensures ok { OnOk result (elements.new.items ≡ elements.old.items ++ on_lane lane records.now) }
+    ensures err { OnErr result ((count : ℕ) × (count < length records.now)
+        × (elements.new.items ≡ elements.old.items ++ on_lane lane (take count records.now))) }
+    ensures succeeds { vec_len elements.old + length records.now ≤ vec_capacity elements.old → IsOk result }
 {
     for record in records {
-        elements
-            .push(KeptRec { lane, rec: *record })
-            .map_err(|_| NoMemory)?;
+        elements.push(KeptRec { lane, rec: *record })?;
     }
     Ok(())
 }

@@ -52,7 +52,7 @@ pub fn all_records(alloc: Global, elements: &[KeptRec]) -> Result<Vec<Record>, N
 {
     let mut records = Vec::new(alloc);
     for element in elements {
-        records.push(element.rec).map_err(|_| NoMemory)?;
+        records.push(element.rec)?;
     }
     Ok(records)
 }
@@ -64,7 +64,7 @@ fn of_lane(alloc: Global, lane: u32, elements: &[KeptRec]) -> Result<Vec<Record>
     let mut records = Vec::new(alloc);
     for element in elements {
         if element.lane == lane {
-            records.push(element.rec).map_err(|_| NoMemory)?;
+            records.push(element.rec)?;
         }
     }
     Ok(records)
@@ -90,7 +90,7 @@ fn aggregates(
     requires { All (λ r. r.time < END_MARK) records.now }
     ensures { IfOk result (λ rows. rows.items ≡ aggregate_rows agg windows.now records.now) }
 {
-    let values = values_by_window(alloc, windows, records).map_err(|_| NoMemory)?;
+    let values = values_by_window(alloc, windows, records)?;
     aggregates_of(alloc, agg, values)
 }
 
@@ -124,8 +124,8 @@ fn pairs(
     requires right { All (λ r. r.time < END_MARK) right.now }
     ensures { IfOk result (λ rows. rows.items ≡ join_rows combine windows.now left.now right.now) }
 {
-    let left = values_by_window(alloc, windows, left).map_err(|_| NoMemory)?;
-    let right = values_by_window(alloc, windows, right).map_err(|_| NoMemory)?;
+    let left = values_by_window(alloc, windows, left)?;
+    let right = values_by_window(alloc, windows, right)?;
     pairs_of(alloc, combine, left, &right)
 }
 
@@ -172,8 +172,7 @@ fn push_rows(window: KeyedWindow, values: &[i64], rows: &mut Vec<Record>) -> Res
             time: window.end.saturating_sub(1),
             key: window.key,
             value: *value,
-        })
-        .map_err(|_| NoMemory)?;
+        })?;
     }
     Ok(())
 }

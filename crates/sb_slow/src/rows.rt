@@ -1,17 +1,23 @@
 //! Rows put in order, and cut off at a time.
 
-ghost use Rattle.std.specs.Prelude.{◌≡◌, OnOk};
+ghost use Rattle.std.specs.Prelude.{◌≡◌, OnOk, OnErr};
 ghost use Rattle.sb_record.specs.Records.{before, sorted};
 
 use sb_record::{NoMemory, Record};
 use std::alloc::AllocError;
 
 /// Keeps the rows with a time below the mark, and puts them in order.
+///
+/// # Errors
+///
+/// [`NoMemory`] if there is no memory for putting them in order; those below the mark are kept as they stood.
 pub fn sort_below(rows: &mut Vec<Record>, mark: u64) -> Result<(), NoMemory>
-    ensures { OnOk result (rows.new.items ≡ sorted (before mark rows.old.items)) }
+    ensures ok { OnOk result (rows.new.items ≡ sorted (before mark rows.old.items)) }
+    ensures err { OnErr result (rows.new.items ≡ before mark rows.old.items) }
 {
     keep_below(rows, mark);
-    sort_rows(rows).map_err(|_| NoMemory)
+    sort_rows(rows)?;
+    Ok(())
 }
 
 fn keep_below(rows: &mut Vec<Record>, mark: u64)
@@ -21,7 +27,8 @@ fn keep_below(rows: &mut Vec<Record>, mark: u64)
 }
 
 fn sort_rows(rows: &mut Vec<Record>) -> Result<(), AllocError>
-    ensures { OnOk result (rows.new.items ≡ sorted rows.old.items) }
+    ensures ok { OnOk result (rows.new.items ≡ sorted rows.old.items) }
+    ensures err { OnErr result (rows.new.items ≡ rows.old.items) }
 {
     rows.sort()?;
     Ok(())
