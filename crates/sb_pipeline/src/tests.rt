@@ -1,7 +1,7 @@
 //! Which shapes are plans, and what a plan says of itself.
 
-use crate::{Down, Kind, MAX_TRANSFORMS, Plan, Step, sum_plan};
-use sb_aggregate::{Agg, MAX_TOP};
+use crate::{Down, Kind, Plan, Step, sum_plan};
+use sb_aggregate::Agg;
 use sb_join::Combine;
 use sb_pardo::{Change, Field, Op, Test};
 use sb_record::{Stream, Streams};
@@ -67,12 +67,11 @@ fn chain(alloc: Global, transforms: u32) -> Result<Vec<Step>, AllocError> {
 #[test]
 fn plans_of_one_stream(rt: HostRuntime) -> Result<(), AllocError> {
     let alloc = rt.alloc();
-    let most = MAX_TRANSFORMS as u32;
     let cases = [
         ("one sum", chain(alloc, 1)?, source(0, 0), None, true),
         ("of stream b", chain(alloc, 1)?, None, source(0, 0), true),
-        ("the most", chain(alloc, most)?, source(0, 0), None, true),
-        ("13", chain(alloc, most + 1)?, source(0, 0), None, false),
+        ("the most", chain(alloc, 12)?, source(0, 0), None, true),
+        ("13", chain(alloc, 13)?, source(0, 0), None, false),
         ("none", Vec::new(alloc), source(0, 0), None, false),
         ("no stream", chain(alloc, 1)?, None, None, false),
         (
@@ -99,14 +98,14 @@ fn plans_of_one_stream(rt: HostRuntime) -> Result<(), AllocError> {
         ),
         (
             "top 16",
-            vec![in alloc; group(Agg::Top(MAX_TOP), 1, 0)]?,
+            vec![in alloc; group(Agg::Top(16), 1, 0)]?,
             source(0, 0),
             None,
             true,
         ),
         (
             "top 17",
-            vec![in alloc; group(Agg::Top(MAX_TOP + 1), 1, 0)]?,
+            vec![in alloc; group(Agg::Top(17), 1, 0)]?,
             source(0, 0),
             None,
             false,
