@@ -1,0 +1,27 @@
+# Prints each row with the text of its time and the word of its key. See the script `rows`, which sets the variables.
+
+BEGIN {
+  FS = ","
+  format = ENVIRON["format"]
+  dictionary = ENVIRON["dictionary"]
+  if (format == "") format = unit == 1000 ? "%FT%T.%fZ" : "%FT%TZ"
+}
+
+!/^[0-9]+,[0-9]+,-?[0-9]+$/ {
+  print "rows: line " NR " is no row: " $0 > "/dev/stderr"
+  stopped = 2
+  exit 2
+}
+
+{
+  time = $1 - size - offset
+  print (numbers ? sprintf("%.0f", time) : text_of(time, format)) "," in_quotes(word_of($2, dictionary)) "," $3
+}
+
+END { exit stopped }
+
+function in_quotes(word) {
+  if (word !~ /[,"]/) return word
+  gsub(/"/, "\"\"", word)
+  return "\"" word "\""
+}

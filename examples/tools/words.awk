@@ -1,0 +1,40 @@
+# A dictionary: a file of lines `number,word`. `records` writes it, and gives the line
+# of a word to the file before it prints a record with its number. So whoever meets a number finds its line there.
+
+# Reads the numbers of the words to `number_of`, and the greatest to `greatest_number`.
+function read_numbers(file,   line, comma, number) {
+  while ((getline line < file) > 0) {
+    comma = index(line, ",")
+    number = substr(line, 1, comma - 1)
+    number_of[substr(line, comma + 1)] = number
+    if (number + 0 > greatest_number) greatest_number = number + 0
+  }
+  close(file)
+}
+
+# The number of a word. A new word gets the next number, and the file its line.
+function number_by(word, file) {
+  if (!(word in number_of)) {
+    number_of[word] = sprintf("%.0f", ++greatest_number)
+    print number_of[word] "," word >> file
+    close(file)
+  }
+  return number_of[word]
+}
+
+# The word of a number, or the number itself. The file is read again if the number is new: another program may write to
+# it now, so the last line, which may not be whole yet, counts for this number alone.
+function word_of(number, file,   line, before) {
+  if (!(number in word_by) && file != "") {
+    before = ""
+    while ((getline line < file) > 0) { keep_word(before); before = line }
+    close(file)
+    if (index(before, number ",") == 1) keep_word(before)
+  }
+  return number in word_by ? word_by[number] : number
+}
+
+function keep_word(line,   comma) {
+  comma = index(line, ",")
+  if (comma > 1) word_by[substr(line, 1, comma - 1)] = substr(line, comma + 1)
+}
