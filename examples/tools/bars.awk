@@ -1,8 +1,12 @@
 # Draws a chart in the terminal: a line for each key.
 
-function draw(   widest, i, k, end, line, from, to) {
-  split("▁ ▂ ▃ ▄ ▅ ▆ ▇ █", bar, " ")
-  for (i = 1; i <= keys; i++) if (width_of(word_of(key[i], dictionary)) > widest) widest = width_of(word_of(key[i], dictionary))
+BEGIN { split("▁ ▂ ▃ ▄ ▅ ▆ ▇ █", bar, " ") }
+
+function draw(   widest, width, i, k, end, line, from, to) {
+  for (i = 1; i <= keys; i++) {
+    width = width_of(word_of(key[i], dictionary))
+    if (width > widest) widest = width
+  }
   for (i = 1; i <= keys; i++) {
     k = key[i]
     line = ""
@@ -16,10 +20,11 @@ function draw(   widest, i, k, end, line, from, to) {
 }
 
 # The bar of one row: of eight heights for values above the lowest, a dot for that, a blank for no row.
-function bar_of(end, k,   low, high) {
+function bar_of(end, k,   low, high, eighths) {
   if (!((end, k) in value)) return " "
   low = least[k] < 0 ? least[k] + 0 : 0
   high = greatest[k] > 0 ? greatest[k] + 0 : 0
   if (value[end, k] + 0 == low) return "."
-  return bar[int((value[end, k] - low) / (high - low) * 7.999) + 1]
+  eighths = (value[end, k] - low) * 8 / (high - low)
+  return bar[int(eighths) < eighths ? int(eighths) + 1 : int(eighths)]
 }

@@ -9,15 +9,15 @@ BEGIN {
 
 !/^[0-9]+,[0-9]+,-?[0-9]+$/ { stop("line " NR " is no row: " $0) }
 
+windows == 0 { first = last = $1 + 0; windows = 1; step = 0 }
+$1 + 0 != last { step = common_part(step, $1 - last); last = $1 + 0; windows++ }
+
 {
-  if (windows == 0 || $1 + 0 != last) step = windows == 0 ? 0 : common_part(step, $1 - last)
-  if (windows == 0 || $1 + 0 != last) windows++
-  if (windows == 1) first = $1 + 0
-  last = $1 + 0
   if (!($2 in greatest)) { key[++keys] = $2; greatest[$2] = least[$2] = $3 }
   if ($3 + 0 > greatest[$2] + 0) greatest[$2] = $3
   if ($3 + 0 < least[$2] + 0) least[$2] = $3
-  if (($1, $2) in value) stop("line " NR ": a second row of window " $1 " and key " $2 ": a chart has one, so top can't be drawn")
+  if (($1, $2) in value)
+    stop("line " NR ": a second row of window " $1 " and key " $2 ": a chart has one, so top can't be drawn")
   value[$1, $2] = $3
 }
 
@@ -26,7 +26,8 @@ END {
   if (!windows) { print "chart: there are no rows" > "/dev/stderr"; exit }
   if (step == 0) step = first
   slots = (last - first) / step + 1
-  if (slots > 400) stop("there are " sprintf("%.0f", slots) " windows from first to last: take greater ones, or a part of the rows")
+  if (slots > 400)
+    stop("there are " sprintf("%.0f", slots) " windows from first to last: take greater ones, or a part of the rows")
   if (format == "") format = format_for(step)
   draw()
 }

@@ -87,7 +87,8 @@ function line_at(x1, y1, x2, y2, stroke) {
 function y_of(number) { return over + (top_value - number) / (top_value - bottom_value) * high_plot }
 
 function print_head(   y) {
-  printf "<svg xmlns=\"http://www.w3.org/2000/svg\" width=\"%.0f\" height=\"%.0f\" viewBox=\"0 0 %.0f %.0f\"", width, height, width, height
+  print "<svg xmlns=\"http://www.w3.org/2000/svg\""
+  printf " width=\"%.0f\" height=\"%.0f\" viewBox=\"0 0 %.0f %.0f\"\n", width, height, width, height
   print " font-family=\"DejaVu Sans, Verdana, sans-serif\" font-size=\"12\">"
   print "<rect width=\"100%\" height=\"100%\" fill=\"white\"/>"
   text_at(left + wide / 2, 30, "middle", ENVIRON["title"], " font-size=\"16\"")
@@ -117,20 +118,25 @@ function print_times(   i, x, time, apart) {
   if (bottom_value < 0) line_at(left, y_of(0), left + wide, y_of(0), "black")
 }
 
-function print_bars(drawn,   i, end, slot, thick, y, low) {
-  thick = wide / slots * 0.9 / drawn
+function print_bars(drawn,   i, slot, end) {
   for (i = 1; i <= drawn; i++) {
     print "<g fill=\"" colour[i] "\">"
     for (slot = 0; slot < slots; slot++) {
       end = sprintf("%.0f", first + slot * step)
-      if (!((end, key[i]) in value)) continue
-      y = y_of(value[end, key[i]] > 0 ? value[end, key[i]] : 0)
-      low = y_of(value[end, key[i]] < 0 ? value[end, key[i]] : 0)
-      printf "<rect x=\"%.2f\" y=\"%.2f\" width=\"%.2f\" height=\"%.2f\">", left + (slot + 0.05) * wide / slots + (i - 1) * thick, y, thick, low - y
-      print "<title>" escaped(word_of(key[i], dictionary) ", " time_text(end - step) ": " value[end, key[i]]) "</title></rect>"
+      if ((end, key[i]) in value) print_bar(i, drawn, slot, end, value[end, key[i]])
     }
     print "</g>"
   }
+}
+
+# The bar of one row, from 0 to its value. A browser shows its words while the pointer is on it.
+function print_bar(i, drawn, slot, end, of_value,   thick, x, y) {
+  thick = wide / slots * 0.9 / drawn
+  x = left + (slot + 0.05) * wide / slots + (i - 1) * thick
+  y = y_of(of_value > 0 ? of_value : 0)
+  printf "<rect x=\"%.2f\" y=\"%.2f\" width=\"%.2f\"", x, y, thick
+  printf " height=\"%.2f\">", y_of(of_value < 0 ? of_value : 0) - y
+  print "<title>" escaped(word_of(key[i], dictionary) ", " time_text(end - step) ": " of_value) "</title></rect>"
 }
 
 function print_legend(drawn,   i, y) {

@@ -8,7 +8,8 @@ BEGIN {
 
 # What is wrong with the file rather than with one line, and with the length.
 function problem_of_bytes() {
-  if (NR == 1 && /^(\037\213|BZh|\3757zXZ|[(]\265\057\375|PK\003\004)/) return "the input is compressed: unpack it first, as by zcat"
+  if (NR == 1 && /^(\037\213|BZh|\3757zXZ|[(]\265\057\375|PK\003\004)/)
+    return "the input is compressed: unpack it first, as by zcat"
   if (NR == 1 && /^(\377\376|\376\377)/) return "the input is UTF-16: iconv -f UTF-16 -t UTF-8 first"
   if (NR == 1 && /^\357\273\277/) return "a byte order mark stands before it: sed '1s/^\\xEF\\xBB\\xBF//' takes it off"
   if (!/^#/ && /\r[rw#]/) return "its lines end by CR alone: tr '\\r' '\\n' makes lines of it"
@@ -68,7 +69,7 @@ function problem_of_value(text,   digits) {
 
 function problem_of_stream(stream) {
   if (index(streams, stream) && note !~ /stream not in the plan/) return ""
-  return "the plan does not read stream " stream " (sum reads stream a alone): grep -v '^[rw]," stream ",' leaves it out"
+  return "the plan does not read stream " stream " (sum reads stream a): grep -v '^[rw]," stream ",' leaves it out"
 }
 
 function problem_of_order(kind, stream, time,   known) {

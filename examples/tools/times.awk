@@ -1,5 +1,5 @@
-# Times: text to whole numbers, and back. A time counts seconds since 1970-01-01T00:00:00Z, or milliseconds if `unit` is
-# 1000. Days are those of the Gregorian calendar. No awk function for times is used, since not every awk has them.
+# Times: text to whole numbers, and back. A time counts seconds since 1970-01-01T00:00:00Z, or milliseconds if `unit`
+# is 1000. Days are those of the Gregorian calendar. No awk function for times is used, since not every awk has them.
 
 BEGIN {
   if (unit == "") unit = 1
@@ -17,7 +17,8 @@ function remainder(number, by,   rest) {
 # Days from 1970-01-01 to a date. A year begins in March here, so that a leap day is its last.
 function days_to(year, month, day) {
   if (month <= 2) { year--; month += 12 }
-  return 365 * year + int(year / 4) - int(year / 100) + int(year / 400) + int((153 * (month - 3) + 2) / 5) + day - 719469
+  day += 365 * year + int(year / 4) - int(year / 100) + int(year / 400)
+  return day + int((153 * (month - 3) + 2) / 5) - 719469
 }
 
 # Sets year, month and day of the date so many days after 1970-01-01.
@@ -112,8 +113,9 @@ function take_zone(   sign) {
 function iso_format(text,   format) {
   format = "%F"
   if (length(text) > 10) format = format (substr(text, 11, 1) == " " ? " " : "T") "%H:%M"
-  if (substr(text, 17, 1) == ":") format = format ":%S"
-  if (match(substr(text, 17), / ?(Z|[-+][0-9:]+)$/)) format = format (substr(text, 16 + RSTART, 1) == " " ? " " : "") "%z"
+  if (text ~ /:[0-9][0-9]:/) format = format ":%S"
+  if (match(substr(text, 12), / ?(Z|[-+][0-9:]+)$/))
+    format = format (substr(text, 11 + RSTART, 1) == " " ? " " : "") "%z"
   return format
 }
 

@@ -1,0 +1,584 @@
+#!/usr/bin/env bash
+# Tries the tools on small texts, with each awk that is installed. What they have to print was worked out by hand, and
+# dates are compared with those of date(1). The lines of a case after --- are what it prints, and then what it says on
+# standard error.
+# shellcheck disable=SC2016,SC2059 # Backquotes are words of `why`, and `tells` takes its lines as printf has them.
+set -euo pipefail
+PATH=$(cd "$(dirname "$0")" && pwd):$PATH
+scratch=$(mktemp -d)
+trap 'rm -rf "$scratch"' EXIT
+cd "$scratch"
+cases=0
+
+# try STATUS COMMAND: runs the command on the lines before ---.
+try() {
+  local wanted=$1 status=0 text input output said
+  shift
+  text=$(cat; echo .)
+  input=${text%%$'---\n'*}
+  output=${text#*$'---\n'}
+  said=$(printf %s "$input" | "$@" 2> errors || status=$?; cat errors; echo "$status.")
+  status=${said##*$'\n'} said=${said%"${said##*$'\n'}"}
+  if [ "$status" != "$wanted." ] || [ "$said" != "${output%.}" ]; then
+    printf '%s, by %s, on\n%sprints, with exit code %s\n%sand not, with %s\n%s' \
+      "$*" "$AWK" "$input" "${status%.}" "$said" "$wanted" "${output%.}"
+    exit 1
+  fi
+  cases=$((cases + 1))
+}
+
+# tells TEXT LINE..: `why` says this of the last of these lines, which are as printf has them.
+tells() {
+  local what=$1 status=0 said
+  shift
+  said=$(printf "$(printf '%s\\n' "$@")" | why | sed -n 1p; exit "${PIPESTATUS[1]}") || status=$?
+  if [ "$status" != 3 ] || [ "$said" != "line $#: $what" ]; then
+    printf 'why, by %s, says of\n' "$AWK"
+    printf '%s\n' "$@"
+    printf '%s\nand not\nline %s: %s\n' "$said" $# "$what"
+    exit 1
+  fi
+  cases=$((cases + 1))
+}
+
+check_columns() {
+  try 0 records -t 1 -k 2 -v 3 <<'CASE'
+3,1,5
+1000000000000000,1000000000000000000,-9223372036854775808
+---
+r,a,3,1,5
+r,a,1000000000000000,1000000000000000000,-9223372036854775808
+CASE
+  try 0 records -t 1 <<'CASE'
+3,x
+
+4,y
+---
+r,a,3,0,1
+r,a,4,0,1
+CASE
+  try 0 records -H -t when -v bytes -k 1 -s b <<'CASE'
+host,bytes,when
+7,100,30
+---
+r,b,30,7,100
+CASE
+  for separator in '|' . '*' '^' '[' ';' ' '; do
+    try 0 records -F "$separator" -t 2 -k 1 -v =-4 <<CASE
+7${separator}30
+---
+r,a,30,7,-4
+CASE
+  done
+  try 0 records -F ' *; *' -t 2 -k 1 <<'CASE'
+7 ;  30
+---
+r,a,30,7,1
+CASE
+  try 0 records -F '\t' -t 2 -k 1 <<CASE
+7$(printf '\t')30
+---
+r,a,30,7,1
+CASE
+  try 0 records -q -t 2 -k 1 -v 3 -d quoted <<'CASE'
+"Screws, 4 mm",1,"5"
+"a ""b""",2,6
+plain,3,7
+"",4,8
+---
+r,a,1,1,5
+r,a,2,2,6
+r,a,3,3,7
+r,a,4,4,8
+CASE
+  try 0 cat quoted <<'CASE'
+---
+1,Screws, 4 mm
+2,a "b"
+3,plain
+4,
+CASE
+  # A byte order mark and CR LF.
+  try 0 records -H -t time -v n <<CASE
+$(printf '\357\273\277time,n\r\n5,6\r')
+---
+r,a,5,0,6
+CASE
+}
+
+check_words() {
+  rm -f words
+  try 0 records -F ' ' -t 1 -k 2,3 -d words <<'CASE'
+1 web one
+2 web two
+3 web one
+---
+r,a,1,1,1
+r,a,2,2,1
+r,a,3,1,1
+CASE
+  # A second stream shares the dictionary.
+  try 0 records -F ' ' -s b -t 1 -k 2,3 -d words <<'CASE'
+1 web two
+2 mail 7
+---
+r,b,1,2,1
+r,b,2,3,1
+CASE
+  try 0 rows -n -d words <<'CASE'
+10,3,-5
+10,2,9223372036854775807
+10,9,0
+---
+10,mail 7,-5
+10,web two,9223372036854775807
+10,9,0
+CASE
+  # Numbers of one's own, and words that have to stand in quotes.
+  printf '101,a,b\n7,"c"\n' > words
+  try 0 rows -n -d words <<'CASE'
+5,7,1
+5,101,1
+---
+5,"""c""",1
+5,"a,b",1
+CASE
+  try 0 records -t 1 -k 2 -d words <<'CASE'
+1,new
+---
+r,a,1,102,1
+CASE
+  # The dictionary is written after `rows` has begun, and before the row that needs it.
+  rm words
+  try 0 bash -c 'while read -r row; do echo "${row%% *}" >> words; echo "${row#* }"; done | rows -n -d words' <<'CASE'
+1,one 10,1,5
+2,two 20,2,6
+---
+10,one,5
+20,two,6
+CASE
+  # A last line that is not whole yet counts for no other number.
+  printf '1,one\n2,tw' > words
+  try 0 rows -n -d words <<'CASE'
+10,1,5
+---
+10,one,5
+CASE
+}
+
+check_times() {
+  # Of each: date -u -d TEXT +%s.
+  try 0 records -F ';' -t 1 <<'CASE'
+1970-01-01
+2026-11-27T09:30:01
+2026-11-27 09:30:01
+2026-11-27T09:30
+2026-11-27T09:30:01.999Z
+2026-11-27T09:30:01,5Z
+2026-11-27 09:30:01+01:00
+2026-11-27 09:30:01 -0530
+2026-11-27 9:30:01-05:30
+2026-11-27T00:30+01
+2024-02-29
+2000-02-29T23:59:59Z
+2100-03-01
+9999-12-31T23:59:59Z
+1795771801
+---
+r,a,0,0,1
+r,a,1795771801,0,1
+r,a,1795771801,0,1
+r,a,1795771800,0,1
+r,a,1795771801,0,1
+r,a,1795771801,0,1
+r,a,1795768201,0,1
+r,a,1795791601,0,1
+r,a,1795791601,0,1
+r,a,1795735800,0,1
+r,a,1709164800,0,1
+r,a,951868799,0,1
+r,a,4107542400,0,1
+r,a,253402300799,0,1
+r,a,1795771801,0,1
+CASE
+  try 0 records -m -F ';' -t 1 <<'CASE'
+2026-11-27T09:30:01.250Z
+2026-11-27T09:30:01.9999Z
+2026-11-27T09:30:01.5
+2026-11-27T09:30:01
+1795771801250
+---
+r,a,1795771801250,0,1
+r,a,1795771801999,0,1
+r,a,1795771801500,0,1
+r,a,1795771801000,0,1
+r,a,1795771801250,0,1
+CASE
+  try 0 records -F ' ' -t 4,5 -f '[%d/%b/%Y:%H:%M:%S %z]' <<'CASE'
+10.0.0.1 - - [27/Nov/2026:09:30:01 +0100] "GET /"
+---
+r,a,1795768201,0,1
+CASE
+  try 0 records -m -t 1 -f %s <<'CASE'
+1795771801.25
+1795771801
+---
+r,a,1795771801250,0,1
+r,a,1795771801000,0,1
+CASE
+  try 0 records -t 1 -f '%m/%e/%Y %T' -o -1 <<'CASE'
+11/27/2026 9:30:01
+11/ 7/2026 09:30:01
+---
+r,a,1795771800,0,1
+r,a,1794043800,0,1
+CASE
+  for text in 2026-02-29 2026-13-01 2026-00-10 2026-04-31 2100-02-29 2026-11-27T24:00 2026-11-27T09:60 \
+    2026-11-27T09:30:1 1.5 -5 2026-11-27x 2026-11-27T09:30:01.Z 1969-12-31 x; do
+    try 2 records -t 1 <<CASE
+$text
+---
+records: line 1: no time: "$text"; -f says how it is written
+records: line 1: no time: "$text"; -f says how it is written
+CASE
+  done
+  try 0 rows -w 3600 <<'CASE'
+1795773600,1,5
+---
+2026-11-27T09:00:00Z,1,5
+CASE
+  try 0 rows -m -w 1000 <<'CASE'
+1795771802250,1,5
+---
+2026-11-27T09:30:01.250Z,1,5
+CASE
+  try 0 rows -f '%a %e %b %Y %H:%M:%S.%f %s %%' -o 60 <<'CASE'
+1795771861,1,5
+60,1,5
+0,1,5
+---
+Fri 27 Nov 2026 09:30:01.000 1795771801 %,1,5
+Thu  1 Jan 1970 00:00:00.000 0 %,1,5
+Wed 31 Dec 1969 23:59:00.000 -60 %,1,5
+CASE
+  try 0 rows -n -w 10 <<'CASE'
+1000000000000000,1,5
+---
+999999999999990,1,5
+CASE
+  if date -u -d @0 -f /dev/null 2> /dev/null || date -u -d @0 +%s > /dev/null 2>&1; then compare_dates; fi
+}
+
+# Compares 5,000 moments of the years 1970 to 9999 with date(1).
+compare_dates() {
+  awk 'BEGIN { for (i = 0; i < 5000; i++) printf "%.0f\n", i * 50680459 }' > moments
+  sed 's/^/@/' moments | date -u -f - +%FT%TZ > dates
+  sed 's/$/,1,0/' moments | rows | sed 's/,1,0$//' | cmp - dates
+  records -t 1 < dates | awk -F , '{ print $3 }' | cmp - moments
+  cases=$((cases + 2))
+}
+
+check_watermarks() {
+  try 0 records -t 1 -k 2 -L 5 <<'CASE'
+10,1
+30,1
+5,1
+24,1
+25,1
+28,1
+31,1
+1795771801250,1
+---
+r,a,10,1,1
+w,a,5
+r,a,30,1,1
+w,a,25
+r,a,25,1,1
+r,a,28,1,1
+r,a,31,1,1
+w,a,26
+r,a,1795771801250,1,1
+w,a,1795771801245
+records: 2 late lines were left out
+CASE
+  try 2 records -t 1 -s b -l 0 <<'CASE'
+10
+10
+9
+11
+---
+r,b,10,0,1
+w,b,10
+r,b,10,0,1
+records: line 3: its time 9 is below the watermark 10: take a greater delay, or -L
+records: line 3: its time 9 is below the watermark 10: take a greater delay, or -L
+CASE
+  try 0 records -t 1 -l 60 <<'CASE'
+59
+61
+---
+r,a,59,0,1
+r,a,61,0,1
+w,a,1
+CASE
+}
+
+# What gives no record: once as an error, on both outputs, and once left out.
+check_bad_lines() {
+  local text what
+  while IFS='#' read -r text what; do
+    try 2 records -t 1 -k 2 -v 3 <<CASE
+1,1,1
+$text
+2,2,2
+---
+r,a,1,1,1
+records: line 2: $what
+records: line 2: $what
+CASE
+    try 0 records -i -t 1 -k 2 -v 3 <<CASE
+1,1,1
+$text
+2,2,2
+---
+r,a,1,1,1
+r,a,2,2,2
+records: 1 lines that give no record were left out
+CASE
+  done <<'BAD'
+2,2#it has no column 3
+x,2,2#no time: "x"; -f says how it is written
+1000000000000001,2,2#its time is above 10^15: 1000000000000001
+2,web,2#no key: "web" is no whole number from 0 to 10^18; -d numbers words
+2,1000000000000000001,2#no key: "1000000000000000001" is no whole number from 0 to 10^18; -d numbers words
+2,07,2#no key: "07" is no whole number from 0 to 10^18; -d numbers words
+2,2,5.5#no value: "5.5" is no whole number of 64 bits
+2,2,9223372036854775808#no value: "9223372036854775808" is no whole number of 64 bits
+2,2,-9223372036854775809#no value: "-9223372036854775809" is no whole number of 64 bits
+2,2,+5#no value: "+5" is no whole number of 64 bits
+2,2,-0#no value: "-0" is no whole number of 64 bits
+BAD
+  try 2 records -t 1 -f %Y <<'CASE'
+2026
+---
+records: line 1: no time: "2026", by %Y
+records: line 1: no time: "2026", by %Y
+CASE
+  try 2 records -H -t when <<'CASE'
+time
+5
+---
+records: no column is named when
+records: no column is named when
+CASE
+  try 2 records -t when <<'CASE'
+5
+---
+records: no column is named when: -H says that the first line has the names
+records: no column is named when: -H says that the first line has the names
+CASE
+  try 2 rows <<'CASE'
+10,1,7
+line 3: malformed
+---
+1970-01-01T00:00:10Z,1,7
+rows: line 2 is no row: line 3: malformed
+CASE
+}
+
+check_why() {
+  # The lines that the program calls malformed.
+  tells 'its key has a blank beside it: leave it out' 'r,a,3, 1,5'
+  tells 'a blank stands before it: leave it out' ' r,a,3,1,5'
+  tells 'tabs stand between its fields: commas have to' 'r\ta\t3\t1\t5'
+  tells '";" stands between its fields: a comma has to' 'r;a;3;1;5'
+  tells 'its fields stand in quotes: leave those out' '"r","a","3","1","5"'
+  tells 'its time stands in quotes: leave those out' 'r,a,"3",1,5'
+  tells 'it looks like the names of columns: leave it out' 'stream,time,key,value'
+  tells 'it begins with none of r, w and #: `records` makes records of the lines of a log' '2026-11-27,web1,5'
+  tells 'its key is "web1" and no whole number: `records -d` gives numbers to words' 'r,a,3,web1,5'
+  tells 'its time is a date: `records -t` makes a number of it' 'r,a,2026-11-27T09:30:01,1,5'
+  tells 'its value has a fraction: count in smaller units, as 55 tenths for 5.5' 'r,a,3,1,5.5'
+  local fine='its time is above 10^15: of times since 1970, seconds and milliseconds fit, and nothing finer'
+  tells "$fine" 'r,a,1795771801000000,1,5'
+  tells "$fine" 'r,a,1795771801000000000,1,5'
+  local wide='its value is not in 64 bits: it is -9223372036854775808 to 9223372036854775807'
+  tells "$wide" 'r,a,3,1,9223372036854775808'
+  tells "$wide" 'r,a,3,1,-9223372036854775809'
+  tells 'its key is above 1000000000000000000' 'r,a,3,1000000000000000001,5'
+  tells 'its time is negative: it is 0 to 1000000000000000' 'r,a,-3,1,5'
+  tells 'a record has 5 fields, r,STREAM,TIME,KEY,VALUE: this has 4' 'r,a,3,1'
+  tells 'a record has 5 fields, r,STREAM,TIME,KEY,VALUE: this has 6' 'r,a,3,1,5,6'
+  tells 'a watermark has 3 fields, w,STREAM,TIME: this has 2' 'w,a'
+  tells 'it begins with a capital letter: write r' 'R,a,3,1,5'
+  tells 'its stream is "c": a stream is a or b' 'r,c,3,1,5'
+  tells 'it is empty: leave it out, as by grep .' 'r,a,3,1,5' ''
+  tells "a byte order mark stands before it: sed '1s/^\\xEF\\xBB\\xBF//' takes it off" '\357\273\277r,a,3,1,5'
+  tells "its lines end by CR alone: tr '\\r' '\\n' makes lines of it" 'r,a,3,1,5\rr,a,4,1,5\r'
+  tells 'the input is compressed: unpack it first, as by zcat' '\037\213\010'
+  tells 'the input is UTF-16: iconv -f UTF-16 -t UTF-8 first' '\377\376r'
+  tells 'its value has a plus sign: leave it out' 'r,a,3,1,+5'
+  tells 'its value is -0: write 0' 'r,a,3,1,-0'
+  tells 'its value has a leading zero: leave it out' 'r,a,3,1,-05'
+  tells 'its key has a leading zero: leave it out' 'r,a,3,01,5'
+  tells 'its value is empty: it is a whole number' 'r,a,3,1,'
+  tells 'its value is "1e3" and no whole number' 'r,a,3,1,1e3'
+  tells 'its value has a blank beside it: leave it out' 'r,a,3,1,5 '
+  tells 'a carriage return stands in it: lines end by LF or CR LF' 'r,a,3,1,5\r\r'
+  tells 'here `records` stopped: mend what it says' 'r,a,3,1,5' 'records: line 2: no time'
+  # Those that it refuses by other words.
+  tells 'it has 129 bytes: a line, a comment too, has at most 128' "#$(printf '%128s' '')"
+  local advice='take a greater delay (`records -l`), or no watermarks'
+  tells "this record is late: its time 9 is below the watermark 10 of line 2: $advice" \
+    'w,b,20' 'w,a,10' 'r,a,10,1,1' 'r,a,9,1,1'
+  tells 'this watermark goes back: its time 9 is below the watermark 10 of line 1: leave it out' 'w,a,10\r' 'w,a,9'
+  try 3 why -s a <<'CASE'
+r,b,3,1,5
+---
+line 1: the plan does not read stream b (sum reads stream a): grep -v '^[rw],b,' leaves it out
+  | r,b,3,1,5
+CASE
+  try 0 why <<CASE
+#$(printf '%127s' '')
+r,b,1000000000000000,1000000000000000000,-9223372036854775808
+r,a,0,0,0$(printf '\r')
+w,a,7
+w,a,7
+r,a,7,1,9223372036854775807
+---
+nothing is wrong with its lines
+CASE
+}
+
+check_notes() {
+  echo 'line 2: late record, time 1, watermark 2' > note
+  try 3 why -n note <<'CASE'
+w,a,2
+r,a,1,1,1
+---
+line 2: this record is late: its time 1 is below the watermark 2 of line 1: take a greater delay (`records -l`), or no watermarks
+  | r,a,1,1,1
+CASE
+  try 2 why -n note <<'CASE'
+r,a,1,1,1
+---
+line 2: nothing is wrong with it here: is this the input of the note, and are these its streams (-s)?
+CASE
+  echo 'line 1: stream not in the plan' > note
+  try 3 why -n note <<'CASE'
+r,b,1,1,1
+---
+line 1: the plan does not read stream b (sum reads stream a): grep -v '^[rw],b,' leaves it out
+  | r,b,1,1,1
+CASE
+  local line what
+  while IFS='#' read -r line what; do
+    echo "$line" > note
+    try 2 why -n note <<CASE
+---
+$what
+CASE
+  done <<'NOTES'
+words not understood#the words are sum SIZE, run PLAN or slow PLAN; the input comes by <
+file failed#the plan or a table can't be read: tables are looked for in the folder where you stand
+input failed#the input can't be read: is it a folder?
+output failed#the rows can't be written: the disk is full, or who reads them has ended, as head does
+out of memory#there was no memory for so many lines: take a part of them
+plan: unknown field#each transform of a plan begins with [[transform]], and nothing else stands at its top
+plan: transform 1: every: out of range#docs/PLANS.md has this note under "What can be wrong"
+NOTES
+}
+
+check_chart() {
+  printf '1,w\303\251b\n2,mail & <co>\n' > words
+  try 0 chart -d words <<'CASE'
+1795773600,1,8
+1795773600,2,-4
+1795777200,1,1
+1795777200,2,4
+1795784400,1,0
+1795788000,1,4
+1795788000,2,3
+---
+wéb          █▁ .▄  8
+mail & <co>  .█  ▇  -4 to 4
+             09:00    14:00
+CASE
+  try 2 chart <<'CASE'
+10,1,5
+10,1,4
+---
+chart: line 2: a second row of window 10 and key 1: a chart has one, so top can't be drawn
+CASE
+  try 2 chart <<'CASE'
+10,1,5
+11,1,5
+411,1,5
+---
+chart: there are 402 windows from first to last: take greater ones, or a part of the rows
+CASE
+  try 0 chart <<'CASE'
+---
+chart: there are no rows
+CASE
+  # The picture has a bar for each row, with what it stands for, and each text once.
+  printf '1795773600,1,8\n1795773600,2,-4\n1795777200,1,1\n' |
+    chart -s -d words -t 'Hits & <misses>' -y hits > picture.svg
+  try 0 grep -o '<title>.*</title>' picture.svg <<'CASE'
+---
+<title>wéb, 09:00: 8</title>
+<title>wéb, 10:00: 1</title>
+<title>mail &amp; &lt;co&gt;, 09:00: -4</title>
+CASE
+  try 0 sed -n 's/^<text.*>\(.*\)<.text>$/\1/p' picture.svg <<'CASE'
+---
+Hits &amp; &lt;misses&gt;
+time (UTC)
+hits
+-4
+-2
+0
+2
+4
+6
+8
+09:00
+10:00
+11:00
+wéb
+mail &amp; &lt;co&gt;
+CASE
+}
+
+check_usage() {
+  local tool
+  for tool in records rows why chart; do
+    "$tool" -h > usage
+    grep -q "^  .*$tool " usage
+    if "$tool" -Z > said 2>&1 < /dev/null; then exit 1; fi
+    tail -n +2 said | cmp - usage
+    if "$tool" file > said 2>&1 < /dev/null; then exit 1; fi
+    cases=$((cases + 3))
+  done
+}
+
+awks=(mawk gawk 'busybox awk' original-awk)
+for AWK in "${awks[@]}" awk; do
+  export AWK
+  $AWK 'BEGIN { exit 0 }' > /dev/null 2>&1 < /dev/null || { echo "tools: $AWK is not installed"; continue; }
+  # The one that is called awk is mostly one of the others.
+  [ "$AWK" != awk ] || [ "$cases" = 0 ] || continue
+  rm -f ./*
+  before=$cases
+  check_columns
+  check_words
+  check_times
+  check_watermarks
+  check_bad_lines
+  check_why
+  check_notes
+  check_chart
+  check_usage
+  echo "tools: $((cases - before)) cases by $AWK as expected"
+done
+[ "$cases" -gt 0 ] || { echo "tools: no awk"; exit 1; }
