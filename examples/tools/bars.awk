@@ -11,12 +11,16 @@ function draw(   widest, width, i, k, end, line, from, to) {
     k = key[i]
     line = ""
     for (end = first; end <= last; end += step) line = line bar_of(sprintf("%.0f", end), k)
-    print padded(word_of(k, dictionary), -widest) "  " line "  " (least[k] < 0 ? least[k] " to " : "") greatest[k]
+    print padded(word_of(k, dictionary), -widest) "  " line "  " scale_of(k)
   }
   from = time_text(first - step)
   to = time_text(last)
   line = padded("", widest + 2) from
   print line padded(to, slots > width_of(from) + width_of(to) ? slots - width_of(from) : width_of(to) + 4)
+}
+
+function scale_of(k) {
+  return (least[k] < 0 ? least[k] " to " : "") (greatest[k] > 0 ? greatest[k] : 0)
 }
 
 # The bar of one row: of eight heights for values above the lowest, a dot for that, a blank for no row.

@@ -4,13 +4,15 @@ BEGIN {
   FS = ","
   format = ENVIRON["format"]
   dictionary = ENVIRON["dictionary"]
-  keys = windows = 0
+  keys = step = 0
 }
 
 !/^[0-9]+,[0-9]+,-?[0-9]+$/ { stop("line " NR " is no row: " $0) }
 
-windows == 0 { first = last = $1 + 0; windows = 1; step = 0 }
-$1 + 0 != last { step = common_part(step, $1 - last); last = $1 + 0; windows++ }
+NR == 1 { first = last = some_end = $1 + 0 }
+$1 + 0 < first { first = $1 + 0 }
+$1 + 0 > last { last = $1 + 0 }
+{ step = common_part(step, $1 < some_end ? some_end - $1 : $1 - some_end) }
 
 {
   if (!($2 in greatest)) { key[++keys] = $2; greatest[$2] = least[$2] = $3 }
@@ -23,7 +25,7 @@ $1 + 0 != last { step = common_part(step, $1 - last); last = $1 + 0; windows++ }
 
 END {
   if (stopped) exit stopped
-  if (!windows) { print "chart: there are no rows" > "/dev/stderr"; exit }
+  if (!keys) { say("chart: there are no rows"); exit }
   if (step == 0) step = first
   slots = (last - first) / step + 1
   if (slots > 400)
@@ -33,7 +35,7 @@ END {
 }
 
 function stop(message) {
-  print "chart: " message > "/dev/stderr"
+  say("chart: " message)
   stopped = 2
   exit 2
 }

@@ -35,14 +35,14 @@ names && !are_found { for (i = 1; i <= columns; i++) place_of[column[i]] = i; fi
 }
 
 END {
-  if (bad) print "records: " bad " lines that give no record were left out" > "/dev/stderr"
-  if (late) print "records: " late " late lines were left out" > "/dev/stderr"
+  if (bad) say("records: " bad " lines that give no record were left out")
+  if (late) say("records: " late " late lines were left out")
   exit stopped
 }
 
 # Says what is wrong, to the reader and to the program, which refuses such a line.
 function stop(message) {
-  print message > "/dev/stderr"
+  say(message)
   print message
   stopped = 2
   exit 2

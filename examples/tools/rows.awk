@@ -8,7 +8,7 @@ BEGIN {
 }
 
 !/^[0-9]+,[0-9]+,-?[0-9]+$/ {
-  print "rows: line " NR " is no row: " $0 > "/dev/stderr"
+  say("rows: line " NR " is no row: " $0)
   stopped = 2
   exit 2
 }

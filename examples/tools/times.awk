@@ -76,9 +76,15 @@ function take(letter) {
 # Takes at least `least` and at most `most` digits, whose number is at most `bound`, to `taken`.
 function take_digits(least, most, bound,   n) {
   for (n = 0; n < most && substr(rest, n + 1, 1) ~ /[0-9]/; n++) ;
-  taken = substr(rest, 1, n) + 0
+  taken = plain_number(substr(rest, 1, n))
   rest = substr(rest, n + 1)
   return n >= least && taken <= bound
+}
+
+# The number of digits. Some awks read 010 as 8, so leading zeros go first.
+function plain_number(digits) {
+  sub(/^0+/, "", digits)
+  return digits + 0
 }
 
 function take_text(text,   is_there) {
@@ -90,7 +96,7 @@ function take_text(text,   is_there) {
 # Takes a fraction of a second, if one stands there: its first three digits count.
 function take_fraction() {
   if (match(rest, /^[.,][0-9]+/)) {
-    fraction = substr(substr(rest, 2, RLENGTH - 1) "00", 1, 3) + 0
+    fraction = plain_number(substr(substr(rest, 2, RLENGTH - 1) "00", 1, 3))
     rest = substr(rest, RLENGTH + 1)
   }
   return 1
