@@ -5,6 +5,8 @@ BEGIN {
   format = ENVIRON["format"]
   dictionary = ENVIRON["dictionary"]
   keys = step = 0
+  unknown = unknown_word(format, "YmdebaHMSFTsf")
+  if (unknown != "") stop("-f knows no " unknown)
 }
 
 !/^[0-9]+,[0-9]+,-?[0-9]+$/ { stop("line " NR " is no row: " $0) }

@@ -303,7 +303,7 @@ r,a,31,1,1
 w,a,26
 r,a,1795771801250,1,1
 w,a,1795771801245
-records: 2 late lines were left out
+records: left out as late: 2
 CASE
   try 2 records -t 1 -s b -l 0 <<'CASE'
 10
@@ -347,7 +347,7 @@ $text
 ---
 r,a,1,1,1
 r,a,2,2,2
-records: 1 lines that give no record were left out
+records: left out as no record: 1
 CASE
   done <<'BAD'
 2,2#it has no column 3
@@ -367,6 +367,22 @@ BAD
 ---
 records: line 1: no time: "2026", by %Y
 records: line 1: no time: "2026", by %Y
+CASE
+  try 2 records -t 1 -f '%%p %I:%M %p' <<'CASE'
+2026
+---
+records: -f knows no %I
+records: -f knows no %I
+CASE
+  try 2 rows -f %y <<'CASE'
+10,1,5
+---
+rows: -f knows no %y
+CASE
+  try 2 chart -f %j <<'CASE'
+10,1,5
+---
+chart: -f knows no %j
 CASE
   try 2 records -H -t when <<'CASE'
 time

@@ -6,6 +6,8 @@ BEGIN {
   value = ENVIRON["value"]
   greatest = mark = 0
   if (dictionary != "") read_numbers(dictionary)
+  unknown = unknown_word(format, "YmdebHMSFTzs")
+  if (unknown != "") stop("records: -f knows no " unknown)
   if (value ~ /^=/ && !is_value(substr(value, 2))) stop("records: the value is no whole number of 64 bits: " value)
   if (!names) find_columns()
 }
@@ -35,8 +37,8 @@ names && !are_found { for (i = 1; i <= columns; i++) place_of[column[i]] = i; fi
 }
 
 END {
-  if (bad) say("records: " bad " lines that give no record were left out")
-  if (late) say("records: " late " late lines were left out")
+  if (bad) say("records: left out as no record: " bad)
+  if (late) say("records: left out as late: " late)
   exit stopped
 }
 

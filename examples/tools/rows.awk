@@ -4,14 +4,12 @@ BEGIN {
   FS = ","
   format = ENVIRON["format"]
   dictionary = ENVIRON["dictionary"]
+  unknown = unknown_word(format, "YmdebaHMSFTsf")
+  if (unknown != "") stop("-f knows no " unknown)
   if (format == "") format = unit == 1000 ? "%FT%T.%fZ" : "%FT%TZ"
 }
 
-!/^[0-9]+,[0-9]+,-?[0-9]+$/ {
-  say("rows: line " NR " is no row: " $0)
-  stopped = 2
-  exit 2
-}
+!/^[0-9]+,[0-9]+,-?[0-9]+$/ { stop("line " NR " is no row: " $0) }
 
 {
   time = $1 - size - offset
@@ -19,6 +17,12 @@ BEGIN {
 }
 
 END { exit stopped }
+
+function stop(message) {
+  say("rows: " message)
+  stopped = 2
+  exit 2
+}
 
 function in_quotes(word) {
   if (word !~ /[,"]/) return word

@@ -34,6 +34,14 @@ function set_date(days,   of_era, era) {
   year += 400 * era + (month <= 2)
 }
 
+# The first word of a format, such as %p, whose letter is none of these; empty if all are.
+function unknown_word(format, letters,   i) {
+  for (i = 1; i <= length(format); i++)
+    if (substr(format, i, 1) == "%" && substr(format, ++i, 1) != "%" && !index(letters, substr(format, i, 1)))
+      return substr(format, i - 1, 2)
+  return ""
+}
+
 # The time that a text tells in a format, as text; empty if it tells none.
 function time_by(text, format,   i, letter, is_told) {
   rest = text
