@@ -1,0 +1,2 @@
+pub mod LargeSums
+pub mod Sums

@@ -1,0 +1,41 @@
+-- The sums of large values, and a plan that gives them.
+use Rattle.std.specs.Prelude.{ℕ, ℤ, List, [], ◌∷◌, filter, Some, None}
+use Rattle.std.specs.Ordering.{int_cmp, is_ge}
+use Rattle.sb_record.specs.declared.item.Item.{Item}
+use Rattle.sb_record.specs.declared.item.Record.{Record}
+use Rattle.sb_record.specs.declared.item.Stream.TheVariants.{A}
+use Rattle.sb_record.specs.declared.item.TheConstants.{END_MARK}
+use Rattle.sb_record.specs.Records.{before, sorted}
+use Rattle.sb_record.specs.Streams.{records_of}
+use Rattle.sb_window.specs.Aggregations.{sum_rows}
+use Rattle.sb_window.specs.Spacing.{fixed}
+use Rattle.sb_pardo.specs.declared.operation.Field.TheVariants.{Value}
+use Rattle.sb_pardo.specs.declared.operation.Test.TheVariants.{AtLeast}
+use Rattle.sb_pardo.specs.declared.operation.Op.TheVariants.{Filter}
+use Rattle.sb_aggregate.specs.declared.aggregate.Agg.TheVariants.{Sum}
+use Rattle.sb_pipeline.specs.declared.transform.Kind.TheVariants.{Do, Group}
+use Rattle.sb_pipeline.specs.declared.transform.Step.{Step}
+use Rattle.sb_pipeline.specs.Shapes.{Shape}
+
+-- a filter of values of at least this, and a sum of what it gives over fixed windows of this size
+abbrev pub large_sums_steps : ℤ → ℕ → List Step
+large_sums_steps least size =
+    record { kind = Do (Filter Value AtLeast least); down = record { node = 1; lane = 0 } }
+    ∷ record { kind = Group Sum (fixed size); down = record { node = 2; lane = 0 } } ∷ []
+
+-- stream a goes to the filter, and stream b is not used
+abbrev pub large_sums_plan : ℤ → ℕ → Shape
+large_sums_plan least size =
+    record {
+      steps = large_sums_steps least size;
+      source_a = Some (record { node = 0; lane = 0 });
+      source_b = None;
+    }
+
+-- the records with a value of at least this
+abbrev pub large_values : ℤ → List Record → List Record
+large_values least records = filter (λ r. is_ge (int_cmp r.value least)) records
+
+-- the sums of the large values of stream a, by window and key
+abbrev pub large_sums : ℤ → ℕ → List Item → List Record
+large_sums least size items = sorted (before END_MARK (sum_rows (fixed size) (large_values least (records_of A items))))

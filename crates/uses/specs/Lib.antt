@@ -1,0 +1,3 @@
+pub mod LargeSums
+pub mod Sums
+pub mod EndToEnd

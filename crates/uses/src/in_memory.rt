@@ -1,0 +1,44 @@
+//! The whole program over memory: words, an input, and the rows as bytes.
+
+ghost use Rattle.std.specs.Prelude.{◌≡◌, ℕ, List, Some, IfOk, map, string_bytes};
+ghost use Rattle.sb_cli.specs.Words.{IsCommand};
+ghost use Rattle.sb_cli.specs.Words.Asked.{Sum};
+ghost use Rattle.uses.specs.Sums.{GivesSums};
+
+use sb_cli::{Status, streambox};
+use sb_outside::{MemFolder, MemSink, MemSource, Source};
+use std::alloc::{AllocError, Global};
+use std::collections::BTreeMap;
+
+/// What the program gave: how the run ended, and the text of the rows.
+#[derive(Drop)]
+pub struct Answer {
+    pub status: Status,
+    pub rows: Vec<u8>,
+}
+
+/// What the program gives for words and an input. It has no files, so the words may ask for sums alone.
+pub fn answer_to_source<S: Source>(
+    alloc: Global,
+    words: &[String],
+    input: &mut S,
+) -> Result<Answer, AllocError>
+    ensures { (size : ℕ) (text : List ℕ) → IsCommand (Sum size) (map (λ w. string_bytes w) words.now)
+        → S.left input.old ≡ Some text → IfOk result (GivesSums size text) }
+{
+    let mut out = MemSink::new(alloc, Vec::new(alloc), Vec::new(alloc));
+    let mut notes = MemSink::new(alloc, Vec::new(alloc), Vec::new(alloc));
+    let mut folder = MemFolder::new(BTreeMap::new(alloc), Vec::new(alloc));
+    let status = streambox(alloc, words, input, &mut out, &mut notes, &mut folder);
+    let rows = Vec::from_slice(alloc, out.taken())?;
+    Ok(Answer { status, rows })
+}
+
+/// What the program gives for words and a text.
+pub fn answer_to_text(alloc: Global, words: &[String], text: Vec<u8>) -> Result<Answer, AllocError>
+    ensures { (size : ℕ) → IsCommand (Sum size) (map (λ w. string_bytes w) words.now)
+        → IfOk result (GivesSums size text.items) }
+{
+    let mut input = MemSource::new(text, Vec::new(alloc), Vec::new(alloc));
+    answer_to_source(alloc, words, &mut input)
+}

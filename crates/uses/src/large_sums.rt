@@ -1,0 +1,62 @@
+//! A plan made by code, run over items in memory.
+
+ghost use Rattle.std.specs.Prelude.{◌≡◌, ◌≤◌, All, IfOk};
+ghost use Rattle.sb_record.specs.Lines.{IsItemInRange};
+ghost use Rattle.sb_record.specs.Streams.{records_of};
+ghost use Rattle.sb_pipeline.specs.Results.{all_rows};
+ghost use Rattle.uses.specs.LargeSums as spec;
+
+use sb_aggregate::Agg;
+use sb_pardo::{Field, Op, Test};
+use sb_pipeline::{Down, Kind, Plan, Step};
+use sb_record::{END_MARK, Item, NoMemory, Record};
+use sb_slow::slow_rows;
+use sb_window::{MAX_SIZE, Windows};
+use std::alloc::Global;
+
+/// Two transforms, one after the other: a filter of values of at least `least`, and a sum over fixed windows.
+fn transforms(alloc: Global, least: i64, size: u64) -> Result<Vec<Step>, NoMemory>
+    requires some_size { 1 ≤ size }
+    requires most_size { size ≤ MAX_SIZE }
+    ensures { IfOk result (λ steps. steps.items ≡ spec.large_sums_steps least size) }
+{
+    let filter = Step {
+        kind: Kind::Do(Op::Filter(Field::Value, Test::AtLeast, least)),
+        down: Down { node: 1, lane: 0 },
+    };
+    let sum = Step {
+        kind: Kind::Group(Agg::Sum, Windows::new(size, size).unwrap()),
+        down: Down { node: 2, lane: 0 },
+    };
+    vec![in alloc; filter, sum].map_err(|_| NoMemory)
+}
+
+/// The plan of these transforms, which stream a goes to.
+fn large_sums_plan(alloc: Global, least: i64, size: u64) -> Result<Plan, NoMemory>
+    requires some_size { 1 ≤ size }
+    requires most_size { size ≤ MAX_SIZE }
+    ensures { IfOk result (λ plan. plan ≡ spec.large_sums_plan least size) }
+{
+    let steps = transforms(alloc, least, size)?;
+    let source = Down { node: 0, lane: 0 };
+    Ok(Plan::new(steps, Some(source), None).unwrap())
+}
+
+/// The rows of that plan over the records of the items: the sums of the values of at least `least` of stream a, by key,
+/// over fixed windows of a size from 1 to 10^12.
+pub fn large_sums(
+    alloc: Global,
+    least: i64,
+    size: u64,
+    items: &[Item],
+) -> Result<Vec<Record>, NoMemory>
+    requires some_size { 1 ≤ size }
+    requires most_size { size ≤ MAX_SIZE }
+    requires range { All IsItemInRange items.now }
+    ensures rows { IfOk result (λ rows.
+        rows.items ≡ all_rows (spec.large_sums_plan least size) (λ s. records_of s items.now)) }
+    ensures sums { IfOk result (λ rows. rows.items ≡ spec.large_sums least size items.now) }
+{
+    let plan = large_sums_plan(alloc, least, size)?;
+    slow_rows(alloc, &plan, items, END_MARK)
+}

@@ -1,0 +1,79 @@
+//! Three uses of StreamBox as a library, as a caller writes them.
+//!
+//! [`large_sums`] makes a plan by code and runs it over a list of items, [`in_memory`] calls the whole program without
+//! files, and [`end_to_end`] is a source of one's own, which the program reads as any other.
+#![tactic(auto)]
+
+ghost use Rattle.std.specs.Prelude.{◌≤◌};
+ghost use Rattle.sb_record.specs.Lines.{IsItemInRange};
+
+use anyhow::Context;
+use in_memory::Answer;
+use sb_record::{Item, MAX_KEY, MAX_TIME, Record, Stream};
+use std::alloc::{AllocError, Global};
+use std::str;
+
+mod end_to_end;
+mod in_memory;
+mod large_sums;
+
+/// A record of a stream.
+fn event(stream: Stream, time: u64, key: u64, value: i64) -> Item
+    requires time { time ≤ MAX_TIME }
+    requires key { key ≤ MAX_KEY }
+    ensures { IsItemInRange result }
+{
+    Item::Rec(stream, Record { time, key, value })
+}
+
+fn words_of(alloc: Global, words: &[&str]) -> Result<Vec<String>, AllocError> {
+    let mut strings = Vec::new(alloc);
+    for word in words {
+        strings.push(String::from_str(alloc, word)?)?;
+    }
+    Ok(strings)
+}
+
+/// The sums of values of at least 2, in windows of 10.
+fn print_large_sums(rt: &impl Print, alloc: Global) -> anyhow::Result<()> {
+    let items = [
+        event(Stream::A, 3, 1, 5),
+        event(Stream::A, 7, 1, 2),
+        event(Stream::A, 8, 1, -2),
+        event(Stream::A, 9, 2, 1),
+        event(Stream::B, 4, 1, 100),
+        event(Stream::A, 12, 1, 4),
+    ];
+    let rows = large_sums::large_sums(alloc, 2, 10, &items)
+        .ok()
+        .context("out of memory")?;
+    println!(rt; "large sums")?;
+    for row in &rows {
+        println!(rt; "{},{},{}", row.time.saturating_add(1), row.key, row.value)?;
+    }
+    Ok(())
+}
+
+fn print_answer(rt: &impl Print, title: &str, answer: &Answer) -> anyhow::Result<()> {
+    println!(rt; "{title}: status {}", answer.status.code())?;
+    print!(rt; "{}", str::from_utf8(&answer.rows)?)?;
+    Ok(())
+}
+
+fn main(rt: HostRuntime) -> anyhow::Result<()> {
+    let alloc = rt.alloc();
+    print_large_sums(&rt, alloc)?;
+
+    let words = words_of(alloc, &["sum", "10"])?;
+    let text = Vec::from_slice(alloc, b"r,a,3,1,5\nr,a,7,2,2\nw,a,10\nr,a,12,1,-4\n")?;
+    print_answer(
+        &rt,
+        "one text",
+        &in_memory::answer_to_text(alloc, &words, text)?,
+    )?;
+
+    let first = Vec::from_slice(alloc, b"r,a,3,1,5\n")?;
+    let second = Vec::from_slice(alloc, b"r,a,7,1,2\nw,a,10\nr,a,12,1,4\n")?;
+    let both = end_to_end::answer_to_both(alloc, &words, first, second)?;
+    print_answer(&rt, "two texts", &both)
+}
