@@ -42,6 +42,7 @@ fed_once least size zero (suc lane) is = absurd (omega (arith, is.1))
 fed_once least size (suc zero) (suc lane) is = absurd (omega (arith, is.1))
 fed_once least size (suc (suc zero)) (suc lane) is = absurd (omega (arith, is.1))
 
+-- no rule of plans is broken
 is_plan : (least : ℤ) (size : ℕ) → AreWindows (fixed size) → IsPlan (large_sums_plan least size)
 is_plan least size valid =
     let steps = large_sums_steps least size in
@@ -58,6 +59,7 @@ is_plan least size valid =
       fed_once = λ place. fed_once least size place.node place.lane;
     }
 
+-- the sizes that there are windows of
 are_windows : (size : ℕ) → 1 ≤ size → size ≤ MAX_SIZE → AreWindows (fixed size)
 are_windows size some most = search rules
 

@@ -33,7 +33,7 @@ impl<S: Source, T: Source> Source for EndToEnd<S, T> {
     }
 }
 
-/// What the program gives for words and two texts that are read as one.
+/// What the program gives for words and two texts that are read as one: the same as for the two texts joined.
 pub fn answer_to_both(
     alloc: Global,
     words: &[String],

@@ -17,7 +17,7 @@ pub struct Answer {
     pub rows: Vec<u8>,
 }
 
-/// What the program gives for words and an input. It has no files, so the words may ask for sums alone.
+/// What the program gives for words and an input, without files. The contract speaks of the words `sum SIZE`.
 pub fn answer_to_source<S: Source>(
     alloc: Global,
     words: &[String],
@@ -34,7 +34,7 @@ pub fn answer_to_source<S: Source>(
     Ok(Answer { status, rows })
 }
 
-/// What the program gives for words and a text.
+/// The same for a text.
 pub fn answer_to_text(alloc: Global, words: &[String], text: Vec<u8>) -> Result<Answer, AllocError>
     ensures { (size : ℕ) → IsCommand (Sum size) (map (λ w. string_bytes w) words.now)
         → IfOk result (GivesSums size text.items) }

@@ -1,4 +1,7 @@
 //! A plan made by code, run over items in memory.
+//!
+//! `Plan::new` gives no plan just if a rule of plans is broken. Here it is proved that none is; a caller who tests what
+//! `Plan::new` gives needs no such proof.
 
 ghost use Rattle.std.specs.Prelude.{◌≡◌, ◌≤◌, All, IfOk};
 ghost use Rattle.sb_record.specs.Lines.{IsItemInRange};
