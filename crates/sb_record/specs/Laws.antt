@@ -6,7 +6,7 @@ use Rattle.sb_record.specs.declared.item.Item.{Item}
 use Rattle.sb_record.specs.Lines.{IsTextOf}
 use Rattle.sb_record.specs.Reading.{item_of}
 
--- the greatest time and the greatest key of an input, the watermark at its end, how many lines it has at most, and how long they are
+-- the greatest time and key of an input, the watermark at its end, and the most lines and bytes of a line
 pub record Limits : Type 0 where
   pub time : MAX_TIME ≡ 10 ^ 15
   pub key : MAX_KEY ≡ 10 ^ 18
