@@ -20,7 +20,7 @@ use sb_pardo::{Op, apply};
 use sb_pipeline::{KeptRec, Kind};
 use sb_record::{END_MARK, NoMemory, Record, Sequence};
 use sb_window::{KeyedWindow, Windows};
-use std::alloc::{AllocError, Global};
+use std::alloc::Global;
 use std::collections::BTreeMap;
 
 /// What a transform gives for what arrives at its node.
