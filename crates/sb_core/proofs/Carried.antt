@@ -1,11 +1,10 @@
 -- A Work or a Close goes on, where what it brings has come into the lane below.
-use Rattle.std.proofs.Common.{◌≡◌, ℕ, ◌-◌, ◌^◌, ◌≤◌, Bool, true, false, not, cond, eqb, ltb, List, [], ◌∷◌, ◌++◌, length, take, drop, Some, None, Option, refl, sym, ap, subst, ◌∙◌, arith}
-use Rattle.std.specs.Prelude.{Result, Ok, Err, ◌&&◌}
+use Rattle.std.proofs.Common.{◌≡◌, ℕ, ◌-◌, ◌^◌, Bool, true, false, not, cond, eqb, ltb, List, [], ◌∷◌, ◌++◌, length, take, drop, Some, None, Option, refl, sym, ap, ◌∙◌, arith}
+use Rattle.std.specs.Prelude.{◌&&◌}
 use Rattle.std.specs.Option.{option_map}
-use Rattle.std.specs.Result.{IsErrAnd}
 use Rattle.std.specs.List.{slice_get}
 use Rattle.std.proofs.lemmas.Bool.{ne_eqb}
-use Rattle.std.proofs.lemmas.Option.{slice_get_past, same_Some}
+use Rattle.std.proofs.lemmas.Option.{same_Some}
 use Rattle.sb_record.specs.declared.item.Record.{Record}
 use Rattle.sb_record.specs.Reading.{◌>>=◌}
 use Rattle.sb_pipeline.specs.declared.transform.Down.{Down}
@@ -17,8 +16,6 @@ use Rattle.sb_core.specs.declared.moment.Node.{Node}
 use Rattle.sb_core.specs.declared.moment.Moment.{Moment}
 use Rattle.sb_core.specs.declared.held.Held.{Held}
 use Rattle.sb_core.specs.declared.held.Held.TheVariants.{Work, Close}
-use Rattle.sb_core.specs.declared.machine.StepStop.{StepStop}
-use Rattle.sb_core.specs.declared.machine.StepStop.TheVariants.{NotNow, Memory}
 use Rattle.sb_core.specs.Choices.{pulled, is_empty}
 use Rattle.sb_core.specs.Closings.{delivery}
 use Rattle.sb_core.specs.Events.{below, arrived_at}
@@ -26,8 +23,7 @@ use Rattle.sb_core.specs.HeldSteps.{bundle_delivered, rows_delivered, mark_passe
 use Rattle.sb_core.specs.Lanes.{with_arrival, with_seal}
 use Rattle.sb_core.specs.LaneSteps.{sealed_at}
 use Rattle.sb_core.specs.Moments.{lane_at, set_lane, set_node, with_lane, with_held, is_work, is_close, is_close_of}
-use Rattle.sb_core.specs.Steps.{Becomes}
-use Rattle.sb_core.proofs.InPlace.{then_some, then_none}
+use Rattle.sb_core.proofs.InPlace.{then_some}
 
 -- an answer that never goes on
 pub then_never : {A B : Type 0} (o : Option A) (f : A → Option B) → ((x : A) → f x ≡ None) → (o >>= f) ≡ None
@@ -41,9 +37,6 @@ below-down plan k d h = go (slice_get plan.steps k) ∙ h
     go : (o : Option Step) → (o >>= λ s. Some s.down) ≡ option_map (λ s. s.down) o
     go None = refl
     go (Some s) = refl
-
-pub below-none : (plan : Shape) (k : ℕ) → length plan.steps ≤ k → below plan k ≡ None
-below-none plan k h = then_none (slice_get plan.steps k) _ (slice_get_past plan.steps k h)
 
 -- whether a list is empty, as code asks
 pub empty-by_length : {X : Type 0} (xs : List X) → eqb (length xs) 0 ≡ is_empty xs
@@ -81,16 +74,6 @@ arrived-held m hs d epoch floor records = go (lane_at m d)
 pub held-after : (m after : Moment) (o : Option Moment) → o ≡ option_map (with_held m.held) o → o ≡ Some after → after.held ≡ m.held
 held-after m after o same is = ap (λ (x : Moment). x.held) (same_Some after (with_held m.held after) (sym is ∙ same ∙ ap (option_map (with_held m.held)) is))
 
--- a refusal passed on
-pub refused-as : {T : Type 0} (later under : Option Moment) (f : Moment → Moment) (old new : Moment) (stop : StepStop) (r : Result T StepStop)
-    → later ≡ option_map f under → Becomes {T = T} under old new (Err stop) → IsErrAnd r (λ e. e ≡ stop) → Becomes later old new r
-refused-as later under f old new stop (Ok x) is b e = absurd e
-refused-as {T} later under f old new stop (Err other) is b e = subst (λ s. Becomes {T = T} later old new (Err s)) (sym e) (go stop b)
-  where
-    go : (s : StepStop) → Becomes {T = T} under old new (Err s) → Becomes {T = T} later old new (Err s)
-    go NotNow b = (is ∙ ap (option_map f) b.0, b.1)
-    go Memory b = b
-
 -- the watermark of a Close that is found is passed
 module _ (plan : Shape) (m : Moment) (k l epoch serial floor mark : ℕ) (rows : List Record) (passed : Bool) (others : List Held)
     (found : pulled (is_close k) m.held ≡ Some (Close k l epoch serial floor mark rows passed, others)) where
@@ -104,16 +87,6 @@ module _ (plan : Shape) (m : Moment) (k l epoch serial floor mark : ℕ) (rows :
       ∙ (λ i. lane_at m d >>= λ under. cond (not (not_yet i) && none i) (with_lane d (with_seal mark under) (with_held held-passed m)) None)
       ∙ sealed-held m held-passed d mark
 
-  pub pass-never : (not passed && is_empty rows) ≡ false → mark_passed plan m k ≡ None
-  pass-never e =
-      then_some (pulled (is_close k) m.held) (Close k l epoch serial floor mark rows passed, others) _ found
-      ∙ then_never (below plan k) _ (λ d. then_never (lane_at m d) _ (λ under. ap (λ b. cond b (with_lane d (with_seal mark under) (with_held held-passed m)) None) e))
-
-  pub pass-no_place : below plan k ≡ None → mark_passed plan m k ≡ None
-  pass-no_place e =
-      then_some (pulled (is_close k) m.held) (Close k l epoch serial floor mark rows passed, others) _ found
-      ∙ then_none (below plan k) _ e
-
 -- the next rows of a Close that is found are delivered
 module _ (plan : Shape) (m : Moment) (k l epoch serial floor mark : ℕ) (rows : List Record) (passed : Bool) (others : List Held)
     (found : pulled (is_close_of k l) m.held ≡ Some (Close k l epoch serial floor mark rows passed, others)) where
@@ -126,16 +99,6 @@ module _ (plan : Shape) (m : Moment) (k l epoch serial floor mark : ℕ) (rows :
       ∙ then_some (below plan k) d _ at
       ∙ (λ i. cond (not (some i)) (arrived_at d serial floor (take m.bundle rows) (with_held held-fewer m)) None)
       ∙ arrived-held m held-fewer d serial floor (take m.bundle rows)
-
-  pub rows-never : is_empty rows ≡ true → rows_delivered plan m k l ≡ None
-  rows-never e =
-      then_some (pulled (is_close_of k l) m.held) (Close k l epoch serial floor mark rows passed, others) _ found
-      ∙ then_never (below plan k) _ (λ d. ap (λ b. cond (not b) (arrived_at d serial floor (take m.bundle rows) (with_held held-fewer m)) None) e)
-
-  pub rows-no_place : below plan k ≡ None → rows_delivered plan m k l ≡ None
-  rows-no_place e =
-      then_some (pulled (is_close_of k l) m.held) (Close k l epoch serial floor mark rows passed, others) _ found
-      ∙ then_none (below plan k) _ e
 
 -- what a Work that is found gives is delivered
 module _ (plan : Shape) (m : Moment) (k l number epoch floor : ℕ) (records : List Record) (delivered : Bool) (others : List Held)
@@ -152,13 +115,3 @@ module _ (plan : Shape) (m : Moment) (k l number epoch floor : ℕ) (records : L
       ∙ then_some (below plan k) d _ at
       ∙ (λ i. cond (not (not_yet i) && not (some i)) (arrived_at d epoch floor images (with_held held-delivered m)) None)
       ∙ arrived-held m held-delivered d epoch floor images
-
-  pub work-never : (not delivered && not (is_empty images)) ≡ false → bundle_delivered plan m k l number ≡ None
-  work-never e =
-      then_some (pulled (is_work k l number) m.held) (Work k l epoch floor number records delivered, others) _ found
-      ∙ then_never (below plan k) _ (λ d. ap (λ b. cond b (arrived_at d epoch floor images (with_held held-delivered m)) None) e)
-
-  pub work-no_place : below plan k ≡ None → bundle_delivered plan m k l number ≡ None
-  work-no_place e =
-      then_some (pulled (is_work k l number) m.held) (Work k l epoch floor number records delivered, others) _ found
-      ∙ then_none (below plan k) _ e

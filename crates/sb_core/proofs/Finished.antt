@@ -1,7 +1,7 @@
 -- The finish of a Work that code finds among what is held.
-use Rattle.std.proofs.Common.{◌≡◌, ℕ, ◌≤◌, Bool, true, false, cond, List, ◌++◌, length, Some, None, refl, ap, ◌∙◌, arith}
+use Rattle.std.proofs.Common.{◌≡◌, ℕ, ◌≤◌, Bool, true, false, cond, List, ◌++◌, length, Some, None, refl, ap, subst, ◌∙◌, arith}
 use Rattle.std.specs.Prelude.{◌||◌}
-use Rattle.std.specs.List.{slice_get}
+use Rattle.std.specs.List.{remove, slice_get}
 use Rattle.sb_record.specs.declared.item.Record.{Record}
 use Rattle.sb_pipeline.specs.Elements.{on_lane}
 use Rattle.sb_pipeline.specs.Operators.{operator_at}
@@ -13,6 +13,7 @@ use Rattle.sb_core.specs.declared.held.Held.{Held}
 use Rattle.sb_core.specs.declared.held.Held.TheVariants.{Work}
 use Rattle.sb_core.specs.Choices.{pulled, is_empty}
 use Rattle.sb_core.specs.Closings.{delivery, absorbed}
+use Rattle.sb_core.specs.Finding.{IsWorkAt}
 use Rattle.sb_core.specs.HeldSteps.{bundle_finished}
 use Rattle.sb_core.specs.Holdings.{IsHeld}
 use Rattle.sb_core.specs.Lanes.{finish_in}
@@ -53,3 +54,15 @@ module _ (plan : Shape) (m : Moment) (k l number epoch floor : ℕ) (records : L
 
     pub node-of_work : k ≤ length plan.steps
     node-of_work = omega (arith, node_within m (place k l) lane-of_work.1 {nodes = m.nodes} refl, sound.nodes)
+
+-- a bundle that is found in hand: it is found in the moment, its lane is there, and so is its node
+module _ (m : Moment) {k l n i e f : ℕ} {rs : List Record} {d : Bool} {hs : List Held} (at : IsWorkAt k l n hs i e f rs d) (same : hs ≡ m.held) where
+  pub found-in : pulled (is_work k l n) m.held ≡ Some (Work k l e f n rs d, remove m.held i)
+  found-in = subst (λ hs. pulled (is_work k l n) hs ≡ Some (Work k l e f n rs d, remove hs i)) same at.found
+
+  module _ {plan : Shape} (sound : IsSound plan m) where
+    pub lane-in : (lane : CoreLane) × (lane_at m (place k l) ≡ Some lane)
+    lane-in = lane-of_work plan m k l n e f rs d (remove m.held i) found-in sound
+
+    pub node-in : k ≤ length plan.steps
+    node-in = node-of_work plan m k l n e f rs d (remove m.held i) found-in sound

@@ -12,7 +12,7 @@ use Rattle.sb_core.specs.declared.moment.Moment.{Moment}
 use Rattle.sb_core.specs.declared.held.Held.{Held}
 use Rattle.sb_core.specs.declared.held.Held.TheVariants.{Work, Close}
 use Rattle.sb_core.specs.Choices.{pulled}
-use Rattle.sb_core.specs.Finding.{IsFirst}
+use Rattle.sb_core.specs.Finding.{IsCloseAt, IsCloseOfAt, IsFirst}
 use Rattle.sb_core.specs.HeldSteps.{closing_ended}
 use Rattle.sb_core.specs.Holdings.{IsHeld}
 use Rattle.sb_core.specs.Moments.{lane_at, set_lane, set_node, with_lane, with_held, is_work, is_close, is_close_of}
@@ -28,13 +28,6 @@ first-in {X} p xs ys zs i h x e f first at is =
     let there : IsFirst p zs (Some i) = subst (λ l. IsFirst p l (Some i)) e first in
     let same : there.0 ≡ x = sym (get_or_from_slice_get zs i there.0 h there.2) ∙ ap (λ l. get_or l i h) (sym f) ∙ sym at ∙ is in
     (there.3 ∙ ap (λ x. Some (x, remove zs i)) same, subst (λ x. p x ≡ true) same (pulled-passes p zs (there.0, remove zs i) there.3))
-
--- it is there also for what is taken out at the place
-pub first-out : {X : Type 0} (p : X → Bool) (xs ys zs ws : List X) (i : ℕ) (h x taken : X) → xs ≡ zs → ys ≡ zs → IsFirst p xs (Some i) → h ≡ get_or ys i h → h ≡ x
-    → ws ≡ zs → taken ≡ get_or ws i taken → taken ≡ x
-first-out {X} p xs ys zs ws i h x taken e f first at is g out =
-    let there : IsFirst p zs (Some i) = subst (λ l. IsFirst p l (Some i)) e first in
-    out ∙ ap (λ l. get_or l i taken) g ∙ get_or_from_slice_get zs i there.0 taken there.2 ∙ sym (get_or_from_slice_get zs i there.0 h there.2) ∙ ap (λ l. get_or l i h) (sym f) ∙ sym at ∙ is
 
 -- a Close that is found is of the node, and of the lane
 pub close-of : (hs others : List Held) (k n l epoch serial floor mark : ℕ) (rows : List Record) (passed : Bool)
@@ -74,3 +67,15 @@ module _ (m : Moment) (k l epoch serial floor mark : ℕ) (rows : List Record) (
   lane-of_close plan sound =
       let close = (All-pulled (IsHeld plan m) (is_close k) m.held (Close k l epoch serial floor mark rows passed, others) found sound.holds).0 in
       (close.lane, close.there)
+
+-- a closing that is found in hand is found in the moment, and its lane is there
+module _ (m : Moment) {k i l e s f n : ℕ} {rows : List Record} {p : Bool} {hs : List Held} (at : IsCloseAt k hs i l e s f n rows p) (same : hs ≡ m.held) where
+  pub close-in : pulled (is_close k) m.held ≡ Some (Close k l e s f n rows p, remove m.held i)
+  close-in = subst (λ hs. pulled (is_close k) hs ≡ Some (Close k l e s f n rows p, remove hs i)) same at.found
+
+  pub close-lane : (plan : Shape) → IsSound plan m → (lane : CoreLane) × (lane_at m (place k l) ≡ Some lane)
+  close-lane plan sound = lane-of_close m k l e s f n rows p (remove m.held i) close-in plan sound
+
+module _ (m : Moment) {k l i e s f n : ℕ} {rows : List Record} {p : Bool} {hs : List Held} (at : IsCloseOfAt k l hs i e s f n rows p) (same : hs ≡ m.held) where
+  pub close-in_lane : pulled (is_close_of k l) m.held ≡ Some (Close k l e s f n rows p, remove m.held i)
+  close-in_lane = subst (λ hs. pulled (is_close_of k l) hs ≡ Some (Close k l e s f n rows p, remove hs i)) same at.found

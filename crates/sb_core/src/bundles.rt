@@ -9,7 +9,7 @@ ghost use Rattle.sb_core.specs.Steps.{Becomes};
 
 use crate::feeding::put_at;
 use crate::held::Held;
-use crate::hold::find_work;
+use crate::hold::work_at;
 use crate::lanes;
 use crate::machine::StepStop;
 use crate::moment::Moment;
@@ -84,24 +84,14 @@ pub(crate) fn deliver(
 ) -> Result<(), StepStop>
     ensures { Becomes (bundle_delivered plan.now moment.old node lane number) moment.old moment.new result }
 {
-    let Some(place) = find_work(moment.held.as_slice(), node, lane, number) else {
+    let Some(work) = work_at(moment.held.as_slice(), node, lane, number) else {
         return Err(StepStop::NotNow);
     };
-    let Held::Work {
-        epoch,
-        floor,
-        records,
-        delivered: was_delivered,
-        ..
-    } = &moment.held.as_slice()[place]
-    else {
-        return Err(StepStop::NotNow);
-    };
-    if *was_delivered || node >= plan.transforms() {
+    if work.delivered || node >= plan.transforms() {
         return Err(StepStop::NotNow);
     }
-    let (epoch, floor) = (*epoch, *floor);
-    let given = delivery(alloc, plan, node, records.as_slice())?;
+    let (place, epoch, floor) = (work.place, work.epoch, work.floor);
+    let given = delivery(alloc, plan, node, work.records)?;
     if given.is_empty() {
         return Err(StepStop::NotNow);
     }
@@ -130,32 +120,16 @@ pub(crate) fn finish(
     requires { IsSound plan.now moment.old }
     ensures { Becomes (bundle_finished plan.now moment.old node lane number) moment.old moment.new result }
 {
-    let Some(place) = find_work(moment.held.as_slice(), node, lane, number) else {
+    let Some(work) = work_at(moment.held.as_slice(), node, lane, number) else {
         return Err(StepStop::NotNow);
     };
-    let Held::Work {
-        epoch,
-        records,
-        delivered: was_delivered,
-        ..
-    } = &moment.held.as_slice()[place]
-    else {
-        return Err(StepStop::NotNow);
-    };
-    let epoch = *epoch;
-    if !*was_delivered && !delivery(alloc, plan, node, records.as_slice())?.is_empty() {
+    if !work.delivered && !delivery(alloc, plan, node, work.records)?.is_empty() {
         return Err(StepStop::NotNow);
     }
     let nodes = &mut moment.nodes;
     let there = &mut nodes.items[node as usize];
-    absorb(
-        alloc,
-        plan,
-        node,
-        lane,
-        records.as_slice(),
-        &mut there.kept.items,
-    )?;
+    absorb(alloc, plan, node, lane, work.records, &mut there.kept.items)?;
+    let (place, epoch) = (work.place, work.epoch);
     let lanes = &mut there.lanes;
     lanes::finish(&mut lanes.items[lane as usize], epoch, number);
     let _ = moment.held.items.remove(place);

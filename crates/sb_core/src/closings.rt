@@ -9,7 +9,7 @@ ghost use Rattle.sb_core.specs.Steps.{Becomes};
 
 use crate::feeding::{put_at, seal_at};
 use crate::held::Held;
-use crate::hold::{find_close, find_close_of};
+use crate::hold::{close_at, close_of_at};
 use crate::lanes;
 use crate::machine::StepStop;
 use crate::moment::Moment;
@@ -89,26 +89,17 @@ pub(crate) fn deliver(
 ) -> Result<(), StepStop>
     ensures { Becomes (rows_delivered plan.now moment.old node lane) moment.old moment.new result }
 {
-    let Some(place) = find_close_of(moment.held.as_slice(), node, lane) else {
+    let Some(close) = close_of_at(moment.held.as_slice(), node, lane) else {
         return Err(StepStop::NotNow);
     };
-    let Held::Close {
-        serial,
-        floor,
-        rows,
-        ..
-    } = &moment.held.as_slice()[place]
-    else {
-        return Err(StepStop::NotNow);
-    };
-    if rows.as_slice().is_empty() || node >= plan.transforms() {
+    if close.rows.is_empty() || node >= plan.transforms() {
         return Err(StepStop::NotNow);
     }
-    let (serial, floor) = (*serial, *floor);
+    let (place, serial, floor) = (close.place, close.serial, close.floor);
     let most = moment.bundle as usize;
-    let count = rows.as_slice().len().min(most);
+    let count = close.rows.len().min(most);
     let mut next = Vec::new(alloc);
-    if next.extend_from_slice(&rows.as_slice()[..count]).is_err() {
+    if next.extend_from_slice(&close.rows[..count]).is_err() {
         return Err(StepStop::Memory);
     }
     put_at(
@@ -133,22 +124,13 @@ pub(crate) fn pass(
 ) -> Result<(), StepStop>
     ensures { Becomes (mark_passed plan.now moment.old node) moment.old moment.new result }
 {
-    let Some(place) = find_close(moment.held.as_slice(), node) else {
+    let Some(close) = close_at(moment.held.as_slice(), node) else {
         return Err(StepStop::NotNow);
     };
-    let Held::Close {
-        mark,
-        rows,
-        passed: was_passed,
-        ..
-    } = &moment.held.as_slice()[place]
-    else {
-        return Err(StepStop::NotNow);
-    };
-    if *was_passed || !rows.as_slice().is_empty() || node >= plan.transforms() {
+    if close.passed || !close.rows.is_empty() || node >= plan.transforms() {
         return Err(StepStop::NotNow);
     }
-    let mark = *mark;
+    let (place, mark) = (close.place, close.mark);
     seal_at(alloc, moment, plan.down(node), mark)?;
     let close = moment.held.items.remove(place);
     moment.held.items.push_reserved(passed(close));
@@ -160,21 +142,13 @@ pub(crate) fn end(moment: &mut Moment, node: u32) -> Result<(), StepStop>
     requires { (plan : Shape) × IsSound plan moment.old }
     ensures { Becomes (closing_ended moment.old node) moment.old moment.new result }
 {
-    let Some(place) = find_close(moment.held.as_slice(), node) else {
+    let Some(close) = close_at(moment.held.as_slice(), node) else {
         return Err(StepStop::NotNow);
     };
-    let Held::Close {
-        lane,
-        passed: was_passed,
-        ..
-    } = &moment.held.as_slice()[place]
-    else {
-        return Err(StepStop::NotNow);
-    };
-    if !*was_passed {
+    if !close.passed {
         return Err(StepStop::NotNow);
     }
-    let lane = *lane;
+    let (place, lane) = (close.place, close.lane);
     let nodes = &mut moment.nodes;
     let lanes = &mut nodes.items[node as usize].lanes;
     let at = &mut lanes.items[lane as usize];

@@ -1,81 +1,43 @@
-use Rattle.std.proofs.Common.{◌≡◌, ◌+◌, ◌<◌, ◌≤◌, length, drop, Some, sym, ap, ◌∙◌, arith}
+use Rattle.std.proofs.Common.{◌≡◌, ◌+◌, ◌≤◌, length, drop, Some, sym, ap, ◌∙◌, arith}
 use Rattle.std.specs.List.{slice_get, slice_set, remove}
 use Rattle.sb_core.specs.declared.moment.Moment.{Moment}
-use Rattle.sb_core.specs.declared.held.Held.TheVariants.{Close}
-use Rattle.sb_core.specs.Moments.{is_close, set_node, set_lane, with_held}
-use Rattle.sb_core.proofs.FromHeld.{first-in, close-of, end-done, lane-of_close}
-use Rattle.sb_core.proofs.InPlace.{place, node-written, lane-there, node_within, node-read, lane_within, lane-read}
+use Rattle.sb_core.specs.Moments.{set_node, set_lane, with_held}
+use Rattle.sb_core.proofs.FromHeld.{close-in, close-lane, end-done}
+use Rattle.sb_core.proofs.InPlace.{place, node-written, lane-there, node-read, lane-read}
 use Rattle.sb_core.proofs.closings.end.Goals as goal
-
-pub index_mut-requires : goal.index_mut-requires
-index_mut-requires c =
-    let m = c.args.moment.now in
-    let k = c.args.node in
-    let h = c.in-Close in
-    let l = h.lane in
-    let others = remove m.held c.in-Some.place in
-    let found = close-of m.held others k h.node l h.epoch h.serial h.floor h.mark h.rows h.was_passed
-    (first-in (is_close k) c.as_slice.result.now c.as_slice-2.result.now m.held c.in-Some.place c.index-as_slice-place.result (Close h.node l h.epoch h.serial h.floor h.mark h.rows h.was_passed)
-    c.as_slice.ensures c.as_slice-2.ensures c.in-Some.ensures c.index-as_slice-place.is h.is) in
-    let lane = lane-of_close m k l h.epoch h.serial h.floor h.mark h.rows h.was_passed others found c.requires.0 c.requires.1 in
-    let nodes : c.nodes.inside.items.items ≡ m.nodes = c.nodes.view_is ∙ ap (λ (m : Moment). m.nodes) c.moment.view_is in
-    let k_in : k < length c.nodes.inside.items.items = node_within m (place k l) lane.1 nodes in
-    omega (arith, k_in, c.nodes.inside.items.ok.0)
-
-pub index_mut-at-requires : goal.index_mut-at-requires
-index_mut-at-requires c =
-    let m = c.args.moment.now in
-    let k = c.args.node in
-    let h = c.in-Close in
-    let l = h.lane in
-    let others = remove m.held c.in-Some.place in
-    let found = close-of m.held others k h.node l h.epoch h.serial h.floor h.mark h.rows h.was_passed
-    (first-in (is_close k) c.as_slice.result.now c.as_slice-2.result.now m.held c.in-Some.place c.index-as_slice-place.result (Close h.node l h.epoch h.serial h.floor h.mark h.rows h.was_passed)
-    c.as_slice.ensures c.as_slice-2.ensures c.in-Some.ensures c.index-as_slice-place.is h.is) in
-    let lane = lane-of_close m k l h.epoch h.serial h.floor h.mark h.rows h.was_passed others found c.requires.0 c.requires.1 in
-    let nodes : c.nodes.inside.items.items ≡ m.nodes = c.nodes.view_is ∙ ap (λ (m : Moment). m.nodes) c.moment.view_is in
-    let l_in : l < length c.lanes.inside.items.items = lane_within m (place k l) lane.1 nodes c.index_mut.ensures.value c.lanes.view_is in
-    omega (arith, l_in, c.lanes.inside.items.ok.0)
 
 pub prove-unreachable-requires : goal.prove-unreachable-requires
 prove-unreachable-requires c =
     let m = c.args.moment.now in
     let k = c.args.node in
-    let h = c.in-Close in
-    let l = h.lane in
-    let others = remove m.held c.in-Some.place in
-    let found = close-of m.held others k h.node l h.epoch h.serial h.floor h.mark h.rows h.was_passed
-    (first-in (is_close k) c.as_slice.result.now c.as_slice-2.result.now m.held c.in-Some.place c.index-as_slice-place.result (Close h.node l h.epoch h.serial h.floor h.mark h.rows h.was_passed)
-    c.as_slice.ensures c.as_slice-2.ensures c.in-Some.ensures c.index-as_slice-place.is h.is) in
-    let lane = lane-of_close m k l h.epoch h.serial h.floor h.mark h.rows h.was_passed others found c.requires.0 c.requires.1 in
+    let l = c.in-Some.close.lane in
+    let lane = close-lane m c.in-Some.ensures.found c.as_slice.ensures c.requires.0 c.requires.1 in
     let nodes : c.nodes.inside.items.items ≡ m.nodes = c.nodes.view_is ∙ ap (λ (m : Moment). m.nodes) c.moment.view_is in
     let node = c.index_mut.result.now in
     let old = c.index_mut-at.result.now in
     let at : slice_get m.nodes k ≡ Some node = node-read m (place k l) lane.1 nodes c.index_mut.ensures.value in
     let in_it : slice_get node.lanes l ≡ Some old = lane-read m (place k l) lane.1 nodes c.index_mut.ensures.value c.lanes.view_is c.index_mut-at.ensures.value in
     let ended : old.ended ≤ length old.marks = (c.requires.1.lanes (place k l) old (lane-there m k node at l old in_it)).ended_in in
-    let same : length c.as_slice-3.result.now ≡ length old.marks = ap length c.as_slice-3.ensures in
+    let same : length c.as_slice-2.result.now ≡ length old.marks = ap length c.as_slice-2.ensures in
     omega (arith, c.if-prove.true)
 
 pub returns : goal.returns
 returns c =
     let m = c.args.moment.now in
     let k = c.args.node in
-    let h = c.in-Close in
+    let h = c.in-Some.close in
     let l = h.lane in
-    let others = remove m.held c.in-Some.place in
-    let found = close-of m.held others k h.node l h.epoch h.serial h.floor h.mark h.rows h.was_passed
-    (first-in (is_close k) c.as_slice.result.now c.as_slice-2.result.now m.held c.in-Some.place c.index-as_slice-place.result (Close h.node l h.epoch h.serial h.floor h.mark h.rows h.was_passed)
-    c.as_slice.ensures c.as_slice-2.ensures c.in-Some.ensures c.index-as_slice-place.is h.is) in
-    let lane = lane-of_close m k l h.epoch h.serial h.floor h.mark h.rows h.was_passed others found c.requires.0 c.requires.1 in
+    let others = remove m.held h.place in
+    let found = close-in m c.in-Some.ensures.found c.as_slice.ensures in
+    let lane = close-lane m c.in-Some.ensures.found c.as_slice.ensures c.requires.0 c.requires.1 in
     let nodes : c.nodes.inside.items.items ≡ m.nodes = c.nodes.view_is ∙ ap (λ (m : Moment). m.nodes) c.moment.view_is in
     let node = c.index_mut.result.now in
     let old = c.index_mut-at.result.now in
     let at : slice_get m.nodes k ≡ Some node = node-read m (place k l) lane.1 nodes c.index_mut.ensures.value in
     let in_it : slice_get node.lanes l ≡ Some old = lane-read m (place k l) lane.1 nodes c.index_mut.ensures.value c.lanes.view_is c.index_mut-at.ensures.value in
-    let left : c.remove.new.self.items ≡ others = c.remove.ensures.items ∙ ap (λ (m : Moment). remove m.held c.in-Some.place) c.moment.view_is in
+    let left : c.remove.new.self.items ≡ others = c.remove.ensures.items ∙ ap (λ (m : Moment). remove m.held h.place) c.moment.view_is in
     let ended = set_lane l (record old { conts = drop 1 old.conts; ended = old.ended + 1 }) node in
-    end-done m k l h.epoch h.serial h.floor h.mark h.rows h.was_passed others found node old at in_it c.if-not-was_passed.false
+    end-done m k l h.epoch h.serial h.floor h.mark h.rows.now h.passed others found node old at in_it c.if-not-close.false
     ∙ sym (
     (λ z. Some (record { bundle = c.moment.inside.0.0; nodes = slice_set c.nodes.inside.items.items k (record node { lanes = slice_set (c.lanes.view_is z) l (c.end.ensures z) }); held = c.remove.new.self.items; rows = c.moment.inside.0.1.1.1.0 }))
     ∙ ap Some (node-written m c.moment.inside.0.0 c.nodes.inside.items.items c.moment.inside.0.1.0 c.moment.inside.0.1.1.0.items.items c.remove.new.self.items c.moment.inside.0.1.1.1.0 k ended c.nodes.view_is c.moment.view_is)
