@@ -1,10 +1,15 @@
--- The laws of cutting: what a new cutter gives over any list of calls.
+-- The limit of bundles as a number, and the laws of cutting: what a new cutter gives over any list of calls.
 use Rattle.std.specs.Prelude.{◌≡◌, ℕ, ◌≤◌, ◌<◌, List, [], ◌∷◌, ◌++◌, length, All}
 use Rattle.sb_record.specs.declared.item.Record.{Record}
+use Rattle.sb_bundle.specs.declared.bundle.TheConstants.{MAX_BUNDLE}
 use Rattle.sb_bundle.specs.declared.bundle.Bundle.{Bundle}
 use Rattle.sb_bundle.specs.Cutting.{Cutting}
 use Rattle.sb_bundle.specs.Cuts.{started}
 use Rattle.sb_bundle.specs.Calls.{Call, records_of, records_in, bundles_by, after_all, parts_of, parts_in, joined}
+
+-- the most records of a bundle
+pub record Limits : Type 0 where
+  pub bundle : MAX_BUNDLE ≡ 65536
 
 -- each part has `size` records, but the last may have fewer, and has at least one
 abbrev pub AreCutAt : ℕ → List (List Record) → Type 0

@@ -1,6 +1,12 @@
-//! The laws of cutting, over any list of calls of a cutter. Each function has its law for a contract, and does nothing.
+//! The limit of bundles as a number, and the laws of cutting, over any list of calls of a cutter. Each function has its
+//! law for a contract, and does nothing.
 
 ghost use Rattle.sb_bundle.specs.Laws as law;
+
+/// A bundle has at most 65,536 records.
+pub fn limits()
+    ensures { law.Limits }
+{}
 
 /// The bundles given, joined, followed by the records held, are the records pushed, in order.
 pub fn no_record_is_lost()

@@ -16,3 +16,8 @@ becomes-memory later old new (Err Memory) is_err of same = same
 -- what is after an event is the same by another name
 pub becomes-as : {T : Type 0} (later same : Option Moment) (old new : Moment) (r : Result T StepStop) → later ≡ same → Becomes same old new r → Becomes later old new r
 becomes-as later same old new r is b = subst (λ l. Becomes l old new r) (sym is) b
+
+-- a refusal changes nothing
+pub becomes-same : (T : Type 0) (later : Option Moment) (old new : Moment) (stop : StepStop) → Becomes {T = T} later old new (Err stop) → new ≡ old
+becomes-same T later old new NotNow b = b.1
+becomes-same T later old new Memory b = b

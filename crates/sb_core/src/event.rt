@@ -62,9 +62,7 @@ impl Event {
         Ok(match self {
             Event::Arrive { stream, records } => {
                 let mut copied = Vec::new(alloc);
-                copied
-                    .extend_from_slice(records.as_slice())
-                    .map_err(|_| NoMemory)?;
+                copied.extend_from_slice(records.as_slice())?;
                 Event::Arrive {
                     stream: *stream,
                     records: Sequence::new(copied),

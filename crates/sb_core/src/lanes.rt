@@ -61,7 +61,8 @@ fn add_bundle(cont: &mut Cont, bundle: Bundle) -> Result<(), NoMemory>
     ensures ok { OnOk result (cont.new ≡ spec.with_bundle bundle cont.old) }
     ensures err { OnErr result (cont.new ≡ cont.old) }
 {
-    cont.waiting.items.push(bundle).map_err(|_| NoMemory)
+    cont.waiting.items.push(bundle)?;
+    Ok(())
 }
 
 /// Puts records as a bundle into the container of an epoch, which is made where it is not there.
@@ -88,7 +89,7 @@ pub(crate) fn put(
         Err(place) => {
             let mut cont = fresh(alloc, epoch, floor);
             add_bundle(&mut cont, bundle)?;
-            conts.items.insert(place, cont).map_err(|_| NoMemory)?;
+            conts.items.insert(place, cont)?;
         }
     }
     lane.arrived += 1;
@@ -102,13 +103,13 @@ pub(crate) fn seal(alloc: Global, lane: &mut CoreLane, mark: u64) -> Result<(), 
 {
     let (epoch, floor) = (next_epoch(lane), next_floor(lane));
     let (conts, marks) = (&mut lane.conts, &mut lane.marks);
-    marks.items.reserve(1).map_err(|_| NoMemory)?;
+    marks.items.reserve(1)?;
     match find_epoch(conts.as_slice(), epoch) {
         Ok(place) => conts.items[place].mark = Some(mark),
         Err(place) => {
             let mut cont = fresh(alloc, epoch, floor);
             cont.mark = Some(mark);
-            conts.items.insert(place, cont).map_err(|_| NoMemory)?;
+            conts.items.insert(place, cont)?;
         }
     }
     marks.items.push_reserved(mark);
@@ -141,7 +142,7 @@ fn take_out(cont: &mut Cont, place: usize, number: u64) -> Result<Bundle, NoMemo
     ensures bundle { IfOk result (λ b. slice_get cont.old.waiting place ≡ Some b) }
     ensures err { OnErr result (cont.new ≡ cont.old) }
 {
-    cont.out.items.push(number).map_err(|_| NoMemory)?;
+    cont.out.items.push(number)?;
     Ok(cont.waiting.items.remove(place))
 }
 
@@ -166,7 +167,9 @@ fn leave_out(numbers: &mut Vec<u64>, number: u64)
 
 /// A bundle is no longer out of a container, where that is of the epoch.
 fn finish_in(cont: &mut Cont, epoch: u64, number: u64)
-    ensures { cont.new ≡ (if cont.old.epoch == epoch then record cont.old { out = filter (λ n. not (n == number)) cont.old.out } else cont.old) }
+    ensures { cont.new
+        ≡ (if cont.old.epoch == epoch then record cont.old { out = filter (λ n. not (n == number)) cont.old.out }
+        else cont.old) }
 {
     if cont.epoch == epoch {
         leave_out(&mut cont.out.items, number);

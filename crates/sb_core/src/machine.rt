@@ -1,6 +1,6 @@
 //! Steps: the machine itself.
 
-ghost use Rattle.std.specs.Prelude.{◌≡◌, ◌≤◌, [], IfOk, OnOk, replicate};
+ghost use Rattle.std.specs.Prelude.{◌≡◌, ◌≤◌, [], IfErr, IfOk, OnOk, replicate, take};
 ghost use Rattle.sb_bundle.specs.declared.bundle.TheConstants.{MAX_BUNDLE};
 ghost use Rattle.sb_record.specs.declared.item.Record.{Record as ARecord};
 ghost use Rattle.sb_record.specs.declared.item.Stream.{Stream as AStream};
@@ -58,13 +58,11 @@ pub fn first(alloc: Global, plan: &Plan, bundle: u32) -> Result<Moment, NoMemory
     let mut nodes = Vec::new(alloc);
     for node in 0..plan.transforms() + 1 {
         let lanes = empty_lanes(alloc, plan.lanes(node))?;
-        nodes
-            .push(Node {
-                lanes,
-                kept: Sequence::new(Vec::new(alloc)),
-                closings: 0,
-            })
-            .map_err(|_| NoMemory)?;
+        nodes.push(Node {
+            lanes,
+            kept: Sequence::new(Vec::new(alloc)),
+            closings: 0,
+        })?;
     }
     Ok(Moment {
         bundle,
@@ -80,14 +78,12 @@ fn empty_lanes(alloc: Global, count: u32) -> Result<Sequence<CoreLane>, NoMemory
 {
     let mut lanes = Vec::new(alloc);
     for _lane in 0..count {
-        lanes
-            .push(CoreLane {
-                conts: Sequence::new(Vec::new(alloc)),
-                arrived: 0,
-                marks: Sequence::new(Vec::new(alloc)),
-                ended: 0,
-            })
-            .map_err(|_| NoMemory)?;
+        lanes.push(CoreLane {
+            conts: Sequence::new(Vec::new(alloc)),
+            arrived: 0,
+            marks: Sequence::new(Vec::new(alloc)),
+            ended: 0,
+        })?;
     }
     Ok(Sequence::new(lanes))
 }
@@ -97,7 +93,9 @@ pub fn step(alloc: Global, plan: &Plan, moment: &mut Moment, event: Event) -> Re
     requires { IsSound plan.now moment.old }
     ensures becomes { Becomes (after plan.now moment.old event) moment.old moment.new result }
     ensures sound { IsSound plan.now moment.new }
-    ensures exact { OnOk result ((fed : AStream → List ARecord) → IsExact plan.now moment.old fed → IsExact plan.now moment.new (fed_after event fed)) }
+    ensures exact { OnOk result
+        ((fed : AStream → List ARecord) → IsExact plan.now moment.old fed
+        → IsExact plan.now moment.new (fed_after event fed)) }
 {
     // A plan keeps its rules, and with them an event keeps a moment sound.
     let _ = plan.transforms();
@@ -134,7 +132,12 @@ pub fn run(alloc: Global, plan: &Plan, moment: &mut Moment, events: &[Event]) ->
     requires { IsSound plan.now moment.old }
     ensures runs { Runs plan.now moment.old events.now moment.new result }
     ensures sound { IsSound plan.now moment.new }
-    ensures exact { OnOk result ((fed : AStream → List ARecord) → IsExact plan.now moment.old fed → IsExact plan.now moment.new (fed_by events.now fed)) }
+    ensures exact { OnOk result
+        ((fed : AStream → List ARecord) → IsExact plan.now moment.old fed
+        → IsExact plan.now moment.new (fed_by events.now fed)) }
+    ensures exact_so_far { IfErr result
+        (λ stop. (fed : AStream → List ARecord) → IsExact plan.now moment.old fed
+        → IsExact plan.now moment.new (fed_by (take stop.at events.now) fed)) }
 {
     for at in 0..events.len() {
         let event = match events[at].copy(alloc) {

@@ -23,7 +23,8 @@ pub(crate) fn delivery(
     records: &[Record],
 ) -> Result<Vec<Record>, NoMemory>
     requires { node ≤ length plan.now.steps }
-    ensures { IfOk result (λ given. given.items ≡ spec.delivery (operator_at (slice_get plan.now.steps node)) records.now) }
+    ensures { IfOk result
+        (λ given. given.items ≡ spec.delivery (operator_at (slice_get plan.now.steps node)) records.now) }
 {
     let mut given = Vec::new(alloc);
     if node < plan.transforms() {
@@ -52,7 +53,9 @@ pub(crate) fn absorb(
     kept: &mut Vec<KeptRec>,
 ) -> Result<(), NoMemory>
     requires { node ≤ length plan.now.steps }
-    ensures ok { OnOk result (kept.new.items ≡ kept.old.items ++ spec.absorbed (operator_at (slice_get plan.now.steps node)) (on_lane lane records.now)) }
+    ensures ok { OnOk result
+        (kept.new.items
+        ≡ kept.old.items ++ spec.absorbed (operator_at (slice_get plan.now.steps node)) (on_lane lane records.now)) }
     ensures err { OnErr result (kept.new.items ≡ kept.old.items) }
 {
     if is_pardo(plan, node) {
@@ -87,12 +90,14 @@ fn still_open(
     kept: &[KeptRec],
 ) -> Result<Vec<KeptRec>, NoMemory>
     requires { All (λ e. e.rec.time < END_MARK) kept.now }
-    ensures { IfOk result (λ open_. open_.items ≡ filter (λ e. list_any (λ end. nat_lt mark end) (window_ends windows.now e.rec.time)) kept.now) }
+    ensures { IfOk result
+        (λ open_. open_.items
+        ≡ filter (λ e. list_any (λ end. nat_lt mark end) (window_ends windows.now e.rec.time)) kept.now) }
 {
     let mut left = Vec::new(alloc);
     for element in kept {
         if is_open(windows, element.rec.time, mark) {
-            left.push(*element).map_err(|_| NoMemory)?;
+            left.push(*element)?;
         }
     }
     Ok(left)
@@ -105,7 +110,7 @@ fn from_mark(alloc: Global, mark: u64, kept: &[KeptRec]) -> Result<Vec<KeptRec>,
     let mut left = Vec::new(alloc);
     for element in kept {
         if element.rec.time >= mark {
-            left.push(*element).map_err(|_| NoMemory)?;
+            left.push(*element)?;
         }
     }
     Ok(left)
@@ -121,7 +126,8 @@ pub(crate) fn kept_at(
 ) -> Result<Vec<KeptRec>, NoMemory>
     requires node { node ≤ length plan.now.steps }
     requires times { All (λ e. e.rec.time < END_MARK) kept.now }
-    ensures { IfOk result (λ left. left.items ≡ spec.kept_at (operator_at (slice_get plan.now.steps node)) mark kept.now) }
+    ensures { IfOk result
+        (λ left. left.items ≡ spec.kept_at (operator_at (slice_get plan.now.steps node)) mark kept.now) }
 {
     if node == plan.transforms() {
         return from_mark(alloc, mark, kept);
@@ -129,7 +135,7 @@ pub(crate) fn kept_at(
     match plan.kind(node) {
         Kind::Do(_) => {
             let mut left = Vec::new(alloc);
-            left.extend_from_slice(kept).map_err(|_| NoMemory)?;
+            left.extend_from_slice(kept)?;
             Ok(left)
         }
         Kind::Group(_, windows) | Kind::Join(_, windows) => still_open(alloc, windows, mark, kept),
@@ -154,7 +160,8 @@ pub(crate) fn rows_at(
 ) -> Result<Vec<Record>, NoMemory>
     requires node { node ≤ length plan.now.steps }
     requires times { All (λ e. e.rec.time < END_MARK) kept.now }
-    ensures { IfOk result (λ rows. rows.items ≡ spec.rows_at (operator_at (slice_get plan.now.steps node)) floor mark kept.now) }
+    ensures { IfOk result
+        (λ rows. rows.items ≡ spec.rows_at (operator_at (slice_get plan.now.steps node)) floor mark kept.now) }
 {
     if node == plan.transforms() || is_pardo(plan, node) {
         return Ok(Vec::new(alloc));
@@ -174,7 +181,8 @@ pub(crate) fn collected(
     kept: &[KeptRec],
 ) -> Result<Vec<Record>, NoMemory>
     requires { node ≤ length plan.now.steps }
-    ensures { IfOk result (λ rows. rows.items ≡ spec.collected (operator_at (slice_get plan.now.steps node)) mark kept.now) }
+    ensures { IfOk result
+        (λ rows. rows.items ≡ spec.collected (operator_at (slice_get plan.now.steps node)) mark kept.now) }
 {
     if node < plan.transforms() {
         return Ok(Vec::new(alloc));

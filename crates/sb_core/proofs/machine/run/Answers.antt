@@ -5,6 +5,7 @@ use Rattle.sb_core.specs.declared.event.Event.{Event}
 use Rattle.sb_core.specs.Events
 use Rattle.sb_core.specs.Exactness.{IsExact}
 use Rattle.sb_core.specs.Laws.{fed_by}
+use Rattle.sb_core.proofs.Becoming.{becomes-same}
 use Rattle.sb_core.proofs.Nodewise.{take_more}
 use Rattle.sb_core.proofs.Stepping.{run-more, fed_by-more}
 use Rattle.sb_core.proofs.machine.run.Goals as goal
@@ -29,3 +30,10 @@ pub returns-clause-exact : goal.returns-clause-exact
 returns-clause-exact c =
     λ fed exact.
     subst (λ l. IsExact c.args.plan.now c.loop-at.moment (fed_by l fed)) (take_all c.loop-at.at c.args.events.now c.loop-at-test.false) (c.loop-at.invariant.exact fed exact)
+
+pub returns-in-Err-step-clause-exact_so_far : goal.returns-in-Err-step-clause-exact_so_far
+returns-in-Err-step-clause-exact_so_far c =
+    λ fed exact.
+    let plan = c.args.plan.now in
+    let same = becomes-same Unit (Events.after plan c.loop-at.moment c.in-Ok.event) c.loop-at.moment c.step.new.moment c.in-Err-step.stop c.in-Err-step.ensures.becomes in
+    subst (λ m. IsExact plan m (fed_by (take c.loop-at.at c.args.events.now) fed)) (sym same) (c.loop-at.invariant.exact fed exact)
