@@ -20,7 +20,8 @@ use std::alloc::Global;
 
 /// A worker takes a waiting bundle.
 pub(crate) fn take(moment: &mut Moment, node: u32, lane: u32, number: u64) -> Result<(), StepStop>
-    ensures { Becomes (after_take moment.old (record { node = node; lane = lane }) number) moment.old moment.new result }
+    ensures { Becomes (after_take moment.old (record { node = node; lane = lane }) number)
+        moment.old moment.new result }
 {
     if moment.held.items.reserve(1).is_err() {
         return Err(StepStop::Memory);
@@ -49,7 +50,8 @@ pub(crate) fn take(moment: &mut Moment, node: u32, lane: u32, number: u64) -> Re
 
 /// The bundle, delivered.
 fn delivered(work: Held) -> Held
-    ensures { (k l e f n : ℕ) (rs : List Record) (b : Bool) → work ≡ Held.Work k l e f n rs b → result ≡ Held.Work k l e f n rs true }
+    ensures { (k l e f n : ℕ) (rs : List Record) (b : Bool) → work ≡ Held.Work k l e f n rs b
+        → result ≡ Held.Work k l e f n rs true }
 {
     match work {
         Held::Work {

@@ -19,7 +19,8 @@ use std::alloc::Global;
 
 /// The closing, with the first rows gone.
 fn without_rows(close: Held, count: usize) -> Held
-    ensures { (k l e s f m : ℕ) (rows : List ARecord) (p : Bool) → close ≡ Held.Close k l e s f m rows p → result ≡ Held.Close k l e s f m (drop count rows) p }
+    ensures { (k l e s f m : ℕ) (rows : List ARecord) (p : Bool) → close ≡ Held.Close k l e s f m rows p
+        → result ≡ Held.Close k l e s f m (drop count rows) p }
 {
     match close {
         Held::Close {
@@ -53,7 +54,8 @@ fn without_rows(close: Held, count: usize) -> Held
 
 /// The closing, with its watermark passed.
 fn passed(close: Held) -> Held
-    ensures { (k l e s f m : ℕ) (rows : List ARecord) (p : Bool) → close ≡ Held.Close k l e s f m rows p → result ≡ Held.Close k l e s f m rows true }
+    ensures { (k l e s f m : ℕ) (rows : List ARecord) (p : Bool) → close ≡ Held.Close k l e s f m rows p
+        → result ≡ Held.Close k l e s f m rows true }
 {
     match close {
         Held::Close {

@@ -94,7 +94,8 @@ pub(crate) fn closed(lanes: &[CoreLane]) -> u64
 
 /// The same, once the first container of a lane is closing.
 pub(crate) fn closed_with(lanes: &[CoreLane], begins: usize) -> u64
-    ensures { (lane : ALane) (cont : ACont) (conts : List ACont) → slice_get lanes.now begins ≡ Some lane → lane.conts ≡ cont ∷ conts
+    ensures { (lane : ALane) (cont : ACont) (conts : List ACont) → slice_get lanes.now begins ≡ Some lane
+        → lane.conts ≡ cont ∷ conts
         → result ≡ spec.closed (slice_set lanes.now begins (record lane { conts = with_first_closing lane.conts })) }
 {
     match lanes {

@@ -16,7 +16,8 @@ use sb_record::{NoMemory, Record};
 pub fn apply(op: &Op, records: &[Record], into: &mut Vec<Record>) -> Result<(), NoMemory>
     requires { IsValid op.now }
     ensures ok { OnOk result (into.new.items ≡ into.old.items ++ flat_map (outputs_of op.now) records.now) }
-    ensures full { OnErr result (vec_capacity into.old < vec_len into.old + length records.now * spec.most_outputs op.now) }
+    ensures full { OnErr result
+        (vec_capacity into.old < vec_len into.old + length records.now * spec.most_outputs op.now) }
     ensures err { OnErr result (into.new.items ≡ into.old.items) }
 {
     make_room(records.len(), most_outputs(op), into)?;

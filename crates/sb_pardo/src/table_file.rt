@@ -107,7 +107,8 @@ fn take_row(
     table: &mut Table,
 ) -> Result<bool, TableStop>
     requires { number ≤ MAX_ROWS }
-    ensures { (rows : List Fields) → HasRows reader.old rows → TakesRow number rows table.old result reader.new table.new }
+    ensures { (rows : List Fields) → HasRows reader.old rows
+        → TakesRow number rows table.old result reader.new table.new }
 {
     let Ok(found) = next_row(reader, row) else {
         return Err(TableStop::Memory);

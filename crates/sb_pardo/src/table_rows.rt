@@ -23,7 +23,8 @@ pub(crate) fn rows_in<'a>(alloc: Global, text: &'a [u8]) -> Reader<&'a [u8]>
 
 /// Reads the next row, and says whether there was one.
 pub(crate) fn next_row(reader: &mut Reader<&[u8]>, row: &mut ByteRecord) -> Result<bool, NoMemory>
-    ensures { IfOk result (λ found. (rows : List Fields) → HasRows reader.old rows → FindsRow rows found (fields_of row.new) reader.new) }
+    ensures { IfOk result
+        (λ found. (rows : List Fields) → HasRows reader.old rows → FindsRow rows found (fields_of row.new) reader.new) }
 {
     let Ok(found) = reader.read_byte_record(row) else {
         return Err(NoMemory);

@@ -47,8 +47,10 @@ impl Plan {
     /// The plan of these transforms in their order, where each stream goes to its source, if it has one. There is none
     /// just where a rule of plans is broken. It takes no memory.
     pub fn new(steps: Vec<Step>, source_a: Option<Down>, source_b: Option<Down>) -> Option<Plan>
-        ensures valid { IsSome result ↔ IsPlan (record { steps = steps.items; source_a = source_a; source_b = source_b }) }
-        ensures value { IfSome result (λ plan. plan ≡ record { steps = steps.items; source_a = source_a; source_b = source_b }) }
+        ensures valid { IsSome result
+            ↔ IsPlan (record { steps = steps.items; source_a = source_a; source_b = source_b }) }
+        ensures value { IfSome result
+            (λ plan. plan ≡ record { steps = steps.items; source_a = source_a; source_b = source_b }) }
     {
         if !is_plan(&steps, source_a, source_b) {
             return None;

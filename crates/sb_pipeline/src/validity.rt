@@ -23,7 +23,8 @@ pub(crate) fn is_plan(steps: &[Step], source_a: Option<Down>, source_b: Option<D
 
 /// Whether there are as many transforms of each kind as a plan has.
 fn are_transforms(steps: &[Step]) -> bool
-    ensures { IsTrue result ↔ ((1 ≤ length steps.now) × (length steps.now ≤ MAX_TRANSFORMS) × All (λ s. IsValidKind s.kind) steps.now
+    ensures { IsTrue result
+        ↔ ((1 ≤ length steps.now) × (length steps.now ≤ MAX_TRANSFORMS) × All (λ s. IsValidKind s.kind) steps.now
         × (count_by (λ s. is_join s.kind) steps.now ≤ 1) × (1 ≤ count_by (λ s. has_windows s.kind) steps.now)) }
 {
     (1..=MAX_TRANSFORMS).contains(&steps.len())
@@ -144,7 +145,8 @@ fn are_lanes_fed_once(
 ) -> bool
     requires { length steps.now ≤ MAX_TRANSFORMS }
     ensures { IsTrue result ↔ ((lane : ℕ) → lane < lanes_of (operator_at (slice_get steps.now node))
-        → shape.feeds (record { steps = steps.now; source_a = source_a; source_b = source_b }) (record { node = node; lane = lane }) ≡ 1) }
+        → shape.feeds (record { steps = steps.now; source_a = source_a; source_b = source_b })
+        (record { node = node; lane = lane }) ≡ 1) }
 {
     for lane in 0..lanes_at(steps, node) {
         if feeds(steps, source_a, source_b, Down { node, lane }) != 1 {

@@ -22,8 +22,10 @@ pub fn slow_rows(
     items: &[Item],
     below: u64,
 ) -> Result<Vec<Record>, NoMemory>
-    requires times { All (λ r. r.time ≤ MAX_TIME) (streams_spec.records_of Stream.A items.now) × All (λ r. r.time ≤ MAX_TIME) (streams_spec.records_of Stream.B items.now) }
-    ensures rows { IfOk result (λ rows. rows.items ≡ results.rows_below below plan.now (λ s. streams_spec.records_of s items.now)) }
+    requires times { All (λ r. r.time ≤ MAX_TIME) (streams_spec.records_of Stream.A items.now)
+        × All (λ r. r.time ≤ MAX_TIME) (streams_spec.records_of Stream.B items.now) }
+    ensures rows { IfOk result
+        (λ rows. rows.items ≡ results.rows_below below plan.now (λ s. streams_spec.records_of s items.now)) }
     ensures times { IfOk result (λ rows. All (λ r. r.time < END_MARK) rows.items) }
 {
     let mut rows = output_of(alloc, plan, items)?;
@@ -48,8 +50,10 @@ impl Model for Sent {
 
 /// What arrives at the sink once each transform has given what it gives.
 fn output_of(alloc: Global, plan: &Plan, items: &[Item]) -> Result<Vec<Record>, NoMemory>
-    requires times { All (λ r. r.time ≤ MAX_TIME) (streams_spec.records_of Stream.A items.now) × All (λ r. r.time ≤ MAX_TIME) (streams_spec.records_of Stream.B items.now) }
-    ensures rows { IfOk result (λ rows. rows.items ≡ results.output_of plan.now (λ s. streams_spec.records_of s items.now)) }
+    requires times { All (λ r. r.time ≤ MAX_TIME) (streams_spec.records_of Stream.A items.now)
+        × All (λ r. r.time ≤ MAX_TIME) (streams_spec.records_of Stream.B items.now) }
+    ensures rows { IfOk result
+        (λ rows. rows.items ≡ results.output_of plan.now (λ s. streams_spec.records_of s items.now)) }
     ensures times { IfOk result (λ rows. All (λ r. r.time < END_MARK) rows.items) }
 {
     let mut sent = from_streams(alloc, plan, items)?;
@@ -80,7 +84,9 @@ fn send_stream(
     items: &[Item],
     sent: &mut Vec<Sent>,
 ) -> Result<(), NoMemory>
-    ensures { OnOk result (sent.new.items ≡ sent.old.items ++ flow.from_stream (source plan.now stream) (streams_spec.records_of stream items.now)) }
+    ensures { OnOk result
+        (sent.new.items
+        ≡ sent.old.items ++ flow.from_stream (source plan.now stream) (streams_spec.records_of stream items.now)) }
 {
     let Some(down) = plan.source(stream) else {
         return Ok(());

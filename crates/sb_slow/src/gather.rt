@@ -37,7 +37,8 @@ pub(crate) fn values_by_window(
     records: &[Record],
 ) -> Result<BTreeMap<KeyedWindow, Sequence<i64>>, AllocError>
     requires { All (λ r. r.time < END_MARK) records.now }
-    ensures { IfOk result (λ values. (q : Window) → get keyed_window_cmp values q ≡ spec.values_at windows.now records.now q) }
+    ensures { IfOk result
+        (λ values. (q : Window) → get keyed_window_cmp values q ≡ spec.values_at windows.now records.now q) }
 {
     let mut values = BTreeMap::new(alloc);
     for record in records {
@@ -54,7 +55,9 @@ fn add_record(
     record: &Record,
 ) -> Result<(), AllocError>
     requires { «record».now.time < END_MARK }
-    ensures { OnOk result ((q : Window) → get keyed_window_cmp values.new q ≡ spec.followed (get keyed_window_cmp values.old q) (spec.values_at windows.now («record».now ∷ []) q)) }
+    ensures { OnOk result
+        ((q : Window) → get keyed_window_cmp values.new q
+        ≡ spec.followed (get keyed_window_cmp values.old q) (spec.values_at windows.now («record».now ∷ []) q)) }
 {
     for end in windows.ends(record.time) {
         let window = KeyedWindow {
@@ -74,7 +77,9 @@ fn add_value(
     record: &Record,
 ) -> Result<(), AllocError>
     ensures { OnOk result ((q : Window) → get keyed_window_cmp values.new q
-        ≡ (if is_at (keyed_window_cmp window) q then spec.followed (get keyed_window_cmp values.old window) (Some («record».now.value ∷ [])) else get keyed_window_cmp values.old q)) }
+        ≡ (if is_at (keyed_window_cmp window) q
+        then spec.followed (get keyed_window_cmp values.old window) (Some («record».now.value ∷ []))
+        else get keyed_window_cmp values.old q)) }
 {
     let list = values
         .entry(window)?

@@ -136,7 +136,8 @@ fn pairs_of(
     left: BTreeMap<KeyedWindow, Sequence<i64>>,
     right: &BTreeMap<KeyedWindow, Sequence<i64>>,
 ) -> Result<Vec<Record>, NoMemory>
-    ensures rows { IfOk result (λ rows. rows.items ≡ rows_of_pairs combine (get keyed_window_cmp right.now) left.entries) }
+    ensures rows { IfOk result
+        (λ rows. rows.items ≡ rows_of_pairs combine (get keyed_window_cmp right.now) left.entries) }
     ensures ordered { IsOrdered keyed_window_cmp left }
 {
     let mut rows = Vec::new(alloc);
@@ -165,7 +166,9 @@ fn values_of<'a>(
 
 /// Appends a row of a keyed window for each value.
 fn push_rows(window: KeyedWindow, values: &[i64], rows: &mut Vec<Record>) -> Result<(), NoMemory>
-    ensures { OnOk result (rows.new.items ≡ rows.old.items ++ map (λ v. record { time = window.end - 1; key = window.key; value = v }) values.now) }
+    ensures { OnOk result
+        (rows.new.items
+        ≡ rows.old.items ++ map (λ v. record { time = window.end - 1; key = window.key; value = v }) values.now) }
 {
     for value in values {
         rows.push(Record {
