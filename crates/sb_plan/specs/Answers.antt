@@ -1,18 +1,18 @@
 -- What the answers of the calls on one table say.
-use Rattle.std.specs.Prelude.{◌≡◌, ◌≤◌, ◌+◌, ℕ, Result, Ok, Err, ⊤}
-use Rattle.sb_outside.specs.Sources.{Rose}
+use Rattle.std.specs.Prelude.{◌≡◌, ◌+◌, ℕ, List, [], ◌∷◌, ◌++◌, Option, Some, Result, Ok, Err, ⊤}
 use Rattle.toml.specs.Data.{Data, Items, item}
-use Rattle.sb_outside.specs.Folders.{Files}
+use Rattle.sb_outside.specs.Folders.{Files, Load, without}
 use Rattle.sb_plan.specs.declared.fault.PlanCause.{PlanCause}
 use Rattle.sb_plan.specs.declared.fault.PlanStop.{PlanStop}
 use Rattle.sb_plan.specs.declared.stop.Stop.{Stop}
 use Rattle.sb_plan.specs.declared.stop.Stop.TheVariants as stop
 use Rattle.sb_plan.specs.declared.wiring.Wiring.{Wiring}
 use Rattle.sb_plan.specs.Failures.{Failure}
-use Rattle.sb_plan.specs.Failures.Failure.{Fails}
-use Rattle.sb_plan.specs.PlanFiles.{IsPlanStopOf, wired_from}
+use Rattle.sb_plan.specs.Failures.Failure.{Fails, NoFile}
+use Rattle.sb_plan.specs.declared.TheConstants.{MAX_TABLE_BYTES}
+use Rattle.sb_plan.specs.PlanFiles.{IsPlanStopOf, element_wired, wired_from}
 
--- the test that failed is the first that fails; nothing is said where the folder failed or memory was wanting
+-- the test that failed is the first that fails; nothing is said if a load failed or memory was wanting
 abbrev pub IsStopOf : {A : Type 0} → Result A (Failure PlanCause) → Stop → Type 0
 IsStopOf wanted (stop.Cause cause) = wanted ≡ Err (Fails cause)
 IsStopOf wanted stop.Folder = ⊤
@@ -28,16 +28,18 @@ abbrev pub ChangesTo : {A S : Type 0} → Result A Stop → Result S (Failure Pl
 ChangesTo (Ok x) wanted new = wanted ≡ Ok new
 ChangesTo (Err s) wanted new = IsStopOf wanted s
 
--- the folder's fault only where its count of faults rose, and the count as it was where a test failed
-abbrev pub BlamesStop : ℕ → ℕ → Stop → Type 0
-BlamesStop before now (stop.Cause cause) = now ≡ before
-BlamesStop before now stop.Folder = (before ≤ now) × Rose before now
-BlamesStop before now stop.Memory = before ≤ now
+-- a load of a table that these tests want: without the file they find that it is not there
+abbrev pub IsWantedIn : {A E : Type 0} → Option Files → (Files → Result A (Failure E)) → Load → Type 0
+IsWantedIn folder tests load =
+    (load.most ≡ MAX_TABLE_BYTES + 1)
+    × ((files : Files) → folder ≡ Some files → tests (without load.name files) ≡ Err NoFile)
 
--- and as it was where all went well
-abbrev pub BlamesInTests : {A : Type 0} → ℕ → ℕ → Result A Stop → Type 0
-BlamesInTests before now (Ok x) = now ≡ before
-BlamesInTests before now (Err s) = BlamesStop before now s
+-- only an answer that a load failed changes the list of those that did: it has one more, which is wanted
+abbrev pub BlamesInTests : {A : Type 0} → (Load → Type 0) → List Load → List Load → Result A Stop → Type 0
+BlamesInTests wanted before now (Ok x) = now ≡ before
+BlamesInTests wanted before now (Err (stop.Cause cause)) = now ≡ before
+BlamesInTests wanted before now (Err stop.Folder) = (load : Load) × wanted load × (now ≡ before ++ load ∷ [])
+BlamesInTests wanted before now (Err stop.Memory) = now ≡ before
 
 -- the answer is no test that fails
 abbrev pub IsNoFault : {A : Type 0} → Result A Stop → Type 0
@@ -46,7 +48,7 @@ IsNoFault (Err (stop.Cause cause)) = ⊥
 IsNoFault (Err stop.Folder) = ⊤
 IsNoFault (Err stop.Memory) = ⊤
 
--- one element more, whatever follows it
+-- one element more: it passes, or the tests from it on find its fault, whatever follows it
 abbrev pub TakesElement : {A : Type 0} → Files → ℕ → Wiring → Data → Result A PlanStop → Wiring → Type 0
-TakesElement files place old value (Ok x) new = (rest : Items) → wired_from files place old (item value rest) ≡ wired_from files (place + 1) new rest
+TakesElement files place old value (Ok x) new = element_wired files old value ≡ Ok new
 TakesElement files place old value (Err s) new = (rest : Items) → IsPlanStopOf (wired_from files place old (item value rest)) s

@@ -5,6 +5,7 @@ pub mod Kinds
 pub mod Entries
 pub mod Wiring
 pub mod PlanFiles
+pub mod Wants
 pub mod Answers
 pub mod Soundness
 pub mod Laws

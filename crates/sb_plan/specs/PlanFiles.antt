@@ -1,11 +1,10 @@
 -- The plan that a text describes, or the first test that it fails, or that a file of it is not there.
-use Rattle.std.specs.Prelude.{◌≡◌, ◌≤◌, ⊤, bytes_eq, ℕ, ◌+◌, ◌-◌, ◌==◌, nat_lt, take, Bool, if◌then◌else◌, List, [], map, length, Option, Some, None, is_none, unwrap_or, Result, Ok, Err}
+use Rattle.std.specs.Prelude.{◌≡◌, ⊤, bytes_eq, ℕ, ◌+◌, ◌-◌, ◌==◌, nat_lt, take, Bool, if◌then◌else◌, List, [], map, length, Option, Some, None, is_none, unwrap_or, Result, Ok, Err}
 use Rattle.std.specs.List.{list_any, position}
 use Rattle.std.specs.Str.{is_utf8}
 use Rattle.toml.specs.Data.{Data, Items, no_items, item, Members, as_array, as_table}
 use Rattle.toml.specs.Parse.{parse_document}
 use Rattle.sb_outside.specs.Folders.{Files}
-use Rattle.sb_outside.specs.Sources.{Rose}
 use Rattle.sb_pardo.specs.TableFiles.{then_test, or_fault}
 use Rattle.sb_pipeline.specs.declared.transform.Down.{Down}
 use Rattle.sb_pipeline.specs.declared.transform.Step.{Step}
@@ -112,7 +111,7 @@ plan_of files text =
     then at_place 0 (by_text (typed_at as_array key.Transform document)) (transforms_of files)
     else Err (Fails (fault_at 0 UnknownField)))
 
--- the fault is the first one of the text; nothing is said where the folder failed or memory was wanting
+-- the fault is the first one of the text; nothing is said if a load failed or memory was wanting
 abbrev pub IsPlanStopOf : {A : Type 0} → Result A (Failure PlanFault) → PlanStop → Type 0
 IsPlanStopOf wanted (stop.Fault fault) = wanted ≡ Err (Fails fault)
 IsPlanStopOf wanted stop.Folder = ⊤
@@ -122,10 +121,3 @@ IsPlanStopOf wanted stop.Memory = ⊤
 abbrev pub AnswersPlan : {A : Type 0} → Result A PlanStop → Result A (Failure PlanFault) → Type 0
 AnswersPlan (Ok x) wanted = wanted ≡ Ok x
 AnswersPlan (Err s) wanted = IsPlanStopOf wanted s
-
--- the folder's fault only where its count of faults rose; the count never falls, and it is as it was where the text is all that decides
-abbrev pub BlamesFolder : {A : Type 0} → ℕ → ℕ → Result A PlanStop → Type 0
-BlamesFolder before now (Ok x) = now ≡ before
-BlamesFolder before now (Err (stop.Fault fault)) = now ≡ before
-BlamesFolder before now (Err stop.Folder) = (before ≤ now) × Rose before now
-BlamesFolder before now (Err stop.Memory) = before ≤ now

@@ -1,8 +1,8 @@
 //! The addends of expansions.
 
-ghost use Rattle.std.specs.Prelude.{◌≡◌, ℕ, IfOk};
+ghost use Rattle.std.specs.Prelude.{◌≡◌, ◌≢◌, IfOk};
 ghost use Rattle.toml.specs.View.{array_view, table_view};
-ghost use Rattle.sb_plan.specs.Answers.{AnswersTests, BlamesInTests};
+ghost use Rattle.sb_plan.specs.Answers.{AnswersTests};
 ghost use Rattle.sb_plan.specs.Failures.{by_text};
 ghost use Rattle.sb_plan.specs.Kinds as kinds;
 
@@ -20,7 +20,7 @@ use toml::value::Array;
 #[tactic(auto, unfolding(crate::specs::Kinds::expand_at))]
 pub(crate) fn expand_at(alloc: Global, table: &Table) -> Result<Kind, Stop>
     ensures exact { AnswersTests result (by_text (kinds.expand_at (table_view table.now))) }
-    ensures blames { (count : ℕ) → BlamesInTests count count result }
+    ensures cause { result ≢ Err Stop.Folder }
 {
     let array = array_at(table, PlanKey::Addends)?;
     let addends = match integers_of(alloc, array) {

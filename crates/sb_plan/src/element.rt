@@ -3,8 +3,8 @@
 ghost use Rattle.std.specs.Prelude.{◌≡◌, ◌<◌, ◌+◌, Some, OnOk, length};
 ghost use Rattle.toml.specs.View.{view};
 ghost use Rattle.sb_outside.specs.Folders.{Files};
-ghost use Rattle.sb_plan.specs.Answers.{BlamesInTests, ChangesTo, TakesElement};
-ghost use Rattle.sb_plan.specs.PlanFiles.{BlamesFolder};
+ghost use Rattle.sb_plan.specs.Answers.{BlamesInTests, ChangesTo, IsWantedIn, TakesElement};
+ghost use Rattle.sb_plan.specs.Wants.{BlamesLoad};
 ghost use Rattle.sb_plan.specs.PlanFiles as spec;
 ghost use Rattle.sb_plan.specs.Soundness.{IsSound};
 
@@ -18,7 +18,7 @@ use std::alloc::Global;
 use toml::Value;
 
 /// Connects the transform of the element at this place, counted from 1, with the earlier ones.
-#[tactic(auto, using(crate::proofs::Elements::takes_passed, crate::proofs::Elements::takes_refused))]
+#[tactic(auto, using(crate::proofs::Elements::takes_refused))]
 pub(crate) fn take_element<F: Folder>(
     alloc: Global,
     place: u32,
@@ -28,10 +28,13 @@ pub(crate) fn take_element<F: Folder>(
 ) -> Result<(), PlanStop>
     requires room { length wiring.old.parts < MAX_TRANSFORMS }
     requires sound { IsSound wiring.old }
-    ensures exact { (files : Files) → F.files folder.old ≡ Some files → TakesElement files place wiring.old (view value.now) result wiring.new }
+    ensures exact { (files : Files) → F.files folder.old ≡ Some files
+        → TakesElement files place wiring.old (view value.now) result wiring.new }
     ensures sound { OnOk result (IsSound wiring.new × (length wiring.new.parts ≡ length wiring.old.parts + 1)) }
     ensures same { F.files folder.new ≡ F.files folder.old }
-    ensures blames { BlamesFolder (F.folder_faults folder.old) (F.folder_faults folder.new) result }
+    ensures blames {
+        BlamesLoad (IsWantedIn (F.files folder.old) (λ files. spec.element_wired files wiring.old (view value.now)))
+        (F.failed folder.old) (F.failed folder.new) result }
 {
     match wire_element(alloc, value, wiring, folder) {
         Ok(()) => Ok(()),
@@ -51,10 +54,13 @@ fn wire_element<F: Folder>(
 ) -> Result<(), Stop>
     requires room { length wiring.old.parts < MAX_TRANSFORMS }
     requires sound { IsSound wiring.old }
-    ensures exact { (files : Files) → F.files folder.old ≡ Some files → ChangesTo result (spec.element_wired files wiring.old (view value.now)) wiring.new }
+    ensures exact { (files : Files) → F.files folder.old ≡ Some files
+        → ChangesTo result (spec.element_wired files wiring.old (view value.now)) wiring.new }
     ensures sound { OnOk result (IsSound wiring.new × (length wiring.new.parts ≡ length wiring.old.parts + 1)) }
     ensures same { F.files folder.new ≡ F.files folder.old }
-    ensures blames { BlamesInTests (F.folder_faults folder.old) (F.folder_faults folder.new) result }
+    ensures blames {
+        BlamesInTests (IsWantedIn (F.files folder.old) (λ files. spec.element_wired files wiring.old (view value.now)))
+        (F.failed folder.old) (F.failed folder.new) result }
 {
     let Some(table) = value.as_table() else {
         return Err(Stop::Cause(PlanCause::WrongType(PlanKey::Transform)));

@@ -1,11 +1,11 @@
 //! The tests of a whole plan file, once its transforms are connected.
 
-ghost use Rattle.std.specs.Prelude.{◌≡◌, ◌≤◌, ◌-◌, ℕ, length, map, take, is_none, IfOk};
+ghost use Rattle.std.specs.Prelude.{◌≡◌, ◌≢◌, ◌≤◌, ◌-◌, length, map, take, is_none, IfOk};
 ghost use Rattle.std.specs.Option.{option_map};
 ghost use Rattle.std.specs.List.{list_any, position};
 ghost use Rattle.sb_pipeline.specs.Plans.{has_windows};
 ghost use Rattle.sb_plan.specs.Failures.{by_text};
-ghost use Rattle.sb_plan.specs.PlanFiles.{AnswersPlan, BlamesFolder};
+ghost use Rattle.sb_plan.specs.PlanFiles.{AnswersPlan};
 ghost use Rattle.sb_plan.specs.PlanFiles as spec;
 ghost use Rattle.sb_plan.specs.Soundness.{IsSound};
 
@@ -22,7 +22,7 @@ pub(crate) fn finish(alloc: Global, wiring: Wiring) -> Result<Plan, PlanStop>
     requires most { length wiring.parts ≤ MAX_TRANSFORMS }
     requires sound { IsSound wiring }
     ensures exact { AnswersPlan result (by_text (spec.finished wiring)) }
-    ensures cause { (count : ℕ) → BlamesFolder count count result }
+    ensures cause { result ≢ Err PlanStop.Folder }
 {
     let parts = wiring.parts.as_slice();
     if let Some(k) = first_unused(parts) {

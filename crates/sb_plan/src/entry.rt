@@ -1,11 +1,11 @@
 //! One table of a plan file.
 
-ghost use Rattle.std.specs.Prelude.{◌≡◌, ℕ, Some, IfOk, is_some, string_bytes, bytes_eq};
+ghost use Rattle.std.specs.Prelude.{◌≡◌, ◌≢◌, Some, IfOk, is_some, string_bytes, bytes_eq};
 ghost use Rattle.std.specs.List.{list_all, list_any};
 ghost use Rattle.std.specs.BTreeMap.{keys};
 ghost use Rattle.toml.specs.View.{table_view};
 ghost use Rattle.sb_outside.specs.Folders.{Files};
-ghost use Rattle.sb_plan.specs.Answers.{AnswersTests, BlamesInTests};
+ghost use Rattle.sb_plan.specs.Answers.{AnswersTests, BlamesInTests, IsWantedIn};
 ghost use Rattle.sb_plan.specs.Failures.{by_text};
 ghost use Rattle.sb_plan.specs.Keys.{key_text};
 ghost use Rattle.sb_plan.specs.Entries as entries;
@@ -42,10 +42,13 @@ pub(crate) fn entry_at<F: Folder>(
     parts: &[Part],
     folder: &mut F,
 ) -> Result<Entry, Stop>
-    ensures exact { (files : Files) → F.files folder.old ≡ Some files → AnswersTests result (entries.entry_at files parts.now (table_view table.now)) }
+    ensures exact { (files : Files) → F.files folder.old ≡ Some files
+        → AnswersTests result (entries.entry_at files parts.now (table_view table.now)) }
     ensures valid { IfOk result IsValidEntry }
     ensures same { F.files folder.new ≡ F.files folder.old }
-    ensures blames { BlamesInTests (F.folder_faults folder.old) (F.folder_faults folder.new) result }
+    ensures blames {
+        BlamesInTests (IsWantedIn (F.files folder.old) (λ files. entries.entry_at files parts.now (table_view table.now)))
+        (F.failed folder.old) (F.failed folder.new) result }
 {
     let name = name_at(table, parts)?;
     let kind_name = kind_at(table)?;
@@ -80,7 +83,7 @@ fn kind_at(table: &Table) -> Result<KindName, PlanCause>
 fn right_at(alloc: Global, table: &Table, kind: KindName) -> Result<Option<Name>, Stop>
     ensures exact { AnswersTests result (by_text (entries.right_at kind (table_view table.now))) }
     ensures two { IfOk result (λ right. is_some right ≡ names_join kind) }
-    ensures blames { (count : ℕ) → BlamesInTests count count result }
+    ensures cause { result ≢ Err Stop.Folder }
 {
     match kind {
         KindName::Join => {

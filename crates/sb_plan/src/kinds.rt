@@ -3,7 +3,7 @@
 ghost use Rattle.std.specs.Prelude.{◌≡◌, ◌≤◌, Some, IfOk};
 ghost use Rattle.toml.specs.View.{table_view};
 ghost use Rattle.sb_outside.specs.Folders.{Files};
-ghost use Rattle.sb_plan.specs.Answers.{AnswersTests, BlamesInTests};
+ghost use Rattle.sb_plan.specs.Answers.{AnswersTests, BlamesInTests, IsWantedIn};
 ghost use Rattle.sb_plan.specs.Keys.{word_at};
 ghost use Rattle.sb_plan.specs.Words as word;
 ghost use Rattle.sb_plan.specs.Kinds as kinds;
@@ -135,10 +135,13 @@ pub(crate) fn transform_at<F: Folder>(
     table: &Table,
     folder: &mut F,
 ) -> Result<Kind, Stop>
-    ensures exact { (files : Files) → F.files folder.old ≡ Some files → AnswersTests result (kinds.transform_at files kind (table_view table.now)) }
+    ensures exact { (files : Files) → F.files folder.old ≡ Some files
+        → AnswersTests result (kinds.transform_at files kind (table_view table.now)) }
     ensures valid { IfOk result (IsOfKind kind) }
     ensures same { F.files folder.new ≡ F.files folder.old }
-    ensures blames { BlamesInTests (F.folder_faults folder.old) (F.folder_faults folder.new) result }
+    ensures blames {
+        BlamesInTests (IsWantedIn (F.files folder.old) (λ files. kinds.transform_at files kind (table_view table.now)))
+        (F.failed folder.old) (F.failed folder.new) result }
 {
     match kind {
         KindName::Filter => Ok(filter_at(table)?),

@@ -5,7 +5,9 @@ ghost use Rattle.std.specs.List.{list_all};
 ghost use Rattle.std.specs.BTreeMap.{keys};
 ghost use Rattle.toml.specs.View.{array_view, table_view};
 ghost use Rattle.sb_outside.specs.Folders.{Files};
-ghost use Rattle.sb_plan.specs.PlanFiles.{AnswersPlan, BlamesFolder};
+ghost use Rattle.sb_plan.specs.PlanFiles.{AnswersPlan};
+ghost use Rattle.sb_plan.specs.Answers.{IsWantedIn};
+ghost use Rattle.sb_plan.specs.Wants.{BlamesLoad, IsWantedBy};
 ghost use Rattle.sb_plan.specs.Entries.{all_keys};
 ghost use Rattle.sb_plan.specs.PlanFiles as spec;
 ghost use Rattle.sb_plan.specs.Soundness.{IsSound};
@@ -32,11 +34,13 @@ use toml::value::Array;
 #[tactic(auto, unfolding(crate::specs::PlanFiles::plan_of))]
 pub fn plan_of<F: Folder>(alloc: Global, text: &[u8], folder: &mut F) -> Result<Plan, PlanStop>
     // The plan of the text, or the first test that it fails.
-    ensures exact { (files : Files) → F.files folder.old ≡ Some files → AnswersPlan result (spec.plan_of files text.now) }
+    ensures exact { (files : Files) → F.files folder.old ≡ Some files
+        → AnswersPlan result (spec.plan_of files text.now) }
 
-    // The folder is named only where its count of faults rose, which never falls.
+    // The folder is named only if a load failed that the plan wants, and no other answer changes its list.
     ensures same { F.files folder.new ≡ F.files folder.old }
-    ensures cause { BlamesFolder (F.folder_faults folder.old) (F.folder_faults folder.new) result }
+    ensures cause {
+        BlamesLoad (IsWantedBy (F.files folder.old) text.now) (F.failed folder.old) (F.failed folder.new) result }
 {
     if text.len() > MAX_PLAN_BYTES {
         return Err(at_document(PlanCause::TooLong));
@@ -107,9 +111,12 @@ fn transforms_of<F: Folder>(
     elements: &Array,
     folder: &mut F,
 ) -> Result<Plan, PlanStop>
-    ensures exact { (files : Files) → F.files folder.old ≡ Some files → AnswersPlan result (spec.transforms_of files (array_view elements.now)) }
+    ensures exact { (files : Files) → F.files folder.old ≡ Some files
+        → AnswersPlan result (spec.transforms_of files (array_view elements.now)) }
     ensures same { F.files folder.new ≡ F.files folder.old }
-    ensures cause { BlamesFolder (F.folder_faults folder.old) (F.folder_faults folder.new) result }
+    ensures cause {
+        BlamesLoad (IsWantedIn (F.files folder.old) (λ files. spec.transforms_of files (array_view elements.now)))
+        (F.failed folder.old) (F.failed folder.new) result }
 {
     if elements.is_empty() {
         return Err(at_document(PlanCause::OutOfRange(PlanKey::Transform)));
@@ -130,10 +137,14 @@ fn wire_elements<F: Folder>(
     folder: &mut F,
 ) -> Result<Wiring, PlanStop>
     requires { length elements.now.items ≤ MAX_TRANSFORMS }
-    ensures exact { (files : Files) → F.files folder.old ≡ Some files → AnswersPlan result (spec.wired_from files 1 spec.unwired (array_view elements.now)) }
+    ensures exact { (files : Files) → F.files folder.old ≡ Some files
+        → AnswersPlan result (spec.wired_from files 1 spec.unwired (array_view elements.now)) }
     ensures sound { IfOk result (λ wiring. IsSound wiring × (length wiring.parts ≡ length elements.now.items)) }
     ensures same { F.files folder.new ≡ F.files folder.old }
-    ensures cause { BlamesFolder (F.folder_faults folder.old) (F.folder_faults folder.new) result }
+    ensures cause {
+        BlamesLoad
+        (IsWantedIn (F.files folder.old) (λ files. spec.wired_from files 1 spec.unwired (array_view elements.now)))
+        (F.failed folder.old) (F.failed folder.new) result }
 {
     let mut wiring = Wiring {
         parts: Sequence::new(Vec::new(alloc)),

@@ -1,9 +1,9 @@
 //! The tables of look-ups, which stand in files of their own.
 
-ghost use Rattle.std.specs.Prelude.{◌≡◌, ◌+◌, ℕ, List, Some, IfOk, take};
+ghost use Rattle.std.specs.Prelude.{◌≡◌, ◌≢◌, ◌+◌, ℕ, List, Some, IfOk, take};
 ghost use Rattle.toml.specs.View.{table_view};
 ghost use Rattle.sb_outside.specs.Folders.{Files};
-ghost use Rattle.sb_plan.specs.Answers.{AnswersTests, BlamesInTests, IsNoFault};
+ghost use Rattle.sb_plan.specs.Answers.{AnswersTests, BlamesInTests, IsNoFault, IsWantedIn};
 ghost use Rattle.sb_plan.specs.Failures.{by_text};
 ghost use Rattle.sb_plan.specs.Kinds as kinds;
 ghost use Rattle.sb_plan.specs.Soundness.{IsOfKind};
@@ -26,10 +26,13 @@ pub(crate) fn lookup_at<F: Folder>(
     table: &Table,
     folder: &mut F,
 ) -> Result<Kind, Stop>
-    ensures exact { (files : Files) → F.files folder.old ≡ Some files → AnswersTests result (kinds.lookup_at files (table_view table.now)) }
+    ensures exact { (files : Files) → F.files folder.old ≡ Some files
+        → AnswersTests result (kinds.lookup_at files (table_view table.now)) }
     ensures valid { IfOk result (IsOfKind KindName.Lookup) }
     ensures same { F.files folder.new ≡ F.files folder.old }
-    ensures blames { BlamesInTests (F.folder_faults folder.old) (F.folder_faults folder.new) result }
+    ensures blames {
+        BlamesInTests (IsWantedIn (F.files folder.old) (λ files. kinds.lookup_at files (table_view table.now)))
+        (F.failed folder.old) (F.failed folder.new) result }
 {
     let name = text_at(table, PlanKey::Table)?;
     if name.is_empty() {
@@ -42,10 +45,13 @@ pub(crate) fn lookup_at<F: Folder>(
 /// The bytes of the named file, or so many that it is seen to be too long.
 fn load<F: Folder>(alloc: Global, name: &str, folder: &mut F) -> Result<Vec<u8>, Stop>
     ensures bytes { (files : Files) → F.files folder.old ≡ Some files
-        → IfOk result (λ loaded. (bytes : List ℕ) × (files name.now ≡ Some bytes) × (loaded.items ≡ take (MAX_TABLE_BYTES + 1) bytes)) }
+        → IfOk result (λ loaded.
+        (bytes : List ℕ) × (files name.now ≡ Some bytes) × (loaded.items ≡ take (MAX_TABLE_BYTES + 1) bytes)) }
     ensures no_fault { IsNoFault result }
     ensures same { F.files folder.new ≡ F.files folder.old }
-    ensures blames { BlamesInTests (F.folder_faults folder.old) (F.folder_faults folder.new) result }
+    ensures blames {
+        BlamesInTests (λ load. load ≡ record { name = name.now; most = MAX_TABLE_BYTES + 1 })
+        (F.failed folder.old) (F.failed folder.new) result }
 {
     let mut bytes = Vec::new(alloc);
     match folder.load(name, MAX_TABLE_BYTES + 1, &mut bytes) {
@@ -59,7 +65,7 @@ fn load<F: Folder>(alloc: Global, name: &str, folder: &mut F) -> Result<Vec<u8>,
 #[tactic(auto, unfolding(crate::specs::Kinds::lookup_in))]
 fn lookup_in(alloc: Global, bytes: &[u8]) -> Result<Kind, Stop>
     ensures exact { AnswersTests result (by_text (kinds.lookup_in bytes.now)) }
-    ensures blames { (count : ℕ) → BlamesInTests count count result }
+    ensures cause { result ≢ Err Stop.Folder }
 {
     if bytes.len() > MAX_TABLE_BYTES {
         return Err(Stop::Cause(PlanCause::TableTooLong));

@@ -1,9 +1,9 @@
 //! How the transforms of a plan file are connected.
 
-ghost use Rattle.std.specs.Prelude.{◌≡◌, ◌<◌, ◌+◌, bytes_eq, ℕ, length, MatchResult, OnOk, Ok, Err};
+ghost use Rattle.std.specs.Prelude.{◌≡◌, ◌≢◌, ◌<◌, ◌+◌, bytes_eq, length, MatchResult, OnOk, Ok, Err};
 ghost use Rattle.std.specs.List.{list_any, position};
 ghost use Rattle.sb_pipeline.specs.Plans.{is_join};
-ghost use Rattle.sb_plan.specs.Answers.{BlamesInTests, ChangesTo};
+ghost use Rattle.sb_plan.specs.Answers.{ChangesTo};
 ghost use Rattle.sb_plan.specs.Failures.{by_text};
 ghost use Rattle.sb_plan.specs.Soundness.{IsSound, IsValidEntry};
 ghost use Rattle.sb_plan.specs.Wiring as spec;
@@ -41,7 +41,7 @@ pub(crate) fn connect(entry: Entry, wiring: &mut Wiring) -> Result<(), Stop>
     requires { length wiring.old.parts < MAX_TRANSFORMS }
     ensures exact { ChangesTo result (by_text (spec.connected entry wiring.old)) wiring.new }
     ensures sound { IsValidEntry entry → IsSound wiring.old → OnOk result (IsSound wiring.new × (length wiring.new.parts ≡ length wiring.old.parts + 1)) }
-    ensures blames { (count : ℕ) → BlamesInTests count count result }
+    ensures cause { result ≢ Err Stop.Folder }
 {
     if is_second_join(&entry.kind, wiring.parts.as_slice()) {
         return Err(Stop::Cause(PlanCause::TwoJoins));
@@ -56,7 +56,7 @@ pub(crate) fn connect(entry: Entry, wiring: &mut Wiring) -> Result<(), Stop>
 /// Adds the transform of an entry.
 fn push(entry: Entry, wiring: &mut Wiring) -> Result<(), Stop>
     ensures exact { ChangesTo result (Ok (spec.with_part entry wiring.old)) wiring.new }
-    ensures blames { (count : ℕ) → BlamesInTests count count result }
+    ensures cause { result ≢ Err Stop.Folder }
 {
     let part = Part {
         name: entry.name,

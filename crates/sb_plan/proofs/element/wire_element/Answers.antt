@@ -1,8 +1,9 @@
 use Rattle.std.proofs.Common.{◌∙◌, ap, subst, sym}
 use Rattle.toml.specs.View.{table_view, view}
-use Rattle.sb_plan.specs.Answers.{BlamesInTests, ChangesTo}
+use Rattle.sb_plan.specs.Answers.{ChangesTo}
 use Rattle.sb_plan.specs.Entries.{entry_at}
 use Rattle.sb_plan.proofs.Elements.{element_wired-entry}
+use Rattle.sb_plan.proofs.Blaming.{blames-none}
 use Rattle.sb_plan.proofs.element.wire_element.Goals as goal
 
 pub returns-in-Ok-clause-exact : goal.returns-in-Ok-clause-exact
@@ -13,6 +14,4 @@ returns-in-Ok-clause-exact g c = λ files told.
     (sym (element_wired-entry files c.args.wiring.now (view c.args.value.now) table c.in-Ok.entry (sym c.in-Some.ensures) entry)) c.connect.ensures.exact
 
 pub returns-in-Ok-clause-blames : goal.returns-in-Ok-clause-blames
-returns-in-Ok-clause-blames g c =
-    subst (λ before. BlamesInTests before (g.F.Folder.folder_faults c.entry_at.new.folder) c.connect.result) c.in-Ok.ensures.blames
-    (c.connect.ensures.blames (g.F.Folder.folder_faults c.entry_at.new.folder))
+returns-in-Ok-clause-blames g c = blames-none _ _ _ c.connect.result c.connect.ensures.cause c.in-Ok.ensures.blames

@@ -1,9 +1,11 @@
-use Rattle.std.proofs.Common.{◌+◌, ◌∙◌, ap, subst, sym, arith, drop, get_or}
-use Rattle.toml.specs.View.{items_view}
-use Rattle.sb_plan.specs.PlanFiles.{IsPlanStopOf}
-use Rattle.sb_plan.specs.PlanFiles.{wired_from}
+use Rattle.std.proofs.Common.{◌+◌, ◌∙◌, ap, subst, sym, arith, rules, drop, get_or}
+use Rattle.toml.specs.View.{items_view, view}
+use Rattle.sb_outside.specs.Folders.{without}
+use Rattle.sb_plan.specs.PlanFiles.{IsPlanStopOf, unwired, wired_from}
 use Rattle.sb_plan.proofs.Integers.{items_at}
-use Rattle.sb_plan.proofs.Elements.{wired_from-past}
+use Rattle.sb_plan.proofs.Elements.{takes_passed, wired_from-past}
+use Rattle.sb_plan.proofs.Absent.{SameOrNoFile, fewer-more, wired-fewer}
+use Rattle.sb_plan.proofs.Blaming.{blames-element}
 use Rattle.sb_plan.proofs.plan_text.wire_elements.Goals as goal
 
 pub returns-in-Err-clause-exact : goal.returns-in-Err-clause-exact
@@ -17,6 +19,41 @@ returns-in-Err-clause-exact g c = λ files told.
     let from = c.loop-value.invariant.same files told ∙ ap (wired_from files place wiring) (items_at vs i v (omega arith) at) in
     subst (λ wanted. IsPlanStopOf wanted c.in-Err.stop) (sym from)
     (c.in-Err.ensures.exact files (c.loop-value.invariant.told ∙ told) (items_view (drop (i + 1) vs)))
+
+pub returns-in-Err-clause-cause : goal.returns-in-Err-clause-cause
+returns-in-Err-clause-cause g c =
+    let vs = c.args.elements.now.items in
+    let i = c.loop-value.value-index in
+    let v = c.value-item.result in
+    let at = c.value-item.is ∙ ap (λ l. get_or l i v) c.deref-value-items.ensures.value in
+    blames-element _ _ (c.loop-value.place + 1) c.loop-value.wiring (view v) (items_view (drop (i + 1) vs)) (items_view (drop i vs)) (items_view vs) _ _ _ c.in-Err.stop
+    c.loop-value.invariant.told c.loop-value.invariant.unlisted (items_at vs i v (omega arith) at) c.loop-value.invariant.fewer c.in-Err.ensures.blames
+
+pub loop-value-preserved : goal.loop-value-preserved
+loop-value-preserved g c =
+    let vs = c.args.elements.now.items in
+    let i = c.loop-value.value-index in
+    let v = c.value-item.result in
+    let rest = items_view (drop (i + 1) vs) in
+    let place = c.loop-value.place + 1 in
+    let wiring = c.loop-value.wiring in
+    let at = c.value-item.is ∙ ap (λ l. get_or l i v) c.deref-value-items.ensures.value in
+    let items = items_at vs i v (omega arith) at in
+    record {
+      counted = omega arith;
+      few = omega arith;
+      sized = search rules;
+      sound = search rules;
+      told = c.in-Ok.ensures.same ∙ c.loop-value.invariant.told;
+      unlisted = c.in-Ok.ensures.blames ∙ c.loop-value.invariant.unlisted;
+      same = λ files told.
+          c.loop-value.invariant.same files told ∙ ap (wired_from files place wiring) items
+          ∙ takes_passed files place wiring c.take_element.new.wiring (view v) rest (c.in-Ok.ensures.exact files (c.loop-value.invariant.told ∙ told));
+      fewer = λ files name told.
+          fewer-more
+          (subst (λ from. SameOrNoFile (wired_from (without name files) 1 unwired (items_view vs)) (wired_from (without name files) place wiring from)) items (c.loop-value.invariant.fewer files name told))
+          (wired-fewer files name place wiring c.take_element.new.wiring (view v) rest (c.in-Ok.ensures.exact files (c.loop-value.invariant.told ∙ told)));
+    }
 
 pub returns-clause-exact : goal.returns-clause-exact
 returns-clause-exact g c = λ files told.

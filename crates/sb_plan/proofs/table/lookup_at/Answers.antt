@@ -2,6 +2,8 @@ use Rattle.std.proofs.Common.{◌≤◌, ◌∙◌, length, subst, sym, rules}
 use Rattle.sb_plan.specs.Answers.{AnswersTests, BlamesInTests}
 use Rattle.sb_plan.proofs.OfKinds.{looked_up-valid}
 use Rattle.sb_plan.proofs.Files.{lookup-read}
+use Rattle.sb_plan.proofs.Absent.{lookup-absent}
+use Rattle.sb_plan.proofs.Blaming.{blames-none, blames-part}
 use Rattle.toml.specs.View.{table_view}
 use Rattle.sb_plan.proofs.table.lookup_at.Goals as goal
 
@@ -15,9 +17,7 @@ returns-clause-exact g c = λ files told.
     c.lookup_in.ensures.exact
 
 pub returns-clause-blames : goal.returns-clause-blames
-returns-clause-blames g c =
-    subst (λ before. BlamesInTests before (g.F.Folder.folder_faults c.load.new.folder) c.lookup_in.result) c.in_ok-bytes.ensures.blames
-    (c.lookup_in.ensures.blames (g.F.Folder.folder_faults c.load.new.folder))
+returns-clause-blames g c = blames-none _ _ _ c.lookup_in.result c.lookup_in.ensures.cause c.in_ok-bytes.ensures.blames
 
 pub returns-clause-valid : goal.returns-clause-valid
 returns-clause-valid g c = looked_up-valid c.deref.result.now c.lookup_in.result c.lookup_in.ensures.exact

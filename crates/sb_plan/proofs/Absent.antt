@@ -1,0 +1,125 @@
+-- Tests that pass, where one file is taken away: they pass all the same, or find that the file is not there.
+use Rattle.std.proofs.Common.{◌≡◌, ◌≤◌, ◌+◌, ◌∙◌, ℕ, List, [], ◌∷◌, length, Some, Result, Ok, Err, refl, arith, inl, inr}
+use Rattle.std.specs.Prelude.{◌⊎◌, ◌==◌, nat_lt, bytes_eq, Bool, true, false, cond}
+use Rattle.std.proofs.lemmas.Bool.{cases_Bool}
+use Rattle.std.proofs.lemmas.Slice.Eq.{bytes_eq-Decides}
+use Rattle.toml.specs.Data.{Data, Items, item, Members, as_array, as_str, as_table}
+use Rattle.sb_outside.specs.Folders.{Files, without}
+use Rattle.sb_pardo.specs.TableFiles.{or_fault, then_test}
+use Rattle.sb_pipeline.specs.declared.transform.Kind.{Kind}
+use Rattle.sb_pipeline.specs.declared.transform.TheConstants.{MAX_TRANSFORMS}
+use Rattle.sb_plan.specs.declared.entry.Entry.{Entry}
+use Rattle.sb_plan.specs.declared.fault.PlanCause.TheVariants as cause
+use Rattle.sb_plan.specs.declared.fault.PlanKey.TheVariants as key
+use Rattle.sb_plan.specs.declared.wiring.Part.{Part}
+use Rattle.sb_plan.specs.declared.wiring.Wiring.{Wiring}
+use Rattle.sb_plan.specs.declared.words.KindName.{KindName}
+use Rattle.sb_plan.specs.declared.words.KindName.TheVariants as kind
+use Rattle.sb_plan.specs.declared.TheConstants.{MAX_PLAN_BYTES}
+use Rattle.sb_plan.specs.Failures.{Failure, by_text, in_file}
+use Rattle.sb_plan.specs.Failures.Failure.{Fails, NoFile}
+use Rattle.sb_plan.specs.Keys.{typed_at, word_at}
+use Rattle.sb_plan.specs.Kinds.{file_name, lookup_at, lookup_in, transform_at}
+use Rattle.sb_plan.specs.Entries.{all_keys, entry_at, is_key_of, kind_at, name_at}
+use Rattle.sb_plan.specs.Wiring.{connected}
+use Rattle.sb_plan.specs.PlanFiles.{document_of, element_wired, is_document_key, item_count, plan_of, transforms_of, unwired, wired_from}
+
+-- the tests answer the same, or that a file is not there
+abbrev pub SameOrNoFile : {A E : Type 0} → Result A (Failure E) → Result A (Failure E) → Type 0
+SameOrNoFile fewer all = (fewer ≡ all) ⊎ (fewer ≡ Err NoFile)
+
+pub fewer-more : {A E : Type 0} {r s t : Result A (Failure E)} → SameOrNoFile r s → SameOrNoFile s t → SameOrNoFile r t
+fewer-more (inl same) (inl more) = inl (same ∙ more)
+fewer-more (inl same) (inr none) = inr (same ∙ none)
+fewer-more (inr none) more = inr none
+
+-- the same tests before others
+then-fewer : {A B E : Type 0} (r : Result A (Failure E)) (all fewer : A → Result B (Failure E)) (b : B) → ((a : A) → all a ≡ Ok b → SameOrNoFile (fewer a) (Ok b))
+    → then_test r all ≡ Ok b → SameOrNoFile (then_test r fewer) (Ok b)
+then-fewer (Ok a) all fewer b next h = next a h
+then-fewer (Err e) all fewer b next h = cc
+
+if-fewer : {B E : Type 0} (c : Bool) (e : Failure E) (all fewer : Result B (Failure E)) (b : B) → (all ≡ Ok b → SameOrNoFile fewer (Ok b))
+    → cond c all (Err e) ≡ Ok b → SameOrNoFile (cond c fewer (Err e)) (Ok b)
+if-fewer true e all fewer b next h = next h
+if-fewer false e all fewer b next h = cc
+
+-- the same tests behind others
+fewer-then : {A B E : Type 0} (all fewer : Result A (Failure E)) (next : A → Result B (Failure E)) (b : B) → ((a : A) → all ≡ Ok a → SameOrNoFile fewer (Ok a))
+    → then_test all next ≡ Ok b → SameOrNoFile (then_test fewer next) (Ok b)
+fewer-then (Ok a) fewer next b first h = elim (first a refl) [ inl same ↦ inl (rw same h) | inr none ↦ inr (rw none refl) ]
+fewer-then (Err e) fewer next b first h = cc
+
+-- without its file a look-up finds none
+pub lookup-absent : (files : Files) (table : Members) (name : List ℕ) → typed_at as_str key.Table table ≡ Ok name → 1 ≤ length name
+    → lookup_at (without name files) table ≡ Err NoFile
+unfolding lookup_at word_at
+lookup-absent files table [] typed some = absurd (omega arith)
+lookup-absent files table (c ∷ cs) typed some = rw typed (rw ((bytes_eq-Decides (c ∷ cs) (c ∷ cs)).1 refl) refl)
+
+module _ (files : Files) (name : List ℕ) where
+  file-fewer : {A E : Type 0} (read : List ℕ → Result A (Failure E)) (other : List ℕ) (x : A) → in_file read (files other) ≡ Ok x
+      → SameOrNoFile (in_file read (without name files other)) (Ok x)
+  file-fewer read other x h = elim (cases_Bool (bytes_eq name other)) [
+    | inl same ↦ inr (rw same refl)
+    | inr differs ↦ inl (rw differs h)
+  ]
+
+  lookup-fewer : (table : Members) (k : Kind) → lookup_at files table ≡ Ok k → SameOrNoFile (lookup_at (without name files) table) (Ok k)
+  unfolding lookup_at
+  lookup-fewer table k = then-fewer (by_text (word_at file_name key.Table table)) _ _ k (λ other. file-fewer (λ bytes. by_text (lookup_in bytes)) other k)
+
+  transform-fewer : (of : KindName) (table : Members) (k : Kind) → transform_at files of table ≡ Ok k → SameOrNoFile (transform_at (without name files) of table) (Ok k)
+  unfolding transform_at
+  transform-fewer kind.Filter table k h = inl h
+  transform-fewer kind.Map table k h = inl h
+  transform-fewer kind.Expand table k h = inl h
+  transform-fewer kind.Lookup table k h = lookup-fewer table k h
+  transform-fewer kind.Count table k h = inl h
+  transform-fewer kind.Sum table k h = inl h
+  transform-fewer kind.Min table k h = inl h
+  transform-fewer kind.Max table k h = inl h
+  transform-fewer kind.Distinct table k h = inl h
+  transform-fewer kind.Top table k h = inl h
+  transform-fewer kind.Join table k h = inl h
+
+  entry-fewer : (parts : List Part) (table : Members) (entry : Entry) → entry_at files parts table ≡ Ok entry → SameOrNoFile (entry_at (without name files) parts table) (Ok entry)
+  unfolding entry_at
+  entry-fewer parts table entry =
+      then-fewer (by_text (name_at parts table)) _ _ entry (λ own.
+      then-fewer (by_text (kind_at table)) _ _ entry (λ of.
+      if-fewer (all_keys (is_key_of of) table) (Fails cause.UnknownField) _ _ entry (
+      then-fewer (by_text (typed_at as_str key.From table)) _ _ entry (λ left.
+      fewer-then (transform_at files of table) (transform_at (without name files) of table) _ entry (transform-fewer of table)))))
+
+  element-fewer : (wiring more : Wiring) (value : Data) → element_wired files wiring value ≡ Ok more → SameOrNoFile (element_wired (without name files) wiring value) (Ok more)
+  unfolding element_wired
+  element-fewer wiring more value =
+      then-fewer (by_text (or_fault (cause.WrongType key.Transform) (as_table value))) _ _ more (λ table.
+      fewer-then (entry_at files wiring.parts table) (entry_at (without name files) wiring.parts table) _ more (entry-fewer wiring.parts table))
+
+  -- one element more, which passes with the file
+  pub wired-fewer : (place : ℕ) (old new : Wiring) (value : Data) (rest : Items) → element_wired files old value ≡ Ok new
+      → SameOrNoFile (wired_from (without name files) place old (item value rest)) (wired_from (without name files) (place + 1) new rest)
+  unfolding wired_from
+  wired-fewer place old new value rest h = elim (element-fewer old new value h) [
+    | inl same ↦ inl (rw same refl)
+    | inr none ↦ inr (rw none refl)
+  ]
+
+module _ (files : Files) where
+  -- an element whose file is not there
+  pub wired-absent : (place : ℕ) (wiring : Wiring) (value : Data) (rest : Items) → element_wired files wiring value ≡ Err NoFile → wired_from files place wiring (item value rest) ≡ Err NoFile
+  unfolding wired_from
+  wired-absent place wiring value rest h = rw h refl
+
+  pub transforms-absent : (items : Items) → (item_count items == 0) ≡ false → nat_lt MAX_TRANSFORMS (item_count items) ≡ false → wired_from files 1 unwired items ≡ Err NoFile
+      → transforms_of files items ≡ Err NoFile
+  unfolding transforms_of
+  transforms-absent items some few none = rw (some, few, none) refl
+
+  -- the plan of a text whose document has transforms
+  pub plan_of-items : (text : List ℕ) (document : Members) (items : Items) → nat_lt MAX_PLAN_BYTES (length text) ≡ false → document_of text ≡ Some document
+      → all_keys is_document_key document ≡ true → typed_at as_array key.Transform document ≡ Ok items → plan_of files text ≡ transforms_of files items
+  unfolding plan_of
+  plan_of-items text document items short read known typed = rw (short, read, known, typed) refl
