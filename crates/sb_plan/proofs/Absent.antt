@@ -1,13 +1,11 @@
 -- Tests that pass, where one file is taken away: they pass all the same, or find that the file is not there.
-use Rattle.std.proofs.Common.{◌≡◌, ◌≤◌, ◌+◌, ◌∙◌, ℕ, List, [], ◌∷◌, length, Some, Result, Ok, Err, refl, arith, inl, inr}
-use Rattle.std.specs.Prelude.{◌⊎◌, ◌==◌, nat_lt, bytes_eq, Bool, true, false, cond}
+use Rattle.std.proofs.Common.{◌≡◌, ◌+◌, ◌∙◌, ℕ, List, Result, Ok, Err, refl, inl, inr}
+use Rattle.std.specs.Prelude.{◌⊎◌, bytes_eq, Bool, true, false, cond}
 use Rattle.std.proofs.lemmas.Bool.{cases_Bool}
-use Rattle.std.proofs.lemmas.Slice.Eq.{bytes_eq-Decides}
-use Rattle.toml.specs.Data.{Data, Items, item, Members, as_array, as_str, as_table}
+use Rattle.toml.specs.Data.{Data, Items, item, Members, as_str, as_table}
 use Rattle.sb_outside.specs.Folders.{Files, without}
 use Rattle.sb_pardo.specs.TableFiles.{or_fault, then_test}
 use Rattle.sb_pipeline.specs.declared.transform.Kind.{Kind}
-use Rattle.sb_pipeline.specs.declared.transform.TheConstants.{MAX_TRANSFORMS}
 use Rattle.sb_plan.specs.declared.entry.Entry.{Entry}
 use Rattle.sb_plan.specs.declared.fault.PlanCause.TheVariants as cause
 use Rattle.sb_plan.specs.declared.fault.PlanKey.TheVariants as key
@@ -15,16 +13,14 @@ use Rattle.sb_plan.specs.declared.wiring.Part.{Part}
 use Rattle.sb_plan.specs.declared.wiring.Wiring.{Wiring}
 use Rattle.sb_plan.specs.declared.words.KindName.{KindName}
 use Rattle.sb_plan.specs.declared.words.KindName.TheVariants as kind
-use Rattle.sb_plan.specs.declared.TheConstants.{MAX_PLAN_BYTES}
 use Rattle.sb_plan.specs.Failures.{Failure, by_text, in_file}
 use Rattle.sb_plan.specs.Failures.Failure.{Fails, NoFile}
 use Rattle.sb_plan.specs.Keys.{typed_at, word_at}
 use Rattle.sb_plan.specs.Kinds.{file_name, lookup_at, lookup_in, transform_at}
 use Rattle.sb_plan.specs.Entries.{all_keys, entry_at, is_key_of, kind_at, name_at}
-use Rattle.sb_plan.specs.Wiring.{connected}
-use Rattle.sb_plan.specs.PlanFiles.{document_of, element_wired, is_document_key, item_count, plan_of, transforms_of, unwired, wired_from}
+use Rattle.sb_plan.specs.PlanFiles.{element_wired, wired_from}
 
--- the tests answer the same, or that a file is not there
+-- fewer files give the same answer, or that one is not there
 abbrev pub SameOrNoFile : {A E : Type 0} → Result A (Failure E) → Result A (Failure E) → Type 0
 SameOrNoFile fewer all = (fewer ≡ all) ⊎ (fewer ≡ Err NoFile)
 
@@ -33,7 +29,7 @@ fewer-more (inl same) (inl more) = inl (same ∙ more)
 fewer-more (inl same) (inr none) = inr (same ∙ none)
 fewer-more (inr none) more = inr none
 
--- the same tests before others
+-- files matter only for the next tests
 then-fewer : {A B E : Type 0} (r : Result A (Failure E)) (all fewer : A → Result B (Failure E)) (b : B) → ((a : A) → all a ≡ Ok b → SameOrNoFile (fewer a) (Ok b))
     → then_test r all ≡ Ok b → SameOrNoFile (then_test r fewer) (Ok b)
 then-fewer (Ok a) all fewer b next h = next a h
@@ -44,18 +40,11 @@ if-fewer : {B E : Type 0} (c : Bool) (e : Failure E) (all fewer : Result B (Fail
 if-fewer true e all fewer b next h = next h
 if-fewer false e all fewer b next h = cc
 
--- the same tests behind others
+-- files matter only for the first tests
 fewer-then : {A B E : Type 0} (all fewer : Result A (Failure E)) (next : A → Result B (Failure E)) (b : B) → ((a : A) → all ≡ Ok a → SameOrNoFile fewer (Ok a))
     → then_test all next ≡ Ok b → SameOrNoFile (then_test fewer next) (Ok b)
 fewer-then (Ok a) fewer next b first h = elim (first a refl) [ inl same ↦ inl (rw same h) | inr none ↦ inr (rw none refl) ]
 fewer-then (Err e) fewer next b first h = cc
-
--- without its file a look-up finds none
-pub lookup-absent : (files : Files) (table : Members) (name : List ℕ) → typed_at as_str key.Table table ≡ Ok name → 1 ≤ length name
-    → lookup_at (without name files) table ≡ Err NoFile
-unfolding lookup_at word_at
-lookup-absent files table [] typed some = absurd (omega arith)
-lookup-absent files table (c ∷ cs) typed some = rw typed (rw ((bytes_eq-Decides (c ∷ cs) (c ∷ cs)).1 refl) refl)
 
 module _ (files : Files) (name : List ℕ) where
   file-fewer : {A E : Type 0} (read : List ℕ → Result A (Failure E)) (other : List ℕ) (x : A) → in_file read (files other) ≡ Ok x
@@ -107,19 +96,8 @@ module _ (files : Files) (name : List ℕ) where
     | inr none ↦ inr (rw none refl)
   ]
 
-module _ (files : Files) where
-  -- an element whose file is not there
-  pub wired-absent : (place : ℕ) (wiring : Wiring) (value : Data) (rest : Items) → element_wired files wiring value ≡ Err NoFile → wired_from files place wiring (item value rest) ≡ Err NoFile
-  unfolding wired_from
-  wired-absent place wiring value rest h = rw h refl
-
-  pub transforms-absent : (items : Items) → (item_count items == 0) ≡ false → nat_lt MAX_TRANSFORMS (item_count items) ≡ false → wired_from files 1 unwired items ≡ Err NoFile
-      → transforms_of files items ≡ Err NoFile
-  unfolding transforms_of
-  transforms-absent items some few none = rw (some, few, none) refl
-
-  -- the plan of a text whose document has transforms
-  pub plan_of-items : (text : List ℕ) (document : Members) (items : Items) → nat_lt MAX_PLAN_BYTES (length text) ≡ false → document_of text ≡ Some document
-      → all_keys is_document_key document ≡ true → typed_at as_array key.Transform document ≡ Ok items → plan_of files text ≡ transforms_of files items
-  unfolding plan_of
-  plan_of-items text document items short read known typed = rw (short, read, known, typed) refl
+-- an element whose file is not there
+pub wired-absent : (files : Files) (place : ℕ) (wiring : Wiring) (value : Data) (rest : Items) → element_wired files wiring value ≡ Err NoFile
+    → wired_from files place wiring (item value rest) ≡ Err NoFile
+unfolding wired_from
+wired-absent files place wiring value rest h = rw h refl

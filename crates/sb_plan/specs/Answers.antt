@@ -12,7 +12,7 @@ use Rattle.sb_plan.specs.Failures.Failure.{Fails, NoFile}
 use Rattle.sb_plan.specs.declared.TheConstants.{MAX_TABLE_BYTES}
 use Rattle.sb_plan.specs.PlanFiles.{IsPlanStopOf, element_wired, wired_from}
 
--- the test that failed is the first that fails; nothing is said if a load failed or memory was wanting
+-- the test that failed is the first that fails; nothing is said if a load failed or memory ran out
 abbrev pub IsStopOf : {A : Type 0} → Result A (Failure PlanCause) → Stop → Type 0
 IsStopOf wanted (stop.Cause cause) = wanted ≡ Err (Fails cause)
 IsStopOf wanted stop.Folder = ⊤
@@ -51,4 +51,5 @@ IsNoFault (Err stop.Memory) = ⊤
 -- one element more: it passes, or the tests from it on find its fault, whatever follows it
 abbrev pub TakesElement : {A : Type 0} → Files → ℕ → Wiring → Data → Result A PlanStop → Wiring → Type 0
 TakesElement files place old value (Ok x) new = element_wired files old value ≡ Ok new
-TakesElement files place old value (Err s) new = (rest : Items) → IsPlanStopOf (wired_from files place old (item value rest)) s
+TakesElement files place old value (Err s) new =
+    (rest : Items) → IsPlanStopOf (wired_from files place old (item value rest)) s

@@ -81,7 +81,7 @@ unfoldable pub right_at : KindName → Members → Result (Option (List ℕ)) Pl
 right_at kind.Join table = then_test (typed_at as_str key.With table) (λ input. Ok (Some input))
 right_at _ table = Ok None
 
--- all that the table says by itself, where the transforms before it are these
+-- all that the table says by itself, if the transforms before it are these
 unfoldable pub entry_at : Files → List Part → Members → Result Entry (Failure PlanCause)
 entry_at files parts table =
     then_test (by_text (name_at parts table)) (λ name.

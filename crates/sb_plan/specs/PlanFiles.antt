@@ -26,7 +26,7 @@ use Rattle.sb_plan.specs.Keys.{key_text, typed_at}
 use Rattle.sb_plan.specs.Entries.{all_keys, entry_at}
 use Rattle.sb_plan.specs.Wiring.{connected}
 
--- the table that some bytes are, where they are UTF-8 and TOML
+-- the table that some bytes are, if they are UTF-8 and TOML
 unfoldable pub document_of : List ℕ → Option Members
 document_of bytes = if is_utf8 bytes then parse_document bytes else None
 
@@ -34,7 +34,7 @@ document_of bytes = if is_utf8 bytes then parse_document bytes else None
 abbrev pub fault_at : ℕ → PlanCause → PlanFault
 fault_at place cause = record { at = place; what = cause }
 
--- the next tests, where those at this place passed
+-- the next tests, if those at this place passed
 abbrev pub at_place : {A B : Type 0} → ℕ → Result A (Failure PlanCause) → (A → Result B (Failure PlanFault)) → Result B (Failure PlanFault)
 at_place place (Ok x) next = next x
 at_place place (Err (Fails cause)) next = Err (Fails (fault_at place cause))
@@ -102,7 +102,7 @@ transforms_of files items =
 abbrev pub is_document_key : List ℕ → Bool
 is_document_key text = bytes_eq text (key_text key.Transform)
 
--- the plan of a text, where the files of the folder are these; or the first test that it fails, or that a file is not there
+-- the plan of a text, for a folder of these files; or the first test that it fails, or that a file is not there
 unfoldable pub plan_of : Files → List ℕ → Result Shape (Failure PlanFault)
 plan_of files text =
     if nat_lt MAX_PLAN_BYTES (length text) then Err (Fails (fault_at 0 TooLong))
@@ -111,7 +111,7 @@ plan_of files text =
     then at_place 0 (by_text (typed_at as_array key.Transform document)) (transforms_of files)
     else Err (Fails (fault_at 0 UnknownField)))
 
--- the fault is the first one of the text; nothing is said if a load failed or memory was wanting
+-- the fault is the first one of the text; nothing is said if a load failed or memory ran out
 abbrev pub IsPlanStopOf : {A : Type 0} → Result A (Failure PlanFault) → PlanStop → Type 0
 IsPlanStopOf wanted (stop.Fault fault) = wanted ≡ Err (Fails fault)
 IsPlanStopOf wanted stop.Folder = ⊤

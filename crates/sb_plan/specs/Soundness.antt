@@ -21,7 +21,7 @@ names_join _ = false
 abbrev pub IsOfKind : KindName → Kind → Type 0
 IsOfKind name transform = IsValidKind transform × (is_join transform ≡ names_join name)
 
--- an entry whose transform a plan may have, with a right input just where it is a join
+-- an entry whose transform a plan may have, with a right input just if it is a join
 abbrev pub IsValidEntry : Entry → Type 0
 IsValidEntry entry = IsValidKind entry.kind × (is_some entry.right ≡ is_join entry.kind)
 
@@ -34,7 +34,7 @@ lanes_in (Some part) = lanes_of (operator_of part.kind)
 abbrev pub IsLane : List Part → Down → Type 0
 IsLane parts place = place.lane < lanes_in (slice_get parts place.node)
 
--- 1 where it goes to the place, and else 0
+-- 1 if it goes to the place, and else 0
 abbrev pub goes : Down → Option Down → ℕ
 goes place None = 0
 goes place (Some down) = cond (is_same_place place down) 1 0

@@ -32,8 +32,8 @@ pub(crate) fn take_element<F: Folder>(
         → TakesElement files place wiring.old (view value.now) result wiring.new }
     ensures sound { OnOk result (IsSound wiring.new × (length wiring.new.parts ≡ length wiring.old.parts + 1)) }
     ensures same { F.files folder.new ≡ F.files folder.old }
-    ensures blames {
-        BlamesLoad (IsWantedIn (F.files folder.old) (λ files. spec.element_wired files wiring.old (view value.now)))
+    ensures blames { BlamesLoad
+        (IsWantedIn (F.files folder.old) (λ files. spec.element_wired files wiring.old (view value.now)))
         (F.failed folder.old) (F.failed folder.new) result }
 {
     match wire_element(alloc, value, wiring, folder) {
@@ -58,8 +58,8 @@ fn wire_element<F: Folder>(
         → ChangesTo result (spec.element_wired files wiring.old (view value.now)) wiring.new }
     ensures sound { OnOk result (IsSound wiring.new × (length wiring.new.parts ≡ length wiring.old.parts + 1)) }
     ensures same { F.files folder.new ≡ F.files folder.old }
-    ensures blames {
-        BlamesInTests (IsWantedIn (F.files folder.old) (λ files. spec.element_wired files wiring.old (view value.now)))
+    ensures blames { BlamesInTests
+        (IsWantedIn (F.files folder.old) (λ files. spec.element_wired files wiring.old (view value.now)))
         (F.failed folder.old) (F.failed folder.new) result }
 {
     let Some(table) = value.as_table() else {

@@ -15,7 +15,7 @@ use sb_pipeline::{Down, MAX_TRANSFORMS, Plan, Step};
 use sb_record::NoMemory;
 use std::alloc::Global;
 
-/// The plan of the transforms, where each but the last goes somewhere, and one is an aggregation or a join.
+/// The plan of the transforms, if each but the last goes somewhere, and one is an aggregation or a join.
 #[tactic(auto, unfolding(crate::specs::PlanFiles::finished))]
 pub(crate) fn finish(alloc: Global, wiring: Wiring) -> Result<Plan, PlanStop>
     requires some { 1 ≤ length wiring.parts }

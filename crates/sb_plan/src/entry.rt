@@ -34,7 +34,7 @@ pub(crate) struct Entry {
     pub right: Option<Name>,
 }
 
-/// The entry of a table, where the transforms before it are these.
+/// The entry of a table, if the transforms before it are these.
 #[tactic(auto, unfolding(crate::specs::Entries::entry_at))]
 pub(crate) fn entry_at<F: Folder>(
     alloc: Global,
@@ -46,8 +46,8 @@ pub(crate) fn entry_at<F: Folder>(
         → AnswersTests result (entries.entry_at files parts.now (table_view table.now)) }
     ensures valid { IfOk result IsValidEntry }
     ensures same { F.files folder.new ≡ F.files folder.old }
-    ensures blames {
-        BlamesInTests (IsWantedIn (F.files folder.old) (λ files. entries.entry_at files parts.now (table_view table.now)))
+    ensures blames { BlamesInTests
+        (IsWantedIn (F.files folder.old) (λ files. entries.entry_at files parts.now (table_view table.now)))
         (F.failed folder.old) (F.failed folder.new) result }
 {
     let name = name_at(table, parts)?;

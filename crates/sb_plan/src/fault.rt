@@ -101,8 +101,8 @@ pub struct PlanFault {
 pub enum PlanStop {
     /// The first test that fails.
     Fault(PlanFault),
-    /// The folder could not load a table, and has counted that.
+    /// The folder could not load a table, and has listed the load.
     Folder,
-    /// Memory was wanting.
+    /// There was not enough memory.
     Memory,
 }

@@ -19,7 +19,8 @@ pub(crate) fn value_at<'a>(table: &'a Table, key: PlanKey) -> Option<&'a Value>
 
 /// The text at a key.
 pub(crate) fn text_at<'a>(table: &'a Table, key: PlanKey) -> Result<&'a str, PlanCause>
-    ensures { MatchResult result (λ s. typed_at as_str key (table_view table.now) ≡ Ok s.now) (λ e. typed_at as_str key (table_view table.now) ≡ Err e) }
+    ensures { MatchResult result (λ s. typed_at as_str key (table_view table.now) ≡ Ok s.now)
+        (λ e. typed_at as_str key (table_view table.now) ≡ Err e) }
 {
     match value_at(table, key) {
         None => Err(PlanCause::Missing(key)),
@@ -45,7 +46,8 @@ pub(crate) fn integer_at(table: &Table, key: PlanKey) -> Result<i64, PlanCause>
 
 /// The array at a key.
 pub(crate) fn array_at<'a>(table: &'a Table, key: PlanKey) -> Result<&'a Array, PlanCause>
-    ensures { MatchResult result (λ a. typed_at as_array key (table_view table.now) ≡ Ok (array_view a.now)) (λ e. typed_at as_array key (table_view table.now) ≡ Err e) }
+    ensures { MatchResult result (λ a. typed_at as_array key (table_view table.now) ≡ Ok (array_view a.now))
+        (λ e. typed_at as_array key (table_view table.now) ≡ Err e) }
 {
     match value_at(table, key) {
         None => Err(PlanCause::Missing(key)),

@@ -139,8 +139,8 @@ pub(crate) fn transform_at<F: Folder>(
         → AnswersTests result (kinds.transform_at files kind (table_view table.now)) }
     ensures valid { IfOk result (IsOfKind kind) }
     ensures same { F.files folder.new ≡ F.files folder.old }
-    ensures blames {
-        BlamesInTests (IsWantedIn (F.files folder.old) (λ files. kinds.transform_at files kind (table_view table.now)))
+    ensures blames { BlamesInTests
+        (IsWantedIn (F.files folder.old) (λ files. kinds.transform_at files kind (table_view table.now)))
         (F.failed folder.old) (F.failed folder.new) result }
 {
     match kind {

@@ -48,7 +48,8 @@ impl Name {
 /// The name at `name`, which none of the earlier transforms has.
 #[tactic(auto, unfolding(crate::specs::Entries::name_at, crate::specs::Entries::name_of, crate::specs::Keys::word_at))]
 pub(crate) fn name_at<'a>(table: &'a Table, parts: &[Part]) -> Result<&'a str, PlanCause>
-    ensures { MatchResult result (λ s. entries.name_at parts.now (table_view table.now) ≡ Ok s.now) (λ e. entries.name_at parts.now (table_view table.now) ≡ Err e) }
+    ensures { MatchResult result (λ s. entries.name_at parts.now (table_view table.now) ≡ Ok s.now)
+        (λ e. entries.name_at parts.now (table_view table.now) ≡ Err e) }
 {
     let name = text_at(table, PlanKey::Name)?;
     if !is_spelled_as_name(name) || is_stream_name(name) {

@@ -29,18 +29,20 @@ use toml::value::Array;
 ///
 /// # Errors
 ///
-/// The first test that the text fails, in the order of the definition, and the place of the transform that fails it; or
-/// the folder could not load a table. What is said of the text holds where the folder tells its files.
+/// The first test that the text fails, in the order of the definition, and the place of the transform that fails it;
+/// or `Folder` if a table could not be loaded at its turn, before any test that fails: then the folder has listed that
+/// load, of at most [`MAX_TABLE_BYTES`](crate::MAX_TABLE_BYTES)` + 1` bytes, and no other. What is said of the text
+/// holds if the folder tells its files.
 #[tactic(auto, unfolding(crate::specs::PlanFiles::plan_of))]
 pub fn plan_of<F: Folder>(alloc: Global, text: &[u8], folder: &mut F) -> Result<Plan, PlanStop>
     // The plan of the text, or the first test that it fails.
     ensures exact { (files : Files) → F.files folder.old ≡ Some files
         → AnswersPlan result (spec.plan_of files text.now) }
 
-    // The folder is named only if a load failed that the plan wants, and no other answer changes its list.
+    // `Folder` only if a load failed that the plan wants; no other answer changes the list of those that failed.
     ensures same { F.files folder.new ≡ F.files folder.old }
-    ensures cause {
-        BlamesLoad (IsWantedBy (F.files folder.old) text.now) (F.failed folder.old) (F.failed folder.new) result }
+    ensures cause { BlamesLoad (IsWantedBy (F.files folder.old) text.now)
+        (F.failed folder.old) (F.failed folder.new) result }
 {
     if text.len() > MAX_PLAN_BYTES {
         return Err(at_document(PlanCause::TooLong));
@@ -114,8 +116,8 @@ fn transforms_of<F: Folder>(
     ensures exact { (files : Files) → F.files folder.old ≡ Some files
         → AnswersPlan result (spec.transforms_of files (array_view elements.now)) }
     ensures same { F.files folder.new ≡ F.files folder.old }
-    ensures cause {
-        BlamesLoad (IsWantedIn (F.files folder.old) (λ files. spec.transforms_of files (array_view elements.now)))
+    ensures cause { BlamesLoad
+        (IsWantedIn (F.files folder.old) (λ files. spec.transforms_of files (array_view elements.now)))
         (F.failed folder.old) (F.failed folder.new) result }
 {
     if elements.is_empty() {
@@ -141,8 +143,7 @@ fn wire_elements<F: Folder>(
         → AnswersPlan result (spec.wired_from files 1 spec.unwired (array_view elements.now)) }
     ensures sound { IfOk result (λ wiring. IsSound wiring × (length wiring.parts ≡ length elements.now.items)) }
     ensures same { F.files folder.new ≡ F.files folder.old }
-    ensures cause {
-        BlamesLoad
+    ensures cause { BlamesLoad
         (IsWantedIn (F.files folder.old) (λ files. spec.wired_from files 1 spec.unwired (array_view elements.now)))
         (F.failed folder.old) (F.failed folder.new) result }
 {

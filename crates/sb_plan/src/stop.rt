@@ -7,9 +7,9 @@ use sb_record::NoMemory;
 pub(crate) enum Stop {
     /// The first test that the table fails.
     Cause(PlanCause),
-    /// The folder could not load a file, and has counted that.
+    /// The folder could not load a file, and has listed the load.
     Folder,
-    /// Memory was wanting.
+    /// There was not enough memory.
     Memory,
 }
 

@@ -30,8 +30,8 @@ pub(crate) fn lookup_at<F: Folder>(
         → AnswersTests result (kinds.lookup_at files (table_view table.now)) }
     ensures valid { IfOk result (IsOfKind KindName.Lookup) }
     ensures same { F.files folder.new ≡ F.files folder.old }
-    ensures blames {
-        BlamesInTests (IsWantedIn (F.files folder.old) (λ files. kinds.lookup_at files (table_view table.now)))
+    ensures blames { BlamesInTests
+        (IsWantedIn (F.files folder.old) (λ files. kinds.lookup_at files (table_view table.now)))
         (F.failed folder.old) (F.failed folder.new) result }
 {
     let name = text_at(table, PlanKey::Table)?;
@@ -49,8 +49,7 @@ fn load<F: Folder>(alloc: Global, name: &str, folder: &mut F) -> Result<Vec<u8>,
         (bytes : List ℕ) × (files name.now ≡ Some bytes) × (loaded.items ≡ take (MAX_TABLE_BYTES + 1) bytes)) }
     ensures no_fault { IsNoFault result }
     ensures same { F.files folder.new ≡ F.files folder.old }
-    ensures blames {
-        BlamesInTests (λ load. load ≡ record { name = name.now; most = MAX_TABLE_BYTES + 1 })
+    ensures blames { BlamesInTests (λ load. load ≡ record { name = name.now; most = MAX_TABLE_BYTES + 1 })
         (F.failed folder.old) (F.failed folder.new) result }
 {
     let mut bytes = Vec::new(alloc);

@@ -1,6 +1,6 @@
 //! Which texts are plans, and which test each of the others fails.
 
-use crate::{MAX_PLAN_BYTES, MAX_TABLE_BYTES, PlanCause, PlanFault, PlanKey, PlanStop, plan_of};
+use crate::{PlanCause, PlanFault, PlanKey, PlanStop, plan_of};
 use sb_aggregate::Agg;
 use sb_join::Combine;
 use sb_outside::MemFolder;
@@ -495,11 +495,11 @@ fn tables(alloc: Global, failing: Vec<u64>) -> Result<MemFolder, AllocError> {
     files.insert("twice.csv".to_string(alloc)?, twice)?;
     let one = Vec::from_slice(alloc, b"101")?;
     files.insert("one.csv".to_string(alloc)?, one)?;
-    let full = vec![in alloc; b'\n'; MAX_TABLE_BYTES]?;
+    let full = vec![in alloc; b'\n'; 4_194_304]?;
     files.insert("full.csv".to_string(alloc)?, full)?;
-    let long = vec![in alloc; b'\n'; MAX_TABLE_BYTES + 1]?;
+    let long = vec![in alloc; b'\n'; 4_194_305]?;
     files.insert("long.csv".to_string(alloc)?, long)?;
-    Ok(MemFolder::new(files, failing))
+    Ok(MemFolder::new(alloc, files, failing))
 }
 
 /// Why the text is no plan.
@@ -524,14 +524,14 @@ fn documents_that_are_no_plans(rt: HostRuntime) -> Result<(), AllocError> {
     }
     let stop = stop_of(alloc, &[b'#', 0xff], &mut folder);
     assert_eq!(rt; stop, fault(0, PlanCause::NotToml), "no text");
-    let longest = vec![in alloc; b'\n'; MAX_PLAN_BYTES]?;
+    let longest = vec![in alloc; b'\n'; 1_048_576]?;
     let stop = stop_of(alloc, &longest, &mut folder);
     assert_eq!(rt;
         stop,
         fault(0, PlanCause::Missing(PlanKey::Transform)),
         "longest"
     );
-    let too_long = vec![in alloc; b'x'; MAX_PLAN_BYTES + 1]?;
+    let too_long = vec![in alloc; b'x'; 1_048_577]?;
     let stop = stop_of(alloc, &too_long, &mut folder);
     assert_eq!(rt; stop, fault(0, PlanCause::TooLong), "too long");
     Ok(())
@@ -574,8 +574,8 @@ fn elements_that_do_not_go_together(rt: HostRuntime) -> Result<(), AllocError> {
     Ok(())
 }
 
-/// Elements of the array of transforms where `none.csv` is not in the folder: the first test that fails, or none where
-/// the file's turn comes before it.
+/// Elements of the array of transforms, and the first test that fails: none if the turn of `none.csv`, which is not in
+/// the folder, comes before it.
 const NO_FILE: [(&str, Option<(u32, PlanCause)>); 7] = [
     (
         "{name = \"x\", kind = \"lookup\", from = \"a\", table = \"none.csv\"}",
@@ -624,17 +624,31 @@ fn files_that_are_not_there(rt: HostRuntime) -> Result<(), AllocError> {
     Ok(())
 }
 
+/// Which load fails of those of a plan with two tables that is read twice, what is then answered each time, and how
+/// many loads are listed.
+const FAILING: [(u64, Option<PlanStop>, Option<PlanStop>, usize); 5] = [
+    (1, Some(PlanStop::Folder), None, 1),
+    (2, Some(PlanStop::Folder), None, 1),
+    (3, None, Some(PlanStop::Folder), 1),
+    (4, None, Some(PlanStop::Folder), 1),
+    (5, None, None, 0),
+];
+
 #[test]
 fn loads_that_fail(rt: HostRuntime) -> Result<(), AllocError> {
     let alloc = rt.alloc();
-    let mut folder = tables(alloc, vec![in alloc; 1]?)?;
-    let element = "{name = \"x\", kind = \"lookup\", from = \"a\", table = \"full.csv\"}";
-    let text = format!(in alloc; "transform = [{element}]")?;
-    let stop = stop_of(alloc, text.as_bytes(), &mut folder);
-    assert_eq!(rt; stop, Some(PlanStop::Folder), "the first load fails");
-    let stop = stop_of(alloc, text.as_bytes(), &mut folder);
-    assert_eq!(rt; stop, fault(0, PlanCause::NoWindow), "the second does not");
-    assert_eq!(rt; folder.faults(), 1);
+    let elements = "{name = \"x\", kind = \"lookup\", from = \"a\", table = \"ads.csv\"}, \
+        {name = \"y\", kind = \"lookup\", from = \"x\", table = \"full.csv\"}, \
+        {name = \"s\", kind = \"sum\", from = \"y\", size = 10}";
+    let text = format!(in alloc; "transform = [{elements}]")?;
+    for (load, first, second, faults) in &FAILING {
+        let mut folder = tables(alloc, vec![in alloc; *load]?)?;
+        let stop = stop_of(alloc, text.as_bytes(), &mut folder);
+        assert_eq!(rt; stop, *first, "load {load}");
+        let stop = stop_of(alloc, text.as_bytes(), &mut folder);
+        assert_eq!(rt; stop, *second, "load {load}, later");
+        assert_eq!(rt; folder.faults(), *faults, "load {load}");
+    }
     Ok(())
 }
 

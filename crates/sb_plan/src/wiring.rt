@@ -40,7 +40,8 @@ pub(crate) struct Wiring {
 pub(crate) fn connect(entry: Entry, wiring: &mut Wiring) -> Result<(), Stop>
     requires { length wiring.old.parts < MAX_TRANSFORMS }
     ensures exact { ChangesTo result (by_text (spec.connected entry wiring.old)) wiring.new }
-    ensures sound { IsValidEntry entry → IsSound wiring.old → OnOk result (IsSound wiring.new × (length wiring.new.parts ≡ length wiring.old.parts + 1)) }
+    ensures sound { IsValidEntry entry → IsSound wiring.old
+        → OnOk result (IsSound wiring.new × (length wiring.new.parts ≡ length wiring.old.parts + 1)) }
     ensures cause { result ≢ Err Stop.Folder }
 {
     if is_second_join(&entry.kind, wiring.parts.as_slice()) {
@@ -92,7 +93,8 @@ fn has_join(parts: &[Part]) -> bool
 /// Sends the inputs of an entry to the lanes of its node.
 #[tactic(auto, unfolding(crate::specs::Wiring::inputs_sent))]
 fn send_inputs(node: u32, entry: &Entry, wiring: &mut Wiring) -> Result<(), PlanCause>
-    ensures { MatchResult result (λ _. spec.inputs_sent node entry.now wiring.old ≡ Ok wiring.new) (λ e. spec.inputs_sent node entry.now wiring.old ≡ Err e) }
+    ensures { MatchResult result (λ _. spec.inputs_sent node entry.now wiring.old ≡ Ok wiring.new)
+        (λ e. spec.inputs_sent node entry.now wiring.old ≡ Err e) }
 {
     let left = Down { node, lane: 0 };
     let right = Down { node, lane: 1 };
@@ -102,7 +104,8 @@ fn send_inputs(node: u32, entry: &Entry, wiring: &mut Wiring) -> Result<(), Plan
 
 /// Sends the right input to the place, if there is one.
 fn send_right(right: &Option<Name>, place: Down, wiring: &mut Wiring) -> Result<(), PlanCause>
-    ensures { MatchResult result (λ _. spec.right_sent right.now place wiring.old ≡ Ok wiring.new) (λ e. spec.right_sent right.now place wiring.old ≡ Err e) }
+    ensures { MatchResult result (λ _. spec.right_sent right.now place wiring.old ≡ Ok wiring.new)
+        (λ e. spec.right_sent right.now place wiring.old ≡ Err e) }
 {
     match right {
         Some(input) => send_input(PlanKey::With, input.as_str(), place, wiring),
@@ -113,7 +116,8 @@ fn send_right(right: &Option<Name>, place: Down, wiring: &mut Wiring) -> Result<
 /// Sends the input, a stream or a transform, to the place.
 #[tactic(auto, unfolding(crate::specs::Wiring::input_sent))]
 fn send_input(key: PlanKey, input: &str, place: Down, wiring: &mut Wiring) -> Result<(), PlanCause>
-    ensures { MatchResult result (λ _. spec.input_sent key input.now place wiring.old ≡ Ok wiring.new) (λ e. spec.input_sent key input.now place wiring.old ≡ Err e) }
+    ensures { MatchResult result (λ _. spec.input_sent key input.now place wiring.old ≡ Ok wiring.new)
+        (λ e. spec.input_sent key input.now place wiring.old ≡ Err e) }
 {
     match input {
         "a" => wiring.source_a = sent_once(key, place, wiring.source_a)?,
@@ -130,7 +134,8 @@ fn send_part(
     place: Down,
     parts: &mut Sequence<Part>,
 ) -> Result<(), PlanCause>
-    ensures { MatchResult result (λ _. spec.part_sent key input.now place parts.old ≡ Ok parts.new) (λ e. spec.part_sent key input.now place parts.old ≡ Err e) }
+    ensures { MatchResult result (λ _. spec.part_sent key input.now place parts.old ≡ Ok parts.new)
+        (λ e. spec.part_sent key input.now place parts.old ≡ Err e) }
 {
     let Some(at) = position_of(input, parts.as_slice()) else {
         return Err(PlanCause::UnknownFrom(key));

@@ -3,7 +3,6 @@ use Rattle.toml.specs.View.{table_view, view}
 use Rattle.sb_plan.specs.Answers.{ChangesTo}
 use Rattle.sb_plan.specs.Entries.{entry_at}
 use Rattle.sb_plan.proofs.Elements.{element_wired-entry}
-use Rattle.sb_plan.proofs.Blaming.{blames-none}
 use Rattle.sb_plan.proofs.element.wire_element.Goals as goal
 
 pub returns-in-Ok-clause-exact : goal.returns-in-Ok-clause-exact
@@ -12,6 +11,3 @@ returns-in-Ok-clause-exact g c = λ files told.
     let entry = ap (λ parts. entry_at files parts table) (sym c.as_slice.ensures) ∙ c.in-Ok.ensures.exact files told in
     subst (λ wanted. ChangesTo c.connect.result wanted c.connect.new.wiring)
     (sym (element_wired-entry files c.args.wiring.now (view c.args.value.now) table c.in-Ok.entry (sym c.in-Some.ensures) entry)) c.connect.ensures.exact
-
-pub returns-in-Ok-clause-blames : goal.returns-in-Ok-clause-blames
-returns-in-Ok-clause-blames g c = blames-none _ _ _ c.connect.result c.connect.ensures.cause c.in-Ok.ensures.blames

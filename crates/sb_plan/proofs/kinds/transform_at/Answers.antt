@@ -4,11 +4,7 @@ use Rattle.sb_plan.specs.Soundness.{IsOfKind}
 use Rattle.sb_plan.specs.declared.words.KindName.TheVariants as kind
 use Rattle.sb_aggregate.specs.declared.aggregate.Agg.TheVariants.{Count, Sum, Min, Max, Distinct}
 use Rattle.sb_plan.proofs.OfKinds.{filter-valid, map-valid, group-valid, top-valid, join-valid, expanded-valid}
-use Rattle.sb_plan.proofs.Blaming.{blames-none}
 use Rattle.sb_plan.proofs.kinds.transform_at.Goals as goal
-
-pub returns-in-Expand-clause-blames : goal.returns-in-Expand-clause-blames
-returns-in-Expand-clause-blames g c = blames-none _ _ _ c.expand_at.result c.expand_at.ensures.cause refl
 
 pub returns-in-Expand-clause-valid : goal.returns-in-Expand-clause-valid
 returns-in-Expand-clause-valid g c = subst (λ name. IfOk c.expand_at.result (IsOfKind name)) (sym c.in-Expand.is) (expanded-valid (table_view c.args.table.now) c.expand_at.result c.expand_at.ensures.exact)

@@ -1,9 +1,7 @@
 use Rattle.std.proofs.Common.{◌≤◌, ◌∙◌, length, subst, sym, rules}
-use Rattle.sb_plan.specs.Answers.{AnswersTests, BlamesInTests}
+use Rattle.sb_plan.specs.Answers.{AnswersTests}
 use Rattle.sb_plan.proofs.OfKinds.{looked_up-valid}
 use Rattle.sb_plan.proofs.Files.{lookup-read}
-use Rattle.sb_plan.proofs.Absent.{lookup-absent}
-use Rattle.sb_plan.proofs.Blaming.{blames-none, blames-part}
 use Rattle.toml.specs.View.{table_view}
 use Rattle.sb_plan.proofs.table.lookup_at.Goals as goal
 
@@ -15,9 +13,6 @@ returns-clause-exact g c = λ files told.
     subst (λ wanted. AnswersTests c.lookup_in.result wanted)
     (sym (lookup-read files (table_view c.args.table.now) name read.0 c.deref.result.now c.in_ok-name.ensures some read.1 (c.deref.ensures.value ∙ read.2)))
     c.lookup_in.ensures.exact
-
-pub returns-clause-blames : goal.returns-clause-blames
-returns-clause-blames g c = blames-none _ _ _ c.lookup_in.result c.lookup_in.ensures.cause c.in_ok-bytes.ensures.blames
 
 pub returns-clause-valid : goal.returns-clause-valid
 returns-clause-valid g c = looked_up-valid c.deref.result.now c.lookup_in.result c.lookup_in.ensures.exact
