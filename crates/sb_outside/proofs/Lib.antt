@@ -6,3 +6,4 @@ pub mod Appending
 pub mod Searches
 pub mod MemoryReads
 pub mod Folders
+pub mod SinkCauses

@@ -1,5 +1,7 @@
--- Readers, writers and files of std, with a count of their faults.
-use Rattle.std.specs.Prelude.{ℕ, Bool}
+-- Readers, writers and files of std, with what was refused of them.
+use Rattle.std.specs.Prelude.{ℕ, List}
+use Rattle.sb_outside.specs.Folders.{Load}
+use Rattle.sb_outside.specs.Sinks.{SinkState}
 
 pub record CountedReader (R : Type 0) : Type 0 where
   pub reader : R
@@ -8,9 +10,8 @@ pub record CountedReader (R : Type 0) : Type 0 where
 -- a sink whose writer failed to flush refuses from then on
 pub record CountedWriter (W : Type 0) : Type 0 where
   pub writer : W
-  pub faults : ℕ
-  pub refuses : Bool
+  pub state : SinkState
 
 pub record CountedFiles (R : Type 0) : Type 0 where
   pub files : R
-  pub faults : ℕ
+  pub failed : List Load

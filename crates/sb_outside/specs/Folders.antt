@@ -1,6 +1,5 @@
--- What loading a file gives, and when it may fail.
-use Rattle.std.specs.Prelude.{◌≡◌, ◌≤◌, ℕ, List, ◌++◌, take, Option, Some, None, Result, MatchResult, IsErrOf, OnOk, ⊤}
-use Rattle.sb_outside.specs.Sources.{Rose}
+-- What loading a file gives, and what a folder keeps of a load that failed.
+use Rattle.std.specs.Prelude.{◌≡◌, ℕ, List, [], ◌∷◌, ◌++◌, take, bytes_eq, if◌then◌else◌, Option, Some, None, Result, Ok, Err, MatchResult, ⊤}
 use Rattle.sb_outside.specs.declared.folder.FolderFault.{FolderFault}
 use Rattle.sb_outside.specs.declared.folder.FolderFault.TheVariants as fault
 
@@ -8,17 +7,26 @@ use Rattle.sb_outside.specs.declared.folder.FolderFault.TheVariants as fault
 abbrev pub Files : Type 0
 Files = List ℕ → Option (List ℕ)
 
--- these are the bytes of the file of this name, where the folder tells its files
+-- the same files, but for the one of this name
+abbrev pub without : List ℕ → Files → Files
+without name files = λ other. if bytes_eq name other then None else files other
+
+-- these are the bytes of the file of this name, if the folder's files are known
 abbrev pub IsFile : Option Files → List ℕ → List ℕ → Type 0
 IsFile None name bytes = ⊤
 IsFile (Some files) name bytes = files name ≡ Some bytes
 
--- the first bytes of the file, at most so many, are appended; a refusal leaves the list as it was
-abbrev pub Loads : {T E : Type 0} → Option Files → List ℕ → ℕ → List ℕ → List ℕ → Result T E → Type 0
-Loads files name most old new r = MatchResult r (λ _. (bytes : List ℕ) × IsFile files name bytes × (new ≡ old ++ take most bytes)) (λ _. new ≡ old)
+-- a load: the name of the file, and how many of its bytes are asked for at most
+pub record Load : Type 0 where
+  pub name : List ℕ
+  pub most : ℕ
 
--- a failure only where the count rose, and at `Ok` the count as it was: want of memory is no failure; the count never falls
-pub record FolderCause {T : Type 0} (before now : ℕ) (result : Result T FolderFault) : Type 0 where
-  pub never_falls : before ≤ now
-  pub failed : IsErrOf result fault.Failed → Rose before now
-  pub passed : OnOk result (now ≡ before)
+-- the first bytes of the file, at most so many, are appended; a refusal leaves the list as it was
+abbrev pub Loads : {T E : Type 0} → Option Files → Load → List ℕ → List ℕ → Result T E → Type 0
+Loads files load old new r = MatchResult r (λ _. (bytes : List ℕ) × IsFile files load.name bytes × (new ≡ old ++ take load.most bytes)) (λ _. new ≡ old)
+
+-- a load that fails is put behind those that failed before, and no other answer changes these: being out of memory is no failure
+abbrev pub ListsFailure : {T : Type 0} → Load → List Load → List Load → Result T FolderFault → Type 0
+ListsFailure load before now (Ok x) = now ≡ before
+ListsFailure load before now (Err fault.Failed) = now ≡ before ++ load ∷ []
+ListsFailure load before now (Err fault.Memory) = now ≡ before

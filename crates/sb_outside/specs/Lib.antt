@@ -8,7 +8,9 @@ pub mod Schedules
 pub mod MemoryForms
 pub mod MemoryFolders
 pub mod Counts
+pub mod Refusals
 pub mod Looks
 pub mod Fills
 pub mod Buffers
 pub mod Searches
+pub mod Laws

@@ -1,19 +1,20 @@
--- What a folder in memory has, and what a load does to it.
-use Rattle.std.specs.Prelude.{ℕ, Bool, ◌||◌, if◌then◌else◌, List, map, Option, is_none, Vec, String, string_bytes, bytes_eq}
+-- What a folder in memory has, and when a load of it fails.
+use Rattle.std.specs.Prelude.{ℕ, Bool, ◌||◌, List, [], map, Option, is_none, Vec, String, string_bytes, bytes_eq}
 use Rattle.std.specs.BTreeMap.{BTreeMap}
 use Rattle.std.specs.Map.{lookup}
+use Rattle.sb_outside.specs.Folders.{Load}
 use Rattle.sb_outside.specs.Schedules.{counted, next_fails}
 
 -- a file: its name and its bytes
 abbrev pub File : Type 0
 File = List ℕ × List ℕ
 
--- the files, the numbers of the loads that fail, and how many loads there were and how many failed
+-- the files, the numbers of the loads that are to fail, how many loads there were, and which failed
 pub record MemLoading : Type 0 where
   pub files : List File
   pub failing : List ℕ
   pub calls : ℕ
-  pub faults : ℕ
+  pub failed : List Load
 
 -- the files of a map from names to bytes
 abbrev pub files_in : {Y A : Type 0} → BTreeMap (String Y) (Vec ℕ A) → List File
@@ -21,7 +22,7 @@ files_in m = map (λ e. (string_bytes e.0, e.1.items)) m.entries
 
 -- before the first load
 abbrev pub first_loading : List File → List ℕ → MemLoading
-first_loading files failing = record { files = files; failing = failing; calls = 0; faults = 0 }
+first_loading files failing = record { files = files; failing = failing; calls = 0; failed = [] }
 
 -- the bytes of the file of this name, if there is one
 abbrev pub file_named : List File → List ℕ → Option (List ℕ)
@@ -31,6 +32,6 @@ file_named files name = lookup (bytes_eq name) files
 abbrev pub load_fails : MemLoading → List ℕ → Bool
 load_fails m name = next_fails m.failing m.calls || is_none (file_named m.files name)
 
--- the folder behind the next load
-abbrev pub after_load : MemLoading → List ℕ → MemLoading
-after_load m name = record m { calls = counted m.calls; faults = if load_fails m name then counted m.faults else m.faults }
+-- the folder behind the next load, but for the list of those that failed
+abbrev pub after_load : MemLoading → List Load → MemLoading
+after_load m failed = record m { calls = counted m.calls; failed = failed }

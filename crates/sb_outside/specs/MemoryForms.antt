@@ -1,5 +1,6 @@
 -- What a source and a sink in memory have.
-use Rattle.std.specs.Prelude.{ℕ, min, if◌then◌else◌, List, length, drop}
+use Rattle.std.specs.Prelude.{ℕ, min, false, if◌then◌else◌, List, length, drop}
+use Rattle.sb_outside.specs.Sinks.{SinkState}
 use Rattle.sb_outside.specs.Schedules.{Schedule, fails, piece_of, after_call}
 
 -- the bytes left, and the calls
@@ -7,10 +8,15 @@ pub record MemReading : Type 0 where
   pub left : List ℕ
   pub schedule : Schedule
 
--- the bytes taken, and the calls
+-- the bytes taken, the calls, and how often there was no memory
 pub record MemWriting : Type 0 where
   pub taken : List ℕ
   pub schedule : Schedule
+  pub shortages : ℕ
+
+-- a sink in memory answers each fault at once
+abbrev pub state_of : MemWriting → SinkState
+state_of m = record { faults = m.schedule.faults; shortages = m.shortages; refuses = false }
 
 -- before the first call
 abbrev pub first_schedule : List ℕ → List ℕ → Schedule

@@ -1,15 +1,25 @@
--- What sinks take, and when they may fail.
-use Rattle.std.specs.Prelude.{◌≡◌, ◌≤◌, ℕ, List, ◌++◌, take, Result, Ok, Err, MatchResult, IsErrOf}
+-- What sinks take, and when they may refuse.
+use Rattle.std.specs.Prelude.{◌≡◌, ◌≤◌, ℕ, Bool, true, false, List, ◌++◌, take, Result, Ok, Err, MatchResult, IsErrOf, OnOk}
 use Rattle.std.specs.declared.option.Option.{Option}
 use Rattle.std.specs.Io.KnownBytes.{Appends, Keeps}
 use Rattle.sb_outside.specs.Sources.{Rose}
 use Rattle.sb_outside.specs.declared.sink.SinkFault.{SinkFault}
 use Rattle.sb_outside.specs.declared.sink.SinkFault.TheVariants as fault
 
--- a failure only where the count rose: want of memory is none; the count never falls
-pub record SinkCause {T : Type 0} (before now : ℕ) (result : Result T SinkFault) : Type 0 where
-  pub never_falls : before ≤ now
-  pub failed : IsErrOf result fault.Failed → Rose before now
+-- what a sink counts: how many writes and flushes have failed, and how often it was out of memory; and whether it refuses all that follows
+pub record SinkState : Type 0 where
+  pub faults : ℕ
+  pub shortages : ℕ
+  pub refuses : Bool
+
+-- each refusal has risen its count, which never falls; a fault that was counted and not answered makes the sink refuse all that follows
+pub record SinkCause {T : Type 0} (before now : SinkState) (result : Result T SinkFault) : Type 0 where
+  pub never_falls : before.faults ≤ now.faults
+  pub never_short : before.shortages ≤ now.shortages
+  pub keeps_refusing : before.refuses ≡ true → now.refuses ≡ true
+  pub failed : IsErrOf result fault.Failed → Rose before.faults now.faults
+  pub memory : IsErrOf result fault.Memory → Rose before.shortages now.shortages
+  pub passed : OnOk result (now.refuses ≡ false → now.faults ≡ before.faults)
 
 -- `Ok(n)` took the first n bytes, at least one, and a refusal took none
 abbrev pub Takes : {E : Type 0} → Option (List ℕ) → Option (List ℕ) → Result ℕ E → List ℕ → Type 0

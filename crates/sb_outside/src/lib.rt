@@ -1,17 +1,20 @@
 //! Where bytes come from and where they go: sources, sinks, folders, and the lines of a source.
 //!
-//! A [`Source`], a [`Sink`] and a [`Folder`] each keep a count of their faults, and may answer a
-//! fault only where the count rose. [`MemSource`], [`MemSink`] and [`MemFolder`] are in memory and
+//! A [`Source`] and a [`Sink`] count their faults, a [`Folder`] lists the loads that failed, and each may answer a
+//! fault only if that grew. [`MemSource`], [`MemSink`] and [`MemFolder`] are in memory and
 //! fail when told to; [`StdSource`], [`StdSink`] and [`StdFolder`] stand over std's readers, writers
 //! and files. [`LineReader`] and [`LineBuffer`] give a source's lines one at a time.
 #![tactic(auto)]
 
 mod buffer;
+mod failed_loads;
 mod folder;
+pub mod laws;
 mod lines;
 mod look;
 mod memory;
 mod memory_folder;
+mod refusals;
 mod schedule;
 mod search;
 mod sink;

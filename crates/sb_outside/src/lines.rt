@@ -4,7 +4,7 @@
 //! An empty rest after the last LF is no line. A line has at most 128 bytes after the CR is taken
 //! off; a longer one is refused as soon as its bytes show that, also where its end has not come yet.
 
-ghost use Rattle.std.specs.Prelude.{◌≡◌, ◌≤◌, [], None, length};
+ghost use Rattle.std.specs.Prelude.{◌≡◌, ◌≢◌, ◌≤◌, [], None, length};
 ghost use Rattle.std.specs.Borrow.{sem};
 ghost use Rattle.sb_outside.specs.Lines.{longest_line};
 ghost use Rattle.sb_outside.specs.Readings.{Advances, reading, step_at};
@@ -107,7 +107,7 @@ impl LineBuffer {
         }
     }
 
-    /// The line that was given last, without its end; none at the beginning.
+    /// The line of the last call that looked for one, without its end; empty if there was none.
     pub fn line(&self) -> &[u8]
         ensures { result.now ≡ self.now.line }
     {
@@ -119,6 +119,7 @@ impl LineBuffer {
         ensures advances { Advances S.left S.faults self.old.halt
             (reading source.old self.old) (reading source.new self.new) result }
         ensures short { result ≡ Step.Line → length self.new.line ≤ longest_line }
+        ensures no_line { self.old.halt ≡ None → result ≢ Step.Line → self.new.line ≡ [] }
     {
         if let Some(halt) = self.halt {
             return halt.step();
@@ -138,14 +139,17 @@ impl LineBuffer {
                 Step::Line
             }
             Found::End => {
+                self.len = 0;
                 self.halt = Some(Halt::End);
                 Step::End
             }
             Found::TooLong => {
+                self.len = 0;
                 self.halt = Some(Halt::TooLong);
                 Step::TooLong
             }
             Found::Fault => {
+                self.len = 0;
                 self.halt = Some(Halt::Fault);
                 Step::Fault
             }

@@ -1,8 +1,8 @@
 //! A source and a sink in memory, which give and take bytes in pieces and fail when told to.
 
-ghost use Rattle.std.specs.Prelude.{◌≡◌, ◌≤◌, ◌<◌, ◌↔◌, [], length, All, IfOk, IsErr, IsTrue};
+ghost use Rattle.std.specs.Prelude.{◌≡◌, ◌≤◌, ◌<◌, ◌↔◌, [], false, length, All, IfOk, OnOk, IsErr, IsTrue};
 ghost use Rattle.std.specs.Io.{ReadsAtMost, WritesAtMost};
-ghost use Rattle.std.specs.Io.KnownBytes.{ReadConsumes};
+ghost use Rattle.std.specs.Io.KnownBytes.{Keeps, ReadConsumes};
 ghost use Rattle.sb_outside.specs.Sources.{SourceCause};
 ghost use Rattle.sb_outside.specs.Sinks.{SinkCause, Takes};
 ghost use Rattle.sb_outside.specs.Schedules.{fails, piece_of, after_call};
@@ -91,6 +91,7 @@ impl Source for MemSource {
 pub struct MemSink {
     bytes: Vec<u8>,
     calls: Calls,
+    shortages: u64,
 }
 
 impl Model for MemSink {
@@ -98,23 +99,25 @@ impl Model for MemSink {
 
     ghost Value = { MemWriting };
 
-    ghost view = { λ s. record { taken = s.bytes.items; schedule = s.calls } };
+    ghost view = { λ s. record { taken = s.bytes.items; schedule = s.calls; shortages = s.shortages } };
 }
 
 impl MemSink {
     /// A sink that has taken nothing. Its call k, counted from 1, takes at most `pieces[k - 1]`
     /// bytes, without a limit behind the end of `pieces`; the calls whose numbers are in `failing`
-    /// fail, and take nothing.
+    /// fail, and take nothing. The call of `finish` is counted with those of `write`.
     pub fn new(alloc: Global, pieces: Vec<usize>, failing: Vec<u64>) -> MemSink
         requires { All (λ n. 1 ≤ n) pieces.items }
         ensures { result ≡ record {
           taken = [];
           schedule = first_schedule pieces.items failing.items;
+          shortages = 0;
         } }
     {
         MemSink {
             bytes: Vec::new(alloc),
             calls: Calls::new(pieces, failing),
+            shortages: 0,
         }
     }
 
@@ -125,7 +128,7 @@ impl MemSink {
         &self.bytes
     }
 
-    /// How many writes have failed. Want of memory is not counted.
+    /// How many calls have failed. Being out of memory is not counted here.
     pub fn faults(&self) -> u64
         ensures { result ≡ self.now.schedule.faults }
     {
@@ -135,16 +138,17 @@ impl MemSink {
 
 impl Sink for MemSink {
     ghost use Rattle.std.specs.Prelude.{Some};
+    ghost use Rattle.sb_outside.specs.MemoryForms.{state_of};
 
     ghost taken = { λ s. Some s.taken };
 
-    ghost sink_faults = { λ s. s.schedule.faults };
+    ghost sink_state = { state_of };
 
     fn write(&mut self, piece: &[u8]) -> Result<usize, SinkFault>
         requires { 0 < length piece.now }
         ensures bound { WritesAtMost result piece.now }
         ensures bytes { Takes (Some self.old.taken) (Some self.new.taken) result piece.now }
-        ensures cause { SinkCause self.old.schedule.faults self.new.schedule.faults result }
+        ensures cause { SinkCause (state_of self.old) (state_of self.new) result }
         ensures count { IfOk result (λ n. n ≡ piece_of self.old.schedule (length piece.now)) }
         ensures failed { (result ≡ Err SinkFault.Failed) ↔ IsTrue (fails self.old.schedule) }
         ensures calls { self.new.schedule ≡ after_call self.old.schedule }
@@ -154,7 +158,23 @@ impl Sink for MemSink {
         };
         match self.bytes.extend_from_slice(&piece[..most]) {
             Ok(()) => Ok(most),
-            Err(_) => Err(SinkFault::Memory),
+            Err(_) => {
+                self.shortages = self.shortages.saturating_add(1);
+                Err(SinkFault::Memory)
+            }
+        }
+    }
+
+    fn finish(&mut self) -> Result<(), SinkFault>
+        ensures bytes { Keeps (Some self.old.taken) (Some self.new.taken) }
+        ensures cause { SinkCause (state_of self.old) (state_of self.new) result }
+        ensures told { OnOk result ((state_of self.new).refuses ≡ false) }
+        ensures failed { IsErr result ↔ IsTrue (fails self.old.schedule) }
+        ensures calls { self.new.schedule ≡ after_call self.old.schedule }
+    {
+        match self.calls.begin(1) {
+            Some(_) => Ok(()),
+            None => Err(SinkFault::Failed),
         }
     }
 }

@@ -1,20 +1,23 @@
 //! A folder in memory, which fails when told to.
 
-ghost use Rattle.std.specs.Prelude.{◌≡◌, ◌≢◌, ◌↔◌, ◌++◌, take, IsTrue, MatchResult, option_map};
-ghost use Rattle.sb_outside.specs.Folders.{FolderCause, Loads};
+ghost use Rattle.std.specs.Prelude.{◌≡◌, ◌≢◌, ◌++◌, take, length, IsErr, IsTrue, MatchResult, option_map};
+ghost use Rattle.sb_outside.specs.Folders.{ListsFailure, Load, Loads};
 ghost use Rattle.sb_outside.specs.MemoryFolders.{files_in, file_named, first_loading, load_fails, after_load};
 
+use crate::failed_loads::FailedLoads;
 use crate::folder::{Folder, FolderFault};
+use std::alloc::Global;
 use std::collections::BTreeMap;
 use std::marker::Model;
 
 /// A folder in memory.
 #[derive(Drop)]
 pub struct MemFolder {
+    alloc: Global,
     files: BTreeMap<String, Vec<u8>>,
     failing: Vec<u64>,
     calls: u64,
-    faults: u64,
+    failed: FailedLoads,
 }
 
 impl Model for MemFolder {
@@ -26,29 +29,30 @@ impl Model for MemFolder {
       files = files_in f.files;
       failing = f.failing.items;
       calls = f.calls;
-      faults = f.faults;
+      failed = f.failed;
     } };
 }
 
 impl MemFolder {
     /// A folder of these files, by name. Its loads are counted from 1; those whose numbers are in
     /// `failing` fail, and so does each load of a name that is not there.
-    pub fn new(files: BTreeMap<String, Vec<u8>>, failing: Vec<u64>) -> MemFolder
+    pub fn new(alloc: Global, files: BTreeMap<String, Vec<u8>>, failing: Vec<u64>) -> MemFolder
         ensures { result ≡ first_loading (files_in files) failing.items }
     {
         MemFolder {
+            alloc,
             files,
             failing,
             calls: 0,
-            faults: 0,
+            failed: FailedLoads::new(alloc),
         }
     }
 
-    /// How many loads have failed. Want of memory is not counted.
-    pub fn faults(&self) -> u64
-        ensures { result ≡ self.now.faults }
+    /// How many loads have failed. Being out of memory is not counted.
+    pub fn faults(&self) -> usize
+        ensures { result ≡ length self.now.failed }
     {
-        self.faults
+        self.failed.count()
     }
 }
 
@@ -58,14 +62,17 @@ impl Folder for MemFolder {
 
     ghost files = { λ f. Some (file_named f.files) };
 
-    ghost folder_faults = { λ f. f.faults };
+    ghost failed = { λ f. f.failed };
 
     fn load(&mut self, name: &str, most: usize, into: &mut Vec<u8>) -> Result<(), FolderFault>
-        ensures bytes { Loads (Some (file_named self.old.files)) name.now most into.old.items into.new.items result }
+        ensures bytes { Loads (Some (file_named self.old.files)) (record { name = name.now; most = most })
+            into.old.items into.new.items result }
         ensures same { Some (file_named self.new.files) ≡ Some (file_named self.old.files) }
-        ensures cause { FolderCause self.old.faults self.new.faults result }
-        ensures failed { (result ≡ Err FolderFault.Failed) ↔ IsTrue (load_fails self.old name.now) }
-        ensures after { self.new ≡ after_load self.old name.now }
+        ensures failure { ListsFailure (record { name = name.now; most = most })
+            self.old.failed self.new.failed result }
+        ensures failed { result ≡ Err FolderFault.Failed → IsTrue (load_fails self.old name.now) }
+        ensures fails { IsTrue (load_fails self.old name.now) → IsErr result }
+        ensures after { self.new ≡ after_load self.old self.new.failed }
     {
         self.calls = self.calls.saturating_add(1);
         if !self.failing.contains(&self.calls) {
@@ -73,8 +80,7 @@ impl Folder for MemFolder {
                 return append_first(bytes, most, into);
             }
         }
-        self.faults = self.faults.saturating_add(1);
-        Err(FolderFault::Failed)
+        Err(self.failed.add(self.alloc, name, most))
     }
 }
 

@@ -1,8 +1,10 @@
-//! A folder over std's files, with a count of its faults.
+//! A folder over std's files, which lists the loads that failed.
 
-ghost use Rattle.std.specs.Prelude.{◌≡◌, ◌++◌, ℕ, List, take, OnErr, OnOk};
+ghost use Rattle.std.specs.Prelude.{◌≡◌, ◌++◌, [], ℕ, List, take, length, OnErr, OnOk, IfSome};
 
+use crate::failed_loads::FailedLoads;
 use crate::folder::{Folder, FolderFault};
+use std::alloc::Global;
 use std::fs;
 use std::io::{self, ErrorKind, Read};
 use std::marker::Model;
@@ -11,12 +13,12 @@ use std::rt::Files;
 /// A folder over the files of a run-time object.
 ///
 /// A name is a path, a relative one from the folder in which the program was started. Each error of
-/// opening and of reading is a fault, but want of memory, which is answered `Memory` and is not
-/// counted.
+/// opening and of reading is a failure, but being out of memory, which is answered `Memory`.
 #[derive(Drop)]
 pub struct StdFolder<R> {
+    alloc: Global,
     rt: R,
-    faults: u64,
+    failed: FailedLoads,
 }
 
 impl<R> Model for StdFolder<R> {
@@ -24,14 +26,25 @@ impl<R> Model for StdFolder<R> {
 
     ghost Value = { CountedFiles R };
 
-    ghost view = { λ f. record { files = f.rt; faults = f.faults } };
+    ghost view = { λ f. record { files = f.rt; failed = f.failed } };
 }
 
 impl<R: Files> StdFolder<R> {
-    pub fn new(rt: R) -> StdFolder<R>
-        ensures { result ≡ record { files = rt; faults = 0 } }
+    pub fn new(alloc: Global, rt: R) -> StdFolder<R>
+        ensures { result ≡ record { files = rt; failed = [] } }
     {
-        StdFolder { rt, faults: 0 }
+        StdFolder {
+            alloc,
+            rt,
+            failed: FailedLoads::new(alloc),
+        }
+    }
+
+    /// How many loads have failed. Being out of memory is not counted.
+    pub fn faults(&self) -> usize
+        ensures { result ≡ length self.now.failed }
+    {
+        self.failed.count()
     }
 }
 
@@ -43,11 +56,14 @@ pub(crate) fn append_some<R: Read + Drop>(
 ) -> io::Result<()>
     ensures ok { OnOk result ((bytes : List ℕ) × (into.new.items ≡ into.old.items ++ take most bytes)) }
     ensures err { OnErr result (into.new.items ≡ into.old.items) }
+    // All of them, if the reader's bytes are known.
+    ensures known { OnOk result (IfSome (R.remaining reader)
+        (λ bytes. into.new.items ≡ into.old.items ++ take most bytes)) }
 {
     let start = into.len();
     match reader.take(most as u64).read_to_end(into) {
         Ok(count) => {
-            // `take` lets no more than `most` pass, but no clause of std says so.
+            // `take` lets no more than `most` pass, which std says only if the reader's bytes are known.
             into.truncate(start + count.min(most));
             Ok(())
         }
@@ -63,7 +79,7 @@ impl<R: Files> Folder for StdFolder<R> {
 
     ghost files = { λ _. None };
 
-    ghost folder_faults = { λ f. f.faults };
+    ghost failed = { λ f. f.failed };
 
     fn load(&mut self, name: &str, most: usize, into: &mut Vec<u8>) -> Result<(), FolderFault> {
         let loaded = match fs::open(&self.rt, name) {
@@ -76,7 +92,6 @@ impl<R: Files> Folder for StdFolder<R> {
         if error.kind() == ErrorKind::OutOfMemory {
             return Err(FolderFault::Memory);
         }
-        self.faults = self.faults.saturating_add(1);
-        Err(FolderFault::Failed)
+        Err(self.failed.add(self.alloc, name, most))
     }
 }

@@ -165,6 +165,19 @@ fn a_sink_that_fails_has_taken_a_prefix(rt: HostRuntime) -> Result<(), Fail> {
     assert_eq!(rt; write_all_of(&mut sink, b"fghij"), Ok(()));
     assert_eq!(rt; sink.taken(), b"abcdefghij".as_slice());
     assert_eq!(rt; write_all_of(&mut sink, b""), Ok(()));
+    assert_eq!(rt; sink.finish(), Ok(()));
+    assert_eq!(rt; sink.faults(), 1);
+    Ok(())
+}
+
+#[test]
+fn a_sink_may_fail_at_the_end(rt: HostRuntime) -> Result<(), Fail> {
+    let mut sink = MemSink::new(rt.alloc(), Vec::new(rt.alloc()), vec![in rt.alloc(); 2]?);
+    assert_eq!(rt; write_all_of(&mut sink, b"abc"), Ok(()));
+    assert_eq!(rt; sink.faults(), 0);
+    assert_eq!(rt; sink.finish(), Err(SinkFault::Failed));
+    assert_eq!(rt; sink.faults(), 1);
+    assert_eq!(rt; sink.taken(), b"abc".as_slice());
     Ok(())
 }
 
@@ -209,30 +222,90 @@ impl Write for BadWriter {
     }
 }
 
+/// What a sink over a writer answers to a first write, a second one and the end, and how many faults it has then counted.
+type Answers = (
+    BadWriter,
+    Result<usize, SinkFault>,
+    Result<usize, SinkFault>,
+    Result<(), SinkFault>,
+    u64,
+);
+
 #[test]
 fn a_writer_that_fails_is_answered_with_its_cause(rt: HostRuntime) {
-    for (writer, first, second) in [
+    let cases: [Answers; 4] = [
         (
             BadWriter::TakesNone,
             Err(SinkFault::Failed),
             Err(SinkFault::Failed),
+            Err(SinkFault::Failed),
+            3,
         ),
         (
             BadWriter::Breaks,
             Err(SinkFault::Failed),
             Err(SinkFault::Failed),
+            Err(SinkFault::Failed),
+            3,
         ),
         (
             BadWriter::WantsMemory,
             Err(SinkFault::Memory),
             Err(SinkFault::Memory),
+            Err(SinkFault::Failed),
+            1,
         ),
-        (BadWriter::CannotFlush, Ok(2), Err(SinkFault::Failed)),
-    ] {
+        (
+            BadWriter::CannotFlush,
+            Ok(2),
+            Err(SinkFault::Failed),
+            Err(SinkFault::Failed),
+            3,
+        ),
+    ];
+    for (writer, first, second, end, faults) in cases {
         let mut sink = StdSink::new(writer);
         assert_eq!(rt; sink.write(b"abc"), first);
         assert_eq!(rt; sink.write(b"c"), second);
+        assert_eq!(rt; sink.finish(), end);
+        assert_eq!(rt; sink.faults(), faults);
     }
+}
+
+#[test]
+fn a_flush_that_failed_is_told_at_the_end(rt: HostRuntime) {
+    let mut sink = StdSink::new(BadWriter::CannotFlush);
+    assert_eq!(rt; sink.write(b"ab"), Ok(2));
+    assert_eq!(rt; sink.faults(), 1);
+    assert_eq!(rt; sink.finish(), Err(SinkFault::Failed));
+    assert_eq!(rt; sink.faults(), 2);
+}
+
+/// A writer that counts how often it was flushed since it was last written to.
+#[derive(Drop)]
+struct CountsFlushes(u32);
+
+impl Write for CountsFlushes {
+    fn write(&mut self, buf: &[u8]) -> io::Result<usize> {
+        self.0 = 0;
+        Ok(buf.len())
+    }
+
+    fn flush(&mut self) -> io::Result<()> {
+        self.0 = self.0.saturating_add(1);
+        Ok(())
+    }
+}
+
+#[test]
+fn a_writer_is_flushed_behind_each_write(rt: HostRuntime) {
+    let mut writer = CountsFlushes(0);
+    let mut sink = StdSink::new(&mut writer);
+    assert_eq!(rt; write_all_of(&mut sink, TEXT), Ok(()));
+    assert_eq!(rt; writer.0, 1);
+    let mut sink = StdSink::new(&mut writer);
+    assert_eq!(rt; sink.finish(), Ok(()));
+    assert_eq!(rt; writer.0, 2);
 }
 
 const FOLDER: &str = "sb_outside_test";
@@ -275,7 +348,7 @@ fn two_files(alloc: Global, failing: Vec<u64>) -> Result<MemFolder, AllocError> 
         Vec::from_slice(alloc, b"abcdef")?,
     )?;
     files.insert(EMPTY.to_string(alloc)?, Vec::new(alloc))?;
-    Ok(MemFolder::new(files, failing))
+    Ok(MemFolder::new(alloc, files, failing))
 }
 
 #[test]
@@ -285,7 +358,7 @@ fn folders_give_the_first_bytes_of_a_file(rt: HostRuntime) -> Result<(), Fail> {
     fs::write(&rt, LETTERS, b"abcdef".as_slice())?;
     fs::write(&rt, EMPTY, b"".as_slice())?;
     let mut memory = two_files(rt.alloc(), Vec::new(rt.alloc()))?;
-    let mut real = StdFolder::new(rt);
+    let mut real = StdFolder::new(rt.alloc(), rt);
     for (name, most, answer, bytes) in LOADS {
         let (given, into) = load_behind(rt.alloc(), &mut memory, name, most)?;
         assert_eq!(rt; given, answer, "in memory: {name}, {most}");
@@ -295,7 +368,37 @@ fn folders_give_the_first_bytes_of_a_file(rt: HostRuntime) -> Result<(), Fail> {
         assert_eq!(rt; into.as_slice(), bytes, "{name}, {most}");
     }
     assert_eq!(rt; memory.faults(), 2);
+    assert_eq!(rt; real.faults(), 2);
     fs::remove_dir_all(&rt, FOLDER)?;
+    Ok(())
+}
+
+const LARGE_FOLDER: &str = "sb_outside_large";
+
+const LARGE: &str = "sb_outside_large/large";
+
+#[test]
+fn a_large_file_is_loaded_to_its_end_or_to_the_limit(rt: HostRuntime) -> Result<(), Fail> {
+    let _ = fs::remove_dir_all(&rt, LARGE_FOLDER);
+    fs::create_dir(&rt, LARGE_FOLDER)?;
+    let mut bytes = vec![in rt.alloc(); b'x'; 100_000]?;
+    bytes.push(b'y')?;
+    fs::write(&rt, LARGE, bytes.as_slice())?;
+    let mut folder = StdFolder::new(rt.alloc(), rt);
+    for (most, count) in [
+        (4_096, 4_096),
+        (4_097, 4_097),
+        (100_000, 100_000),
+        (100_001, 100_001),
+        (100_002, 100_001),
+        (1_000_000, 100_001),
+    ] {
+        let mut into = Vec::new(rt.alloc());
+        assert_eq!(rt; folder.load(LARGE, most, &mut into), Ok(()));
+        assert_eq!(rt; into.as_slice(), &bytes[..count], "{most}");
+    }
+    assert_eq!(rt; folder.faults(), 0);
+    fs::remove_dir_all(&rt, LARGE_FOLDER)?;
     Ok(())
 }
 
@@ -321,7 +424,7 @@ fn loads_that_are_told_to_fail_do(rt: HostRuntime) -> Result<(), Fail> {
 #[test]
 fn a_file_without_an_end_is_loaded_in_part(rt: HostRuntime) -> Result<(), Fail> {
     let mut into = Vec::from_slice(rt.alloc(), b">")?;
-    let mut folder = StdFolder::new(rt);
+    let mut folder = StdFolder::new(rt.alloc(), rt);
     assert_eq!(rt; folder.load("/dev/zero", 3, &mut into), Ok(()));
     assert_eq!(rt; into.as_slice(), b">\0\0\0".as_slice());
     Ok(())

@@ -1,4 +1,4 @@
-use Rattle.std.proofs.Common.{◌∙◌, ◌+◌, ap, arith, List, ℕ, Some, ◌≡◌, ◌≤◌, length, take}
+use Rattle.std.proofs.Common.{◌∙◌, ◌+◌, ap, arith, List, ℕ, Some, ◌≡◌, ◌≤◌, length, take, refl}
 use Rattle.std.specs.List.{slice_range}
 use Rattle.std.proofs.lemmas.List.{length-take}
 use Rattle.sb_outside.specs.Buffers.{pending}
@@ -31,3 +31,9 @@ returns-in-Last-clause-advances g c =
     let new : Reading g.row.S.Denot = record { source = c.search.new.source; at_hand = pending c.clear.new.self; line = shown; halt = Some halt.End } in
     advances g.S.Source.left g.S.Source.faults _ (reading c.args.source.now c.args.self.now) new step.Line (ap (reading c.args.source.now) c.self.view_is) c.in_default.is (pending b) c.in-Last.ensures.bytes
     (last_line_given _ (pending b) _ _ shown says.0 line short says.3, says.4) c.in-Last.ensures.unread
+
+pub returns-in-TooLong-clause-advances : goal.returns-in-TooLong-clause-advances
+returns-in-TooLong-clause-advances g c =
+    let says = c.in-TooLong.ensures.says in
+    advances g.S.Source.left g.S.Source.faults _ (reading c.args.source.now c.args.self.now) _ step.TooLong (ap (reading c.args.source.now) c.self.view_is) c.in_default.is (pending c.search.new.buffer) c.in-TooLong.ensures.bytes
+    (says.0, refl, says.1) c.in-TooLong.ensures.unread
