@@ -6,6 +6,7 @@ use Rattle.sb_record.specs.declared.item.Item.TheVariants.{Rec, Mark, Skip}
 use Rattle.sb_record.specs.declared.item.Stream.TheVariants.{A, B}
 use Rattle.sb_record.specs.declared.item.Streams.{Streams}
 use Rattle.sb_record.specs.declared.intake.Refusal.{Refusal}
+use Rattle.sb_record.specs.declared.intake.TheConstants.{MAX_LINES}
 use Rattle.sb_record.specs.declared.intake.Stop.{Stop}
 use Rattle.sb_record.specs.declared.intake.Stop.TheVariants.{End, Refused, Fault}
 use Rattle.sb_record.specs.Progress.{Progress}
@@ -27,7 +28,7 @@ pub record Taking (streams : Streams) (left left' : Option (List ℕ)) (held : H
   pub accepts : (ended : Bool) (later : List ℕ) → MayCome held.halt ended later
       → accepted streams (lines ended (bytes ++ later)) ≡ accepted_after streams items (rest_of_lines held.halt held.at_hand ended later)
   pub progress : p ≡ progress_of streams items
-  pub room : p.lines ≤ 4294967295
+  pub room : p.lines ≤ MAX_LINES
   pub no_fault : faults' ≡ faults
 
 after-lines : (i : Item) (p : Progress) → (after i p).lines ≡ p.lines + 1
@@ -49,7 +50,7 @@ module _ {S : Type 0} (left_of : S → Option (List ℕ)) where
   -- one item more
   pub taking-more : (streams : Streams) (left : Option (List ℕ)) (source source' : S) (held held' : Held) (p p' : Progress) (items : List Item) (i : Item) (faults faults' faults2 : ℕ)
       → Taking streams left (left_of source) held p items faults faults'
-      → TakesItem left_of (reading source held) (reading source' held') p p' i → faults2 ≡ faults' → p.lines < 4294967295
+      → TakesItem left_of (reading source held) (reading source' held') p p' i → faults2 ≡ faults' → p.lines < MAX_LINES
       → Taking streams left (left_of source') held' p' (items ++ i ∷ []) faults faults2
   taking-more streams left source source' held held' p p' items i faults faults' faults2 t takes same room =
       record {

@@ -10,14 +10,13 @@ use Rattle.sb_record.specs.declared.item.Record.{Record}
 use Rattle.sb_record.specs.Rows.{text_of}
 use Rattle.sb_record.specs.Streams.{low_watermark}
 use Rattle.sb_pipeline.specs.Shapes.{Shape, streams_of}
-use Rattle.sb_outside.specs.Sources.{Rose}
 use Rattle.sb_outside.specs.Sinks.{AppendsPrefix}
 use Rattle.sb_cli.specs.declared.status.Status.{Status}
 use Rattle.sb_cli.specs.declared.status.Status.TheVariants.{Done, Words, Plan, Line, Input, Output, Folder, Memory}
 use Rattle.sb_cli.specs.Given.{Given, items_of, stop_at}
 use Rattle.sb_outside.specs.Folders.{Files}
 use Rattle.sb_cli.specs.Words.{Asked}
-use Rattle.sb_cli.specs.Pipelines.{IsPlanFor, IsFaultFor, AsksForFile, rows_below, all_rows}
+use Rattle.sb_cli.specs.Pipelines.{IsPlanFor, IsFaultFor, AsksForFile, rows_below}
 
 -- the watermark below which rows are due where reading stopped: above all of them at the end, else the low watermark
 abbrev pub due_mark : Stop → ℕ → ℕ
@@ -37,13 +36,13 @@ Wrote taken taken' rows = Appends taken taken' (text_of rows)
 abbrev pub WrotePrefix : Option (List ℕ) → Option (List ℕ) → List Record → Type 0
 WrotePrefix taken taken' rows = AppendsPrefix taken taken' (text_of rows)
 
--- what was written, by how the run ended: the rows that are due, where writing went well
+-- what was written, by how the run ended: the rows that are due if writing went well, else a prefix of them
 abbrev pub HasWritten : Shape → Stop → List Item → Option (List ℕ) → Option (List ℕ) → Status → Type 0
 HasWritten plan stop items taken taken' Done = (stop ≡ End) × Wrote taken taken' (due_rows plan stop items)
 HasWritten plan stop items taken taken' (Line refusal) = (stop ≡ Refused refusal) × Wrote taken taken' (due_rows plan stop items)
 HasWritten plan stop items taken taken' Input = (stop ≡ Fault) × Wrote taken taken' (due_rows plan stop items)
-HasWritten plan stop items taken taken' Output = WrotePrefix taken taken' (all_rows plan items)
-HasWritten plan stop items taken taken' Memory = WrotePrefix taken taken' (all_rows plan items)
+HasWritten plan stop items taken taken' Output = WrotePrefix taken taken' (due_rows plan stop items)
+HasWritten plan stop items taken taken' Memory = WrotePrefix taken taken' (due_rows plan stop items)
 HasWritten plan stop items taken taken' Words = ⊥
 HasWritten plan stop items taken taken' (Plan fault) = ⊥
 HasWritten plan stop items taken taken' Folder = ⊥
@@ -70,52 +69,6 @@ IsAnswer folder wanted left left' taken taken' status =
     (HasNoPlan folder wanted status × (left' ≡ left) × (taken' ≡ taken))
     ⊎ ((plan : Shape) × IsPlanFor folder wanted plan × IsAnswerOf plan left left' taken taken' status)
 
--- a fault is answered only where the count of faults of what failed rose
-abbrev pub HasCause : ℕ → ℕ → ℕ → ℕ → ℕ → ℕ → Status → Type 0
-HasCause reads reads' writes writes' loads loads' Input = Rose reads reads'
-HasCause reads reads' writes writes' loads loads' Output = Rose writes writes'
-HasCause reads reads' writes writes' loads loads' Folder = Rose loads loads'
-HasCause reads reads' writes writes' loads loads' Done = ⊤
-HasCause reads reads' writes writes' loads loads' Words = ⊤
-HasCause reads reads' writes writes' loads loads' (Plan fault) = ⊤
-HasCause reads reads' writes writes' loads loads' (Line refusal) = ⊤
-HasCause reads reads' writes writes' loads loads' Memory = ⊤
-
--- no failed read or load is passed over: where another status is answered, the count is as it was. At Output a read may have failed before; where memory was wanting nothing is said
-abbrev pub HidesNoFault : ℕ → ℕ → ℕ → ℕ → Status → Type 0
-HidesNoFault reads reads' loads loads' Done = (reads' ≡ reads) × (loads' ≡ loads)
-HidesNoFault reads reads' loads loads' Words = (reads' ≡ reads) × (loads' ≡ loads)
-HidesNoFault reads reads' loads loads' (Plan fault) = (reads' ≡ reads) × (loads' ≡ loads)
-HidesNoFault reads reads' loads loads' (Line refusal) = (reads' ≡ reads) × (loads' ≡ loads)
-HidesNoFault reads reads' loads loads' Input = loads' ≡ loads
-HidesNoFault reads reads' loads loads' Output = loads' ≡ loads
-HidesNoFault reads reads' loads loads' Folder = reads' ≡ reads
-HidesNoFault reads reads' loads loads' Memory = ⊤
-
--- the run was done, or memory was wanting
-abbrev pub IsDoneOrMemory : Status → Type 0
-IsDoneOrMemory status = (status ≡ Done) ⊎ (status ≡ Memory)
-
--- no line of what the source gave is refused, and no count of faults rose
-pub record NothingFails (plan : Shape) (left left' : Option (List ℕ)) (reads reads' writes writes' loads loads' : ℕ) : Type 0 where
-  pub no_refusal : (given : Given left left') (refusal : Refusal) → stop_at (streams_of plan) given ≡ Refused refusal → ⊥
-  pub no_read_failed : Rose reads reads' → ⊥
-  pub no_write_failed : Rose writes writes' → ⊥
-  pub no_load_failed : Rose loads loads' → ⊥
-
--- the notes took their text, or a prefix of it where their own count rose; nothing is said where memory was wanting
-abbrev pub HasNoted : Option (List ℕ) → Option (List ℕ) → ℕ → ℕ → List ℕ → Status → Type 0
-HasNoted taken taken' faults faults' text Memory = ⊤
-HasNoted taken taken' faults faults' text status = Appends taken taken' text ⊎ (AppendsPrefix taken taken' text × Rose faults faults')
-
--- words that are no command are answered as that, where memory was not wanting
-abbrev pub IsWordsOrMemory : Status → Type 0
-IsWordsOrMemory status = (status ≡ Words) ⊎ (status ≡ Memory)
-
--- the status is told as it is, or memory was wanting
-abbrev pub IsToldOf : Status → Status → Type 0
-IsToldOf status told = (told ≡ status) ⊎ (told ≡ Memory)
-
 -- a status at which the input was not read
 abbrev pub IsUnread : Status → Type 0
 IsUnread Words = ⊤
@@ -127,7 +80,7 @@ IsUnread Input = ⊥
 IsUnread Output = ⊥
 IsUnread Memory = ⊥
 
--- a status at which the input was read, or memory was wanting
+-- a status at which the input was read, or out of memory
 abbrev pub IsRead : Status → Type 0
 IsRead Words = ⊥
 IsRead (Plan fault) = ⊥
@@ -137,3 +90,14 @@ IsRead (Line refusal) = ⊤
 IsRead Input = ⊤
 IsRead Output = ⊤
 IsRead Memory = ⊤
+
+-- a status at which all rows that are due were written
+abbrev pub IsWritten : Status → Type 0
+IsWritten Done = ⊤
+IsWritten (Line refusal) = ⊤
+IsWritten Input = ⊤
+IsWritten Words = ⊥
+IsWritten (Plan fault) = ⊥
+IsWritten Output = ⊥
+IsWritten Folder = ⊥
+IsWritten Memory = ⊥

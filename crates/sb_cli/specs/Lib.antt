@@ -5,3 +5,5 @@ pub mod Reads
 pub mod Batches
 pub mod Pipelines
 pub mod Answers
+pub mod Faults
+pub mod Notes

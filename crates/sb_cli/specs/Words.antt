@@ -1,5 +1,5 @@
 -- The words that ask for something.
-use Rattle.std.specs.Prelude.{◌≡◌, ◌≢◌, ◌≤◌, ℕ, List, [], ◌∷◌, decimal, codes}
+use Rattle.std.specs.Prelude.{◌≡◌, ◌≢◌, ◌≤◌, ℕ, List, [], ◌∷◌, map, decimal, codes, String, string_bytes}
 use Rattle.sb_cli.specs.declared.words.Request.{Request}
 use Rattle.sb_cli.specs.declared.words.Request.TheVariants as request
 use Rattle.sb_window.specs.declared.windows.TheConstants.{MAX_SIZE}
@@ -43,3 +43,7 @@ IsCommand wanted words = IsValid wanted × (words ≡ words_of wanted)
 -- the words are no command
 abbrev pub IsNoCommand : List (List ℕ) → Type 0
 IsNoCommand words = (wanted : Asked) → IsCommand wanted words → ⊥
+
+-- the bytes of each word
+abbrev pub texts : {Y : Type 0} → List (String Y) → List (List ℕ)
+texts words = map (λ w. string_bytes w) words

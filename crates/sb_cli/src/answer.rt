@@ -1,16 +1,18 @@
 //! The answer to a request: an input is read whole, and then its rows are written.
 
-ghost use Rattle.std.specs.Prelude.{◌≡◌, ℕ, Some};
+ghost use Rattle.std.specs.Prelude.{◌≡◌, List, Some};
 ghost use Rattle.std.specs.List.{AllByRecursion};
 ghost use Rattle.sb_record.specs.Lines.{IsItemInRange};
 ghost use Rattle.sb_record.specs.Streams.{low_watermark};
-ghost use Rattle.sb_outside.specs.Folders.{Files};
+ghost use Rattle.sb_outside.specs.Folders.{Files, Load};
 ghost use Rattle.sb_outside.specs.Sources.{Rose};
 ghost use Rattle.sb_pipeline.specs.Plans.{IsPlan};
 ghost use Rattle.sb_pipeline.specs.Shapes.{streams_of, sum_shape};
-ghost use Rattle.sb_plan.specs.PlanFiles.{AnswersPlan, BlamesFolder};
+ghost use Rattle.sb_plan.specs.PlanFiles.{AnswersPlan};
+ghost use Rattle.sb_plan.specs.Wants.{BlamesLoad};
 ghost use Rattle.sb_cli.specs.Answers as spec;
-ghost use Rattle.sb_cli.specs.Answers.{IsAnswer, IsAnswerOf, IsRead, IsUnread, HasCause, HasWritten, HidesNoFault};
+ghost use Rattle.sb_cli.specs.Answers.{IsAnswer, IsAnswerOf, IsRead, IsUnread, IsWritten, HasWritten};
+ghost use Rattle.sb_cli.specs.Faults.{BlamesFile, HasCause, HidesNoFault, IsWantedFor, faults_of};
 ghost use Rattle.sb_cli.specs.Pipelines.{plan_in};
 ghost use Rattle.sb_cli.specs.Words.{IsSize};
 ghost use Rattle.sb_cli.specs.Words.Asked.{Run};
@@ -29,7 +31,8 @@ use std::alloc::Global;
 fn load_plan<F: Folder>(alloc: Global, name: &str, folder: &mut F) -> Result<Plan, PlanStop>
     ensures exact { (files : Files) → F.files folder.old ≡ Some files → AnswersPlan result (plan_in files name.now) }
     ensures same { F.files folder.new ≡ F.files folder.old }
-    ensures cause { BlamesFolder (F.folder_faults folder.old) (F.folder_faults folder.new) result }
+    ensures cause { BlamesLoad (IsWantedFor (F.files folder.old) name.now)
+        (F.failed folder.old) (F.failed folder.new) result }
 {
     let mut text = Vec::new(alloc);
     match folder.load(name, MAX_PLAN_BYTES + 1, &mut text) {
@@ -47,10 +50,15 @@ pub(crate) fn answer_sum<S: Source, K: Sink>(
     out: &mut K,
 ) -> Status
     requires { IsSize size }
-    ensures answer { IsAnswerOf (sum_shape size) (S.left source.old) (S.left source.new) (K.taken out.old) (K.taken out.new) result }
+    ensures answer { IsAnswerOf (sum_shape size) (S.left source.old) (S.left source.new)
+        (K.taken out.old) (K.taken out.new) result }
     ensures read { IsRead result }
-    ensures cause { (loads loads' : ℕ) → HasCause (S.faults source.old) (S.faults source.new) (K.sink_faults out.old) (K.sink_faults out.new) loads loads' result }
-    ensures no_fault_hidden { (loads : ℕ) → HidesNoFault (S.faults source.old) (S.faults source.new) loads loads result }
+    ensures cause { (loads : List Load) → HasCause
+        (faults_of (S.faults source.old) (K.sink_state out.old) loads)
+        (faults_of (S.faults source.new) (K.sink_state out.new) loads) result }
+    ensures no_fault_hidden { (loads : List Load) → HidesNoFault
+        (faults_of (S.faults source.old) (K.sink_state out.old) loads)
+        (faults_of (S.faults source.new) (K.sink_state out.new) loads) result }
 {
     match sum_plan(alloc, size) {
         Ok(plan) => answer_plan(alloc, &plan, source, out),
@@ -66,11 +74,18 @@ pub(crate) fn answer_file<S: Source, K: Sink, F: Folder>(
     out: &mut K,
     folder: &mut F,
 ) -> Status
-    ensures answer { IsAnswer (F.files folder.old) (Run name.now) (S.left source.old) (S.left source.new) (K.taken out.old) (K.taken out.new) result }
+    ensures answer { IsAnswer (F.files folder.old) (Run name.now) (S.left source.old) (S.left source.new)
+        (K.taken out.old) (K.taken out.new) result }
     ensures unread { IsUnread result → (source.new ≡ source.old) × (out.new ≡ out.old) }
     ensures same { F.files folder.new ≡ F.files folder.old }
-    ensures cause { HasCause (S.faults source.old) (S.faults source.new) (K.sink_faults out.old) (K.sink_faults out.new) (F.folder_faults folder.old) (F.folder_faults folder.new) result }
-    ensures no_fault_hidden { HidesNoFault (S.faults source.old) (S.faults source.new) (F.folder_faults folder.old) (F.folder_faults folder.new) result }
+    ensures cause { HasCause
+        (faults_of (S.faults source.old) (K.sink_state out.old) (F.failed folder.old))
+        (faults_of (S.faults source.new) (K.sink_state out.new) (F.failed folder.new)) result }
+    ensures blames { result ≡ Status.Folder
+        → BlamesFile (F.files folder.old) (Run name.now) (F.failed folder.old) (F.failed folder.new) }
+    ensures no_fault_hidden { HidesNoFault
+        (faults_of (S.faults source.old) (K.sink_state out.old) (F.failed folder.old))
+        (faults_of (S.faults source.new) (K.sink_state out.new) (F.failed folder.new)) result }
 {
     match load_plan(alloc, name, folder) {
         Ok(plan) => answer_plan(alloc, &plan, source, out),
@@ -87,11 +102,16 @@ fn answer_plan<S: Source, K: Sink>(
     source: &mut S,
     out: &mut K,
 ) -> Status
-    ensures answer { IsAnswerOf plan.now (S.left source.old) (S.left source.new) (K.taken out.old) (K.taken out.new) result }
+    ensures answer { IsAnswerOf plan.now (S.left source.old) (S.left source.new)
+        (K.taken out.old) (K.taken out.new) result }
     ensures plan { IsPlan plan.now }
     ensures read { IsRead result }
-    ensures cause { (loads loads' : ℕ) → HasCause (S.faults source.old) (S.faults source.new) (K.sink_faults out.old) (K.sink_faults out.new) loads loads' result }
-    ensures no_fault_hidden { (loads : ℕ) → HidesNoFault (S.faults source.old) (S.faults source.new) loads loads result }
+    ensures cause { (loads : List Load) → HasCause
+        (faults_of (S.faults source.old) (K.sink_state out.old) loads)
+        (faults_of (S.faults source.new) (K.sink_state out.new) loads) result }
+    ensures no_fault_hidden { (loads : List Load) → HidesNoFault
+        (faults_of (S.faults source.old) (K.sink_state out.old) loads)
+        (faults_of (S.faults source.new) (K.sink_state out.new) loads) result }
 {
     match read_input(alloc, plan.streams(), source) {
         Ok(input) => write_due(alloc, plan, &input, out),
@@ -114,7 +134,8 @@ fn write_due<K: Sink>(alloc: Global, plan: &Plan, input: &Input, out: &mut K) ->
     requires range { AllByRecursion IsItemInRange input.now.items }
     requires low { input.now.low ≡ low_watermark (streams_of plan.now) input.now.items }
     ensures written { HasWritten plan.now input.now.stop input.now.items (K.taken out.old) (K.taken out.new) result }
-    ensures cause { result ≡ Status.Output → Rose (K.sink_faults out.old) (K.sink_faults out.new) }
+    ensures cause { result ≡ Status.Output → Rose (K.sink_state out.old).faults (K.sink_state out.new).faults }
+    ensures told { IsWritten result → (K.sink_state out.new).faults ≡ (K.sink_state out.old).faults }
     ensures fault { result ≡ Status.Input → input.now.stop ≡ Stop.Fault }
 {
     let rows = match slow_rows(alloc, plan, input.items.as_slice(), due_mark(input)) {

@@ -5,7 +5,7 @@ ghost use Rattle.sb_outside.specs.Readings.{reading};
 ghost use Rattle.sb_cli.specs.Reads.{ReadsAll, IsGoing, TakesNext, FaultCause};
 
 use sb_outside::{LineBuffer, Source, Step};
-use sb_record::{Intake, Item, NoMemory, Sequence, Stop, Streams};
+use sb_record::{Intake, Item, MAX_LINES, NoMemory, Sequence, Stop, Streams};
 use std::alloc::Global;
 
 /// What was read of an input.
@@ -29,7 +29,7 @@ fn next_item<S: Source>(
     ensures takes { TakesNext S.left (reading source.old lines.old) (reading source.new lines.new) intake.old intake.new result }
     ensures same { OnOk result (S.faults source.new ≡ S.faults source.old) }
     ensures cause { IfErr result (λ stop. FaultCause (S.faults source.old) (S.faults source.new) stop) }
-    ensures room { OnOk result (intake.old.lines < 4294967295) }
+    ensures room { OnOk result (intake.old.lines < MAX_LINES) }
 {
     match lines.advance(source) {
         Step::Line => match intake.accept(lines.line()) {

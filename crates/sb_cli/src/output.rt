@@ -1,6 +1,6 @@
 //! Writing rows: many at a time.
 
-ghost use Rattle.std.specs.Prelude.{◌<◌, ◌≤◌, ◌+◌, All, OnOk, length};
+ghost use Rattle.std.specs.Prelude.{◌≡◌, ◌<◌, ◌≤◌, ◌+◌, All, OnOk, length};
 ghost use Rattle.sb_record.specs.Rows.{text_of};
 ghost use Rattle.sb_outside.specs.Sinks.{SinkCause, WritesAll};
 ghost use Rattle.sb_cli.specs.Batches.{Moves};
@@ -11,11 +11,11 @@ use sb_record::{END_MARK, Record, TextBuf, row_bytes};
 /// How many bytes of rows are gathered before they are written.
 const BATCH: usize = 8192;
 
-/// Writes what is gathered, where another row may not fit.
+/// Writes what is gathered, if another row may not fit.
 fn make_room<K: Sink>(out: &mut K, batch: &mut TextBuf<BATCH>) -> Result<(), SinkFault>
     ensures moves { Moves (K.taken out.old) (K.taken out.new) batch.old batch.new result }
     ensures room { OnOk result (length batch.new + 64 ≤ BATCH) }
-    ensures cause { SinkCause (K.sink_faults out.old) (K.sink_faults out.new) result }
+    ensures cause { SinkCause (K.sink_state out.old) (K.sink_state out.new) result }
 {
     if batch.len() + 64 <= BATCH {
         return Ok(());
@@ -26,10 +26,10 @@ fn make_room<K: Sink>(out: &mut K, batch: &mut TextBuf<BATCH>) -> Result<(), Sin
 }
 
 /// Writes the text of rows, whose times are below [`END_MARK`], and takes no memory for it.
-pub(crate) fn write_rows<K: Sink>(out: &mut K, rows: &[Record]) -> Result<(), SinkFault>
+fn write_text<K: Sink>(out: &mut K, rows: &[Record]) -> Result<(), SinkFault>
     requires { All (λ r. r.time < END_MARK) rows.now }
     ensures bytes { WritesAll (K.taken out.old) (K.taken out.new) (text_of rows.now) result }
-    ensures cause { SinkCause (K.sink_faults out.old) (K.sink_faults out.new) result }
+    ensures cause { SinkCause (K.sink_state out.old) (K.sink_state out.new) result }
 {
     let mut batch = TextBuf::<BATCH>::new();
     'rows: for row in rows {
@@ -37,4 +37,17 @@ pub(crate) fn write_rows<K: Sink>(out: &mut K, rows: &[Record]) -> Result<(), Si
         batch.push(row_bytes(row).as_slice());
     }
     write_all_of(out, batch.as_slice())
+}
+
+/// Writes the text of rows, whose times are below [`END_MARK`], and has the sink pass all of it on.
+pub(crate) fn write_rows<K: Sink>(out: &mut K, rows: &[Record]) -> Result<(), SinkFault>
+    requires { All (λ r. r.time < END_MARK) rows.now }
+    ensures bytes { WritesAll (K.taken out.old) (K.taken out.new) (text_of rows.now) result }
+    ensures cause { SinkCause (K.sink_state out.old) (K.sink_state out.new) result }
+    ensures told { OnOk result ((K.sink_state out.new).faults ≡ (K.sink_state out.old).faults) }
+{
+    match write_text(out, rows) {
+        Ok(()) => out.finish(),
+        Err(fault) => Err(fault),
+    }
 }

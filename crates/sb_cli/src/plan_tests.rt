@@ -30,7 +30,7 @@ fn folder_of(
         String::from_str(alloc, "ads.csv")?,
         Vec::from_slice(alloc, table)?,
     )?;
-    Ok(MemFolder::new(files, Vec::from_slice(alloc, failing)?))
+    Ok(MemFolder::new(alloc, files, Vec::from_slice(alloc, failing)?))
 }
 
 /// A run of a command and the name of its plan over a text.
@@ -98,7 +98,7 @@ const TALKERS: &str =
     "[[transform]]\nname = \"per_host\"\nkind = \"sum\"\nfrom = \"a\"\nsize = 60\n\n[[transform]]\nname = \"networks\"\nkind = \"map\"\nfrom = \"per_host\"\nchange = \"key_div\"\nnumber = 1000\n\n[[transform]]\nname = \"talkers\"\nkind = \"top\"\nfrom = \"networks\"\nsize = 60\nkeep = 2\n";
 
 const ORDERS: &str =
-    "[[transform]]\nname = \"left_to_pay\"\nkind = \"join\"\nfrom = \"a\"\nwith = \"b\"\nsize = 100\ngive = \"sub\"\n\n[[transform]]\nname = \"owed\"\nkind = \"filter\"\nfrom = \"left_to_pay\"\nfield = \"value\"\ntest = \"more\"\nnumber = 0\n";
+    "[[transform]]\nname = \"ordered\"\nkind = \"sum\"\nfrom = \"a\"\nsize = 100\n\n[[transform]]\nname = \"paid\"\nkind = \"sum\"\nfrom = \"b\"\nsize = 100\n\n[[transform]]\nname = \"left_to_pay\"\nkind = \"join\"\nfrom = \"ordered\"\nwith = \"paid\"\nsize = 100\ngive = \"sub\"\n\n[[transform]]\nname = \"owed\"\nkind = \"filter\"\nfrom = \"left_to_pay\"\nfield = \"value\"\ntest = \"more\"\nnumber = 0\n";
 
 /// A plan, lines of an input, the rows, the status and the note.
 type Case = (&'static str, &'static str, &'static str, u8, &'static str);
@@ -183,8 +183,8 @@ const CASES: [Case; 17] = [
     ),
     (
         ORDERS,
-        "r,a,5,71,120\nr,a,8,72,50\nr,b,20,71,100\nr,b,30,72,50\nw,a,100\nw,b,100\nr,a,110,73,30\nr,b,190,73,10\n",
-        "100,71,20\n200,73,20\n",
+        "r,a,5,71,120\nr,b,5,71,0\nr,b,20,71,60\nr,b,30,71,60\nr,a,8,72,50\nr,b,8,72,0\nw,a,100\nw,b,100\nr,a,110,73,30\nr,b,110,73,0\nr,a,115,73,15\nr,b,190,73,10\n",
+        "100,72,50\n200,73,35\n",
         0,
         "",
     ),

@@ -41,7 +41,7 @@ fn run(
 ) -> Result<Ran, AllocError> {
     let words = strings_of(alloc, words)?;
     let mut notes = MemSink::new(alloc, Vec::new(alloc), Vec::new(alloc));
-    let mut folder = MemFolder::new(BTreeMap::new(alloc), Vec::new(alloc));
+    let mut folder = MemFolder::new(alloc, BTreeMap::new(alloc), Vec::new(alloc));
     let status = streambox(alloc, &words, input, out, &mut notes, &mut folder);
     Ok(Ran {
         status,
@@ -288,6 +288,43 @@ fn a_failed_write_leaves_a_prefix_of_the_rows(rt: HostRuntime) -> Result<(), Fai
     Ok(())
 }
 
+/// The numbers of the calls of the sink that fail, a text, what the sink has taken, and the status.
+type Written = (&'static [u64], &'static [u8], &'static str, Status);
+
+/// Sinks that fail in mid-stream and at the end: the rows of a text fit into one write, so the second call is the last.
+#[test]
+fn a_fault_at_the_end_is_a_fault_of_output(rt: HostRuntime) -> Result<(), Fail> {
+    let alloc = rt.alloc();
+    let refused = Status::Line(Refusal::Malformed { line: 4 });
+    let cases: [Written; 6] = [
+        (&[], FIRST, "10,1,7\n20,1,4\n", Status::Done),
+        (&[1], FIRST, "", Status::Output),
+        (&[2], FIRST, "10,1,7\n20,1,4\n", Status::Output),
+        (&[3], FIRST, "10,1,7\n20,1,4\n", Status::Done),
+        (
+            &[3],
+            b"r,a,3,1,5\nw,a,10\nr,a,12,1,4\nx\n",
+            "10,1,5\n",
+            refused,
+        ),
+        (
+            &[2],
+            b"r,a,3,1,5\nw,a,10\nr,a,12,1,4\nx\n",
+            "10,1,5\n",
+            Status::Output,
+        ),
+    ];
+    for (failing, text, rows, status) in cases {
+        let bytes = Vec::from_slice(alloc, text)?;
+        let mut input = MemSource::new(bytes, Vec::new(alloc), Vec::new(alloc));
+        let mut out = MemSink::new(alloc, Vec::new(alloc), Vec::from_slice(alloc, failing)?);
+        let ran = run(alloc, &["sum", "10"], &mut input, &mut out)?;
+        assert_eq!(rt; ran.status, status, "{failing:?}");
+        assert_eq!(rt; ran.rows.as_slice(), rows.as_bytes(), "{failing:?}");
+    }
+    Ok(())
+}
+
 #[test]
 fn notes_that_fail_change_no_status(rt: HostRuntime) -> Result<(), Fail> {
     let alloc = rt.alloc();
@@ -296,7 +333,7 @@ fn notes_that_fail_change_no_status(rt: HostRuntime) -> Result<(), Fail> {
     let mut out = MemSink::new(alloc, Vec::new(alloc), Vec::new(alloc));
     let mut notes = MemSink::new(alloc, vec![in alloc; 6]?, vec![in alloc; 2]?);
     let words = strings_of(alloc, &["sum", "10"])?;
-    let mut folder = MemFolder::new(BTreeMap::new(alloc), Vec::new(alloc));
+    let mut folder = MemFolder::new(alloc, BTreeMap::new(alloc), Vec::new(alloc));
     let status = streambox(alloc, &words, &mut input, &mut out, &mut notes, &mut folder);
     assert_eq!(rt; status, Status::Line(Refusal::Malformed { line: 1 }));
     assert_eq!(rt; notes.taken(), b"line 1".as_slice());

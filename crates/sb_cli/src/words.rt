@@ -9,9 +9,9 @@
 //! A number is decimal digits, without a sign and without leading zeros. A PLAN has at least one byte and does not begin
 //! with `-`.
 
-ghost use Rattle.std.specs.Prelude.{◌≡◌, ◌≤◌, ◌↔◌, ◌∷◌, [], ℕ, Some, IsTrue, IfSome, map, string_bytes, decimal};
+ghost use Rattle.std.specs.Prelude.{◌≡◌, ◌≤◌, ◌↔◌, ◌∷◌, [], ℕ, Some, IsTrue, IfSome, decimal};
 ghost use Rattle.std.specs.Option.{option_map};
-ghost use Rattle.sb_cli.specs.Words.{Asked, IsCommand, IsFileName, IsValid, asked};
+ghost use Rattle.sb_cli.specs.Words.{Asked, IsCommand, IsFileName, IsValid, asked, texts};
 
 use sb_record::read_number;
 use sb_window::MAX_SIZE;
@@ -47,7 +47,7 @@ fn is_file_name(word: &str) -> bool
 
 /// What the words ask for, if they are a command.
 pub fn read_words(words: &[String]) -> Option<Request<'_>>
-    ensures exact { (wanted : Asked) → (option_map asked result ≡ Some wanted) ↔ IsCommand wanted (map (λ w. string_bytes w) words.now) }
+    ensures exact { (wanted : Asked) → (option_map asked result ≡ Some wanted) ↔ IsCommand wanted (texts words.now) }
     ensures valid { IfSome result (λ request. IsValid (asked request)) }
 {
     let [command, argument] = words else {

@@ -15,7 +15,7 @@ returns-in-Some-Sum-clause-answer g c = λ wanted is.
     (inr (sum_shape size, refl, c.answer_sum.ensures.answer))
 
 pub returns-in-Some-Sum-clause-cause : goal.returns-in-Some-Sum-clause-cause
-returns-in-Some-Sum-clause-cause g c = c.answer_sum.ensures.cause (g.F.Folder.folder_faults c.args.folder.now) (g.F.Folder.folder_faults c.args.folder.now)
+returns-in-Some-Sum-clause-cause g c = c.answer_sum.ensures.cause (g.F.Folder.failed c.args.folder.now)
 
 pub returns-in-Some-Sum-clause-no_fault_hidden : goal.returns-in-Some-Sum-clause-no_fault_hidden
-returns-in-Some-Sum-clause-no_fault_hidden g c = c.answer_sum.ensures.no_fault_hidden (g.F.Folder.folder_faults c.args.folder.now)
+returns-in-Some-Sum-clause-no_fault_hidden g c = c.answer_sum.ensures.no_fault_hidden (g.F.Folder.failed c.args.folder.now)

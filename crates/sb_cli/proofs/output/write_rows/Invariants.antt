@@ -1,5 +1,0 @@
-use Rattle.sb_cli.proofs.Printing.{Printing}
-use Rattle.sb_cli.proofs.output.write_rows.Given as goal
-
-abbrev pub invariant-rows : goal.invariant-rows
-invariant-rows g l = Printing (g.K.Sink.taken l.initial.out) (g.K.Sink.taken l.out) l.batch l.rows l.row-index (g.K.Sink.sink_faults l.initial.out) (g.K.Sink.sink_faults l.out)

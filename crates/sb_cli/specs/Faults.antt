@@ -1,0 +1,79 @@
+-- The faults of what a run was handed, and which of them its status tells.
+use Rattle.std.specs.Prelude.{◌≡◌, ◌⊎◌, ◌+◌, ℕ, List, [], ◌∷◌, ◌++◌, Option, Some, Err, ⊤}
+use Rattle.sb_record.specs.declared.intake.Refusal.{Refusal}
+use Rattle.sb_record.specs.declared.intake.Stop.TheVariants.{Refused}
+use Rattle.sb_outside.specs.Folders.{Files, Load, without}
+use Rattle.sb_outside.specs.Sinks.{SinkState}
+use Rattle.sb_outside.specs.Sources.{Rose}
+use Rattle.sb_pipeline.specs.Shapes.{Shape, streams_of}
+use Rattle.sb_plan.specs.Failures.Failure.{NoFile}
+use Rattle.sb_plan.specs.declared.TheConstants.{MAX_PLAN_BYTES, MAX_TABLE_BYTES}
+use Rattle.sb_cli.specs.declared.status.Status.{Status}
+use Rattle.sb_cli.specs.declared.status.Status.TheVariants.{Done, Words, Plan, Line, Input, Output, Folder, Memory}
+use Rattle.sb_cli.specs.Given.{Given, stop_at}
+use Rattle.sb_cli.specs.Pipelines.{plan_in}
+use Rattle.sb_cli.specs.Words.{Asked}
+use Rattle.sb_cli.specs.Words.Asked.{Sum, Run, Slow}
+
+-- how many reads and writes have failed, and which loads
+pub record Faults : Type 0 where
+  pub reads : ℕ
+  pub writes : ℕ
+  pub loads : List Load
+
+-- those of a source, a sink and a folder
+abbrev pub faults_of : ℕ → SinkState → List Load → Faults
+faults_of reads sink loads = record { reads = reads; writes = sink.faults; loads = loads }
+
+-- a failed read or write is answered only if its count rose
+abbrev pub HasCause : Faults → Faults → Status → Type 0
+HasCause before now Input = Rose before.reads now.reads
+HasCause before now Output = Rose before.writes now.writes
+HasCause before now Folder = ⊤
+HasCause before now Done = ⊤
+HasCause before now Words = ⊤
+HasCause before now (Plan fault) = ⊤
+HasCause before now (Line refusal) = ⊤
+HasCause before now Memory = ⊤
+
+-- the load of the plan file
+abbrev pub plan_load : List ℕ → Load
+plan_load name = record { name = name; most = MAX_PLAN_BYTES + 1 }
+
+-- the load is of the plan file or of a table, and the file is wanted at its turn: without it there is no plan, and no test fails first
+abbrev pub IsWantedFor : Option Files → List ℕ → Load → Type 0
+IsWantedFor folder name load =
+    ((load ≡ plan_load name) ⊎ (load.most ≡ MAX_TABLE_BYTES + 1))
+    × ((files : Files) → folder ≡ Some files → plan_in (without load.name files) name ≡ Err NoFile)
+
+-- the load is wanted for what is asked for
+abbrev pub IsWanted : Option Files → Asked → Load → Type 0
+IsWanted folder (Sum size) load = ⊥
+IsWanted folder (Run name) load = IsWantedFor folder name load
+IsWanted folder (Slow name) load = IsWantedFor folder name load
+
+-- one load failed, which was wanted
+abbrev pub BlamesFile : Option Files → Asked → List Load → List Load → Type 0
+BlamesFile folder wanted before now = (load : Load) × IsWanted folder wanted load × (now ≡ before ++ load ∷ [])
+
+-- no fault is passed over: nothing failed but what the status tells. At Output a read may have failed before; out of memory, a read or a write
+abbrev pub HidesNoFault : Faults → Faults → Status → Type 0
+HidesNoFault before now Done = now ≡ before
+HidesNoFault before now Words = now ≡ before
+HidesNoFault before now (Plan fault) = now ≡ before
+HidesNoFault before now (Line refusal) = now ≡ before
+HidesNoFault before now Input = (now.writes ≡ before.writes) × (now.loads ≡ before.loads)
+HidesNoFault before now Output = now.loads ≡ before.loads
+HidesNoFault before now Folder = (now.reads ≡ before.reads) × (now.writes ≡ before.writes)
+HidesNoFault before now Memory = now.loads ≡ before.loads
+
+-- the run was done, or there was no memory
+abbrev pub IsDoneOrMemory : Status → Type 0
+IsDoneOrMemory status = (status ≡ Done) ⊎ (status ≡ Memory)
+
+-- no line of what the source gave is refused, and nothing failed
+pub record NothingFails (plan : Shape) (left left' : Option (List ℕ)) (before now : Faults) : Type 0 where
+  pub no_refusal : (given : Given left left') (refusal : Refusal) → stop_at (streams_of plan) given ≡ Refused refusal → ⊥
+  pub no_read_failed : Rose before.reads now.reads → ⊥
+  pub no_write_failed : Rose before.writes now.writes → ⊥
+  pub no_load_failed : now.loads ≡ before.loads
