@@ -1,7 +1,7 @@
 //! A source of one's own: two sources, one behind the other, as two logs that are read as one.
 
-ghost use Rattle.std.specs.Prelude.{ℕ, ◌++◌, IfOk, map, string_bytes};
-ghost use Rattle.sb_cli.specs.Words.{IsCommand};
+ghost use Rattle.std.specs.Prelude.{ℕ, ◌++◌, IfOk};
+ghost use Rattle.sb_cli.specs.Words.{IsCommand, texts};
 ghost use Rattle.sb_cli.specs.Words.Asked.{Sum};
 ghost use Rattle.uses.specs.Sums.{GivesSums};
 
@@ -40,7 +40,7 @@ pub fn answer_to_both(
     first: Vec<u8>,
     second: Vec<u8>,
 ) -> Result<Answer, AllocError>
-    ensures { (size : ℕ) → IsCommand (Sum size) (map (λ w. string_bytes w) words.now)
+    ensures { (size : ℕ) → IsCommand (Sum size) (texts words.now)
         → IfOk result (GivesSums size (first.items ++ second.items)) }
 {
     let mut input = EndToEnd {

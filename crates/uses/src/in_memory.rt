@@ -1,7 +1,7 @@
 //! The whole program over memory: words, an input, and the rows as bytes.
 
-ghost use Rattle.std.specs.Prelude.{◌≡◌, ℕ, List, Some, IfOk, map, string_bytes};
-ghost use Rattle.sb_cli.specs.Words.{IsCommand};
+ghost use Rattle.std.specs.Prelude.{◌≡◌, ℕ, List, Some, IfOk};
+ghost use Rattle.sb_cli.specs.Words.{IsCommand, texts};
 ghost use Rattle.sb_cli.specs.Words.Asked.{Sum};
 ghost use Rattle.uses.specs.Sums.{GivesSums};
 
@@ -23,12 +23,12 @@ pub fn answer_to_source<S: Source>(
     words: &[String],
     input: &mut S,
 ) -> Result<Answer, AllocError>
-    ensures { (size : ℕ) (text : List ℕ) → IsCommand (Sum size) (map (λ w. string_bytes w) words.now)
+    ensures { (size : ℕ) (text : List ℕ) → IsCommand (Sum size) (texts words.now)
         → S.left input.old ≡ Some text → IfOk result (GivesSums size text) }
 {
     let mut out = MemSink::new(alloc, Vec::new(alloc), Vec::new(alloc));
     let mut notes = MemSink::new(alloc, Vec::new(alloc), Vec::new(alloc));
-    let mut folder = MemFolder::new(BTreeMap::new(alloc), Vec::new(alloc));
+    let mut folder = MemFolder::new(alloc, BTreeMap::new(alloc), Vec::new(alloc));
     let status = streambox(alloc, words, input, &mut out, &mut notes, &mut folder);
     let rows = Vec::from_slice(alloc, out.taken())?;
     Ok(Answer { status, rows })
@@ -36,7 +36,7 @@ pub fn answer_to_source<S: Source>(
 
 /// The same for a text.
 pub fn answer_to_text(alloc: Global, words: &[String], text: Vec<u8>) -> Result<Answer, AllocError>
-    ensures { (size : ℕ) → IsCommand (Sum size) (map (λ w. string_bytes w) words.now)
+    ensures { (size : ℕ) → IsCommand (Sum size) (texts words.now)
         → IfOk result (GivesSums size text.items) }
 {
     let mut input = MemSource::new(text, Vec::new(alloc), Vec::new(alloc));
