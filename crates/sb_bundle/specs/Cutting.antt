@@ -3,7 +3,8 @@ use Rattle.std.specs.Prelude.{ℕ, ◌≤◌, ◌<◌, List, length, All}
 use Rattle.sb_record.specs.declared.item.Record.{Record}
 use Rattle.sb_bundle.specs.declared.bundle.TheConstants.{MAX_BUNDLE}
 
--- how many records fill a bundle, how many watermarks there were, the last of them, 0 before the first, and the records that fill no bundle yet
+-- how many records fill a bundle, how many watermarks there were, the last of them, 0 before the first, and the records
+-- that fill no bundle yet
 pub record Cutting : Type 0 where
   pub size : ℕ
   pub epoch : ℕ

@@ -1,10 +1,10 @@
 -- The limit of bundles as a number, and the laws of cutting: what a new cutter gives over any list of calls.
 use Rattle.std.specs.Prelude.{◌≡◌, ℕ, ◌≤◌, ◌<◌, List, [], ◌∷◌, ◌++◌, length, All}
 use Rattle.sb_record.specs.declared.item.Record.{Record}
-use Rattle.sb_bundle.specs.declared.bundle.TheConstants.{MAX_BUNDLE}
 use Rattle.sb_bundle.specs.declared.bundle.Bundle.{Bundle}
 use Rattle.sb_bundle.specs.Cutting.{Cutting}
 use Rattle.sb_bundle.specs.Cuts.{started}
+use Rattle.sb_bundle.specs.declared.bundle.TheConstants.{MAX_BUNDLE}
 use Rattle.sb_bundle.specs.Calls.{Call, records_of, records_in, bundles_by, after_all, parts_of, parts_in, joined}
 
 -- the most records of a bundle
@@ -37,7 +37,9 @@ cutting_after size calls = after_all calls (started size)
 
 -- the bundles given, joined, followed by what is held, are the records pushed, in order
 abbrev pub NoRecordIsLost : Type 0
-NoRecordIsLost = (size : ℕ) (calls : List Call) → joined (parts_of (bundles_of size calls)) ++ (cutting_after size calls).held ≡ records_of calls
+NoRecordIsLost =
+    (size : ℕ) (calls : List Call)
+    → joined (parts_of (bundles_of size calls)) ++ (cutting_after size calls).held ≡ records_of calls
 
 -- the bundles of an epoch that has ended are its records, cut
 abbrev pub EndedEpochsAreCut : Type 0

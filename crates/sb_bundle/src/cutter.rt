@@ -215,4 +215,24 @@ mod tests {
         }
         Ok(())
     }
+
+    #[test]
+    fn the_largest_bundle(rt: HostRuntime) -> Result<(), AllocError> {
+        let alloc = rt.alloc();
+        let cases = [
+            (65_535, Vec::new(alloc), 65_535),
+            (65_536, vec![in alloc; (0, 0, 65_536)]?, 0),
+            (65_537, vec![in alloc; (0, 0, 65_536)]?, 1),
+        ];
+        for (count, want, held) in cases {
+            let mut calls = Vec::new(alloc);
+            for _call in 0..count {
+                calls.push(Push(7))?;
+            }
+            let (bundles, left) = cut(alloc, 65_536, &calls)?;
+            assert_eq!(rt; bundles, want, "{count} records");
+            assert_eq!(rt; left, held, "{count} records");
+        }
+        Ok(())
+    }
 }

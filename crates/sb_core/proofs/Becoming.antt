@@ -18,6 +18,7 @@ pub becomes-as : {T : Type 0} (later same : Option Moment) (old new : Moment) (r
 becomes-as later same old new r is b = subst (λ l. Becomes l old new r) (sym is) b
 
 -- a refusal changes nothing
-pub becomes-same : (T : Type 0) (later : Option Moment) (old new : Moment) (stop : StepStop) → Becomes {T = T} later old new (Err stop) → new ≡ old
-becomes-same T later old new NotNow b = b.1
-becomes-same T later old new Memory b = b
+pub refused-same : {T : Type 0} (later : Option Moment) (old new : Moment) (r : Result T StepStop) → IsErr r → Becomes later old new r → new ≡ old
+refused-same later old new (Ok x) is_err b = cc
+refused-same later old new (Err NotNow) is_err b = b.1
+refused-same later old new (Err Memory) is_err b = b

@@ -28,6 +28,7 @@ use Rattle.sb_core.specs.Closings.{is_pardo}
 use Rattle.sb_core.specs.Holdings.{IsWork, IsClosing, IsHeld, is_unpassed}
 use Rattle.sb_core.proofs.Orderly.{IsLawful}
 use Rattle.sb_record.proofs.Sums.{SameSums}
+use Rattle.sb_window.specs.declared.windows.TheConstants.{MAX_SIZE}
 use Rattle.sb_core.proofs.Frame.{IsKept, frame, holds_still}
 use Rattle.sb_core.proofs.LawfulArrive.{put-lane, put-kept, next_fits}
 use Rattle.sb_core.proofs.HeldLists.{any_swap, count_swap, All-last}
@@ -77,7 +78,7 @@ above-more k (t ∷ steps) count further (suc j) s h =
     shift : (k j : ℕ) → k + 1 + j ≡ k + suc j
     shift k j = omega arith
 
-pub bound-rises : (plan : Shape) → IsPlan plan → (k : ℕ) (s : Step) → slice_get plan.steps k ≡ Some s → bound_at plan k + 10 ^ 12 ≤ bound_at plan s.down.node
+pub bound-rises : (plan : Shape) → IsPlan plan → (k : ℕ) (s : Step) → slice_get plan.steps k ≡ Some s → bound_at plan k + MAX_SIZE ≤ bound_at plan s.down.node
 bound-rises plan is_plan k s is =
     let h : above_from 0 plan.steps (λ n. 0) (0 + k) + 1 ≤ above_from 0 plan.steps (λ n. 0) s.down.node = above-more 0 plan.steps (λ n. 0) (λ j s e. let z : j < s.down.node = is_plan.further j s e in omega arith) k s is in
     let z : above_from 0 plan.steps (λ n. 0) (0 + k) ≡ above_from 0 plan.steps (λ n. 0) k = ap (above_from 0 plan.steps (λ n. 0)) (zero-add k) in
@@ -96,7 +97,7 @@ images_within op floor bound l all = All-flat_map (λ r. (floor ≤ r.time) × (
 -- ---- the next rows of a Close
 pub rows-lawful : (plan : Shape) (m : Moment) (d : Down) (node : Node) (lane : CoreLane) (y l epoch serial floor mark : ℕ) (rows : List Record) (others : List Held) (count : ℕ)
     → slice_get m.nodes d.node ≡ Some node → slice_get node.lanes d.lane ≡ Some lane → IsLawful plan m → SameSums m.held (Close y l epoch serial floor mark rows false ∷ others) → AllByRecursion (IsHeld plan m) others
-    → IsClosing plan m y l epoch serial floor mark rows false → bound_at plan y + 10 ^ 12 ≤ bound_at plan d.node → next_epoch lane ≡ serial → next_floor lane ≡ floor
+    → IsClosing plan m y l epoch serial floor mark rows false → bound_at plan y + MAX_SIZE ≤ bound_at plan d.node → next_epoch lane ≡ serial → next_floor lane ≡ floor
     → IsLawful plan (set_node d.node (set_lane d.lane (with_arrival serial floor (take count rows) lane) node) (with_held (others ++ Close y l epoch serial floor mark (drop count rows) false ∷ []) m))
 rows-lawful plan m d node lane y l epoch serial floor mark rows others count at in_it lawful pulled holds closing further next low =
     frame plan m d node lane with at in_it kept held lawful placed
@@ -110,7 +111,7 @@ rows-lawful plan m d node lane y l epoch serial floor mark rows others count at 
       mark_is = closing.mark_is;
       rises = closing.rises;
       serial_is = closing.serial_is;
-      times = All-drop (λ r. (floor ≤ r.time) × (r.time ≤ bound_at plan y + 10 ^ 12)) count rows closing.times;
+      times = All-drop (λ r. (floor ≤ r.time) × (r.time ≤ bound_at plan y + MAX_SIZE)) count rows closing.times;
       before_mark = All-drop (λ r. r.time < mark) count rows closing.before_mark;
       no_rows = λ f. cc;
       under = closing.under;
@@ -130,7 +131,7 @@ rows-lawful plan m d node lane y l epoch serial floor mark rows others count at 
     ok = lawful.lanes d lane (ap (λ (o : Option Node). o >>= λ x. slice_get x.lanes d.lane) at ∙ in_it)
 
     times : IsWithin floor (bound_at plan d.node) (take count rows)
-    times = within_wider floor (bound_at plan y + 10 ^ 12) (bound_at plan d.node) further (take count rows) (All-take (λ r. (floor ≤ r.time) × (r.time ≤ bound_at plan y + 10 ^ 12)) count rows closing.times)
+    times = within_wider floor (bound_at plan y + MAX_SIZE) (bound_at plan d.node) further (take count rows) (All-take (λ r. (floor ≤ r.time) × (r.time ≤ bound_at plan y + MAX_SIZE)) count rows closing.times)
 
     fits : Fits serial floor lane.conts
     fits = subst (λ z. Fits z floor lane.conts) next (subst (λ z. Fits (next_epoch lane) z lane.conts) low (next_fits (bound_at plan d.node) lane ok))
@@ -144,7 +145,7 @@ rows-lawful plan m d node lane y l epoch serial floor mark rows others count at 
 -- ---- a ParDo's Work
 pub work-lawful : (plan : Shape) (m : Moment) (d : Down) (node : Node) (lane : CoreLane) (op : Op) (y l epoch floor number : ℕ) (records : List Record) (others : List Held)
     → slice_get m.nodes d.node ≡ Some node → slice_get node.lanes d.lane ≡ Some lane → IsLawful plan m → SameSums m.held (Work y l epoch floor number records false ∷ others) → AllByRecursion (IsHeld plan m) others
-    → IsWork plan m y l epoch floor number records false → is_pardo (operator_at (slice_get plan.steps y)) ≡ true → bound_at plan y + 10 ^ 12 ≤ bound_at plan d.node
+    → IsWork plan m y l epoch floor number records false → is_pardo (operator_at (slice_get plan.steps y)) ≡ true → bound_at plan y + MAX_SIZE ≤ bound_at plan d.node
     → next_epoch lane ≤ epoch → next_floor lane ≤ floor → (epoch ≡ next_epoch lane → floor ≡ next_floor lane) → Fits epoch floor lane.conts
     → IsLawful plan (set_node d.node (set_lane d.lane (with_arrival epoch floor (flat_map (outputs_of op) records) lane) node) (with_held (others ++ Work y l epoch floor number records true ∷ []) m))
 work-lawful plan m d node lane op y l epoch floor number records others at in_it lawful pulled holds work pardo further from above is_next fits =

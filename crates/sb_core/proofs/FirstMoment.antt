@@ -1,5 +1,6 @@
 -- The first moment of a plan is sound, and exact for nothing fed.
 use Rattle.sb_record.proofs.Numbers.{bind_some}
+use Rattle.sb_bundle.specs.declared.bundle.TheConstants.{MAX_BUNDLE}
 use Rattle.sb_pipeline.proofs.Steps.{place-at}
 use Rattle.sb_pipeline.proofs.Feeding
 use Rattle.sb_core.proofs.Orderly.{sound_of, IsLawful}
@@ -144,7 +145,7 @@ module _ (plan : Shape) (is_plan : IsPlan plan) (bundle : ℕ) where
   numbered_none : AreNumbered empty_lane
   numbered_none = record { once = λ n. omega arith; given = λ n h. absurd (omega arith) }
 
-  pub first-sound : 1 ≤ bundle → bundle ≤ 65536 → IsSound plan (first plan bundle)
+  pub first-sound : 1 ≤ bundle → bundle ≤ MAX_BUNDLE → IsSound plan (first plan bundle)
   first-sound low high =
       (sound_of (record {
         lawful = first-lawful;

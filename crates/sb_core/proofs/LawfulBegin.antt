@@ -26,6 +26,7 @@ use Rattle.sb_pipeline.specs.Operators.{Operator, operator_at, grouped}
 use Rattle.sb_pipeline.specs.Operators.Operator.{ParDo, Windowed, Sink}
 use Rattle.sb_record.specs.Reading.{◌>>=◌}
 use Rattle.sb_record.proofs.Sums.{any_by_count}
+use Rattle.sb_window.specs.declared.windows.TheConstants.{MAX_SIZE}
 use Rattle.sb_core.specs.Marks.{begun, closed, last_of_first, first_is_closing}
 use Rattle.sb_core.specs.Lanes.{closable, with_first_closing}
 use Rattle.sb_core.specs.Choices.{is_empty}
@@ -243,10 +244,10 @@ module _ (plan : Shape) (m : Moment) (n l : ℕ) (node : Node) (lane : CoreLane)
       one true h ih = cc
       one false h ih = ih h
 
-  module _ (bounded : AllByRecursion (λ r. r.time ≤ bound_at plan n + 10 ^ 12) (rows_at (operator_at (slice_get plan.steps n)) (closed node.lanes) (closing_mark plan m n l node lane c.epoch) node.kept)) where
+  module _ (bounded : AllByRecursion (λ r. r.time ≤ bound_at plan n + MAX_SIZE) (rows_at (operator_at (slice_get plan.steps n)) (closed node.lanes) (closing_mark plan m n l node lane c.epoch) node.kept)) where
     new_is : IsHeld plan after close
     new_is =
-        let w = both_within (closed node.lanes) (closing_mark plan m n l node lane c.epoch) (bound_at plan n + 10 ^ 12) (rows_at (operator_at (slice_get plan.steps n)) (closed node.lanes) (closing_mark plan m n l node lane c.epoch) node.kept) (rows-between (operator_at (slice_get plan.steps n)) (closed node.lanes) (closing_mark plan m n l node lane c.epoch) node.kept) bounded in
+        let w = both_within (closed node.lanes) (closing_mark plan m n l node lane c.epoch) (bound_at plan n + MAX_SIZE) (rows_at (operator_at (slice_get plan.steps n)) (closed node.lanes) (closing_mark plan m n l node lane c.epoch) node.kept) (rows-between (operator_at (slice_get plan.steps n)) (closed node.lanes) (closing_mark plan m n l node lane c.epoch) node.kept) bounded in
         record {
           lane = begun_l;
           there = is_now;

@@ -27,6 +27,7 @@ use Rattle.sb_core.specs.Holdings.{IsHeld, is_unpassed}
 use Rattle.sb_core.specs.Soundness.{IsSealedBelow}
 use Rattle.sb_core.proofs.Orderly.{IsLawful}
 use Rattle.sb_record.proofs.Sums.{sum_by-flat_map, sum_by-map}
+use Rattle.sb_window.specs.declared.windows.TheConstants.{MAX_SIZE}
 use Rattle.sb_core.proofs.Nodes.{begun_mark}
 use Rattle.sb_core.proofs.Groupings.{early, early_one}
 use Rattle.sb_core.proofs.Timely.{zero_early, early_weaker, IsTimelyAt, IsTimely}
@@ -136,7 +137,7 @@ module _ (plan : Shape) (m : Moment) (lawful : IsLawful plan m) where
           by_case true true e f = ap (sum_by (early (next_floor b.lane))) (h.no_rows f)
           by_case true false e f =
               let x : floor_at m s.down ≡ floor = h.under f s (ap (slice_get plan.steps) (eqb-true n k e) ∙ is) in
-              within_late (next_floor b.lane) floor (bound_at plan n + 10 ^ 12) (omega (arith, floor_is)) rows h.times
+              within_late (next_floor b.lane) floor (bound_at plan n + MAX_SIZE) (omega (arith, floor_is)) rows h.times
 
       rows : sum_by (early (next_floor b.lane)) (flat_map (undelivered k) m.held) ≡ 0
       rows = sum_by-flat_map (early (next_floor b.lane)) (undelivered k) m.held ∙ go m.held lawful.holds

@@ -43,6 +43,7 @@ use Rattle.sb_core.specs.Bounds.{bound_at}
 use Rattle.sb_core.specs.Holdings.{IsWork, IsClosing, IsHeld, is_unpassed, IsCloseOf}
 use Rattle.sb_core.specs.Soundness.{has_cont, IsOpenBelow, IsSound}
 use Rattle.sb_record.proofs.Sums.{SameSums}
+use Rattle.sb_window.specs.declared.windows.TheConstants.{MAX_SIZE}
 use Rattle.sb_core.proofs.Lists.{cond_is_some}
 use Rattle.sb_core.proofs.Gives.{lane_at-parts, with_lane-is}
 use Rattle.sb_core.proofs.Nodes.{begun_mark}
@@ -125,7 +126,7 @@ module _ (plan : Shape) (is_plan : IsPlan plan) (m m' : Moment) (sound : IsSound
           let close : IsClosing plan m y l epoch serial floor mark rows false = subst (λ b. IsClosing plan m y l epoch serial floor mark rows b) e held.0 in
           let next : next_epoch p.1 ≡ serial = sym (ap epoch_of at) ∙ ap (epoch_at m) (sym down) ∙ close.next_under refl s is in
           let low : next_floor p.1 ≡ floor = sym (ap floor_of at) ∙ ap (floor_at m) (sym down) ∙ close.under refl s is in
-          let further : bound_at plan y + 10 ^ 12 ≤ bound_at plan d.node = subst (λ (d : Down). bound_at plan y + 10 ^ 12 ≤ bound_at plan d.node) down (bound-rises plan is_plan y s is) in
+          let further : bound_at plan y + MAX_SIZE ≤ bound_at plan d.node = subst (λ (d : Down). bound_at plan y + MAX_SIZE ≤ bound_at plan d.node) down (bound-rises plan is_plan y s is) in
           let first : SameSums m.held (Close y l epoch serial floor mark rows false ∷ others) = λ f. pulled f ∙ ap (λ b. sum_by f (Close y l epoch serial floor mark rows b ∷ others)) e in
           let ok : IsLane (bound_at plan d.node) p.1 = lawful.lanes d p.1 at in
           let fits : Fits serial floor p.1.conts = subst (λ z. Fits z floor p.1.conts) next (subst (λ z. Fits (next_epoch p.1) z p.1.conts) low (next_fits (bound_at plan d.node) p.1 ok)) in
@@ -193,7 +194,7 @@ module _ (plan : Shape) (is_plan : IsPlan plan) (m m' : Moment) (sound : IsSound
           let next : epoch_at m s.down ≡ next_epoch p.1 = ap (epoch_at m) down ∙ ap epoch_of at in
           let low : floor_at m s.down ≡ next_floor p.1 = ap (floor_at m) down ∙ ap floor_of at in
           let from : next_epoch p.1 ≤ epoch = omega (arith, not_sealed plan m lawful y l epoch floor number records false s work pardo is) in
-          let further : bound_at plan y + 10 ^ 12 ≤ bound_at plan d.node = subst (λ (d : Down). bound_at plan y + 10 ^ 12 ≤ bound_at plan d.node) down (bound-rises plan is_plan y s is) in
+          let further : bound_at plan y + MAX_SIZE ≤ bound_at plan d.node = subst (λ (d : Down). bound_at plan y + MAX_SIZE ≤ bound_at plan d.node) down (bound-rises plan is_plan y s is) in
           let closed_is : closed (node_at m y).lanes ≡ begun_mark work.lane = lone_closed (node_at m y).lanes l work.lane one in_node in
           let timely = (lawful-timely plan m lawful).below y s is in
           let behind : floor_at m s.down ≤ closed (node_at m y).lanes = subst (λ z. z ≤ closed (node_at m y).lanes) (sym (ap floor_of timely.there)) timely.behind in

@@ -13,7 +13,9 @@ use Rattle.sb_core.specs.Lanes.{closable, with_first_closing}
 use Rattle.sb_core.specs.Marks.{closed}
 use Rattle.sb_core.specs.Moments.{is_close, set_lane}
 
--- the closing of the lane's oldest container may begin, and this is its epoch, its serial, after which there is one more number, its floor, its mark, its rows, what stays kept, what the sink adds to the rows, and whether it is the sink's, which has no mark to pass
+-- the closing of the lane's oldest container may begin, and this is its epoch, its serial, after which there is one
+-- more number, its floor, its mark, its rows, what stays kept, what the sink adds to the rows, and whether it is the
+-- sink's, which has no mark to pass
 pub record IsBeginningOf (plan : Shape) (m : Moment) (k l : ℕ) (closing : Closing) : Type 0 where
   pub node : Node
   pub there : slice_get m.nodes k ≡ Some node

@@ -1,9 +1,10 @@
 -- What holds of each Work and each Close.
-use Rattle.std.specs.Prelude.{◌≡◌, ℕ, ◌+◌, ◌^◌, ◌<◌, ◌≤◌, ◌==◌, Bool, true, false, not, ◌&&◌, List, [], Some, slice_get}
+use Rattle.std.specs.Prelude.{◌≡◌, ℕ, ◌+◌, ◌<◌, ◌≤◌, ◌==◌, Bool, true, false, not, ◌&&◌, List, [], Some, slice_get}
 use Rattle.std.specs.List.{AllByRecursion, list_any}
 use Rattle.sb_record.specs.declared.item.Record.{Record}
 use Rattle.sb_record.specs.Orders.{IsAscending}
 use Rattle.sb_record.specs.Records.{record_cmp}
+use Rattle.sb_window.specs.declared.windows.TheConstants.{MAX_SIZE}
 use Rattle.sb_pipeline.specs.declared.transform.Step.{Step}
 use Rattle.sb_pipeline.specs.Shapes.{Shape}
 use Rattle.sb_pipeline.specs.Operators.{operator_at}
@@ -38,7 +39,7 @@ pub record IsClosing (plan : Shape) (m : Moment) (k l epoch serial floor mark : 
   pub mark_is : mark ≡ closed (node_at m k).lanes
   pub rises : floor ≤ mark
   pub serial_is : serial + 1 ≡ (node_at m k).closings
-  pub times : IsWithin floor (bound_at plan k + 10 ^ 12) rows
+  pub times : IsWithin floor (bound_at plan k + MAX_SIZE) rows
   pub before_mark : AllByRecursion (λ r. r.time < mark) rows
   pub no_rows : passed ≡ true → rows ≡ []
   pub under : passed ≡ false → (s : Step) → slice_get plan.steps k ≡ Some s → floor_at m s.down ≡ floor

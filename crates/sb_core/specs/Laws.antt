@@ -38,21 +38,26 @@ fed_after (Begin node lane) fed s = fed s
 fed_after (Pass node) fed s = fed s
 fed_after (End node) fed s = fed s
 
--- each single event whose condition holds keeps a moment sound, and whole for what was fed with what the event feeds
-abbrev pub EventsKeepSound : Type 0
-EventsKeepSound =
-    (plan : Shape) → IsPlan plan → (m later : Moment) (event : Event) → after plan m event ≡ Some later → IsSound plan m
-    → IsSound plan later × ((fed : Stream → List Record) → IsExact plan m fed → IsExact plan later (fed_after event fed))
-
 -- what a list of events feeds
 abbrev pub fed_by : List Event → (Stream → List Record) → Stream → List Record
 fed_by [] fed = fed
 fed_by (e ∷ es) fed = fed_by es (fed_after e fed)
 
+-- what was exact before the events is exact after them, for what was fed with what they feed
+abbrev pub KeepsExact : Shape → Moment → Moment → List Event → Type 0
+KeepsExact plan old new events = (fed : Stream → List Record) → IsExact plan old fed → IsExact plan new (fed_by events fed)
+
+-- each single event whose condition holds keeps a moment sound, and whole for what was fed with what the event feeds
+abbrev pub EventsKeepSound : Type 0
+EventsKeepSound =
+    (plan : Shape) → IsPlan plan → (m later : Moment) (event : Event) → after plan m event ≡ Some later → IsSound plan m
+    → IsSound plan later × KeepsExact plan m later (event ∷ [])
+
 -- from the first moment every list of events leads to a sound moment that is whole for what was fed
 abbrev pub RunsAreSound : Type 0
 RunsAreSound =
-    (plan : Shape) → IsPlan plan → (bundle : ℕ) → 1 ≤ bundle → bundle ≤ MAX_BUNDLE → (events : List Event) (m : Moment) → run plan events (first plan bundle) ≡ Some m
+    (plan : Shape) → IsPlan plan → (bundle : ℕ) → 1 ≤ bundle → bundle ≤ MAX_BUNDLE
+    → (events : List Event) (m : Moment) → run plan events (first plan bundle) ≡ Some m
     → IsSound plan m × IsExact plan m (fed_by events (λ s. []))
 
 -- the mark up to which the sink has closed
@@ -62,7 +67,8 @@ written_to plan m = closed (node_at m (length plan.steps)).lanes
 -- the rows of a sound and whole moment are the plan's below that mark, whatever comes
 abbrev pub RowsAreThePlans : Type 0
 RowsAreThePlans =
-    (plan : Shape) (m : Moment) (fed coming : Stream → List Record) → IsSound plan m → IsExact plan m fed → IsAdmissible plan m coming
+    (plan : Shape) (m : Moment) (fed coming : Stream → List Record)
+    → IsSound plan m → IsExact plan m fed → IsAdmissible plan m coming
     → m.rows ≡ rows_below (written_to plan m) plan (λ s. fed s ++ coming s)
 
 -- each stream's lane is sealed with the last mark, and no container is left
@@ -72,13 +78,15 @@ pub record IsDone (plan : Shape) (m : Moment) : Type 0 where
 
 -- then the rows are all that the plan gives over what was fed
 abbrev pub RowsAreAll : Type 0
-RowsAreAll = (plan : Shape) → IsPlan plan → (m : Moment) (fed : Stream → List Record) → IsSound plan m → IsExact plan m fed → IsDone plan m → m.rows ≡ rows_below END_MARK plan fed
+RowsAreAll =
+    (plan : Shape) → IsPlan plan → (m : Moment) (fed : Stream → List Record)
+    → IsSound plan m → IsExact plan m fed → IsDone plan m → m.rows ≡ rows_below END_MARK plan fed
 
 -- the order of what is held does not matter
 abbrev pub HeldInAnyOrder : Type 0
 HeldInAnyOrder =
     (plan : Shape) (m : Moment) (held : List Held) → IsPermutation m.held held → IsSound plan m
-    → IsSound plan (with_held held m) × ((fed : Stream → List Record) → IsExact plan m fed → IsExact plan (with_held held m) fed)
+    → IsSound plan (with_held held m) × KeepsExact plan m (with_held held m) []
 
 -- whether the event is of this Work or Close
 abbrev pub concerns : Event → Held → Bool
@@ -93,7 +101,8 @@ concerns (Begin node lane) h = false
 
 abbrev pub delivered_now : ℕ → Held → List Held
 delivered_now bundle (Work k l epoch floor number records delivered) = Work k l epoch floor number records true ∷ []
-delivered_now bundle (Close k l epoch serial floor mark rows passed) = Close k l epoch serial floor mark (drop bundle rows) passed ∷ []
+delivered_now bundle (Close k l epoch serial floor mark rows passed) =
+    Close k l epoch serial floor mark (drop bundle rows) passed ∷ []
 
 abbrev pub passed_now : Held → List Held
 passed_now (Work k l epoch floor number records delivered) = []
@@ -113,10 +122,11 @@ changed bundle (Begin node lane) h = []
 -- an event of the Work or Close at the head leaves there what becomes of it
 abbrev pub EventsAtTheHead : Type 0
 EventsAtTheHead =
-    (plan : Shape) → IsPlan plan → (m later : Moment) (event : Event) (h : Held) (rest : List Held) → concerns event h ≡ true
+    (plan : Shape) → IsPlan plan → (m later : Moment) (event : Event) (h : Held) (rest : List Held)
+    → concerns event h ≡ true
     → after plan (with_held (h ∷ rest) m) event ≡ Some later → IsSound plan (with_held (h ∷ rest) m)
     → IsSound plan (with_held (changed m.bundle event h ++ rest) later)
-    × ((fed : Stream → List Record) → IsExact plan (with_held (h ∷ rest) m) fed → IsExact plan (with_held (changed m.bundle event h ++ rest) later) fed)
+    × KeepsExact plan (with_held (h ∷ rest) m) (with_held (changed m.bundle event h ++ rest) later) []
 
 -- the node whose part an event changes
 abbrev pub place_of : Shape → Event → Option ℕ
@@ -148,19 +158,25 @@ takes_up (End node) = false
 -- a Take and a Begin hold one more, which may stand at the head
 abbrev pub NewAtTheHead : Type 0
 NewAtTheHead =
-    (plan : Shape) → IsPlan plan → (m later : Moment) (event : Event) → takes_up event ≡ true → after plan m event ≡ Some later → IsSound plan m
-    → (h : Held) × (later.held ≡ m.held ++ h ∷ []) × IsSound plan (with_held (h ∷ m.held) later) × ((fed : Stream → List Record) → IsExact plan m fed → IsExact plan (with_held (h ∷ m.held) later) fed)
+    (plan : Shape) → IsPlan plan → (m later : Moment) (event : Event)
+    → takes_up event ≡ true → after plan m event ≡ Some later → IsSound plan m
+    → (h : Held) × (later.held ≡ m.held ++ h ∷ [])
+    × IsSound plan (with_held (h ∷ m.held) later) × KeepsExact plan m (with_held (h ∷ m.held) later) []
 
 -- where no lane of a node is closing, no Close of it is held: so a node's part tells whether a closing may begin
 abbrev pub IdleByItsLanes : Type 0
 IdleByItsLanes =
     (plan : Shape) (m : Moment) (k : ℕ) → IsSound plan m
-    → ((l : ℕ) (lane : CoreLane) → lane_at m (record { node = k; lane = l }) ≡ Some lane → first_is_closing lane.conts ≡ false) → list_any (is_close k) m.held ≡ false
+    → ((l : ℕ) (lane : CoreLane) → lane_at m (record { node = k; lane = l }) ≡ Some lane
+    → first_is_closing lane.conts ≡ false)
+    → list_any (is_close k) m.held ≡ false
 
 -- from the first moment, after every list of events: the rows are the plan's below the sink's mark for every
 -- continuation, and all of them where each stream is sealed with the last mark and no container is left
 abbrev pub RunsGiveTheRows : Type 0
 RunsGiveTheRows =
-    (plan : Shape) → IsPlan plan → (bundle : ℕ) → 1 ≤ bundle → bundle ≤ MAX_BUNDLE → (events : List Event) (m : Moment) → run plan events (first plan bundle) ≡ Some m
-    → ((coming : Stream → List Record) → IsAdmissible plan m coming → m.rows ≡ rows_below (written_to plan m) plan (λ s. fed_by events (λ s. []) s ++ coming s))
+    (plan : Shape) → IsPlan plan → (bundle : ℕ) → 1 ≤ bundle → bundle ≤ MAX_BUNDLE
+    → (events : List Event) (m : Moment) → run plan events (first plan bundle) ≡ Some m
+    → ((coming : Stream → List Record) → IsAdmissible plan m coming
+    → m.rows ≡ rows_below (written_to plan m) plan (λ s. fed_by events (λ s. []) s ++ coming s))
     × (IsDone plan m → m.rows ≡ rows_below END_MARK plan (fed_by events (λ s. [])))

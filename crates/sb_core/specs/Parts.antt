@@ -21,9 +21,7 @@ use Rattle.sb_core.specs.Events.{below, after}
 use Rattle.sb_core.specs.Closings.{delivery, absorbed, kept_at, rows_at, collected, is_sink}
 use Rattle.sb_record.specs.declared.item.TheConstants.{MAX_TIME, END_MARK}
 use Rattle.sb_core.specs.Soundness.{IsSound}
-use Rattle.sb_core.specs.Laws.{concerns, fed_after, place_of}
-use Rattle.sb_core.specs.Exactness.{IsExact}
-use Rattle.sb_record.specs.declared.item.Stream.{Stream}
+use Rattle.sb_core.specs.Laws.{KeepsExact, concerns, place_of}
 
 -- the node after, what is held in place of the Work or Close, and the rows that are added
 pub record Part : Type 0 where
@@ -119,13 +117,16 @@ with_part_first k rest m p = record m { nodes = slice_set m.nodes k p.node; held
 -- the law of a single event by the part of its node: of an event that concerns nothing held, with what it feeds
 abbrev pub PartsKeepSound : Type 0
 PartsKeepSound =
-    (plan : Shape) → IsPlan plan → (m : Moment) (event : Event) (k : ℕ) (node : Node) (p : Part) → IsSound plan m → place_of plan event ≡ Some k → slice_get m.nodes k ≡ Some node
+    (plan : Shape) → IsPlan plan → (m : Moment) (event : Event) (k : ℕ) (node : Node) (p : Part)
+    → IsSound plan m → place_of plan event ≡ Some k → slice_get m.nodes k ≡ Some node
     → part_after plan m.bundle event node ≡ Some p
-    → IsSound plan (with_part_first k m.held m p) × ((fed : Stream → List Record) → IsExact plan m fed → IsExact plan (with_part_first k m.held m p) (fed_after event fed))
+    → IsSound plan (with_part_first k m.held m p) × KeepsExact plan m (with_part_first k m.held m p) (event ∷ [])
 
 -- and of an event of the Work or Close at the head
 abbrev pub HeldPartsKeepSound : Type 0
 HeldPartsKeepSound =
-    (plan : Shape) → IsPlan plan → (m : Moment) (event : Event) (h : Held) (rest : List Held) (k : ℕ) (node : Node) (p : Part) → IsSound plan (with_held (h ∷ rest) m)
-    → concerns event h ≡ true → place_of plan event ≡ Some k → slice_get m.nodes k ≡ Some node → held_after plan m.bundle event h node ≡ Some p
-    → IsSound plan (with_part_first k rest m p) × ((fed : Stream → List Record) → IsExact plan (with_held (h ∷ rest) m) fed → IsExact plan (with_part_first k rest m p) (fed_after event fed))
+    (plan : Shape) → IsPlan plan → (m : Moment) (event : Event) (h : Held) (rest : List Held) (k : ℕ) (node : Node) (p : Part)
+    → IsSound plan (with_held (h ∷ rest) m) → concerns event h ≡ true → place_of plan event ≡ Some k
+    → slice_get m.nodes k ≡ Some node → held_after plan m.bundle event h node ≡ Some p
+    → IsSound plan (with_part_first k rest m p)
+    × KeepsExact plan (with_held (h ∷ rest) m) (with_part_first k rest m p) (event ∷ [])

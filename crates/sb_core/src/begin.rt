@@ -88,12 +88,8 @@ pub(crate) fn begin(
 {
     let closing = closing_of(alloc, plan, moment, node, lane)?;
     let mut collected = closing.collected.into_vec();
-    if moment.held.items.reserve(1).is_err() {
-        return Err(StepStop::Memory);
-    }
-    if moment.rows.items.append(&mut collected).is_err() {
-        return Err(StepStop::Memory);
-    }
+    moment.held.items.reserve(1)?;
+    moment.rows.items.append(&mut collected)?;
     let nodes = &mut moment.nodes;
     let there = &mut nodes.items[node as usize];
     let at = &mut there.lanes.items[lane as usize];

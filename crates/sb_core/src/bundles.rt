@@ -1,12 +1,13 @@
 //! What workers do with bundles: they take one, deliver what it gives, and finish it.
 
-ghost use Rattle.std.specs.Prelude.{◌≡◌, ℕ, Bool, true, List};
+ghost use Rattle.std.specs.Prelude.{◌≡◌, ℕ, Bool, true, List, Err};
 ghost use Rattle.sb_record.specs.declared.item.Record.{Record};
 ghost use Rattle.sb_core.specs.Events.{after_take};
 ghost use Rattle.sb_core.specs.HeldSteps.{bundle_delivered, bundle_finished};
 ghost use Rattle.sb_core.specs.Soundness.{IsSound};
-ghost use Rattle.sb_core.specs.Steps.{Becomes};
+ghost use Rattle.sb_core.specs.Steps.{Becomes, asks_for_memory};
 
+use crate::event::Event;
 use crate::feeding::put_at;
 use crate::held::Held;
 use crate::hold::work_at;
@@ -23,9 +24,7 @@ pub(crate) fn take(moment: &mut Moment, node: u32, lane: u32, number: u64) -> Re
     ensures { Becomes (after_take moment.old (record { node = node; lane = lane }) number)
         moment.old moment.new result }
 {
-    if moment.held.items.reserve(1).is_err() {
-        return Err(StepStop::Memory);
-    }
+    moment.held.items.reserve(1)?;
     let nodes = &mut moment.nodes;
     let Some(there) = nodes.items.get_mut(node as usize) else {
         return Err(StepStop::NotNow);
@@ -50,8 +49,8 @@ pub(crate) fn take(moment: &mut Moment, node: u32, lane: u32, number: u64) -> Re
 
 /// The bundle, delivered.
 fn delivered(work: Held) -> Held
-    ensures { (k l e f n : ℕ) (rs : List Record) (b : Bool) → work ≡ Held.Work k l e f n rs b
-        → result ≡ Held.Work k l e f n rs true }
+    ensures { (k l e f n : ℕ) (rs : List Record) (b : Bool)
+        → work ≡ Held.Work k l e f n rs b → result ≡ Held.Work k l e f n rs true }
 {
     match work {
         Held::Work {
@@ -110,7 +109,7 @@ pub(crate) fn deliver(
     Ok(())
 }
 
-/// A worker has done with a bundle.
+/// A worker has done with a bundle. One that was delivered is of a ParDo, which keeps nothing of it.
 pub(crate) fn finish(
     alloc: Global,
     plan: &Plan,
@@ -120,7 +119,8 @@ pub(crate) fn finish(
     number: u64,
 ) -> Result<(), StepStop>
     requires { IsSound plan.now moment.old }
-    ensures { Becomes (bundle_finished plan.now moment.old node lane number) moment.old moment.new result }
+    ensures becomes { Becomes (bundle_finished plan.now moment.old node lane number) moment.old moment.new result }
+    ensures memory { result ≡ Err StepStop.Memory → asks_for_memory moment.old (Event.Finish node lane number) ≡ true }
 {
     let Some(work) = work_at(moment.held.as_slice(), node, lane, number) else {
         return Err(StepStop::NotNow);

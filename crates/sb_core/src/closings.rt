@@ -1,6 +1,6 @@
 //! Closings: the oldest container of a lane is closed, its rows are delivered, and its watermark is passed.
 
-ghost use Rattle.std.specs.Prelude.{◌≡◌, ℕ, Bool, true, List, drop};
+ghost use Rattle.std.specs.Prelude.{◌≡◌, ◌≢◌, ℕ, Bool, true, List, drop, Err};
 ghost use Rattle.sb_pipeline.specs.Shapes.{Shape};
 ghost use Rattle.sb_record.specs.declared.item.Record.{Record as ARecord};
 ghost use Rattle.sb_core.specs.HeldSteps.{rows_delivered, mark_passed, closing_ended};
@@ -19,8 +19,8 @@ use std::alloc::Global;
 
 /// The closing, with the first rows gone.
 fn without_rows(close: Held, count: usize) -> Held
-    ensures { (k l e s f m : ℕ) (rows : List ARecord) (p : Bool) → close ≡ Held.Close k l e s f m rows p
-        → result ≡ Held.Close k l e s f m (drop count rows) p }
+    ensures { (k l e s f m : ℕ) (rows : List ARecord) (p : Bool)
+        → close ≡ Held.Close k l e s f m rows p → result ≡ Held.Close k l e s f m (drop count rows) p }
 {
     match close {
         Held::Close {
@@ -54,8 +54,8 @@ fn without_rows(close: Held, count: usize) -> Held
 
 /// The closing, with its watermark passed.
 fn passed(close: Held) -> Held
-    ensures { (k l e s f m : ℕ) (rows : List ARecord) (p : Bool) → close ≡ Held.Close k l e s f m rows p
-        → result ≡ Held.Close k l e s f m rows true }
+    ensures { (k l e s f m : ℕ) (rows : List ARecord) (p : Bool)
+        → close ≡ Held.Close k l e s f m rows p → result ≡ Held.Close k l e s f m rows true }
 {
     match close {
         Held::Close {
@@ -101,9 +101,7 @@ pub(crate) fn deliver(
     let most = moment.bundle as usize;
     let count = close.rows.len().min(most);
     let mut next = Vec::new(alloc);
-    if next.extend_from_slice(&close.rows[..count]).is_err() {
-        return Err(StepStop::Memory);
-    }
+    next.extend_from_slice(&close.rows[..count])?;
     put_at(
         alloc,
         moment,
@@ -139,10 +137,11 @@ pub(crate) fn pass(
     Ok(())
 }
 
-/// A closing that has passed its watermark ends.
+/// A closing that has passed its watermark ends. The moment is sound for some plan.
 pub(crate) fn end(moment: &mut Moment, node: u32) -> Result<(), StepStop>
     requires { (plan : Shape) × IsSound plan moment.old }
-    ensures { Becomes (closing_ended moment.old node) moment.old moment.new result }
+    ensures becomes { Becomes (closing_ended moment.old node) moment.old moment.new result }
+    ensures memory { result ≢ Err StepStop.Memory }
 {
     let Some(close) = close_at(moment.held.as_slice(), node) else {
         return Err(StepStop::NotNow);

@@ -1,6 +1,8 @@
 //! Events: what changes a moment.
 
-ghost use Rattle.std.specs.Prelude.{◌≡◌, IfOk};
+ghost use Rattle.std.specs.Prelude.{◌≡◌, true, IfOk, OnErr};
+ghost use Rattle.sb_core.specs.declared.moment.Moment.{Moment as AMoment};
+ghost use Rattle.sb_core.specs.Steps.{asks_for_memory};
 
 use sb_record::{NoMemory, Record, Sequence, Stream};
 use std::alloc::Global;
@@ -55,9 +57,10 @@ pub enum Event {
 }
 
 impl Event {
-    /// The event once more, with records of its own.
+    /// The event once more, with records of its own. Only an [`Event::Arrive`] has records, and takes memory.
     pub fn copy(&self, alloc: Global) -> Result<Event, NoMemory>
-        ensures { IfOk result (λ event. event ≡ self.now) }
+        ensures value { IfOk result (λ event. event ≡ self.now) }
+        ensures memory { OnErr result ((moment : AMoment) → asks_for_memory moment self.now ≡ true) }
     {
         Ok(match self {
             Event::Arrive { stream, records } => {

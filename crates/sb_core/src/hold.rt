@@ -81,8 +81,8 @@ pub(crate) fn work_at(
     of_lane: u32,
     of_number: u64,
 ) -> Option<WorkAt<'_>>
-    ensures found { IfSome result
-        (λ w. IsWorkAt of_node of_lane of_number held.now w.place w.epoch w.floor w.records.now w.delivered) }
+    ensures found { IfSome result (λ w.
+        IsWorkAt of_node of_lane of_number held.now w.place w.epoch w.floor w.records.now w.delivered) }
     ensures none { IfNone result (pulled (spec.is_work of_node of_lane of_number) held.now ≡ None) }
 {
     let place = find_work(held, of_node, of_lane, of_number)?;
@@ -119,8 +119,8 @@ pub(crate) struct CloseAt<'a> {
 
 /// The closing of this node, if it is in hand.
 pub(crate) fn close_at(held: &[Held], of_node: u32) -> Option<CloseAt<'_>>
-    ensures found { IfSome result
-        (λ c. IsCloseAt of_node held.now c.place c.lane c.epoch c.serial c.floor c.mark c.rows.now c.passed) }
+    ensures found { IfSome result (λ c.
+        IsCloseAt of_node held.now c.place c.lane c.epoch c.serial c.floor c.mark c.rows.now c.passed) }
     ensures none { IfNone result (pulled (spec.is_close of_node) held.now ≡ None) }
 {
     let place = find_close(held, of_node)?;
@@ -150,8 +150,8 @@ pub(crate) fn close_at(held: &[Held], of_node: u32) -> Option<CloseAt<'_>>
 
 /// The closing of this node and lane, if it is in hand.
 pub(crate) fn close_of_at(held: &[Held], of_node: u32, of_lane: u32) -> Option<CloseAt<'_>>
-    ensures found { IfSome result
-        (λ c. IsCloseOfAt of_node of_lane held.now c.place c.epoch c.serial c.floor c.mark c.rows.now c.passed) }
+    ensures found { IfSome result (λ c.
+        IsCloseOfAt of_node of_lane held.now c.place c.epoch c.serial c.floor c.mark c.rows.now c.passed) }
     ensures none { IfNone result (pulled (spec.is_close_of of_node of_lane) held.now ≡ None) }
 {
     let place = find_close_of(held, of_node, of_lane)?;

@@ -1,6 +1,7 @@
 //! What becomes of a lane: bundles come and go, it is sealed, and its oldest container closes.
 
-ghost use Rattle.std.specs.Prelude.{◌≡◌, ◌<◌, ◌==◌, ◌+◌, not, if◌then◌else◌, length, drop, filter, slice_get, Some, None, OnOk, OnErr, IfOk};
+ghost use Rattle.std.specs.Prelude.{◌≡◌, ◌<◌, ◌==◌, ◌+◌, not, if◌then◌else◌, Some, None, OnOk, OnErr, IfOk};
+ghost use Rattle.std.specs.Prelude.{length, drop, filter, slice_get};
 ghost use Rattle.std.specs.Option.{option_map};
 ghost use Rattle.sb_core.specs.Lanes as spec;
 ghost use Rattle.sb_core.specs.Finding.{IsFirst};
@@ -167,8 +168,8 @@ fn leave_out(numbers: &mut Vec<u64>, number: u64)
 
 /// A bundle is no longer out of a container, where that is of the epoch.
 fn finish_in(cont: &mut Cont, epoch: u64, number: u64)
-    ensures { cont.new
-        ≡ (if cont.old.epoch == epoch then record cont.old { out = filter (λ n. not (n == number)) cont.old.out }
+    ensures { cont.new ≡ (if cont.old.epoch == epoch
+        then record cont.old { out = filter (λ n. not (n == number)) cont.old.out }
         else cont.old) }
 {
     if cont.epoch == epoch {

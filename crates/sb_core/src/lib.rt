@@ -1,9 +1,10 @@
 //! The pure core of the engine: its state between two events, the events that change it, and their laws.
 //!
-//! A [`Moment`] has, for each transform and for the sink, lanes of containers, one per epoch in progress, and what workers
-//! have in hand. An [`Event`] is a single change: a bundle or a watermark comes, a worker takes a bundle, delivers what it
-//! gives, finishes it, begins the closing of a container, passes its watermark, or ends it. [`laws`] states what holds of
-//! every list of events, in whatever order workers make them: no record is lost and none counts twice.
+//! A [`Moment`] has, for each transform and for the sink, lanes of containers, one per epoch in progress, and what
+//! workers have in hand. An [`Event`] is a single change: a bundle or a watermark comes, a worker takes a bundle,
+//! delivers what it gives, finishes it, begins the closing of a container, passes its watermark, or ends it. [`laws`]
+//! states what holds of every list of events, in whatever order workers make them: no record is lost and none counts
+//! twice.
 #![tactic(auto)]
 
 mod begin;

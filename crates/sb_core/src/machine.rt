@@ -1,23 +1,20 @@
 //! Steps: the machine itself.
 
-ghost use Rattle.std.specs.Prelude.{◌≡◌, ◌≤◌, [], IfErr, IfOk, OnOk, replicate, take};
+ghost use Rattle.std.specs.Prelude.{◌≡◌, ◌≤◌, true, [], ◌∷◌, Err, IfOk, OnOk, replicate};
 ghost use Rattle.sb_bundle.specs.declared.bundle.TheConstants.{MAX_BUNDLE};
-ghost use Rattle.sb_record.specs.declared.item.Record.{Record as ARecord};
-ghost use Rattle.sb_record.specs.declared.item.Stream.{Stream as AStream};
-ghost use Rattle.std.specs.Prelude.{List};
 ghost use Rattle.sb_core.specs.Events.{after};
 ghost use Rattle.sb_core.specs.Exactness.{IsExact};
-ghost use Rattle.sb_core.specs.Laws.{fed_after, fed_by};
+ghost use Rattle.sb_core.specs.Laws.{KeepsExact};
 ghost use Rattle.sb_core.specs.Moments as moments;
 ghost use Rattle.sb_core.specs.Soundness.{IsSound};
-ghost use Rattle.sb_core.specs.Steps.{Becomes, Runs};
+ghost use Rattle.sb_core.specs.Steps.{Becomes, Runs, asks_for_memory, done_of};
 
 use crate::event::Event;
 use crate::moment::{CoreLane, Moment, Node};
 use crate::{begin, bundles, closings, feeding};
 use sb_pipeline::Plan;
 use sb_record::{NoMemory, Sequence};
-use std::alloc::Global;
+use std::alloc::{AllocError, Global};
 
 /// Why an event did not happen.
 #[derive(Clone, Copy, Debug, PartialEq, Eq)]
@@ -37,10 +34,20 @@ pub struct RunStop {
     pub stop: StepStop,
 }
 
+impl From<AllocError> for StepStop {
+    ghost use Rattle.sb_core.specs.declared.machine.StepStop.TheVariants.{Memory};
+
+    ghost from_gives = { λ _ stop. stop ≡ Memory };
+
+    fn from(_: AllocError) -> StepStop {
+        StepStop::Memory
+    }
+}
+
 impl From<NoMemory> for StepStop {
     ghost use Rattle.sb_core.specs.declared.machine.StepStop.TheVariants.{Memory};
 
-    ghost from_gives = { λ _ e. e ≡ Memory };
+    ghost from_gives = { λ _ stop. stop ≡ Memory };
 
     fn from(_: NoMemory) -> StepStop {
         StepStop::Memory
@@ -88,16 +95,16 @@ fn empty_lanes(alloc: Global, count: u32) -> Result<Sequence<CoreLane>, NoMemory
     Ok(Sequence::new(lanes))
 }
 
-/// Does an event. A refusal changes nothing.
+/// Does an event. A refusal changes nothing. An [`Event::End`] and the [`Event::Finish`] of a bundle that was delivered
+/// take no memory.
 pub fn step(alloc: Global, plan: &Plan, moment: &mut Moment, event: Event) -> Result<(), StepStop>
     requires { IsSound plan.now moment.old }
     ensures becomes { Becomes (after plan.now moment.old event) moment.old moment.new result }
     ensures sound { IsSound plan.now moment.new }
-    ensures exact { OnOk result
-        ((fed : AStream → List ARecord) → IsExact plan.now moment.old fed
-        → IsExact plan.now moment.new (fed_after event fed)) }
+    ensures exact { OnOk result (KeepsExact plan.now moment.old moment.new (event ∷ [])) }
+    ensures memory { result ≡ Err StepStop.Memory → asks_for_memory moment.old event ≡ true }
 {
-    // A plan keeps its rules, and with them an event keeps a moment sound.
+    // Called for its contract: a plan keeps its rules, and with them an event keeps a moment sound.
     let _ = plan.transforms();
     do_event(alloc, plan, moment, event)
 }
@@ -105,7 +112,8 @@ pub fn step(alloc: Global, plan: &Plan, moment: &mut Moment, event: Event) -> Re
 /// Does an event.
 fn do_event(alloc: Global, plan: &Plan, moment: &mut Moment, event: Event) -> Result<(), StepStop>
     requires { IsSound plan.now moment.old }
-    ensures { Becomes (after plan.now moment.old event) moment.old moment.new result }
+    ensures becomes { Becomes (after plan.now moment.old event) moment.old moment.new result }
+    ensures memory { result ≡ Err StepStop.Memory → asks_for_memory moment.old event ≡ true }
 {
     match event {
         Event::Arrive { stream, records } => feeding::arrive(alloc, plan, moment, stream, records),
@@ -127,17 +135,13 @@ fn do_event(alloc: Global, plan: &Plan, moment: &mut Moment, event: Event) -> Re
     }
 }
 
-/// Does events, in order, up to the first that is refused. The events before it were done.
+/// Does events, in order, up to the first that is refused. The events before it were done, and the moment is exact for
+/// what they fed.
 pub fn run(alloc: Global, plan: &Plan, moment: &mut Moment, events: &[Event]) -> Result<(), RunStop>
     requires { IsSound plan.now moment.old }
     ensures runs { Runs plan.now moment.old events.now moment.new result }
     ensures sound { IsSound plan.now moment.new }
-    ensures exact { OnOk result
-        ((fed : AStream → List ARecord) → IsExact plan.now moment.old fed
-        → IsExact plan.now moment.new (fed_by events.now fed)) }
-    ensures exact_so_far { IfErr result
-        (λ stop. (fed : AStream → List ARecord) → IsExact plan.now moment.old fed
-        → IsExact plan.now moment.new (fed_by (take stop.at events.now) fed)) }
+    ensures exact { KeepsExact plan.now moment.old moment.new (done_of events.now result) }
 {
     for at in 0..events.len() {
         let event = match events[at].copy(alloc) {

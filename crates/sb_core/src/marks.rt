@@ -1,6 +1,7 @@
 //! The marks up to which a node is closed.
 
-ghost use Rattle.std.specs.Prelude.{◌≡◌, ◌≤◌, ◌<◌, ◌+◌, ◌^◌, List, ◌∷◌, All, Some, length, sum_by, slice_get, slice_index, slice_set};
+ghost use Rattle.std.specs.Prelude.{◌≡◌, ◌≤◌, ◌<◌, ◌+◌, ◌^◌, List, ◌∷◌, All, Some, length, sum_by};
+ghost use Rattle.std.specs.Prelude.{slice_get, slice_index, slice_set};
 ghost use Rattle.sb_core.specs.declared.moment.Cont.{Cont as ACont};
 ghost use Rattle.sb_core.specs.declared.moment.CoreLane.{CoreLane as ALane};
 ghost use Rattle.sb_core.specs.Lanes.{with_first_closing};
@@ -94,8 +95,8 @@ pub(crate) fn closed(lanes: &[CoreLane]) -> u64
 
 /// The same, once the first container of a lane is closing.
 pub(crate) fn closed_with(lanes: &[CoreLane], begins: usize) -> u64
-    ensures { (lane : ALane) (cont : ACont) (conts : List ACont) → slice_get lanes.now begins ≡ Some lane
-        → lane.conts ≡ cont ∷ conts
+    ensures { (lane : ALane) (cont : ACont) (conts : List ACont)
+        → slice_get lanes.now begins ≡ Some lane → lane.conts ≡ cont ∷ conts
         → result ≡ spec.closed (slice_set lanes.now begins (record lane { conts = with_first_closing lane.conts })) }
 {
     match lanes {

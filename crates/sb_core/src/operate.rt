@@ -1,6 +1,7 @@
 //! What a node does with a bundle, and at a closing.
 
-ghost use Rattle.std.specs.Prelude.{◌≡◌, ◌≤◌, ◌<◌, ◌++◌, All, length, nat_lt, slice_get, filter, not, OnOk, OnErr, IfOk};
+ghost use Rattle.std.specs.Prelude.{◌≡◌, ◌≤◌, ◌<◌, ◌++◌, true, All, length, nat_lt, slice_get, filter, not};
+ghost use Rattle.std.specs.Prelude.{OnOk, OnErr, IfOk, IsOk};
 ghost use Rattle.std.specs.List.{list_any};
 ghost use Rattle.sb_record.specs.Records.{at_least};
 ghost use Rattle.sb_pipeline.specs.Elements.{on_lane};
@@ -23,8 +24,8 @@ pub(crate) fn delivery(
     records: &[Record],
 ) -> Result<Vec<Record>, NoMemory>
     requires { node ≤ length plan.now.steps }
-    ensures { IfOk result
-        (λ given. given.items ≡ spec.delivery (operator_at (slice_get plan.now.steps node)) records.now) }
+    ensures { IfOk result (λ given.
+        given.items ≡ spec.delivery (operator_at (slice_get plan.now.steps node)) records.now) }
 {
     let mut given = Vec::new(alloc);
     if node < plan.transforms() {
@@ -43,7 +44,7 @@ fn is_pardo(plan: &Plan, node: u32) -> bool
     node < plan.transforms() && matches!(plan.kind(node), Kind::Do(_))
 }
 
-/// Appends what a node keeps of a finished bundle.
+/// Appends what a node keeps of a finished bundle: a ParDo nothing, which takes no memory.
 pub(crate) fn absorb(
     alloc: Global,
     plan: &Plan,
@@ -53,19 +54,17 @@ pub(crate) fn absorb(
     kept: &mut Vec<KeptRec>,
 ) -> Result<(), NoMemory>
     requires { node ≤ length plan.now.steps }
-    ensures ok { OnOk result
-        (kept.new.items
+    ensures ok { OnOk result (kept.new.items
         ≡ kept.old.items ++ spec.absorbed (operator_at (slice_get plan.now.steps node)) (on_lane lane records.now)) }
     ensures err { OnErr result (kept.new.items ≡ kept.old.items) }
+    ensures pardo { spec.is_pardo (operator_at (slice_get plan.now.steps node)) ≡ true → IsOk result }
 {
     if is_pardo(plan, node) {
         return Ok(());
     }
     let mut elements = Vec::new(alloc);
     push_on_lane(lane, records, &mut elements)?;
-    if kept.append(&mut elements).is_err() {
-        return Err(NoMemory);
-    }
+    kept.append(&mut elements)?;
     Ok(())
 }
 
@@ -90,9 +89,8 @@ fn still_open(
     kept: &[KeptRec],
 ) -> Result<Vec<KeptRec>, NoMemory>
     requires { All (λ e. e.rec.time < END_MARK) kept.now }
-    ensures { IfOk result
-        (λ open_. open_.items
-        ≡ filter (λ e. list_any (λ end. nat_lt mark end) (window_ends windows.now e.rec.time)) kept.now) }
+    ensures { IfOk result (λ open_.
+        open_.items ≡ filter (λ e. list_any (λ end. nat_lt mark end) (window_ends windows.now e.rec.time)) kept.now) }
 {
     let mut left = Vec::new(alloc);
     for element in kept {
@@ -126,8 +124,8 @@ pub(crate) fn kept_at(
 ) -> Result<Vec<KeptRec>, NoMemory>
     requires node { node ≤ length plan.now.steps }
     requires times { All (λ e. e.rec.time < END_MARK) kept.now }
-    ensures { IfOk result
-        (λ left. left.items ≡ spec.kept_at (operator_at (slice_get plan.now.steps node)) mark kept.now) }
+    ensures { IfOk result (λ left.
+        left.items ≡ spec.kept_at (operator_at (slice_get plan.now.steps node)) mark kept.now) }
 {
     if node == plan.transforms() {
         return from_mark(alloc, mark, kept);
@@ -160,8 +158,8 @@ pub(crate) fn rows_at(
 ) -> Result<Vec<Record>, NoMemory>
     requires node { node ≤ length plan.now.steps }
     requires times { All (λ e. e.rec.time < END_MARK) kept.now }
-    ensures { IfOk result
-        (λ rows. rows.items ≡ spec.rows_at (operator_at (slice_get plan.now.steps node)) floor mark kept.now) }
+    ensures { IfOk result (λ rows.
+        rows.items ≡ spec.rows_at (operator_at (slice_get plan.now.steps node)) floor mark kept.now) }
 {
     if node == plan.transforms() || is_pardo(plan, node) {
         return Ok(Vec::new(alloc));
@@ -181,8 +179,8 @@ pub(crate) fn collected(
     kept: &[KeptRec],
 ) -> Result<Vec<Record>, NoMemory>
     requires { node ≤ length plan.now.steps }
-    ensures { IfOk result
-        (λ rows. rows.items ≡ spec.collected (operator_at (slice_get plan.now.steps node)) mark kept.now) }
+    ensures { IfOk result (λ rows.
+        rows.items ≡ spec.collected (operator_at (slice_get plan.now.steps node)) mark kept.now) }
 {
     if node < plan.transforms() {
         return Ok(Vec::new(alloc));

@@ -17,8 +17,8 @@ use Rattle.sb_core.proofs.bundles.finish.Goals as goal
 pub delivery-requires : goal.delivery-requires
 delivery-requires c = node-in c.args.moment.now c.in-Some.ensures.found (c.as_slice.ensures ∙ ap (λ (m : Moment). m.held) c.moment.view_is) c.requires
 
-pub returns-then-not-is_empty : goal.returns-then-not-is_empty
-returns-then-not-is_empty c =
+pub returns-then-not-is_empty-clause-becomes : goal.returns-then-not-is_empty-clause-becomes
+returns-then-not-is_empty-clause-becomes c =
     let m = c.args.moment.now in
     let w = c.in-Some.work in
     let found = found-in m c.in-Some.ensures.found (c.as_slice.ensures ∙ ap (λ (m : Moment). m.held) c.moment.view_is) in
@@ -44,8 +44,8 @@ index_mut-requires c =
     let l_in : c.args.lane < length c.lanes.inside.items.items = lane_within c.args.moment.now (place c.args.node c.args.lane) lane.1 nodes c.index_mut-there.ensures.value lanes in
     omega (arith, l_in, c.lanes.inside.items.ok.0)
 
-pub returns : goal.returns
-returns c =
+pub returns-clause-becomes : goal.returns-clause-becomes
+returns-clause-becomes c =
     let m = c.args.moment.now in
     let plan = c.args.plan.now in
     let k = c.args.node in

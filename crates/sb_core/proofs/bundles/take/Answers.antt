@@ -34,7 +34,7 @@ returns-in_err-bundle c =
     let lane = c.in-Some-get_mut.from.now in
     let at : slice_get m.nodes k ≡ Some node = read-there c.nodes.inside.items.items m.nodes k node (c.nodes.view_is ∙ ap (λ (m : Moment). m.nodes) c.moment.view_is) c.in-Some.ensures.item.3.0 c.in-Some.ensures.value in
     let in_it : slice_get node.lanes l ≡ Some lane = read-there c.there.inside.0.0.items.items node.lanes l lane (ap (λ (n : Node). n.lanes) c.there.view_is) c.in-Some-get_mut.ensures.item.3.0 c.in-Some-get_mut.ensures.value in
-    becomes-memory (after_take m (place k l) c.args.number) m _ c.from_residual.result c.from_residual.ensures.0 c.from_residual.ensures.1 (
+    becomes-memory (after_take m (place k l) c.args.number) m _ c.from_residual-in_err-bundle.result c.from_residual-in_err-bundle.ensures.0 c.from_residual-in_err-bundle.ensures.1 (
     (λ i. record { bundle = c.moment.inside.0.0; nodes = slice_set c.nodes.inside.items.items k (set_lane l (c.in_err-bundle.ensures.err i) (c.there.view_is i)); held = c.reserve.new.self.items; rows = c.moment.inside.0.1.1.1.0 })
     ∙ node-written m c.moment.inside.0.0 c.nodes.inside.items.items c.moment.inside.0.1.0 c.moment.inside.0.1.1.0.items.items c.reserve.new.self.items c.moment.inside.0.1.1.1.0 k (set_lane l lane node) c.nodes.view_is c.moment.view_is
     ∙ ap (λ h. set_node k (set_lane l lane node) (with_held h m)) (c.reserve.ensures.items ∙ ap (λ (m : Moment). m.held) c.moment.view_is)

@@ -1,4 +1,4 @@
-use Rattle.std.proofs.Common.{◌≡◌, ◌++◌, ◌∷◌, [], false, cond, length, take, min, List, Some, sym, ap, subst, ◌∙◌, arith}
+use Rattle.std.proofs.Common.{◌≡◌, ◌++◌, ◌∷◌, [], false, length, take, min, List, Some, rules, sym, ap, subst, ◌∙◌, arith}
 use Rattle.std.specs.List.{remove, slice_get}
 use Rattle.std.specs.Option.{option_map}
 use Rattle.std.proofs.lemmas.List.{take_min}
@@ -25,9 +25,9 @@ returns c =
     let found = close-in_lane m c.in-Some.ensures.found c.as_slice.ensures in
     let some : is_empty h.rows.now ≡ false = sym (empty-by_length h.rows.now) ∙ sym c.is_empty.ensures ∙ c.if-is_empty.false in
     let count : c.min-count.result ≡ min m.bundle (length h.rows.now) = omega (arith, c.min-count.ensures) in
+    let extended : c.extend_from_slice.new.self.items ≡ c.new-next.result.items ++ take c.min-count.result h.rows.now = search rules in
     let next : c.new.result ≡ take m.bundle h.rows.now =
-    c.new.ensures ∙ c.extend_from_slice.ensures.items
-    ∙ ap (λ b. cond b (c.new-next.result.items ++ take c.min-count.result h.rows.now) c.new-next.result.items) c.if-is_err.ensures.negation
+    c.new.ensures ∙ extended
     ∙ (λ z. c.new-next.ensures.items z ++ take (count z) h.rows.now)
     ∙ take_min m.bundle h.rows.now in
     let still : after.held ≡ m.held = held-after m after (arrived_at c.down.result h.serial h.floor c.new.result m) (arrived-held m m.held c.down.result h.serial h.floor c.new.result) c.in_ok-put_at.ensures in

@@ -21,8 +21,8 @@ prove-unreachable-requires c =
     let same : length c.as_slice-2.result.now ≡ length old.marks = ap length c.as_slice-2.ensures in
     omega (arith, c.if-prove.true)
 
-pub returns : goal.returns
-returns c =
+pub returns-clause-becomes : goal.returns-clause-becomes
+returns-clause-becomes c =
     let m = c.args.moment.now in
     let k = c.args.node in
     let h = c.in-Some.close in

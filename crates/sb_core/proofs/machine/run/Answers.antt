@@ -1,11 +1,12 @@
 use Rattle.std.proofs.Common.{◌≡◌, ◌+◌, [], ◌∷◌, ◌++◌, length, take, refl, sym, ap, subst, ◌∙◌}
+use Rattle.std.specs.Prelude.{is_err}
 use Rattle.std.proofs.lemmas.Option.{slice_get_read}
 use Rattle.std.proofs.lemmas.List.{take_all}
 use Rattle.sb_core.specs.declared.event.Event.{Event}
 use Rattle.sb_core.specs.Events
 use Rattle.sb_core.specs.Exactness.{IsExact}
 use Rattle.sb_core.specs.Laws.{fed_by}
-use Rattle.sb_core.proofs.Becoming.{becomes-same}
+use Rattle.sb_core.proofs.Becoming.{refused-same}
 use Rattle.sb_core.proofs.Nodewise.{take_more}
 use Rattle.sb_core.proofs.Stepping.{run-more, fed_by-more}
 use Rattle.sb_core.proofs.machine.run.Goals as goal
@@ -17,7 +18,7 @@ loop-at-preserved c =
     let at = c.loop-at.at in
     let event : Event = c.in-Ok.event in
     let here = slice_get_read events (length events) at c.index-events-at.result refl c.loop-at-test.true c.index-events-at.is in
-    let taken : take (at + 1) events ≡ take at events ++ event ∷ [] = take_more events at c.index-events-at.result here ∙ ap (λ e. take at events ++ e ∷ []) (sym c.in-Ok.ensures) in
+    let taken : take (at + 1) events ≡ take at events ++ event ∷ [] = take_more events at c.index-events-at.result here ∙ ap (λ e. take at events ++ e ∷ []) (sym c.in-Ok.ensures.value) in
     record {
       done = ap (λ l. Events.run plan l c.args.moment.now) taken ∙ run-more plan (take at events) event c.args.moment.now c.loop-at.moment c.step.new.moment c.loop-at.invariant.done c.in_default.ensures.becomes;
       sound = c.step.ensures.sound;
@@ -31,9 +32,9 @@ returns-clause-exact c =
     λ fed exact.
     subst (λ l. IsExact c.args.plan.now c.loop-at.moment (fed_by l fed)) (take_all c.loop-at.at c.args.events.now c.loop-at-test.false) (c.loop-at.invariant.exact fed exact)
 
-pub returns-in-Err-step-clause-exact_so_far : goal.returns-in-Err-step-clause-exact_so_far
-returns-in-Err-step-clause-exact_so_far c =
+pub returns-in-Err-step-clause-exact : goal.returns-in-Err-step-clause-exact
+returns-in-Err-step-clause-exact c =
     λ fed exact.
-    let plan = c.args.plan.now in
-    let same = becomes-same Unit (Events.after plan c.loop-at.moment c.in-Ok.event) c.loop-at.moment c.step.new.moment c.in-Err-step.stop c.in-Err-step.ensures.becomes in
-    subst (λ m. IsExact plan m (fed_by (take c.loop-at.at c.args.events.now) fed)) (sym same) (c.loop-at.invariant.exact fed exact)
+    subst (λ m. IsExact c.args.plan.now m (fed_by (take c.loop-at.at c.args.events.now) fed))
+    (sym (refused-same _ c.loop-at.moment c.step.new.moment c.step.result (ap is_err c.in-Err-step.is) c.step.ensures.becomes))
+    (c.loop-at.invariant.exact fed exact)
