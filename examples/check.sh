@@ -4,7 +4,8 @@
 #
 # Of the guide it tries, by `run` and by `slow`, each plan that stands with an input and rows, and each fault of the
 # tables `| What is wrong | Plan | Answer |`. Three faults have no plan there, since it would be too long: these are
-# made here. Not tried are the exit codes 4, 5, 7 and 70, and what the guide says in sentences.
+# made here. Each folder of runs/ is a run: its words (args), its input, its rows, its note and its exit code. Not tried
+# are the exit codes 7 and 70, and what the guide says in sentences. The last line counts what was as expected.
 # shellcheck disable=SC2016 # Backquotes are those of the guide.
 set -euo pipefail
 shopt -s nullglob
@@ -26,7 +27,8 @@ gives() {
   cmp "$scratch/rows" "$rows" || fail "$*: other rows than $rows"
 }
 
-# refuses STATUS NOTE WORD..: the program, by these words, ends with the status and the note, and prints no row.
+# refuses STATUS NOTE WORD..: the program, by these words and without input, ends with the status and the note, and prints
+# no row.
 refuses() {
   local wanted=$1 note=$2 status=0
   shift 2
@@ -38,6 +40,7 @@ refuses() {
 
 fail() {
   echo "$PWD: $1"
+  echo '0 passed, 1 failed'
   exit 1
 }
 
@@ -45,6 +48,52 @@ fail() {
 some() {
   [ "$1" -gt 0 ] || fail "no $2"
   echo "$1 $2: as expected"
+}
+
+# Runs the words of each folder of runs/ there.
+check_runs() {
+  local args run status words
+  runs=0
+  for args in runs/*/args; do
+    run=${args%/args}
+    status=0
+    mapfile -t words < "$args"
+    (cd "$run" && "$program" "${words[@]}" < stdin > "$scratch/rows" 2> "$scratch/note") || status=$?
+    [ "$status" = "$(cat "$run/status")" ] || fail "$run: exit code $status, $(cat "$scratch/note")"
+    cmp "$scratch/rows" "$run/stdout" || fail "$run: other rows"
+    cmp "$scratch/note" "$run/stderr" || fail "$run: another note"
+    runs=$((runs + 1))
+  done
+  some "$runs" 'runs with a note and an exit code'
+}
+
+# ends STATUS NOTE: the last command, whose status is given, has left this note.
+ends() {
+  [ "$1" = "$2" ] || fail "$3: exit code $1"
+  [ "$(cat "$scratch/note")" = "$3" ] || fail "$3: says $(cat "$scratch/note")"
+}
+
+# Devices that fail: a full one, a closed output, a folder as the input, a closed input, and full and closed notes.
+check_devices() {
+  local status=0
+  "$program" sum 10 < first.txt > /dev/full 2> "$scratch/note" || status=$?
+  ends "$status" 5 'output failed'
+  status=0
+  "$program" sum 10 < first.txt >&- 2> "$scratch/note" || status=$?
+  ends "$status" 5 'output failed'
+  status=0
+  "$program" sum 10 < . > "$scratch/rows" 2> "$scratch/note" || status=$?
+  ends "$status" 4 'input failed'
+  status=0
+  "$program" sum 10 <&- > "$scratch/rows" 2> "$scratch/note" || status=$?
+  ends "$status" 4 'input failed'
+  for notes in /dev/full /dev/null; do
+    status=0
+    "$program" sum 0 < first.txt 2> "$notes" || status=$?
+    [ "$status" = 1 ] || fail "notes to $notes: exit code $status"
+  done
+  devices=6
+  echo "$devices devices that fail: as expected"
 }
 
 check_folders() {
@@ -167,6 +216,8 @@ lines_of_nothing() { head -c "$1" /dev/zero | tr '\0' '\n'; }
 # The first time, ../streambox proves and builds the program.
 gives first.rows sum 10 < first.txt
 check_folders
+check_runs
+check_devices
 check_reports
 tools/check.sh
 refuses 1 'words not understood'
@@ -175,4 +226,6 @@ cp views/ads.csv "$scratch"
 cd "$scratch"
 check_plans
 check_faults
-echo "All is as expected: $folders folders, $reports reports, the tools, $plans plans and $faults faults of the guide."
+echo "All is as expected: $folders folders, $runs runs, $devices devices, $reports reports, the tools, $plans plans and \
+$faults faults of the guide."
+echo "$((folders + runs + devices + reports + 1 + plans + faults)) passed, 0 failed"

@@ -26,7 +26,8 @@ fn next_item<S: Source>(
     intake: &mut Intake,
 ) -> Result<Item, Stop>
     requires { IsGoing lines.old.halt (S.left source.old) }
-    ensures takes { TakesNext S.left (reading source.old lines.old) (reading source.new lines.new) intake.old intake.new result }
+    ensures takes { TakesNext S.left (reading source.old lines.old) (reading source.new lines.new)
+        intake.old intake.new result }
     ensures same { OnOk result (S.faults source.new ≡ S.faults source.old) }
     ensures cause { IfErr result (λ stop. FaultCause (S.faults source.old) (S.faults source.new) stop) }
     ensures room { OnOk result (intake.old.lines < MAX_LINES) }

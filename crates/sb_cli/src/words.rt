@@ -58,7 +58,8 @@ pub fn read_words(words: &[String]) -> Option<Request<'_>>
 
 /// What a command and its argument ask for.
 fn read_command<'a>(command: &str, argument: &'a str) -> Option<Request<'a>>
-    ensures exact { (wanted : Asked) → (option_map asked result ≡ Some wanted) ↔ IsCommand wanted (command.now ∷ argument.now ∷ []) }
+    ensures exact { (wanted : Asked) → (option_map asked result ≡ Some wanted)
+        ↔ IsCommand wanted (command.now ∷ argument.now ∷ []) }
     ensures valid { IfSome result (λ request. IsValid (asked request)) }
 {
     if command == "sum" {

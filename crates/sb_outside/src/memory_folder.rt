@@ -96,7 +96,9 @@ fn find<'a>(files: &'a BTreeMap<String, Vec<u8>>, name: &str) -> Option<&'a [u8]
 
 /// Appends the first bytes, at most so many.
 fn append_first(bytes: &[u8], most: usize, into: &mut Vec<u8>) -> Result<(), FolderFault>
-    ensures bytes { MatchResult result (λ _. into.new.items ≡ into.old.items ++ take most bytes.now) (λ _. into.new.items ≡ into.old.items) }
+    ensures bytes { MatchResult result
+        (λ _. into.new.items ≡ into.old.items ++ take most bytes.now)
+        (λ _. into.new.items ≡ into.old.items) }
     ensures cause { result ≢ Err FolderFault.Failed }
 {
     match into.extend_from_slice(&bytes[..most.min(bytes.len())]) {
