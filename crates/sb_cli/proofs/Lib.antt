@@ -4,3 +4,4 @@ pub mod Takings
 pub mod Printing
 pub mod Answering
 pub mod PlanNotes
+pub mod Wanting

@@ -1,5 +1,5 @@
 -- The faults of what a run was handed, and which of them its status tells.
-use Rattle.std.specs.Prelude.{◌≡◌, ◌⊎◌, ◌+◌, ℕ, List, [], ◌∷◌, ◌++◌, Option, Some, Err, ⊤}
+use Rattle.std.specs.Prelude.{◌≡◌, ◌⊎◌, ◌+◌, ℕ, List, [], ◌∷◌, ◌++◌, take, Option, Some, Err, ⊤}
 use Rattle.sb_record.specs.declared.intake.Refusal.{Refusal}
 use Rattle.sb_record.specs.declared.intake.Stop.TheVariants.{Refused}
 use Rattle.sb_outside.specs.Folders.{Files, Load, without}
@@ -7,11 +7,11 @@ use Rattle.sb_outside.specs.Sinks.{SinkState}
 use Rattle.sb_outside.specs.Sources.{Rose}
 use Rattle.sb_pipeline.specs.Shapes.{Shape, streams_of}
 use Rattle.sb_plan.specs.Failures.Failure.{NoFile}
+use Rattle.sb_plan.specs.PlanFiles.{plan_of}
 use Rattle.sb_plan.specs.declared.TheConstants.{MAX_PLAN_BYTES, MAX_TABLE_BYTES}
 use Rattle.sb_cli.specs.declared.status.Status.{Status}
 use Rattle.sb_cli.specs.declared.status.Status.TheVariants.{Done, Words, Plan, Line, Input, Output, Folder, Memory}
 use Rattle.sb_cli.specs.Given.{Given, stop_at}
-use Rattle.sb_cli.specs.Pipelines.{plan_in}
 use Rattle.sb_cli.specs.Words.{Asked}
 use Rattle.sb_cli.specs.Words.Asked.{Sum, Run, Slow}
 
@@ -40,11 +40,16 @@ HasCause before now Memory = ⊤
 abbrev pub plan_load : List ℕ → Load
 plan_load name = record { name = name; most = MAX_PLAN_BYTES + 1 }
 
--- the load is of the plan file or of a table, and the file is wanted at its turn: without it there is no plan, and no test fails first
-abbrev pub IsWantedFor : Option Files → List ℕ → Load → Type 0
-IsWantedFor folder name load =
-    ((load ≡ plan_load name) ⊎ (load.most ≡ MAX_TABLE_BYTES + 1))
-    × ((files : Files) → folder ≡ Some files → plan_in (without load.name files) name ≡ Err NoFile)
+-- the load is of a table that the plan in a file wants: without the table's file there is no plan, and no test fails first
+abbrev pub IsTableOf : Option Files → List ℕ → Load → Type 0
+IsTableOf folder name load =
+    (load.most ≡ MAX_TABLE_BYTES + 1)
+    × ((files : Files) → folder ≡ Some files → (bytes : List ℕ) × (files name ≡ Some bytes)
+    × (plan_of (without load.name files) (take (MAX_PLAN_BYTES + 1) bytes) ≡ Err NoFile))
+
+-- the load is of the plan file, or of a table whose turn has come
+unfoldable pub IsWantedFor : Option Files → List ℕ → Load → Type 0
+IsWantedFor folder name load = (load ≡ plan_load name) ⊎ IsTableOf folder name load
 
 -- the load is wanted for what is asked for
 abbrev pub IsWanted : Option Files → Asked → Load → Type 0

@@ -395,7 +395,8 @@ fn a_large_file_is_loaded_to_its_end_or_to_the_limit(rt: HostRuntime) -> Result<
     ] {
         let mut into = Vec::new(rt.alloc());
         assert_eq!(rt; folder.load(LARGE, most, &mut into), Ok(()));
-        assert_eq!(rt; into.as_slice(), &bytes[..count], "{most}");
+        assert_eq!(rt; into.len(), count, "{most}");
+        assert!(rt; bytes.starts_with(&into), "{most}");
     }
     assert_eq!(rt; folder.faults(), 0);
     fs::remove_dir_all(&rt, LARGE_FOLDER)?;
