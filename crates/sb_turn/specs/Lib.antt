@@ -1,0 +1,7 @@
+pub mod Facts
+pub mod Held
+pub mod Owed
+pub mod Passes
+pub mod Reasons
+pub mod Turning
+pub mod Laws

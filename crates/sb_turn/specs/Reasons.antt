@@ -1,0 +1,10 @@
+-- The numbers of the reasons, in the order in which the state word rises.
+use Rattle.std.specs.Prelude.{ℕ}
+use Rattle.sb_turn.specs.declared.reason.Reason.{Reason}
+use Rattle.sb_turn.specs.declared.reason.Reason.TheVariants.{Running, Ended, Fault, Memory}
+
+abbrev pub number_of : Reason → ℕ
+number_of Running = 0
+number_of Ended = 1
+number_of Fault = 2
+number_of Memory = 3

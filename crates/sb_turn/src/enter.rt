@@ -1,0 +1,87 @@
+//! Entering a turn: one try that never waits, and a loop that does.
+ghost use Rattle.std.specs.Prelude.{◌≡◌, ◌≢◌, ℕ, ◌+◌, ◌*◌, ◌%◌, ◌<◌, ◌≤◌, cond, true, Option, Some, None, IfOk, IfSome, MatchOption, MatchResult, [], ◌∷◌, ◌++◌};
+ghost use Rattle.sb_turn.specs.declared.turns.Slot.TheVariants.{Empty};
+ghost use Rattle.sb_turn.specs.Turning.{lost, won, tried};
+ghost use Rattle.sb_turn.specs.Facts.{Finds};
+ghost use Rattle.sb_turn.specs.Passes.{IsPassOf, IsFree, IsSamePass, node_count, about, seat_view};
+
+use crate::keep::{Keep, MAX_STATE_LINES};
+use crate::plays::{Enter, Finding};
+use crate::turns::{Guard, Pass, Slot, Turns};
+use std::marker::Brand;
+use std::snapshot::Snapshot;
+use std::sync::Wait;
+
+impl<K: Keep> Turns<K> {
+    /// One try. If the word was held, it is given back as it was found.
+    fn attempt<M: Finding<K::View, K::State>>(
+        &self,
+        node: u32,
+        pass: &mut Pass<K>,
+    ) -> Result<Guard<K>, u64>
+        requires pass { IsPassOf self.now pass.old × IsFree pass.old }
+        requires node { node < node_count self.now }
+        requires fact { Finds (K.rule (about self.now)) M.fact }
+        ensures pass { IsSamePass pass.old pass.new }
+        ensures turn { MatchResult result
+            (λ g. (g.node ≡ node) × (g.found.value ≡ g.state) × (pass.new.me ≡ (won node g.state (seat_view pass.old), (node, Empty) ∷ [])))
+            (λ _. pass.new.me ≡ (lost node (seat_view pass.old), [])) }
+        ensures lines { IfOk result (λ g. K.lines_of g.state ≤ MAX_STATE_LINES) }
+        ensures fact { IfOk result (λ g. M.fact (seat_view pass.old).client node g.state) }
+    {
+        let table = &self.table.shared;
+        let found = table.fetch_or::<Enter<K, M>>(pass, node as usize + 1, 1);
+        if found % 2 == 1 {
+            return Err(found);
+        }
+        match table.exchange(pass, node as usize, Slot::Empty) {
+            Slot::State(padded) => {
+                let state = padded.into_inner();
+                let found = Snapshot::of(&state);
+                Ok(Guard { node, state, found })
+            }
+            _ => unreachable!(),
+        }
+    }
+
+    /// The turn of the node, if it is free. `None` only if the node's word was held at this call's one step. It takes no
+    /// memory and does not wait.
+    pub fn try_enter(&self, node: u32, pass: &mut Pass<K>) -> Option<Guard<K>>
+        requires pass { IsPassOf self.now pass.old × IsFree pass.old }
+        requires node { node < node_count self.now }
+        ensures pass { IsSamePass pass.old pass.new }
+        ensures turn { MatchOption result
+            (pass.new.me ≡ (lost node (seat_view pass.old), []))
+            (λ g. (g.node ≡ node) × (g.found.value ≡ g.state) × (pass.new.me ≡ (won node g.state (seat_view pass.old), (node, Empty) ∷ []))) }
+        ensures lines { IfSome result (λ g. K.lines_of g.state ≤ MAX_STATE_LINES) }
+        ensures finds { IfSome result (λ g. K.finds (about self.now) (seat_view pass.old).client node g.state) }
+    {
+        match self.attempt::<Brand>(node, pass) {
+            Ok(guard) => Some(guard),
+            Err(_) => None,
+        }
+    }
+
+    /// Waits for the turn of the node. Nothing is claimed of how long: the call may never return.
+    pub fn enter<R: Wait>(&self, rt: &R, node: u32, pass: &mut Pass<K>) -> Guard<K>
+        requires pass { IsPassOf self.now pass.old × IsFree pass.old }
+        requires node { node < node_count self.now }
+        ensures pass { IsSamePass pass.old pass.new }
+        ensures turn { (result.node ≡ node) × (result.found.value ≡ result.state)
+            × ((tries : ℕ)
+            × (pass.new.me ≡ (won node result.state (tried node tries (seat_view pass.old)), (node, Empty) ∷ []))) }
+        ensures lines { K.lines_of result.state ≤ MAX_STATE_LINES }
+        ensures finds { K.finds (about self.now) (seat_view pass.old).client node result.state }
+    {
+        for _ in rt.forever() {
+            match self.attempt::<Brand>(node, pass) {
+                Ok(guard) => return guard,
+                Err(found) => self
+                    .table
+                    .shared
+                    .park(rt, node as usize + 1, (found % 4294967296) as u32),
+            }
+        }
+        unreachable!()
+    }
+}
