@@ -1,5 +1,5 @@
-//! Entering a turn: one try that never waits, and a loop that does.
-ghost use Rattle.std.specs.Prelude.{◌≡◌, ◌≢◌, ℕ, ◌+◌, ◌*◌, ◌%◌, ◌<◌, ◌≤◌, cond, true, Option, Some, None, IfOk, IfSome, MatchOption, MatchResult, [], ◌∷◌, ◌++◌};
+//! Entering a turn: in one try, or by waiting for it.
+ghost use Rattle.std.specs.Prelude.{◌≡◌, ℕ, ◌<◌, ◌≤◌, [], ◌∷◌, IfOk, IfSome, MatchOption, MatchResult};
 ghost use Rattle.sb_turn.specs.declared.turns.Slot.TheVariants.{Empty};
 ghost use Rattle.sb_turn.specs.Turning.{lost, won, tried};
 ghost use Rattle.sb_turn.specs.Facts.{Finds};
@@ -13,7 +13,7 @@ use std::snapshot::Snapshot;
 use std::sync::Wait;
 
 impl<K: Keep> Turns<K> {
-    /// One try. If the word was held, it is given back as it was found.
+    // One try. If the word was held, it is given back as it was found.
     fn attempt<M: Finding<K::View, K::State>>(
         &self,
         node: u32,
@@ -24,7 +24,8 @@ impl<K: Keep> Turns<K> {
         requires fact { Finds (K.rule (about self.now)) M.fact }
         ensures pass { IsSamePass pass.old pass.new }
         ensures turn { MatchResult result
-            (λ g. (g.node ≡ node) × (g.found.value ≡ g.state) × (pass.new.me ≡ (won node g.state (seat_view pass.old), (node, Empty) ∷ [])))
+            (λ g. (g.node ≡ node) × (g.found.value ≡ g.state)
+            × (pass.new.me ≡ (won node g.state (seat_view pass.old), (node, Empty) ∷ [])))
             (λ _. pass.new.me ≡ (lost node (seat_view pass.old), [])) }
         ensures lines { IfOk result (λ g. K.lines_of g.state ≤ MAX_STATE_LINES) }
         ensures fact { IfOk result (λ g. M.fact (seat_view pass.old).client node g.state) }
@@ -44,15 +45,16 @@ impl<K: Keep> Turns<K> {
         }
     }
 
-    /// The turn of the node, if it is free. `None` only if the node's word was held at this call's one step. It takes no
-    /// memory and does not wait.
+    /// The turn of a node, if it is free. None only if the node's own word was held at this call's one step, which
+    /// the trace lists. The call waits for nobody and asks for no memory.
     pub fn try_enter(&self, node: u32, pass: &mut Pass<K>) -> Option<Guard<K>>
         requires pass { IsPassOf self.now pass.old × IsFree pass.old }
         requires node { node < node_count self.now }
         ensures pass { IsSamePass pass.old pass.new }
         ensures turn { MatchOption result
             (pass.new.me ≡ (lost node (seat_view pass.old), []))
-            (λ g. (g.node ≡ node) × (g.found.value ≡ g.state) × (pass.new.me ≡ (won node g.state (seat_view pass.old), (node, Empty) ∷ []))) }
+            (λ g. (g.node ≡ node) × (g.found.value ≡ g.state)
+            × (pass.new.me ≡ (won node g.state (seat_view pass.old), (node, Empty) ∷ []))) }
         ensures lines { IfSome result (λ g. K.lines_of g.state ≤ MAX_STATE_LINES) }
         ensures finds { IfSome result (λ g. K.finds (about self.now) (seat_view pass.old).client node g.state) }
     {
@@ -62,14 +64,15 @@ impl<K: Keep> Turns<K> {
         }
     }
 
-    /// Waits for the turn of the node. Nothing is claimed of how long: the call may never return.
+    /// The turn of a node, however long others hold it. Between two tries the thread sleeps on the node's word; each
+    /// leaving wakes one.
     pub fn enter<R: Wait>(&self, rt: &R, node: u32, pass: &mut Pass<K>) -> Guard<K>
         requires pass { IsPassOf self.now pass.old × IsFree pass.old }
         requires node { node < node_count self.now }
         ensures pass { IsSamePass pass.old pass.new }
         ensures turn { (result.node ≡ node) × (result.found.value ≡ result.state)
-            × ((tries : ℕ)
-            × (pass.new.me ≡ (won node result.state (tried node tries (seat_view pass.old)), (node, Empty) ∷ []))) }
+            × ((tries : ℕ) × (pass.new.me
+            ≡ (won node result.state (tried node tries (seat_view pass.old)), (node, Empty) ∷ []))) }
         ensures lines { K.lines_of result.state ≤ MAX_STATE_LINES }
         ensures finds { K.finds (about self.now) (seat_view pass.old).client node result.state }
     {

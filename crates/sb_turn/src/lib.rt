@@ -1,10 +1,15 @@
-//! Turns over one table of words and slots, and a shelf of pieces beside them, under a rule of the caller's.
+//! Turns: the one place in which threads meet.
 //!
-//! This is the one place where threads meet. Each node has a state that lies under a turn: a [`Pass`] enters, changes the
-//! state, and leaves. Pieces lie on a shelf, where passes lay them and claim them. A state word, which only rises, says
-//! why the work ended. The caller's rule ([`Keep`]) holds between any two atomic steps of any passes, whatever the
-//! interleaving; each call says what its own pass did and saw, step by step (its trace). Nothing is claimed of progress,
-//! fairness or speed.
+//! A caller has some states, each under a turn of its own, and a shelf with 64 places for pieces. Threads work with
+//! passes. A pass enters a turn ([`Turns::try_enter`], [`Turns::enter`]), has the state in its hand, and leaves by a
+//! change ([`Turns::leave`]). It lays pieces on the shelf and claims them ([`Turns::put`], [`Turns::claim`]), each at
+//! most once. A state word, which only rises, says whether the work ends ([`Turns::stop`], [`Turns::reason`]).
+//!
+//! The caller's rule ([`Keep`]) holds between any two steps of any threads. All is done by single steps on atomic
+//! words, one word for each turn and each place, so no lock stands round two nodes. Only `enter` waits, and only `new`
+//! asks for memory.
+//!
+//! What is not claimed: that a thread gets on, that turns are given in some order, or anything about speed.
 #![tactic(auto)]
 
 mod enter;

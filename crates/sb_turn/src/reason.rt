@@ -1,20 +1,21 @@
-//! Why the work ended.
+//! The state word's meanings.
 ghost use Rattle.std.specs.Prelude.{◌≡◌, ◌≤◌};
 ghost use Rattle.sb_turn.specs.Reasons.{number_of};
 
-/// Why the work ended, in the order in which the state word rises.
+/// Whether the work goes on, or why it ends. The later stands above the earlier.
 #[derive(Clone, Copy, PartialEq, Eq, Debug)]
 pub enum Reason {
-    /// It has not ended.
+    /// It goes on.
     Running,
-    /// All is done.
+    /// The input ended.
     Ended,
-    /// Something failed.
+    /// Something outside failed.
     Fault,
     /// There was no memory.
     Memory,
 }
 
+/// The number of a reason in the state word, 0 to 3.
 pub(crate) fn number(reason: Reason) -> u64
     ensures { (result ≡ number_of reason) × (result ≤ 3) }
 {
@@ -26,6 +27,7 @@ pub(crate) fn number(reason: Reason) -> u64
     }
 }
 
+/// The reason of a number of the state word.
 pub(crate) fn reason_of(number: u64) -> Reason
     requires { number ≤ 3 }
     ensures { number_of result ≡ number }

@@ -1,4 +1,4 @@
-//! The table under the turns and the shelf.
+//! The table under the turns and the shelf, what a pass knows, and what a turn gives.
 ghost use Rattle.std.specs.Prelude.{◌≡◌, ℕ, ◌+◌, ◌≤◌, []};
 ghost use Rattle.std.specs.Vec.{vec_capacity};
 
@@ -10,11 +10,11 @@ use std::collections::LinkedList;
 use std::marker::PhantomData;
 use std::snapshot::Snapshot;
 
-/// What a pass did or saw. No value of it is made.
+/// What a pass did or saw. No value of it is made: it stands in traces, of which contracts alone speak.
 pub enum Entry<C> {
     /// A try found the node's word held.
     Held(u32),
-    /// The pass left the node. Of an event, `number` is its number in the node.
+    /// The pass left the node. `number` is how many lines its state then had: of an event, its number in the node.
     Left { node: u32, number: u64, change: C },
     /// It loaded the state word.
     Saw(u64),
@@ -26,17 +26,22 @@ pub enum Entry<C> {
     Claimed(u64),
 }
 
-/// A turn that a pass has: the node, and its state as it was found.
+/// A turn that a pass has. No value of it is made.
 pub struct Hold<S> {
+    /// The node.
     pub node: u32,
+    /// Its state, as it was found.
     pub found: S,
 }
 
-/// What lies in a slot.
+/// What lies in a slot. Each state has cache lines of its own.
 #[derive(Drop)]
 pub enum Slot<S, P> {
+    /// Nothing: the state or the piece is out, or the place is free.
     Empty,
+    /// The state of a node.
     State(CachePadded<S>),
+    /// A piece on the shelf.
     Piece(P),
 }
 
@@ -48,13 +53,13 @@ pub struct View<S, C, W> {
     pub count: u64,
     /// The greatest state number that it saw or raised.
     pub seen: u64,
-    /// The state word, if no other pass is about.
+    /// Of the first pass: the state word, if it is known since no other pass is out.
     pub exact: Option<u64>,
     /// The turn that it has.
     pub hold: Option<Hold<S>>,
     /// The place that it has in hand.
     pub place: Option<u64>,
-    /// The places that it knows to be empty.
+    /// Of the first pass: the places that it knows to be empty.
     pub empties: LinkedList<u64>,
     /// What it did and saw.
     pub trace: LinkedList<Entry<C>>,
@@ -64,7 +69,7 @@ pub struct View<S, C, W> {
     pub client: W,
 }
 
-/// The rule of the table.
+/// The rule of the table: that of the caller, and that the words and slots are as the views say.
 pub struct Ruling<K> {
     keep: PhantomData<K>,
 }
@@ -78,16 +83,19 @@ impl<K: Keep> TableRule<Slot<K::State, K::Piece>, View<K::State, K::Change, K::V
     ghost first = { λ a. opening_view (K.first a) };
 }
 
-/// A pass. It has no bytes.
+/// The right to take steps, for one thread at a time. It has no bytes.
 pub type Pass<K> = Seat<
     Slot<<K as Keep>::State, <K as Keep>::Piece>,
     View<<K as Keep>::State, <K as Keep>::Change, <K as Keep>::View>,
 >;
 
-/// It must be given to `leave`. `found` is the state as the turn was entered, and takes no memory.
+/// A turn, with its node's state. It must be given to `leave`.
 pub struct Guard<K: Keep> {
+    /// The node.
     pub node: u32,
+    /// The node's state, to read and to change.
     pub state: K::State,
+    /// The state as the turn was entered. It takes no memory, and contracts alone read it.
     pub found: Snapshot<K::State>,
 }
 

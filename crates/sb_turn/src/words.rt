@@ -1,4 +1,4 @@
-//! The state word, which only rises: why the work ended.
+//! The state word, by which passes tell each other that the work ends. It only rises.
 ghost use Rattle.std.specs.Prelude.{◌≡◌, ◌≤◌, true};
 ghost use Rattle.sb_turn.specs.Turning.{saw, raised, AtMost};
 ghost use Rattle.sb_turn.specs.Owed.{Learns, Raises};
@@ -11,24 +11,24 @@ use crate::reason::{Reason, number, reason_of};
 use crate::turns::{Pass, Turns};
 
 impl<K: Keep> Turns<K> {
-    /// Raises the state word to the reason, if it is lower.
+    /// Raises the state word to the reason, if it is lower. The caller owes that the rule allows this pass the reason.
     pub fn stop(&self, pass: &mut Pass<K>, reason: Reason)
         requires pass { IsPassOf self.now pass.old × ((seat_view pass.old).active ≡ true) }
         requires rule { Raises (K.rule (about self.now)) pass.old.id (seat_view pass.old).client (number_of reason)
             (K.told (seat_view pass.old).client (number_of reason)) }
         ensures pass { IsSamePass pass.old pass.new }
-        ensures word { pass.new.me
-            ≡ (
-              raised (number_of reason) (K.told (seat_view pass.old).client (number_of reason)) (seat_view pass.old),
-              pass.old.me.1,
-            ) }
+        ensures word { pass.new.me ≡ (
+          raised (number_of reason)
+              (K.told (seat_view pass.old).client (number_of reason)) (seat_view pass.old),
+          pass.old.me.1,
+        ) }
     {
         self.table
             .shared
             .fetch_max::<Stop<K>>(pass, 0, number(reason));
     }
 
-    /// The state word, which is at least each number that the pass, or one that it joined, saw or raised.
+    /// The state word, by one load. It is at least each number that the pass, or one that it joined, saw or raised.
     pub fn reason(&self, pass: &mut Pass<K>) -> Reason
         requires pass { IsPassOf self.now pass.old × ((seat_view pass.old).active ≡ true) }
         ensures pass { IsSamePass pass.old pass.new }

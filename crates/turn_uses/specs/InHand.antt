@@ -29,5 +29,8 @@ one p = p ∷ []
 abbrev pub IsKept : List ℕ → List (Option ℕ) → List Hand → Type 0
 IsKept all shelf views = IsPermutation all (all_held in_hand one views shelf)
 
-pub kept_with_idle : (all : List ℕ) (shelf : List (Option ℕ)) (views : List Hand) → IsKept all shelf views → IsKept all shelf (views ++ hand [] ∷ [])
-kept_with_idle all shelf views k = subst (λ (q : List ℕ). IsPermutation all (q ++ flat (on_place one) shelf)) (sym (flat_more in_hand views (hand []) refl)) k
+pub kept_with_idle : (all : List ℕ) (shelf : List (Option ℕ)) (views : List Hand)
+    → IsKept all shelf views → IsKept all shelf (views ++ hand [] ∷ [])
+kept_with_idle all shelf views k =
+    subst (λ (q : List ℕ). IsPermutation all (q ++ flat (on_place one) shelf))
+        (sym (flat_more in_hand views (hand []) refl)) k
