@@ -13,7 +13,7 @@ use Rattle.sb_pipeline.specs.declared.transform.Down.{Down}
 use Rattle.sb_pipeline.specs.declared.transform.Step.{Step}
 use Rattle.sb_pipeline.specs.Shapes.{Shape, source}
 use Rattle.sb_core.specs.declared.moment.Moment.{Moment}
-use Rattle.sb_record.specs.Records.{record_cmp, count_of, SameRecords}
+use Rattle.sb_record.specs.Records.{record_cmp, count_of}
 use Rattle.sb_pipeline.specs.Elements.{on_lane}
 use Rattle.sb_pipeline.specs.Flow.{Sent, arriving, from_stream, from_streams, sent_from}
 use Rattle.sb_pipeline.specs.Results.{output_of}
