@@ -105,9 +105,12 @@ events-carry plan m later (Deliver node lane number) h lawful after = by_case (e
     work : (Choices.pulled (Moments.is_work node lane number) m.held >>= λ q. Events.deliver_work plan m q.0 q.1) ≡ Some later → (q : Held × List Held) × (Choices.pulled (Moments.is_work node lane number) m.held ≡ Some q) × CarriesFrom plan m later q.0
     work h =
         let a = bind_some (Choices.pulled (Moments.is_work node lane number) m.held) (λ q. Events.deliver_work plan m q.0 q.1) later h in
-        let held = (All-pulled (IsHeld plan m) (Moments.is_work node lane number) m.held a.0 a.1 lawful.holds).0 in
-        (a.0, a.1, work-carries plan m later lawful a.0 (SameSums-pulled (Moments.is_work node lane number) m.held a.0 a.1) held a.2
-        (λ y l epoch floor n records s e is pardo. not_sealed plan m lawful y l epoch floor n records false s (subst (IsHeld plan m) e held) pardo is))
+        let held = (All-pulled (IsHeld plan m) (Moments.is_work node lane number) m.held a.0 a.1 lawful.holds).0 in (
+          a.0,
+          a.1,
+          work-carries plan m later lawful a.0 (SameSums-pulled (Moments.is_work node lane number) m.held a.0 a.1) held a.2
+              (λ y l epoch floor n records s e is pardo. not_sealed plan m lawful y l epoch floor n records false s (subst (IsHeld plan m) e held) pardo is),
+        )
 
     by_case : (b : Bool) → cond b (Choices.pulled (Moments.is_close_of node lane) m.held >>= λ q. Events.deliver_rows plan m q.0 q.1) (Choices.pulled (Moments.is_work node lane number) m.held >>= λ q. Events.deliver_work plan m q.0 q.1) ≡ Some later
         → (q : Held × List Held) × (Choices.pulled (λ h. cond b (Moments.is_close_of node lane h) (Moments.is_work node lane number h)) m.held ≡ Some q) × CarriesFrom plan m later q.0

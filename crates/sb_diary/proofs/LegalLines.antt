@@ -22,5 +22,5 @@ ones_came lanes diary legal l =
     let a = the-audit (audited lanes diary) legal in
     let t = told lanes diary a.0 a.1 l in
     let many : length (lane_in a.0 l).came ≡ length (arrivals l diary) =
-      sym (length-map (lane_in a.0 l).came (λ (c : Came). c.epoch)) ∙ ap length t.came_is ∙ length-map (arrivals l diary) (λ (b : Sized). b.epoch) in
+    sym (length-map (lane_in a.0 l).came (λ (c : Came). c.epoch)) ∙ ap length t.came_is ∙ length-map (arrivals l diary) (λ (b : Sized). b.epoch) in
     subst (λ n. AllByRecursion (IsOneOf n) (finishes l diary)) many t.done_is
