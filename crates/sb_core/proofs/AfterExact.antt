@@ -1,4 +1,4 @@
--- Each event keeps a lawful moment exact.
+-- Each event moves what the nodes of a lawful moment have yet to give, and keeps it exact.
 use Rattle.sb_record.proofs.Numbers.{bind_some}
 use Rattle.sb_core.specs.Choices
 use Rattle.sb_core.specs.Events
@@ -32,13 +32,18 @@ use Rattle.sb_core.specs.Bounds.{bound_at}
 use Rattle.sb_core.specs.Closings.{is_pardo}
 use Rattle.sb_core.specs.Holdings.{IsWork, IsHeld, is_unpassed}
 use Rattle.sb_core.proofs.Orderly.{IsLawful}
-use Rattle.sb_core.specs.Laws.{fed_after}
+use Rattle.sb_core.specs.Laws.{concerns, fed_after}
 use Rattle.sb_core.proofs.Lists.{cond_is_some, SameSums-pulled}
 use Rattle.sb_core.proofs.LaneLaws.{All-pulled}
 use Rattle.sb_core.proofs.Nodes.{node_at-same, node_at-set_same}
 use Rattle.sb_core.proofs.InTime.{work_epoch}
 use Rattle.sb_core.proofs.LawfulTimely.{lane_of}
-use Rattle.sb_core.proofs.EventLaws.{take-exact, arrive-exact, finish-exact, begin-exact, seal-exact, rows-exact, pass-exact, end-exact, work-exact, closed_rises}
+use Rattle.sb_core.proofs.EventLaws.{CarriesFrom, take-carries, arrive-carries, finish-carries, begin-carries, seal-carries, rows-carries, pass-carries, end-carries, work-carries, closed_rises}
+use Rattle.sb_core.proofs.Exactly.{Carries, carried-exact}
+use Rattle.sb_core.proofs.Exactly.Moved.{Nothing, Fed}
+use Rattle.sb_pipeline.specs.declared.transform.Down.{Down}
+use Rattle.sb_pipeline.specs.Shapes.{source}
+use Rattle.sb_core.proofs.LawfulTimely.{lawful-timely}
 use Rattle.sb_core.proofs.LawfulBegin.{closable-is, rises}
 
 -- ---- a Work of a ParDo is of an epoch that is not sealed below
@@ -75,36 +80,44 @@ module _ (plan : Shape) (m : Moment) (lawful : IsLawful plan m) where
       by_case false e = omega (arith, (lawful.below y s is).as_many e)
 
 -- ---- all events
--- each event between lawful moments keeps an exact moment exact
-abbrev EventsKeepExact : Type 0
-EventsKeepExact =
-    (plan : Shape) (m later : Moment) (fed : Stream → List Record) (event : Event) → Events.after plan m event ≡ Some later
-    → IsLawful plan m → IsLawful plan later → IsExact plan m fed → IsExact plan later (fed_after event fed)
+-- what each event moves
+abbrev pub EventCarries : Shape → Moment → Moment → Event → Type 0
+EventCarries plan m later (Arrive stream records) = (d : Down) × (source plan stream ≡ Some d) × Carries plan m later (Fed stream d records)
+EventCarries plan m later (Seal stream mark) = Carries plan m later Nothing
+EventCarries plan m later (Take node lane number) = Carries plan m later Nothing
+EventCarries plan m later (Deliver node lane number) = (q : Held × List Held) × (Choices.pulled (concerns (Deliver node lane number)) m.held ≡ Some q) × CarriesFrom plan m later q.0
+EventCarries plan m later (Finish node lane number) = Carries plan m later Nothing
+EventCarries plan m later (Begin node lane) = Carries plan m later Nothing
+EventCarries plan m later (Pass node) = Carries plan m later Nothing
+EventCarries plan m later (End node) = Carries plan m later Nothing
 
-pub events-keep_exact : EventsKeepExact
-events-keep_exact plan m later fed (Arrive A records) h lawful after exact = arrive-exact plan m later fed A records h lawful exact
-events-keep_exact plan m later fed (Arrive B records) h lawful after exact = arrive-exact plan m later fed B records h lawful exact
-events-keep_exact plan m later fed (Seal stream mark) h lawful after exact = seal-exact plan m later fed stream mark h lawful exact
-events-keep_exact plan m later fed (Take node lane number) h lawful after exact = take-exact plan m later fed (record { node = node; lane = lane }) number h lawful exact
-events-keep_exact plan m later fed (Deliver node lane number) h lawful after exact = by_case (eqb number 0) h
+pub events-carry : (plan : Shape) (m later : Moment) (event : Event) → Events.after plan m event ≡ Some later → IsLawful plan m → IsLawful plan later → EventCarries plan m later event
+events-carry plan m later (Arrive stream records) h lawful after = arrive-carries plan m later stream records h lawful
+events-carry plan m later (Seal stream mark) h lawful after = seal-carries plan m later stream mark h lawful
+events-carry plan m later (Take node lane number) h lawful after = take-carries plan m later (record { node = node; lane = lane }) number h
+events-carry plan m later (Deliver node lane number) h lawful after = by_case (eqb number 0) h
   where
-    rows : Choices.pulled (Moments.is_close_of node lane) m.held >>= (λ q. Events.deliver_rows plan m q.0 q.1) ≡ Some later → IsExact plan later fed
+    rows : (Choices.pulled (Moments.is_close_of node lane) m.held >>= λ q. Events.deliver_rows plan m q.0 q.1) ≡ Some later → (q : Held × List Held) × (Choices.pulled (Moments.is_close_of node lane) m.held ≡ Some q) × CarriesFrom plan m later q.0
     rows h =
         let a = bind_some (Choices.pulled (Moments.is_close_of node lane) m.held) (λ q. Events.deliver_rows plan m q.0 q.1) later h in
-        rows-exact plan m later fed lawful exact a.0 (SameSums-pulled (Moments.is_close_of node lane) m.held a.0 a.1) (All-pulled (IsHeld plan m) (Moments.is_close_of node lane) m.held a.0 a.1 lawful.holds).0 a.2
+        (a.0, a.1, rows-carries plan m later lawful a.0 (SameSums-pulled (Moments.is_close_of node lane) m.held a.0 a.1) (All-pulled (IsHeld plan m) (Moments.is_close_of node lane) m.held a.0 a.1 lawful.holds).0 a.2)
 
-    work : (Choices.pulled (Moments.is_work node lane number) m.held >>= λ q. Events.deliver_work plan m q.0 q.1) ≡ Some later → IsExact plan later fed
+    work : (Choices.pulled (Moments.is_work node lane number) m.held >>= λ q. Events.deliver_work plan m q.0 q.1) ≡ Some later → (q : Held × List Held) × (Choices.pulled (Moments.is_work node lane number) m.held ≡ Some q) × CarriesFrom plan m later q.0
     work h =
         let a = bind_some (Choices.pulled (Moments.is_work node lane number) m.held) (λ q. Events.deliver_work plan m q.0 q.1) later h in
-        let held = (All-pulled (IsHeld plan m) (Moments.is_work node lane number) m.held a.0 a.1 lawful.holds).0 in
-        work-exact plan m later fed lawful exact a.0 (SameSums-pulled (Moments.is_work node lane number) m.held a.0 a.1) held a.2
-        (λ y l epoch floor n records s e is pardo. not_sealed plan m lawful y l epoch floor n records false s (subst (IsHeld plan m) e held) pardo is)
+        let held = (All-pulled (IsHeld plan m) (Moments.is_work node lane number) m.held a.0 a.1 lawful.holds).0 in (
+          a.0,
+          a.1,
+          work-carries plan m later lawful a.0 (SameSums-pulled (Moments.is_work node lane number) m.held a.0 a.1) held a.2
+              (λ y l epoch floor n records s e is pardo. not_sealed plan m lawful y l epoch floor n records false s (subst (IsHeld plan m) e held) pardo is),
+        )
 
-    by_case : (b : Bool) → cond b (Choices.pulled (Moments.is_close_of node lane) m.held >>= λ q. Events.deliver_rows plan m q.0 q.1) (Choices.pulled (Moments.is_work node lane number) m.held >>= λ q. Events.deliver_work plan m q.0 q.1) ≡ Some later → IsExact plan later fed
+    by_case : (b : Bool) → cond b (Choices.pulled (Moments.is_close_of node lane) m.held >>= λ q. Events.deliver_rows plan m q.0 q.1) (Choices.pulled (Moments.is_work node lane number) m.held >>= λ q. Events.deliver_work plan m q.0 q.1) ≡ Some later
+        → (q : Held × List Held) × (Choices.pulled (λ h. cond b (Moments.is_close_of node lane h) (Moments.is_work node lane number h)) m.held ≡ Some q) × CarriesFrom plan m later q.0
     by_case true h = rows h
     by_case false h = work h
-events-keep_exact plan m later fed (Finish node lane number) h lawful after exact = finish-exact plan m later fed node lane number h lawful exact
-events-keep_exact plan m later fed (Begin node lane) h lawful after exact = begin-exact plan m later fed node lane h lawful after (mark_rises h) exact
+events-carry plan m later (Finish node lane number) h lawful after = finish-carries plan m later node lane number h lawful
+events-carry plan m later (Begin node lane) h lawful after = begin-carries plan m later node lane h lawful after (mark_rises h)
   where
     mark_rises : Events.after_begin plan m node lane ≡ Some later → closed_rises plan m later node
     mark_rises h =
@@ -117,9 +130,29 @@ events-keep_exact plan m later fed (Begin node lane) h lawful after exact = begi
         let before = ap (λ (x : Node). Marks.closed x.lanes) (node_at-same m node a.0 a.0 a.1) in
         let then = ap (λ (x : Moment). Marks.closed (node_at x node).lanes) (sym is) ∙ ap (λ (x : Node). Marks.closed x.lanes) (node_at-set_same m node a.0 _ a.1) in
         subst (λ x. x ≤ Marks.closed (node_at later node).lanes) (sym before) (subst (λ x. Marks.closed a.0.lanes ≤ x) (sym then) up)
-events-keep_exact plan m later fed (Pass node) h lawful after exact =
+events-carry plan m later (Pass node) h lawful after =
     let a = bind_some (Choices.pulled (Moments.is_close node) m.held) (λ q. Events.after_pass plan m q.0 q.1) later h in
-    pass-exact plan m later fed lawful exact a.0 (SameSums-pulled (Moments.is_close node) m.held a.0 a.1) (All-pulled (IsHeld plan m) (Moments.is_close node) m.held a.0 a.1 lawful.holds).0 a.2
-events-keep_exact plan m later fed (End node) h lawful after exact =
+    pass-carries plan m later lawful a.0 (SameSums-pulled (Moments.is_close node) m.held a.0 a.1) (All-pulled (IsHeld plan m) (Moments.is_close node) m.held a.0 a.1 lawful.holds).0 a.2
+events-carry plan m later (End node) h lawful after =
     let a = bind_some (Choices.pulled (Moments.is_close node) m.held) (λ q. Events.after_end m q.0 q.1) later h in
-    end-exact plan m later fed lawful exact a.0 (SameSums-pulled (Moments.is_close node) m.held a.0 a.1) (All-pulled (IsHeld plan m) (Moments.is_close node) m.held a.0 a.1 lawful.holds).0 a.2
+    end-carries plan m later lawful a.0 (SameSums-pulled (Moments.is_close node) m.held a.0 a.1) (All-pulled (IsHeld plan m) (Moments.is_close node) m.held a.0 a.1 lawful.holds).0 a.2
+
+-- each event between lawful moments keeps an exact moment exact
+abbrev EventsKeepExact : Type 0
+EventsKeepExact =
+    (plan : Shape) (m later : Moment) (fed : Stream → List Record) (event : Event) → Events.after plan m event ≡ Some later
+    → IsLawful plan m → IsLawful plan later → IsExact plan m fed → IsExact plan later (fed_after event fed)
+
+pub events-keep_exact : EventsKeepExact
+events-keep_exact plan m later fed event h lawful after exact = by_event event (events-carry plan m later event h lawful after)
+  where
+    by_event : (event : Event) → EventCarries plan m later event → IsExact plan later (fed_after event fed)
+    by_event (Arrive A records) c = carried-exact plan m later (Fed A c.0 records) fed (lawful-timely plan m lawful) c.2 exact
+    by_event (Arrive B records) c = carried-exact plan m later (Fed B c.0 records) fed (lawful-timely plan m lawful) c.2 exact
+    by_event (Seal stream mark) c = carried-exact plan m later Nothing fed (lawful-timely plan m lawful) c exact
+    by_event (Take node lane number) c = carried-exact plan m later Nothing fed (lawful-timely plan m lawful) c exact
+    by_event (Deliver node lane number) c = carried-exact plan m later _ fed (lawful-timely plan m lawful) c.2.2 exact
+    by_event (Finish node lane number) c = carried-exact plan m later Nothing fed (lawful-timely plan m lawful) c exact
+    by_event (Begin node lane) c = carried-exact plan m later Nothing fed (lawful-timely plan m lawful) c exact
+    by_event (Pass node) c = carried-exact plan m later Nothing fed (lawful-timely plan m lawful) c exact
+    by_event (End node) c = carried-exact plan m later Nothing fed (lawful-timely plan m lawful) c exact

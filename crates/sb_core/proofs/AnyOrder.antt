@@ -27,14 +27,16 @@ use Rattle.sb_core.specs.declared.held.Held.TheVariants.{Work, Close}
 use Rattle.sb_pipeline.specs.Operators.{operator_at}
 use Rattle.sb_record.specs.Reading.{◌>>=◌}
 use Rattle.sb_core.specs.Moments.{with_held, node_at}
-use Rattle.sb_core.specs.Exactness.{waiting_from, working, undelivered, rest, IsExact}
+use Rattle.sb_core.specs.Exactness.{waiting_from, working, undelivered, rest, gives, IsExact}
+use Rattle.sb_pipeline.specs.declared.transform.KeptRec.{KeptRec}
 use Rattle.sb_core.specs.Holdings.{IsHeld, is_unpassed, IsCloseOf}
 use Rattle.sb_core.specs.Soundness.{IsOpenBelow, IsSound}
 use Rattle.sb_core.specs.Laws.{NewAtTheHead, IdleByItsLanes, takes_up, HeldInAnyOrder, EventsAtTheHead, concerns, changed, delivered_now, passed_now, fed_after}
-use Rattle.sb_record.proofs.Sums.{SameSums-flat_map}
+use Rattle.sb_record.proofs.Sums.{SameSums, SameSums-flat_map}
 use Rattle.sb_core.proofs.Lists.{cond_is_some}
 use Rattle.sb_core.proofs.Gives.{gives-less, sum_by-rest}
-use Rattle.sb_core.proofs.Exactly.{exact-same}
+use Rattle.sb_core.proofs.Exactly.{Carries, carries-same, carried-exact}
+use Rattle.sb_core.proofs.Exactly.Moved.{Nothing}
 use Rattle.sb_core.proofs.LawfulTimely.{lawful-timely}
 use Rattle.sb_core.proofs.HeldLists.{any_same}
 use Rattle.sb_core.proofs.AfterSound.{events-keep_sound}
@@ -116,18 +118,23 @@ module _ (plan : Shape) (m : Moment) (held : List Held) (same : IsPermutation m.
       tidy : IsTidy plan m
       tidy = (tidy_of sound)
 
-  pub exact-permuted : IsLawful plan m → (fed : Stream → List Record) → IsExact plan m fed → IsExact plan (with_held held m) fed
-  exact-permuted lawful fed exact =
-      exact-same plan m (with_held held m) fed (lawful-timely plan m lawful)
-      (λ k es fs within in_time h. gives-less (operator_at (slice_get plan.steps k)) k (node_at m k) (node_at m k) m.held held m.rows m.rows [] es fs
+  -- each node has yet to give the same
+  pub permuted-gives : (k : ℕ) (es fs : List KeptRec) → SameSums es fs → SameSums (gives plan m k es) (gives plan (with_held held m) k fs)
+  permuted-gives k es fs h =
+      gives-less (operator_at (slice_get plan.steps k)) k (node_at m k) (node_at m k) m.held held m.rows m.rows [] es fs
       (SameSums-flat_map (undelivered k) m.held held sums)
       (λ f.
       let a : sum_by f (rest k (node_at m k) m.held es) ≡ _ = sum_by-rest f k (node_at m k) m.held es in
       let b : sum_by f (rest k (node_at m k) held fs) ≡ _ = sum_by-rest f k (node_at m k) held fs in
       let c : sum_by f (flat_map (working k) m.held) ≡ sum_by f (flat_map (working k) held) = SameSums-flat_map (working k) m.held held sums f in
       a ∙ (λ i. (sum_by f (waiting_from 0 (node_at m k).lanes) + c i) + h f i) ∙ sym b)
-      refl refl (λ _. refl) (λ _. refl))
-      (λ coming ok. ok) exact
+      refl refl (λ _. refl) (λ _. refl)
+
+  pub permuted-carries : Carries plan m (with_held held m) Nothing
+  permuted-carries = carries-same plan m (with_held held m) (λ k es fs within in_time h. permuted-gives k es fs h) (λ coming ok. ok)
+
+  pub exact-permuted : IsLawful plan m → (fed : Stream → List Record) → IsExact plan m fed → IsExact plan (with_held held m) fed
+  exact-permuted lawful fed exact = carried-exact plan m (with_held held m) Nothing fed (lawful-timely plan m lawful) permuted-carries exact
 
 pub held-in_any_order : HeldInAnyOrder
 held-in_any_order plan m held same sound = (sound-permuted plan m held same sound, λ fed exact. exact-permuted plan m held same (lawful_of sound) fed exact)

@@ -1,6 +1,6 @@
 -- A bundle is delivered: the moment stays lawful.
 use Rattle.sb_record.proofs.Elements.{every, All-flat_map}
-use Rattle.std.proofs.Common.{◌^◌, eqb, ◌≡◌, ℕ, suc, zero, ◌+◌, ◌≤◌, ◌<◌, Bool, true, false, cond, List, [], ◌∷◌, ◌++◌, take, drop, Some, Option, sym, refl, ap, subst, ◌∙◌, arith, zero-add, add-zero}
+use Rattle.std.proofs.Common.{eqb, ◌≡◌, ℕ, suc, zero, ◌+◌, ◌≤◌, ◌<◌, Bool, true, false, cond, List, [], ◌∷◌, ◌++◌, take, drop, Some, Option, sym, refl, ap, subst, ◌∙◌, arith, zero-add, add-zero}
 use Rattle.std.specs.List.{flat_map, slice_get, AllByRecursion}
 use Rattle.std.proofs.lemmas.Bool.{eq-eqb, ne_eqb}
 use Rattle.std.proofs.lemmas.Option.{same_Some}

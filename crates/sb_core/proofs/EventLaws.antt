@@ -1,4 +1,4 @@
--- Each single event keeps a lawful moment exact.
+-- What each single event does to what the nodes of a lawful moment have yet to give.
 use Rattle.sb_record.proofs.Numbers.{bind_some}
 use Rattle.sb_core.specs.Choices
 use Rattle.sb_core.specs.Closings
@@ -31,7 +31,7 @@ use Rattle.sb_core.specs.declared.held.Held.{Held}
 use Rattle.sb_core.specs.declared.held.Held.TheVariants.{Work, Close}
 use Rattle.sb_core.specs.declared.event.Event.TheVariants.{Finish, Begin}
 use Rattle.sb_record.specs.Reading.{◌>>=◌}
-use Rattle.sb_core.specs.Exactness.{gives, working, undelivered, IsAdmissible, IsExact}
+use Rattle.sb_core.specs.Exactness.{gives, working, undelivered, IsAdmissible}
 use Rattle.sb_core.specs.Moments.{node_at, floor_of, floor_at, epoch_of, epoch_at}
 use Rattle.sb_core.specs.LaneOrder.{AreContainers, IsLane, IsReady}
 use Rattle.sb_core.specs.Bounds.{bound_at}
@@ -51,7 +51,8 @@ use Rattle.sb_core.proofs.Beginning.{begun-gives}
 use Rattle.sb_core.proofs.Flow.{extra}
 use Rattle.sb_core.proofs.Gives.{lane_at-parts, with_lane-is, sum_by-held_push}
 use Rattle.sb_core.proofs.Taking.{take-gives}
-use Rattle.sb_core.proofs.Exactly.{exact-same, exact-arrived, exact-delivered, with_more, fed_more}
+use Rattle.sb_core.proofs.Exactly.{Carries, carries-same, carries-fed, carries-given, with_more}
+use Rattle.sb_core.proofs.Exactly.Moved.{Nothing, Fed, Given}
 use Rattle.sb_core.proofs.Timely.{IsTimely, no_sink}
 use Rattle.sb_core.proofs.InTime.{begun_within}
 use Rattle.sb_core.proofs.LawfulTimely.{lawful-timely}
@@ -77,9 +78,9 @@ floor-rises m n l node new lane with at in_it lanes up d = ⊎_elim
     (lane_at-cases m n l node new lane with at in_it lanes d)
 
 -- ---- a bundle is taken
-pub take-exact : (plan : Shape) (m m' : Moment) (fed : Stream → List Record) (d : Down) (number : ℕ) → Events.after_take m d number ≡ Some m' → IsLawful plan m → IsExact plan m fed → IsExact plan m' fed
-take-exact plan m m' fed d number h lawful exact =
-    exact-same plan m m' fed (lawful-timely plan m lawful) (λ k es fs within in_time same. take-gives plan m m' d number h k es fs same) (admits plan m m' floors) exact
+pub take-carries : (plan : Shape) (m m' : Moment) (d : Down) (number : ℕ) → Events.after_take m d number ≡ Some m' → Carries plan m m' Nothing
+take-carries plan m m' d number h =
+    carries-same plan m m' (λ k es fs within in_time same. take-gives plan m m' d number h k es fs same) (admits plan m m' floors)
   where
     floors : (e : Down) → floor_at m' e ≡ floor_at m e
     floors e =
@@ -129,18 +130,18 @@ admits_more plan m m' s d records is times floors coming ok t e at = go s t refl
     go B A z src is at old = old
     go B B z src is at old = let k : d ≡ e = same_Some _ _ (sym is ∙ at) in All-append (λ r. (floor_at m e ≤ r.time) × (r.time ≤ TheConstants.MAX_TIME)) records (coming B) (All-from_recursion (λ r. (floor_at m e ≤ r.time) × (r.time ≤ TheConstants.MAX_TIME)) records (subst (λ d. AllByRecursion (λ r. (floor_at m d ≤ r.time) × (r.time ≤ TheConstants.MAX_TIME)) records) k times)) old
 
-pub arrive-exact : (plan : Shape) (m m' : Moment) (fed : Stream → List Record) (s : Stream) (records : List Record) → Events.after_arrive plan m s records ≡ Some m' → IsLawful plan m → IsExact plan m fed → IsExact plan m' (fed_more s records fed)
-arrive-exact plan m m' fed s records h lawful exact =
+pub arrive-carries : (plan : Shape) (m m' : Moment) (s : Stream) (records : List Record) → Events.after_arrive plan m s records ≡ Some m' → IsLawful plan m → (d : Down) × (source plan s ≡ Some d) × Carries plan m m' (Fed s d records)
+arrive-carries plan m m' s records h lawful =
     let a = bind_some (source plan s) _ m' h in
     let b = bind_some (Moments.lane_at m a.0) _ m' a.2 in
     let c = cond_is_some _ _ m' b.2 in
     let e = bind_some (Moments.lane_at m a.0) _ m' c.1 in
     let g = cond_is_some _ _ m' e.2 in
-    go a.0 b.0 e.0 a.1 b.1 (same_Some _ _ (sym e.1 ∙ b.1)) c.0 g.1
+    (a.0, a.1, go a.0 b.0 e.0 a.1 b.1 (same_Some _ _ (sym e.1 ∙ b.1)) c.0 g.1)
   where
     go : (d : Down) (lane again : CoreLane) → source plan s ≡ Some d → Moments.lane_at m d ≡ Some lane → again ≡ lane
         → (not (Choices.is_empty records) && (nat_le (length records) m.bundle && list_all (λ r. nat_le (Lanes.next_floor lane) r.time && nat_le r.time TheConstants.MAX_TIME) records)) ≡ true
-        → Moments.with_lane d (Lanes.with_arrival (Lanes.next_epoch lane) (Lanes.next_floor lane) records again) m ≡ Some m' → IsExact plan m' (fed_more s records fed)
+        → Moments.with_lane d (Lanes.with_arrival (Lanes.next_epoch lane) (Lanes.next_floor lane) records again) m ≡ Some m' → Carries plan m m' (Fed s d records)
     go d lane again is at same test h =
         let p = lane_at-parts m d lane at in
         let with : CoreLane = Lanes.with_arrival (Lanes.next_epoch lane) (Lanes.next_floor lane) records lane in
@@ -148,18 +149,18 @@ arrive-exact plan m m' fed s records h lawful exact =
         let floors : (e : Down) → floor_at m' e ≡ floor_at m e = λ e. ap (λ x. floor_at x e) (sym made) ∙ floor-set m d.node d.lane p.0 (Moments.set_lane d.lane with p.0) lane with p.1 p.2 refl refl e in
         let mark = arrival_calm (bound_at plan d.node) (Lanes.next_epoch lane) (Lanes.next_floor lane) records lane (lawful.lanes d lane at) (omega arith) in
         let times = list_all-AllByRecursion (λ r. nat_le (Lanes.next_floor lane) r.time && nat_le r.time TheConstants.MAX_TIME) (λ r. (floor_at m d ≤ r.time) × (r.time ≤ TheConstants.MAX_TIME)) (λ r t. let k = and_parts (nat_le (Lanes.next_floor lane) r.time) (nat_le r.time TheConstants.MAX_TIME) t in (subst (λ n. n ≤ r.time) (sym (ap floor_of at)) (nat_le-le (Lanes.next_floor lane) r.time k.0), nat_le-le r.time TheConstants.MAX_TIME k.1)) records (and_parts (nat_le (length records) m.bundle) _ (and_parts (not (Choices.is_empty records)) _ test).1).1 in
-        exact-arrived plan m m' fed s d records (lawful-timely plan m lawful) is
+        carries-fed plan m m' s d records is
         (λ k es fs x. subst (λ z. SameSums (gives plan m k es) (gives plan z k fs)) made
         (arrival-gives plan m d p.0 lane p.1 p.2 (Lanes.next_epoch lane) (Lanes.next_floor lane) records m.held mark k es fs [] (λ f. refl) (λ f. refl) (λ _. refl) x))
-        (admits_more plan m m' s d records is times floors) exact
+        (admits_more plan m m' s d records is times floors)
 
 -- ---- a bundle is finished
-pub finish-exact : (plan : Shape) (m m' : Moment) (fed : Stream → List Record) (n l number : ℕ) → Events.after plan m (Finish n l number) ≡ Some m' → IsLawful plan m → IsExact plan m fed → IsExact plan m' fed
-finish-exact plan m m' fed n l number h lawful exact =
+pub finish-carries : (plan : Shape) (m m' : Moment) (n l number : ℕ) → Events.after plan m (Finish n l number) ≡ Some m' → IsLawful plan m → Carries plan m m' Nothing
+finish-carries plan m m' n l number h lawful =
     let a = bind_some (Choices.pulled (Moments.is_work n l number) m.held) _ m' h in
     go a.0 (SameSums-pulled (Moments.is_work n l number) m.held a.0 a.1) (All-pulled (IsHeld plan m) (Moments.is_work n l number) m.held a.0 a.1 lawful.holds).0 a.2
   where
-    go : (q : Held × List Held) → SameSums m.held (q.0 ∷ q.1) → IsHeld plan m q.0 → Events.after_finish plan m q.0 q.1 ≡ Some m' → IsExact plan m' fed
+    go : (q : Held × List Held) → SameSums m.held (q.0 ∷ q.1) → IsHeld plan m q.0 → Events.after_finish plan m q.0 q.1 ≡ Some m' → Carries plan m m' Nothing
     go (Close k l epoch serial floor mark rows passed, others) pulled held h = cc
     go (Work k l epoch floor number records delivered, others) pulled held h =
         let a = bind_some (slice_get m.nodes k) _ m' h in
@@ -167,17 +168,17 @@ finish-exact plan m m' fed n l number h lawful exact =
         let c = cond_is_some _ _ m' b.2 in
         let is = same_Some _ _ c.1 in
         let floors : (e : Down) → floor_at m' e ≡ floor_at m e = λ e. ap (λ x. floor_at x e) (sym is) ∙ floor-set m k l a.0 _ b.0 (record b.0 { conts = Lanes.finish_in epoch number b.0.conts }) a.1 b.1 refl refl e in
-        exact-same plan m m' fed (lawful-timely plan m lawful)
+        carries-same plan m m'
         (λ n es fs within in_time same. subst (λ z. SameSums (gives plan m n es) (gives plan z n fs)) is
         (finished-gives plan m k l epoch floor number records delivered others a.0 b.0 pulled a.1 b.1 c.0 held.only_pardo n es fs same))
-        (admits plan m m' floors) exact
+        (admits plan m m' floors)
 
 -- ---- a closing begins
 abbrev pub closed_rises : Shape → Moment → Moment → ℕ → Type 0
 closed_rises plan m m' n = Marks.closed (node_at m n).lanes ≤ Marks.closed (node_at m' n).lanes
 
-pub begin-exact : (plan : Shape) (m m' : Moment) (fed : Stream → List Record) (n l : ℕ) → Events.after plan m (Begin n l) ≡ Some m' → IsLawful plan m → IsLawful plan m' → closed_rises plan m m' n → IsExact plan m fed → IsExact plan m' fed
-begin-exact plan m m' fed n l h lawful later rises exact =
+pub begin-carries : (plan : Shape) (m m' : Moment) (n l : ℕ) → Events.after plan m (Begin n l) ≡ Some m' → IsLawful plan m → IsLawful plan m' → closed_rises plan m m' n → Carries plan m m' Nothing
+begin-carries plan m m' n l h lawful later rises =
     let a = bind_some (slice_get m.nodes n) _ m' h in
     let b = bind_some (slice_get a.0.lanes l) _ m' a.2 in
     let c = bind_some (Lanes.closable b.0.ended b.0.conts) _ m' b.2 in
@@ -188,11 +189,11 @@ begin-exact plan m m' fed n l h lawful later rises exact =
     let floors : (e : Down) → floor_at m' e ≡ floor_at m e = λ e. ap (λ x. floor_at x e) (sym is) ∙ floor-set m n l a.0 _ b.0 begun a.1 b.1 refl refl e in
     let before = ap (λ (x : Node). Marks.closed x.lanes) (node_at-same m n a.0 a.0 a.1) in
     let after = ap (λ (x : Moment). Marks.closed (node_at x n).lanes) (sym is) ∙ ap (λ (x : Node). Marks.closed x.lanes) (node_at-set_same m n a.0 _ a.1) in
-    exact-same plan m m' fed (lawful-timely plan m lawful)
+    carries-same plan m m'
     (λ k es fs in_plan in_time same. subst (λ z. SameSums (gives plan m k es) (gives plan z k fs)) is
     (begun-gives plan m n l a.0 b.0 c.0.epoch a.1 b.1 (subst (λ x. x ≤ Marks.closed (slice_set a.0.lanes l begun)) before (subst (λ x. Marks.closed (node_at m n).lanes ≤ x) after rises))
     (subst (IsTimely plan) (sym is) (lawful-timely plan m' later)) (within_n n within) k es fs in_plan in_time same))
-    (admits plan m m' floors) exact
+    (admits plan m m' floors)
   where
     within_n : (n : ℕ) → n < length m.nodes → n ≤ length plan.steps
     within_n n h = omega (arith, lawful.nodes)
@@ -216,23 +217,23 @@ sealed_floor mark lane =
     let b : length lane.marks - length lane.marks ≡ 0 = omega arith in
     ap (λ n. get_or (lane.marks ++ mark ∷ []) n 0) a ∙ get_or-append_right lane.marks (mark ∷ []) (length lane.marks) (length lane.marks) 0 refl (omega arith) ∙ ap (λ n. get_or (mark ∷ []) n 0) b
 
-pub seal-exact : (plan : Shape) (m m' : Moment) (fed : Stream → List Record) (s : Stream) (mark : ℕ) → Events.after_seal plan m s mark ≡ Some m' → IsLawful plan m → IsExact plan m fed → IsExact plan m' fed
-seal-exact plan m m' fed s mark h lawful exact =
+pub seal-carries : (plan : Shape) (m m' : Moment) (s : Stream) (mark : ℕ) → Events.after_seal plan m s mark ≡ Some m' → IsLawful plan m → Carries plan m m' Nothing
+seal-carries plan m m' s mark h lawful =
     let a = bind_some (source plan s) _ m' h in
     let b = bind_some (Moments.lane_at m a.0) _ m' a.2 in
     let c = cond_is_some _ _ m' b.2 in
     go a.0 b.0 b.1 c.0 c.1
   where
-    go : (d : Down) (lane : CoreLane) → Moments.lane_at m d ≡ Some lane → (nat_le mark TheConstants.END_MARK && nat_le (Lanes.next_floor lane) mark) ≡ true → Moments.with_lane d (Lanes.with_seal mark lane) m ≡ Some m' → IsExact plan m' fed
+    go : (d : Down) (lane : CoreLane) → Moments.lane_at m d ≡ Some lane → (nat_le mark TheConstants.END_MARK && nat_le (Lanes.next_floor lane) mark) ≡ true → Moments.with_lane d (Lanes.with_seal mark lane) m ≡ Some m' → Carries plan m m' Nothing
     go d lane at test h =
         let p = lane_at-parts m d lane at in
         let made = with_lane-is m d p.0 (Lanes.with_seal mark lane) m' p.1 h in
         let up : Lanes.next_floor lane ≤ mark = nat_le-le (Lanes.next_floor lane) mark (and_parts (nat_le mark TheConstants.END_MARK) (nat_le (Lanes.next_floor lane) mark) test).1 in
         let floors : (e : Down) → floor_at m e ≤ floor_at m' e = λ e. subst (λ x. floor_at m e ≤ floor_at x e) made (floor-rises m d.node d.lane p.0 (Moments.set_lane d.lane (Lanes.with_seal mark lane) p.0) lane (Lanes.with_seal mark lane) p.1 p.2 refl (subst (λ n. Lanes.next_floor lane ≤ n) (sym (sealed_floor mark lane)) up) e) in
-        exact-same plan m m' fed (lawful-timely plan m lawful)
+        carries-same plan m m'
         (λ k es fs within in_time same. subst (λ z. SameSums (gives plan m k es) (gives plan z k fs)) made
         (calm-gives plan m d p.0 lane p.1 p.2 (Lanes.with_seal mark lane) m.held (seal_calm (bound_at plan d.node) mark lane (lawful.lanes d lane at)) (waiting-with_seal mark lane) (λ k f. refl) (λ k f. refl) k es fs same))
-        (admits_less plan m m' floors) exact
+        (admits_less plan m m' floors)
 
 -- ---- the next rows of a Close are delivered
 pub below-is : (plan : Shape) (k : ℕ) (d : Down) → Events.below plan k ≡ Some d → (s : Step) × (slice_get plan.steps k ≡ Some s) × (s.down ≡ d)
@@ -241,7 +242,19 @@ below-is plan k d h = let b = bind_some (slice_get plan.steps k) (λ s. Some s.d
 pub transform_is : (plan : Shape) (k : ℕ) (s : Step) → slice_get plan.steps k ≡ Some s → Closings.is_sink (operator_at (slice_get plan.steps k)) ≡ false
 transform_is plan k s is = ap (λ o. Closings.is_sink (operator_at o)) is ∙ no_sink s.kind
 
-module _ (plan : Shape) (m m' : Moment) (fed : Stream → List Record) (lawful : IsLawful plan m) (exact : IsExact plan m fed) where
+-- a delivery gives the next rows of a Close, or what a ParDo gives for its Work
+abbrev pub given_now : Shape → ℕ → Held → List Record
+given_now plan bundle (Work y l epoch floor number records delivered) = Closings.delivery (operator_at (slice_get plan.steps y)) records
+given_now plan bundle (Close y l epoch serial floor mark rows passed) = take bundle rows
+
+abbrev pub node_of : Held → ℕ
+node_of (Work y l epoch floor number records delivered) = y
+node_of (Close y l epoch serial floor mark rows passed) = y
+
+abbrev pub CarriesFrom : Shape → Moment → Moment → Held → Type 0
+CarriesFrom plan m m' h = (d : Down) × (Events.below plan (node_of h) ≡ Some d) × Carries plan m m' (Given (node_of h) d (given_now plan m.bundle h))
+
+module _ (plan : Shape) (m m' : Moment) (lawful : IsLawful plan m) where
   arrived : (d : Down) (epoch floor : ℕ) (records : List Record) (held : List Held) → Events.arrived_at d epoch floor records (Moments.with_held held m) ≡ Some m'
       → (node : Node) × (lane : CoreLane) × (slice_get m.nodes d.node ≡ Some node) × (slice_get node.lanes d.lane ≡ Some lane) × (Moments.set_node d.node (Moments.set_lane d.lane (Lanes.with_arrival epoch floor records lane) node) (Moments.with_held held m) ≡ m')
   arrived d epoch floor records held h =
@@ -253,13 +266,13 @@ module _ (plan : Shape) (m m' : Moment) (fed : Stream → List Record) (lawful :
   place : (d : Down) (node : Node) (lane : CoreLane) → slice_get m.nodes d.node ≡ Some node → slice_get node.lanes d.lane ≡ Some lane → Moments.lane_at m d ≡ Some lane
   place d node lane at in_it = ap (λ (o : Option Node). o >>= λ n. slice_get n.lanes d.lane) at ∙ in_it
 
-  pub rows-exact : (q : Held × List Held) → SameSums m.held (q.0 ∷ q.1) → IsHeld plan m q.0 → Events.deliver_rows plan m q.0 q.1 ≡ Some m' → IsExact plan m' fed
-  rows-exact (Work k l epoch floor number records delivered, others) pulled held h = cc
-  rows-exact (Close y l epoch serial floor mark rows passed, others) pulled held h =
+  pub rows-carries : (q : Held × List Held) → SameSums m.held (q.0 ∷ q.1) → IsHeld plan m q.0 → Events.deliver_rows plan m q.0 q.1 ≡ Some m' → CarriesFrom plan m m' q.0
+  rows-carries (Work k l epoch floor number records delivered, others) pulled held h = cc
+  rows-carries (Close y l epoch serial floor mark rows passed, others) pulled held h =
       let a = bind_some (Events.below plan y) _ m' h in
       let b = below-is plan y a.0 a.1 in
       let c = cond_is_some (not (Choices.is_empty rows)) _ m' a.2 in
-      go a.0 b.0 b.1 b.2 (left passed refl c.0) c.1
+      (a.0, a.1, go a.0 b.0 b.1 b.2 (left passed refl c.0) c.1)
     where
       left : (p : Bool) → passed ≡ p → not (Choices.is_empty rows) ≡ true → passed ≡ false
       left true e h = let n : false ≡ true = sym (ap (λ l. not (Choices.is_empty l)) (held.no_rows e)) ∙ h in cc
@@ -268,22 +281,22 @@ module _ (plan : Shape) (m m' : Moment) (fed : Stream → List Record) (lawful :
       less : List Held
       less = others ++ Close y l epoch serial floor mark (drop m.bundle rows) passed ∷ []
 
-      go : (d : Down) (s : Step) → slice_get plan.steps y ≡ Some s → s.down ≡ d → passed ≡ false → Events.arrived_at d serial floor (take m.bundle rows) (Moments.with_held less m) ≡ Some m' → IsExact plan m' fed
+      go : (d : Down) (s : Step) → slice_get plan.steps y ≡ Some s → s.down ≡ d → passed ≡ false → Events.arrived_at d serial floor (take m.bundle rows) (Moments.with_held less m) ≡ Some m' → Carries plan m m' (Given y d (take m.bundle rows))
       go d s is down unpassed h =
           let p = arrived d serial floor (take m.bundle rows) less h in
           let at : Moments.lane_at m d ≡ Some p.1 = place d p.0 p.1 p.2 p.3 in
           let next : Lanes.next_epoch p.1 ≡ serial = sym (ap epoch_of at) ∙ ap (epoch_at m) (sym down) ∙ held.next_under unpassed s is in
           let further : y < d.node = subst (λ (d : Down). y < d.node) down (lawful.below y s is).further in
           let calm : begun_mark (Lanes.with_arrival serial floor (take m.bundle rows) p.1) ≡ begun_mark p.1 = arrival_calm (bound_at plan d.node) serial floor (take m.bundle rows) p.1 (lawful.lanes d p.1 at) (omega arith) in
-          exact-delivered plan m m' fed y d (take m.bundle rows) (lawful-timely plan m lawful) (slice_get_within plan.steps y s is) (λ t e. ap (λ (s : Step). s.down) (same_Some t s (sym e ∙ is)) ∙ down)
+          carries-given plan m m' y d (take m.bundle rows) (slice_get_within plan.steps y s is) further (λ t e. ap (λ (s : Step). s.down) (same_Some t s (sym e ∙ is)) ∙ down)
           (λ k es fs same. subst (λ z. SameSums (gives plan m k es) (extra y (take m.bundle rows) k ++ gives plan z k fs)) p.4
           (rows-gives plan m y l epoch serial floor mark rows passed others m.bundle d p.0 p.1 p.2 p.3 pulled further (transform_is plan y s is) calm k es fs same))
-          (admits plan m m' (λ e. ap (λ x. floor_at x e) (sym p.4) ∙ floor-set m d.node d.lane p.0 (Moments.set_lane d.lane (Lanes.with_arrival serial floor (take m.bundle rows) p.1) p.0) p.1 (Lanes.with_arrival serial floor (take m.bundle rows) p.1) p.2 p.3 refl refl e)) exact
+          (admits plan m m' (λ e. ap (λ x. floor_at x e) (sym p.4) ∙ floor-set m d.node d.lane p.0 (Moments.set_lane d.lane (Lanes.with_arrival serial floor (take m.bundle rows) p.1) p.0) p.1 (Lanes.with_arrival serial floor (take m.bundle rows) p.1) p.2 p.3 refl refl e))
 
   -- ---- a mark is passed
-  pub pass-exact : (q : Held × List Held) → SameSums m.held (q.0 ∷ q.1) → IsHeld plan m q.0 → Events.after_pass plan m q.0 q.1 ≡ Some m' → IsExact plan m' fed
-  pass-exact (Work k l epoch floor number records delivered, others) pulled held h = cc
-  pass-exact (Close y l epoch serial floor mark rows passed, others) pulled held h =
+  pub pass-carries : (q : Held × List Held) → SameSums m.held (q.0 ∷ q.1) → IsHeld plan m q.0 → Events.after_pass plan m q.0 q.1 ≡ Some m' → Carries plan m m' Nothing
+  pass-carries (Work k l epoch floor number records delivered, others) pulled held h = cc
+  pass-carries (Close y l epoch serial floor mark rows passed, others) pulled held h =
       let a = bind_some (Events.below plan y) _ m' h in
       let b = bind_some (Moments.lane_at m a.0) _ m' a.2 in
       let c = cond_is_some (not passed && Choices.is_empty rows) _ m' b.2 in
@@ -299,22 +312,22 @@ module _ (plan : Shape) (m m' : Moment) (fed : Stream → List Record) (lawful :
       work : (k : ℕ) → SameSums (flat_map (working k) m.held) (flat_map (working k) done)
       work k f = SameSums-flat_map (working k) m.held (Close y l epoch serial floor mark rows passed ∷ others) pulled f ∙ sym (sum_by-held_push f (working k) others (Close y l epoch serial floor mark rows true) ∙ omega arith)
 
-      go : (d : Down) (lane : CoreLane) (s : Step) → slice_get plan.steps y ≡ Some s → s.down ≡ d → Moments.lane_at m d ≡ Some lane → passed ≡ false → Moments.with_lane d (Lanes.with_seal mark lane) (Moments.with_held done m) ≡ Some m' → IsExact plan m' fed
+      go : (d : Down) (lane : CoreLane) (s : Step) → slice_get plan.steps y ≡ Some s → s.down ≡ d → Moments.lane_at m d ≡ Some lane → passed ≡ false → Moments.with_lane d (Lanes.with_seal mark lane) (Moments.with_held done m) ≡ Some m' → Carries plan m m' Nothing
       go d lane s is down at unpassed h =
           let p = lane_at-parts m d lane at in
           let made = with_lane-is (Moments.with_held done m) d p.0 (Lanes.with_seal mark lane) m' p.1 h in
           let low : Lanes.next_floor lane ≡ floor = sym (ap floor_of at) ∙ ap (floor_at m) (sym down) ∙ held.under unpassed s is in
           let up : Lanes.next_floor lane ≤ mark = omega (arith, held.rises) in
           let floors : (e : Down) → floor_at m e ≤ floor_at m' e = λ e. subst (λ x. floor_at m e ≤ floor_at x e) made (floor-rises m d.node d.lane p.0 (Moments.set_lane d.lane (Lanes.with_seal mark lane) p.0) lane (Lanes.with_seal mark lane) p.1 p.2 refl (subst (λ n. Lanes.next_floor lane ≤ n) (sym (sealed_floor mark lane)) up) e) in
-          exact-same plan m m' fed (lawful-timely plan m lawful)
+          carries-same plan m m'
           (λ k es fs within in_time same. subst (λ z. SameSums (gives plan m k es) (gives plan z k fs)) made
           (calm-gives plan m d p.0 lane p.1 p.2 (Lanes.with_seal mark lane) done (seal_calm (bound_at plan d.node) mark lane (lawful.lanes d lane at)) (waiting-with_seal mark lane) und work k es fs same))
-          (admits_less plan m m' floors) exact
+          (admits_less plan m m' floors)
 
   -- ---- a closing ends
-  pub end-exact : (q : Held × List Held) → SameSums m.held (q.0 ∷ q.1) → IsHeld plan m q.0 → Events.after_end m q.0 q.1 ≡ Some m' → IsExact plan m' fed
-  end-exact (Work k l epoch floor number records delivered, others) pulled held h = cc
-  end-exact (Close y l epoch serial floor mark rows passed, others) pulled held h =
+  pub end-carries : (q : Held × List Held) → SameSums m.held (q.0 ∷ q.1) → IsHeld plan m q.0 → Events.after_end m q.0 q.1 ≡ Some m' → Carries plan m m' Nothing
+  end-carries (Work k l epoch floor number records delivered, others) pulled held h = cc
+  end-carries (Close y l epoch serial floor mark rows passed, others) pulled held h =
       let a = bind_some (Moments.lane_at m (record { node = y; lane = l })) _ m' h in
       let c = cond_is_some passed _ m' a.2 in
       go a.0 a.1 (subst (λ (x : CoreLane). Marks.first_is_closing x.conts ≡ true) (same_Some held.lane a.0 (sym held.there ∙ a.1)) held.closing) (held.no_rows c.0) c.1
@@ -349,30 +362,30 @@ module _ (plan : Shape) (m m' : Moment) (fed : Stream → List Record) (lawful :
           next [] all = refl
           next (x ∷ cs) all = all.0
 
-      go : (lane : CoreLane) → Moments.lane_at m place_of ≡ Some lane → Marks.first_is_closing lane.conts ≡ true → rows ≡ [] → Moments.with_lane place_of (record lane { conts = drop 1 lane.conts; ended = lane.ended + 1 }) (Moments.with_held others m) ≡ Some m' → IsExact plan m' fed
+      go : (lane : CoreLane) → Moments.lane_at m place_of ≡ Some lane → Marks.first_is_closing lane.conts ≡ true → rows ≡ [] → Moments.with_lane place_of (record lane { conts = drop 1 lane.conts; ended = lane.ended + 1 }) (Moments.with_held others m) ≡ Some m' → Carries plan m m' Nothing
       go lane at closing none h =
           let p = lane_at-parts m place_of lane at in
           let ok : IsLane (bound_at plan y) lane = lawful.lanes place_of lane at in
           let made = with_lane-is (Moments.with_held others m) place_of p.0 (shorter lane) m' p.1 h in
-          exact-same plan m m' fed (lawful-timely plan m lawful)
+          carries-same plan m m'
           (λ k es fs within in_time same. subst (λ z. SameSums (gives plan m k es) (gives plan z k fs)) made
           (calm-gives plan m place_of p.0 lane p.1 p.2 (shorter lane) others (calm_end lane closing ok.others) (waits lane.conts closing ok.ready) (und none) work k es fs same))
-          (admits plan m m' (λ e. ap (λ x. floor_at x e) (sym made) ∙ floor-set m y l p.0 (Moments.set_lane l (shorter lane) p.0) lane (shorter lane) p.1 p.2 refl refl e)) exact
+          (admits plan m m' (λ e. ap (λ x. floor_at x e) (sym made) ∙ floor-set m y l p.0 (Moments.set_lane l (shorter lane) p.0) lane (shorter lane) p.1 p.2 refl refl e))
 
   -- ---- a ParDo's Work is delivered, into an epoch that is not sealed below
-  pub work-exact : (q : Held × List Held) → SameSums m.held (q.0 ∷ q.1) → IsHeld plan m q.0 → Events.deliver_work plan m q.0 q.1 ≡ Some m'
-      → ((y l epoch floor number : ℕ) (records : List Record) (s : Step) → q.0 ≡ Work y l epoch floor number records false → slice_get plan.steps y ≡ Some s → is_pardo (operator_at (slice_get plan.steps y)) ≡ true → epoch_at m s.down ≤ epoch) → IsExact plan m' fed
-  work-exact (Close k l epoch serial floor mark rows passed, others) pulled held h sealed = cc
-  work-exact (Work y l epoch floor number records delivered, others) pulled held h sealed =
+  pub work-carries : (q : Held × List Held) → SameSums m.held (q.0 ∷ q.1) → IsHeld plan m q.0 → Events.deliver_work plan m q.0 q.1 ≡ Some m'
+      → ((y l epoch floor number : ℕ) (records : List Record) (s : Step) → q.0 ≡ Work y l epoch floor number records false → slice_get plan.steps y ≡ Some s → is_pardo (operator_at (slice_get plan.steps y)) ≡ true → epoch_at m s.down ≤ epoch) → CarriesFrom plan m m' q.0
+  work-carries (Close k l epoch serial floor mark rows passed, others) pulled held h sealed = cc
+  work-carries (Work y l epoch floor number records delivered, others) pulled held h sealed =
       let a = bind_some (Events.below plan y) _ m' h in
       let b = below-is plan y a.0 a.1 in
       let o = operator_at (slice_get plan.steps y) in
       let c = cond_is_some (not delivered && not (Choices.is_empty (Closings.delivery o records))) _ m' a.2 in
       let t = and_parts (not delivered) (not (Choices.is_empty (Closings.delivery o records))) c.0 in
-      by_operator o refl a.0 b.0 b.1 b.2 (not-true delivered t.0) t.1 c.1
+      (a.0, a.1, by_operator o refl a.0 b.0 b.1 b.2 (not-true delivered t.0) t.1 c.1)
     where
       by_operator : (o : Operator) → operator_at (slice_get plan.steps y) ≡ o → (d : Down) (s : Step) → slice_get plan.steps y ≡ Some s → s.down ≡ d → delivered ≡ false → not (Choices.is_empty (Closings.delivery o records)) ≡ true
-          → Events.arrived_at d epoch floor (Closings.delivery (operator_at (slice_get plan.steps y)) records) (Moments.with_held (others ++ Work y l epoch floor number records true ∷ []) m) ≡ Some m' → IsExact plan m' fed
+          → Events.arrived_at d epoch floor (Closings.delivery (operator_at (slice_get plan.steps y)) records) (Moments.with_held (others ++ Work y l epoch floor number records true ∷ []) m) ≡ Some m' → Carries plan m m' (Given y d (Closings.delivery (operator_at (slice_get plan.steps y)) records))
       by_operator (Windowed g) e d s is down f some h = cc
       by_operator Sink e d s is down f some h = cc
       by_operator (ParDo op) e d s is down f some h =
@@ -385,7 +398,8 @@ module _ (plan : Shape) (m m' : Moment) (fed : Stream → List Record) (lawful :
           let further : y < d.node = subst (λ (d : Down). y < d.node) down (lawful.below y s is).further in
           let calm : begun_mark (Lanes.with_arrival epoch floor images p.1) ≡ begun_mark p.1 = arrival_calm (bound_at plan d.node) epoch floor images p.1 (lawful.lanes d p.1 at) (omega arith) in
           let open_pulled : SameSums m.held (Work y l epoch floor number records false ∷ others) = λ g. pulled g ∙ ap (λ b. sum_by g (Work y l epoch floor number records b ∷ others)) f in
-          exact-delivered plan m m' fed y d images (lawful-timely plan m lawful) (slice_get_within plan.steps y s is) (λ t e. ap (λ (s : Step). s.down) (same_Some t s (sym e ∙ is)) ∙ down)
+          subst (λ o. Carries plan m m' (Given y d (Closings.delivery o records))) (sym e) (
+          carries-given plan m m' y d images (slice_get_within plan.steps y s is) further (λ t e. ap (λ (s : Step). s.down) (same_Some t s (sym e ∙ is)) ∙ down)
           (λ k es fs same. subst (λ z. SameSums (gives plan m k es) (extra y images k ++ gives plan z k fs)) p.4
           (delivery-gives plan m op y l epoch floor number records others d p.0 p.1 p.2 p.3 open_pulled further e calm k es fs same))
-          (admits plan m m' (λ e. ap (λ x. floor_at x e) (sym p.4) ∙ floor-set m d.node d.lane p.0 (Moments.set_lane d.lane (Lanes.with_arrival epoch floor images p.1) p.0) p.1 (Lanes.with_arrival epoch floor images p.1) p.2 p.3 refl refl e)) exact
+          (admits plan m m' (λ e. ap (λ x. floor_at x e) (sym p.4) ∙ floor-set m d.node d.lane p.0 (Moments.set_lane d.lane (Lanes.with_arrival epoch floor images p.1) p.0) p.1 (Lanes.with_arrival epoch floor images p.1) p.2 p.3 refl refl e)))

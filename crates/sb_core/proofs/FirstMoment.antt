@@ -177,7 +177,7 @@ module _ (plan : Shape) (is_plan : IsPlan plan) (bundle : ℕ) where
   same_by Sink k node waits kept none es fs h f =
       (λ i. sum_by f (all_records (kept i ++ ((waits i ++ []) ++ es)))) ∙ SameSums-map (λ e. e.rec) es fs h f
 
-  same_first : (k : ℕ) (es fs : List KeptRec) → SameSums es fs → SameSums (gives plan (first plan bundle) k es) (output (operator_at (slice_get plan.steps k)) fs)
+  pub same_first : (k : ℕ) (es fs : List KeptRec) → SameSums es fs → SameSums (gives plan (first plan bundle) k es) (output (operator_at (slice_get plan.steps k)) fs)
   same_first k es fs h =
       same_by (operator_at (slice_get plan.steps k)) k (node_at (first plan bundle) k) (by_node (λ x. waiting_from 0 x.lanes ≡ []) (λ o. none_waits 0 (lanes_of o)) refl k) (kept_none k) (closed_none k) es fs h
 

@@ -63,7 +63,7 @@ module _ (plan : Shape) (is_plan : IsPlan plan) (m : Moment) (sound : IsSound pl
           go (x ∷ ms) e are = absurd are
 
   -- nothing is closing
-  none_unpassed : (k : ℕ) → list_any (is_unpassed k) m.held ≡ false
+  pub none_unpassed : (k : ℕ) → list_any (is_unpassed k) m.held ≡ false
   none_unpassed k = go m.held (lawful_of sound).holds
     where
       go : (hs : List Held) → AllByRecursion (IsHeld plan m) hs → list_any (is_unpassed k) hs ≡ false
@@ -93,7 +93,7 @@ module _ (plan : Shape) (is_plan : IsPlan plan) (m : Moment) (sound : IsSound pl
   within (y ∷ xs) (suc l) x h = let k : l < length xs = within xs l x h in omega arith
 
   -- each node has closed up to the last mark
-  all_closed : (bound k : ℕ) → k ≤ bound → k ≤ length plan.steps → closed (node_at m k).lanes ≡ END_MARK
+  pub all_closed : (bound k : ℕ) → k ≤ bound → k ≤ length plan.steps → closed (node_at m k).lanes ≡ END_MARK
   all_closed bound k low b = by_bound bound k low b
     where
       step : (k : ℕ) → k ≤ length plan.steps → ((j : ℕ) → j < k → closed (node_at m j).lanes ≡ END_MARK) → closed (node_at m k).lanes ≡ END_MARK

@@ -1,5 +1,5 @@
 -- The rows of a closing are within the bound of the lane below.
-use Rattle.std.proofs.Common.{◌^◌, ◌≡◌, ℕ, ◌+◌, ◌≤◌, Bool, not, List, refl, arith}
+use Rattle.std.proofs.Common.{◌≡◌, ℕ, ◌+◌, ◌≤◌, Bool, not, List, refl, arith}
 use Rattle.std.specs.Prelude.{nat_lt}
 use Rattle.std.specs.List.{filter, AllByRecursion}
 use Rattle.sb_record.specs.declared.item.Record.{Record}
@@ -25,7 +25,7 @@ pub All-kept : {X : Type 0} (P : X → Type 0) (p : X → Bool) (xs : List X) �
 All-kept P p xs all = All-passed P P p (λ x h _. h) xs all
 
 -- a row's window ends at most a size after the greatest time
-grouped-within : (g : WindowOperator) (bound : ℕ) (es : List KeptRec) → AllByRecursion (λ e. e.rec.time ≤ bound) es → AllByRecursion (λ r. r.time + 1 ≤ bound + (windows_in g).size) (grouped g es)
+pub grouped-within : (g : WindowOperator) (bound : ℕ) (es : List KeptRec) → AllByRecursion (λ e. e.rec.time ≤ bound) es → AllByRecursion (λ r. r.time + 1 ≤ bound + (windows_in g).size) (grouped g es)
 grouped-within (Aggregated agg windows) bound es all = aggregate_rows-times agg windows bound (all_records es) (All-all_records (λ r. r.time ≤ bound) es all)
 grouped-within (Joined combine windows) bound es all = join_rows-times combine windows bound (of_lane 0 es) (of_lane 1 es) (All-of_lane (λ r. r.time ≤ bound) 0 es all)
 

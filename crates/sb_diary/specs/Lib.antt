@@ -1,0 +1,4 @@
+pub mod Lines
+pub mod Legal
+pub mod Worked
+pub mod Laws
