@@ -33,4 +33,4 @@ pub kept_with_idle : (all : List ℕ) (shelf : List (Option ℕ)) (views : List 
     → IsKept all shelf views → IsKept all shelf (views ++ hand [] ∷ [])
 kept_with_idle all shelf views k =
     subst (λ (q : List ℕ). IsPermutation all (q ++ flat (on_place one) shelf))
-        (sym (flat_more in_hand views (hand []) refl)) k
+    (sym (flat_more in_hand views (hand []) refl)) k
