@@ -3,3 +3,6 @@ pub mod Firsts
 pub mod Distinct
 pub mod Orderless
 pub mod Times
+pub mod SessionEnds
+pub mod SessionLaws
+pub mod SessionRows

@@ -1,11 +1,13 @@
--- The laws of aggregations, and their limit as a number.
-use Rattle.std.specs.Prelude.{◌≡◌, List}
+-- The laws of aggregations and of sessions, and the limit of aggregations as a number.
+use Rattle.std.specs.Prelude.{◌≡◌, ◌≤◌, ◌<◌, ◌+◌, ℕ, List, ◌++◌, All, Contains, filter}
 use Rattle.sb_record.specs.declared.item.Record.{Record}
+use Rattle.sb_record.specs.Records.{before, at_least}
 use Rattle.sb_window.specs.Spacing.{Spacing}
 use Rattle.sb_window.specs.Reorderings.{IsReordered, IgnoresOrder}
 use Rattle.sb_aggregate.specs.declared.aggregate.TheConstants.{MAX_TOP}
 use Rattle.sb_aggregate.specs.declared.aggregate.Agg.{Agg}
 use Rattle.sb_aggregate.specs.Aggregates.{aggregate_values, aggregate_rows}
+use Rattle.sb_aggregate.specs.Sessions.{session_end, session_rows, is_session_open}
 
 -- the most of the greatest values that an aggregation gives
 pub record Limits : Type 0 where
@@ -18,3 +20,35 @@ AggregatesDoNotDependOnOrder = (agg : Agg) → IgnoresOrder (aggregate_values ag
 -- records in another order give the same rows, as a list
 abbrev pub AggregateRowsDoNotDependOnOrder : Type 0
 AggregateRowsDoNotDependOnOrder = (agg : Agg) (windows : Spacing) (l m : List Record) → IsReordered l m → aggregate_rows agg windows l ≡ aggregate_rows agg windows m
+
+-- records in another order give the same rows of sessions, as a list
+abbrev pub SessionRowsDoNotDependOnOrder : Type 0
+SessionRowsDoNotDependOnOrder =
+    (agg : Agg) (gap : ℕ) (l m : List Record) → IsReordered l m → session_rows agg gap l ≡ session_rows agg gap m
+
+-- where what is later comes from the mark on, the sessions that end by the mark are final
+abbrev pub ClosedSessionsAreFinal : Type 0
+ClosedSessionsAreFinal =
+    (agg : Agg) (gap mark : ℕ) (l later : List Record) → 1 ≤ gap → All (λ r. mark ≤ r.time) later
+    → before mark (session_rows agg gap (l ++ later)) ≡ before mark (session_rows agg gap l)
+
+-- and what is left are those of the records whose sessions are open, and of what is later
+abbrev pub OpenSessionsGiveTheRest : Type 0
+OpenSessionsGiveTheRest =
+    (agg : Agg) (gap mark : ℕ) (l later : List Record) → 1 ≤ gap → All (λ r. mark ≤ r.time) later
+    → at_least mark (session_rows agg gap (l ++ later))
+    ≡ at_least mark (session_rows agg gap (filter (is_session_open gap mark l) l ++ later))
+
+-- a session is cut between two neighbours in time just where the later one is the gap or more after the earlier one
+abbrev pub SessionsAreCutAtGaps : Type 0
+SessionsAreCutAtGaps =
+    (gap : ℕ) (l : List Record) (r next : Record) → Contains l next → r.key ≡ next.key → r.time ≤ next.time
+    → All (λ x. x.key ≡ r.key → r.time < x.time → next.time ≤ x.time) l
+    → (next.time < r.time + gap → session_end gap l r ≡ session_end gap l next)
+    × (r.time + gap ≤ next.time → session_end gap l r ≡ r.time + gap)
+
+-- and the session of the last record of a key ends the gap after it
+abbrev pub LastRecordsEndSessions : Type 0
+LastRecordsEndSessions =
+    (gap : ℕ) (l : List Record) (r : Record) → All (λ x. x.key ≡ r.key → x.time ≤ r.time) l
+    → session_end gap l r ≡ r.time + gap

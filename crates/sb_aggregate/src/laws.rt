@@ -17,3 +17,28 @@ pub fn aggregates_do_not_depend_on_order()
 pub fn aggregate_rows_do_not_depend_on_order()
     ensures { law.AggregateRowsDoNotDependOnOrder }
 {}
+
+/// Records in another order give the same rows of sessions.
+pub fn session_rows_do_not_depend_on_order()
+    ensures { law.SessionRowsDoNotDependOnOrder }
+{}
+
+/// The sessions that end by a watermark are final.
+pub fn closed_sessions_are_final()
+    ensures { law.ClosedSessionsAreFinal }
+{}
+
+/// What is left then is given by the records whose sessions are open, and by what is later.
+pub fn open_sessions_give_the_rest()
+    ensures { law.OpenSessionsGiveTheRest }
+{}
+
+/// A session is cut between two neighbours in time just where the later one is the gap or more after the earlier one.
+pub fn sessions_are_cut_at_gaps()
+    ensures { law.SessionsAreCutAtGaps }
+{}
+
+/// The session of the last record of a key ends the gap after it.
+pub fn last_records_end_sessions()
+    ensures { law.LastRecordsEndSessions }
+{}

@@ -3,6 +3,10 @@
 //! An [`Agg`] says what is made of the values that a window of one key gathers: their number, their sum, the least, and so
 //! on. [`aggregated`] works it out for one keyed window, and [`laws`] states that it is the same in whatever order the values
 //! came.
+//!
+//! A session is a window without a size: the records of one key are cut where the next time is a gap or more later. Its
+//! end is its last time plus the gap. [`laws`] states where sessions are cut, that their rows do not depend on order, and
+//! which of them are final at a watermark.
 #![tactic(auto)]
 
 mod aggregate;

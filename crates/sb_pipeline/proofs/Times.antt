@@ -13,12 +13,13 @@ use Rattle.sb_record.proofs.Elements.{every, All-join, All-flat_map}
 use Rattle.sb_window.specs.declared.windows.TheConstants.{MAX_SIZE}
 use Rattle.sb_pardo.specs.Outputs.{outputs_of}
 use Rattle.sb_pardo.proofs.Keeping.{outputs_keep_time}
+use Rattle.sb_aggregate.proofs.SessionRows.{session_rows-times}
 use Rattle.sb_aggregate.proofs.Times.{aggregate_rows-times}
 use Rattle.sb_join.proofs.Times.{join_rows-times}
 use Rattle.sb_pipeline.specs.declared.transform.Down.{Down}
 use Rattle.sb_pipeline.specs.declared.transform.KeptRec.{KeptRec}
 use Rattle.sb_pipeline.specs.declared.transform.Kind.{Kind}
-use Rattle.sb_pipeline.specs.declared.transform.Kind.TheVariants.{Do, Group, Join}
+use Rattle.sb_pipeline.specs.declared.transform.Kind.TheVariants.{Do, Group, Join, Session}
 use Rattle.sb_pipeline.specs.declared.transform.Step.{Step}
 use Rattle.sb_pipeline.specs.Elements.{on_lane, all_records, of_lane}
 use Rattle.sb_pipeline.specs.Operators.{operator_of, operator_at, output}
@@ -52,6 +53,9 @@ output-times (Do op) valid bound elements low =
 output-times (Group agg windows) valid bound elements low =
     every (λ r h. omega (arith, h, valid.1.most_size)) (output (operator_of (Group agg windows)) elements)
     (aggregate_rows-times agg windows bound (all_records elements) (All-all_records (λ r. r.time ≤ bound) elements low))
+output-times (Session agg gap) valid bound elements low =
+    every (λ r h. omega (arith, h, valid.1.1)) (output (operator_of (Session agg gap)) elements)
+    (session_rows-times agg gap bound (all_records elements) valid.1.0 (All-all_records (λ r. r.time ≤ bound) elements low))
 output-times (Join combine windows) valid bound elements low =
     every (λ r h. omega (arith, h, valid.0.most_size)) (output (operator_of (Join combine windows)) elements)
     (join_rows-times combine windows bound (of_lane 0 elements) (of_lane 1 elements) (All-of_lane (λ r. r.time ≤ bound) 0 elements low))

@@ -1,5 +1,5 @@
--- The laws of plans, and their limit as a number.
-use Rattle.std.specs.Prelude.{◌≡◌, ◌≤◌, ℕ, List, ◌++◌, All}
+-- The laws of plans, and their limits as numbers.
+use Rattle.std.specs.Prelude.{◌≡◌, ◌≤◌, ◌^◌, ℕ, List, ◌++◌, All}
 use Rattle.sb_record.specs.declared.item.Record.{Record}
 use Rattle.sb_record.specs.declared.item.Stream.{Stream}
 use Rattle.sb_record.specs.declared.item.Stream.TheVariants.{A}
@@ -8,14 +8,15 @@ use Rattle.sb_record.specs.Records.{before, sorted}
 use Rattle.sb_window.specs.declared.windows.TheConstants.{MAX_SIZE}
 use Rattle.sb_window.specs.Spacing.{fixed}
 use Rattle.sb_window.specs.Aggregations.{sum_rows}
-use Rattle.sb_pipeline.specs.declared.transform.TheConstants.{MAX_TRANSFORMS}
+use Rattle.sb_pipeline.specs.declared.transform.TheConstants.{MAX_TRANSFORMS, MAX_GAP}
 use Rattle.sb_pipeline.specs.Plans.{IsPlan}
 use Rattle.sb_pipeline.specs.Results.{all_rows, output_of, rows_below}
 use Rattle.sb_pipeline.specs.Shapes.{Shape, sum_shape}
 
--- the most transforms of a plan
+-- the most transforms of a plan, and the greatest gap of sessions
 pub record Limits : Type 0 where
   pub transforms : MAX_TRANSFORMS ≡ 12
+  pub gap : MAX_GAP ≡ 10 ^ 12
 
 -- the plan of one sum is a plan
 abbrev pub SumPlanIsPlan : Type 0

@@ -6,17 +6,19 @@ use Rattle.sb_pardo.specs.declared.operation.Op.{Op}
 use Rattle.sb_pardo.specs.Outputs.{outputs_of}
 use Rattle.sb_aggregate.specs.declared.aggregate.Agg.{Agg}
 use Rattle.sb_aggregate.specs.Aggregates.{aggregate_rows}
+use Rattle.sb_aggregate.specs.Sessions.{session_rows}
 use Rattle.sb_join.specs.declared.join.Combine.{Combine}
 use Rattle.sb_join.specs.Joins.{join_rows}
 use Rattle.sb_pipeline.specs.declared.transform.KeptRec.{KeptRec}
 use Rattle.sb_pipeline.specs.declared.transform.Kind.{Kind}
-use Rattle.sb_pipeline.specs.declared.transform.Kind.TheVariants.{Do, Group, Join}
+use Rattle.sb_pipeline.specs.declared.transform.Kind.TheVariants.{Do, Group, Session, Join}
 use Rattle.sb_pipeline.specs.declared.transform.Step.{Step}
 use Rattle.sb_pipeline.specs.Elements.{all_records, of_lane}
 
--- the transforms that gather records by window
+-- the transforms that gather records by window or session
 pub data WindowOperator : Type 0 where
   Aggregated : (agg : Agg) (windows : Spacing) → WindowOperator
+  Sessions : (agg : Agg) (gap : ℕ) → WindowOperator
   Joined : (combine : Combine) (windows : Spacing) → WindowOperator
 
 -- what a node does: the sink takes what the last transform gives
@@ -29,6 +31,7 @@ pub data Operator : Type 0 where
 abbrev pub operator_of : Kind → Operator
 operator_of (Do op) = ParDo op
 operator_of (Group agg windows) = Windowed (Aggregated agg windows)
+operator_of (Session agg gap) = Windowed (Sessions agg gap)
 operator_of (Join combine windows) = Windowed (Joined combine windows)
 
 -- that of a transform, or of the sink where there is none
@@ -40,17 +43,20 @@ operator_at (Some step) = operator_of step.kind
 abbrev pub lanes_of : Operator → ℕ
 lanes_of (ParDo op) = 1
 lanes_of (Windowed (Aggregated agg windows)) = 1
+lanes_of (Windowed (Sessions agg gap)) = 1
 lanes_of (Windowed (Joined combine windows)) = 2
 lanes_of Sink = 1
 
--- the windows that it gathers by
-abbrev pub windows_in : WindowOperator → Spacing
-windows_in (Aggregated agg windows) = windows
-windows_in (Joined combine windows) = windows
+-- how much later than its records the end of a window or a session can be
+abbrev pub reach : WindowOperator → ℕ
+reach (Aggregated agg windows) = windows.size
+reach (Sessions agg gap) = gap
+reach (Joined combine windows) = windows.size
 
 -- what a window operator gives over all of its input
 abbrev pub grouped : WindowOperator → List KeptRec → List Record
 grouped (Aggregated agg windows) elements = aggregate_rows agg windows (all_records elements)
+grouped (Sessions agg gap) elements = session_rows agg gap (all_records elements)
 grouped (Joined combine windows) elements = join_rows combine windows (of_lane 0 elements) (of_lane 1 elements)
 
 -- what a node gives over all of its input; the sink gives it as it is

@@ -3,30 +3,40 @@ use Rattle.std.specs.Prelude.{◌≡◌, ◌≤◌, ◌<◌, ℕ, Bool, true, fa
 use Rattle.sb_window.specs.Spacing.{AreWindows}
 use Rattle.sb_pardo.specs.Validity as pardo
 use Rattle.sb_aggregate.specs.Aggregates as aggregate
+use Rattle.sb_aggregate.specs.declared.aggregate.Agg.{Agg}
+use Rattle.sb_aggregate.specs.declared.aggregate.Agg.TheVariants.{Top}
 use Rattle.sb_pipeline.specs.declared.transform.Down.{Down}
 use Rattle.sb_pipeline.specs.declared.transform.Kind.{Kind}
-use Rattle.sb_pipeline.specs.declared.transform.Kind.TheVariants.{Do, Group, Join}
+use Rattle.sb_pipeline.specs.declared.transform.Kind.TheVariants.{Do, Group, Session, Join}
 use Rattle.sb_pipeline.specs.declared.transform.Step.{Step}
-use Rattle.sb_pipeline.specs.declared.transform.TheConstants.{MAX_TRANSFORMS}
+use Rattle.sb_pipeline.specs.declared.transform.TheConstants.{MAX_TRANSFORMS, MAX_GAP}
 use Rattle.sb_pipeline.specs.Operators.{lanes_of, operator_at}
 use Rattle.sb_pipeline.specs.Shapes.{Shape, feeds}
+
+-- an aggregate that gives one value of each window or session
+abbrev pub GivesOne : Agg → Type 0
+GivesOne (Top most) = ⊥
+GivesOne _ = Unit {0}
 
 -- what the transform does can be asked for; a join has fixed windows
 abbrev pub IsValidKind : Kind → Type 0
 IsValidKind (Do op) = pardo.IsValid op
 IsValidKind (Group agg windows) = aggregate.IsValid agg × AreWindows windows
+IsValidKind (Session agg gap) = GivesOne agg × ((1 ≤ gap) × (gap ≤ MAX_GAP))
 IsValidKind (Join combine windows) = AreWindows windows × (windows.size ≡ windows.every)
 
 -- whether the transform is a join
 abbrev pub is_join : Kind → Bool
 is_join (Do op) = false
 is_join (Group agg windows) = false
+is_join (Session agg gap) = false
 is_join (Join combine windows) = true
 
--- whether it gathers records by window
+-- whether it gathers records by window or session
 abbrev pub has_windows : Kind → Bool
 has_windows (Do op) = false
 has_windows (Group agg windows) = true
+has_windows (Session agg gap) = true
 has_windows (Join combine windows) = true
 
 -- the place is a lane of one of the nodes

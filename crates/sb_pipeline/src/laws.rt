@@ -1,9 +1,9 @@
-//! The limit of plans as a number, and the laws that every way of running a plan rests on. Each function has its law for a
+//! The limits of plans as numbers, and the laws that every way of running a plan rests on. Each function has its law for a
 //! contract, and does nothing.
 
 ghost use Rattle.sb_pipeline.specs.Laws as law;
 
-/// A plan has at most 12 transforms.
+/// A plan has at most 12 transforms, and the gap of sessions is at most 10^12.
 pub fn limits()
     ensures { law.Limits }
 {}

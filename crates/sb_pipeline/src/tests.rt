@@ -39,6 +39,13 @@ fn group(agg: Agg, node: u32, lane: u32) -> Step {
     }
 }
 
+fn session(agg: Agg, gap: u64) -> Step {
+    Step {
+        kind: Kind::Session(agg, gap),
+        down: place(1, 0),
+    }
+}
+
 fn join(node: u32) -> Step {
     Step {
         kind: Kind::Join(Combine::Add, Windows::new(10, 10).unwrap()),
@@ -156,6 +163,28 @@ fn plans_of_one_stream(rt: HostRuntime) -> Result<(), AllocError> {
     for (name, steps, source_a, source_b, want) in cases {
         let plan = Plan::new(steps, source_a, source_b);
         assert_eq!(rt; plan.is_some(), want, "{name}");
+    }
+    Ok(())
+}
+
+#[test]
+fn plans_of_sessions(rt: HostRuntime) -> Result<(), AllocError> {
+    let alloc = rt.alloc();
+    let cases = [
+        (Agg::Sum, 1, true),
+        (Agg::Distinct, 1_000_000_000_000, true),
+        (Agg::Sum, 0, false),
+        (Agg::Sum, 1_000_000_000_001, false),
+        (Agg::Top(1), 1, false),
+    ];
+    for (agg, gap, taken) in cases {
+        let steps = vec![in alloc; session(agg, gap)]?;
+        let plan = Plan::new(steps, source(0, 0), None);
+        assert_eq!(rt;
+            plan.is_some(),
+            taken,
+            "{agg:?} of sessions with the gap {gap}"
+        );
     }
     Ok(())
 }

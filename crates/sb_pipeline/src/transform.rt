@@ -9,6 +9,9 @@ use sb_pardo::Op;
 use sb_record::Record;
 use sb_window::Windows;
 
+/// The greatest gap of sessions, in the unit of the times of records.
+pub const MAX_GAP: u64 = 1_000_000_000_000;
+
 /// How many transforms a plan may have.
 pub const MAX_TRANSFORMS: usize = 12;
 
@@ -26,6 +29,9 @@ pub enum Kind {
     Do(Op),
     /// Aggregates the values of each window and key.
     Group(Agg, Windows),
+    /// Aggregates the values of each session of a key: where the next time of the key is this gap or more later, the
+    /// session is cut.
+    Session(Agg, u64),
     /// Combines the records of lanes 0 and 1 that lie in the same window of the same key.
     Join(Combine, Windows),
 }
@@ -38,11 +44,14 @@ impl Kind {
         matches!(self, Kind::Join(_, _))
     }
 
-    /// Whether it gathers records by window: it is an aggregation or a join.
+    /// Whether it gathers records by window: it is an aggregation, of windows or of sessions, or a join.
     pub fn has_windows(&self) -> bool
         ensures { result ≡ has_windows self.now }
     {
-        matches!(self, Kind::Group(_, _) | Kind::Join(_, _))
+        matches!(
+            self,
+            Kind::Group(_, _) | Kind::Session(_, _) | Kind::Join(_, _)
+        )
     }
 }
 

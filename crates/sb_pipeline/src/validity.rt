@@ -7,7 +7,8 @@ ghost use Rattle.sb_pipeline.specs.Operators.{lanes_of, operator_at, operator_of
 ghost use Rattle.sb_pipeline.specs.Plans.{IsPlace, IsPlan, IsValidKind, is_join, has_windows};
 ghost use Rattle.sb_pipeline.specs.Shapes as shape;
 
-use crate::transform::{Down, Kind, MAX_TRANSFORMS, Step};
+use crate::transform::{Down, Kind, MAX_GAP, MAX_TRANSFORMS, Step};
+use sb_aggregate::Agg;
 
 /// Whether the transforms, with the streams going to their sources, are a plan.
 pub(crate) fn is_plan(steps: &[Step], source_a: Option<Down>, source_b: Option<Down>) -> bool
@@ -50,6 +51,7 @@ fn is_valid(kind: &Kind) -> bool
             let _size = windows.size();
             agg.is_valid()
         }
+        Kind::Session(agg, gap) => !matches!(agg, Agg::Top(_)) && (1..=MAX_GAP).contains(gap),
         Kind::Join(_, windows) => windows.size() == windows.every(),
     }
 }
@@ -61,7 +63,7 @@ fn joins(steps: &[Step]) -> usize
     steps.iter().filter(|step| step.kind.is_join()).count()
 }
 
-/// How many of the transforms are aggregations or joins.
+/// How many of the transforms gather records by window: they are aggregations, of windows or of sessions, or joins.
 fn groupings(steps: &[Step]) -> usize
     ensures { result ≡ count_by (λ s. has_windows s.kind) steps.now }
 {
@@ -117,7 +119,7 @@ fn lanes_of(kind: &Kind) -> u32
     ensures { result ≡ lanes_of (operator_of kind.now) }
 {
     match kind {
-        Kind::Do(_) | Kind::Group(_, _) => 1,
+        Kind::Do(_) | Kind::Group(_, _) | Kind::Session(_, _) => 1,
         Kind::Join(_, _) => 2,
     }
 }

@@ -70,6 +70,7 @@ module _ (files : Files) (name : List ℕ) where
   transform-fewer kind.Max table k h = inl h
   transform-fewer kind.Distinct table k h = inl h
   transform-fewer kind.Top table k h = inl h
+  transform-fewer kind.Session table k h = inl h
   transform-fewer kind.Join table k h = inl h
 
   entry-fewer : (parts : List Part) (table : Members) (entry : Entry) → entry_at files parts table ≡ Ok entry → SameOrNoFile (entry_at (without name files) parts table) (Ok entry)

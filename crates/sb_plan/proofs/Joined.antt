@@ -9,7 +9,7 @@ use Rattle.std.proofs.lemmas.Bool.Decides.{nat_tests}
 use Rattle.std.proofs.lemmas.List.Sums.{sum_by-append, sum_by-cons}
 use Rattle.sb_pipeline.specs.declared.transform.Down.{Down}
 use Rattle.sb_pipeline.specs.declared.transform.Kind.{Kind}
-use Rattle.sb_pipeline.specs.declared.transform.Kind.TheVariants.{Do, Group, Join}
+use Rattle.sb_pipeline.specs.declared.transform.Kind.TheVariants.{Do, Group, Session, Join}
 use Rattle.sb_pipeline.specs.Operators.{lanes_of, operator_of}
 use Rattle.sb_pipeline.specs.Plans.{IsValidKind, is_join}
 use Rattle.sb_plan.specs.declared.entry.Entry.{Entry}
@@ -178,11 +178,13 @@ all_sent entry n w v two h =
     one_lane : (kind : Kind) → is_join kind ≡ false → lanes_of (operator_of kind) ≡ 1
     one_lane (Do op) e = refl
     one_lane (Group agg windows) e = refl
+    one_lane (Session agg gap) e = refl
     one_lane (Join combine windows) e = cc
 
     two_lanes : (kind : Kind) → is_join kind ≡ true → lanes_of (operator_of kind) ≡ 2
     two_lanes (Do op) e = cc
     two_lanes (Group agg windows) e = cc
+    two_lanes (Session agg gap) e = cc
     two_lanes (Join combine windows) e = refl
 
     by_right : (x : Wiring) → Sent n 1 w x → (right : Option (List ℕ)) → entry.right ≡ right → right_sent right (record { node = n; lane = 1 }) x ≡ Ok v → Sent n (lanes_of (operator_of entry.kind)) w v

@@ -1,12 +1,12 @@
 -- What a table says of its transform may be in a plan.
 use Rattle.std.proofs.Common.{◌≡◌, ◌≤◌, ◌+◌, ℕ, ℤ, pos, negsuc, Bool, true, false, cond, List, [], ◌∷◌, length, Option, Some, None, IfOk, Result, Ok, Err, refl, sym, ap, subst, arith, rules}
-use Rattle.std.specs.Prelude.{is_some, ◌&&◌, ◌||◌, ◌==◌, ◌%◌, ◌/◌, not, nat_lt, nat_le}
+use Rattle.std.specs.Prelude.{codes, bytes_eq, is_some, ◌&&◌, ◌||◌, ◌==◌, ◌%◌, ◌/◌, not, nat_lt, nat_le}
 use Rattle.std.specs.FinMap.{FinMap, empty, get, insert}
 use Rattle.std.specs.Ordering.{nat_cmp}
 use Rattle.std.proofs.lemmas.Bool.{and_parts, leb-true}
 use Rattle.std.proofs.lemmas.Option.{cond_some}
 use Rattle.std.proofs.NetLemmas.Options.{map_some}
-use Rattle.toml.specs.Data.{Members, get_member, as_integer}
+use Rattle.toml.specs.Data.{Members, get_member, as_integer, as_str}
 use Rattle.sb_record.specs.declared.item.TheConstants.{MAX_KEY}
 use Rattle.sb_record.proofs.Numbers.{whole_number_exact}
 use Rattle.sb_outside.specs.Folders.{Files}
@@ -33,7 +33,9 @@ use Rattle.sb_aggregate.specs.Aggregates as aggregate
 use Rattle.sb_aggregate.specs.declared.aggregate.Agg.{Agg}
 use Rattle.sb_aggregate.specs.declared.aggregate.Agg.TheVariants.{Count, Sum, Min, Max, Distinct, Top}
 use Rattle.sb_pipeline.specs.declared.transform.Kind.{Kind}
-use Rattle.sb_pipeline.specs.declared.transform.Kind.TheVariants.{Do, Group, Join}
+use Rattle.sb_pipeline.specs.declared.transform.TheConstants.{MAX_GAP}
+use Rattle.sb_pipeline.specs.Plans.{GivesOne}
+use Rattle.sb_pipeline.specs.declared.transform.Kind.TheVariants.{Do, Group, Session, Join}
 use Rattle.sb_plan.specs.declared.fault.PlanCause.TheVariants.{OutOfRange, TableRow, TableTooLong}
 use Rattle.sb_plan.specs.declared.fault.PlanKey.{PlanKey}
 use Rattle.sb_plan.specs.declared.fault.PlanKey.TheVariants as key
@@ -43,8 +45,8 @@ use Rattle.sb_plan.specs.declared.words.ChangeName.{ChangeName}
 use Rattle.sb_plan.specs.declared.words.ChangeName.TheVariants as change_name
 use Rattle.sb_plan.specs.Failures.{Failure, by_text, in_file, in_place_of}
 use Rattle.sb_plan.specs.Keys.{key_text, typed_at, word_at, number_at, number_between}
-use Rattle.sb_plan.specs.Words.{change_by, change_named, combine_named, field_named, test_named}
-use Rattle.sb_plan.specs.Kinds.{file_name, as_integers, filter_at, map_at, expand_at, windows_every, windows_at, group_at, top_at, join_at, lookup_in, lookup_at, transform_at}
+use Rattle.sb_plan.specs.Words.{change_by, change_named, combine_named, give_named, field_named, test_named}
+use Rattle.sb_plan.specs.Kinds.{file_name, as_integers, filter_at, map_at, expand_at, windows_every, windows_at, group_at, top_at, session_at, join_at, lookup_in, lookup_at, transform_at}
 use Rattle.sb_plan.specs.declared.stop.Stop.{Stop}
 use Rattle.sb_plan.specs.Answers.{AnswersTests}
 use Rattle.sb_plan.specs.Soundness.{IsOfKind, names_join}
@@ -158,6 +160,30 @@ top-valid table t h =
     let same : Group (Top keep.0) windows.0 ≡ t = cc in
     subst (IsOfKind kind.Top) same ((numbers 1 MAX_TOP key.Keep table keep.0 keep.1, windows-valid table windows.0 windows.1), refl)
 
+-- what a session may give is one value
+gives-one : (text : List ℕ) (agg : Agg) → give_named text ≡ Some agg → GivesOne agg
+unfolding give_named
+gives-one text agg h =
+    by_case (bytes_eq text (codes "count")) Count _ (λ h. by_case (bytes_eq text (codes "sum")) Sum _ (λ h. by_case (bytes_eq text (codes "min")) Min _ (λ h. by_case (bytes_eq text (codes "max")) Max _ (λ h. by_case (bytes_eq text (codes "distinct")) Distinct None (λ h. cc) tt h) tt h) tt h) tt h) tt h
+  where
+    by_case : (b : Bool) (one : Agg) (more : Option Agg) → (more ≡ Some agg → GivesOne agg) → GivesOne one → cond b (Some one) more ≡ Some agg → GivesOne agg
+    by_case true one more rest valid h = let same : one ≡ agg = cc in subst GivesOne same valid
+    by_case false one more rest valid h = rest h
+
+word-gives_one : (table : Members) (agg : Agg) → word_at give_named key.Give table ≡ Ok agg → GivesOne agg
+unfolding word_at
+word-gives_one table agg h =
+    let text = passed (typed_at as_str key.Give table) _ agg h in
+    gives-one text.0 agg (found _ (give_named text.0) agg text.2)
+
+pub session-valid : (table : Members) (t : Kind) → session_at table ≡ Ok t → IsOfKind kind.Session t
+unfolding session_at
+session-valid table t h =
+    let gap = passed (number_at 1 MAX_GAP key.Gap table) _ t h in
+    let agg = passed (word_at give_named key.Give table) _ t gap.2 in
+    let same : Session agg.0 gap.0 ≡ t = cc in
+    subst (IsOfKind kind.Session) same ((word-gives_one table agg.0 agg.1, numbers 1 MAX_GAP key.Gap table gap.0 gap.1), refl)
+
 pub join-valid : (table : Members) (t : Kind) → join_at table ≡ Ok t → IsOfKind kind.Join t
 unfolding join_at
 join-valid table t h =
@@ -219,6 +245,7 @@ transform-valid files kind.Min table t h = group-valid Min kind.Min table t tt r
 transform-valid files kind.Max table t h = group-valid Max kind.Max table t tt refl (of_text (group_at Max table) t h)
 transform-valid files kind.Distinct table t h = group-valid Distinct kind.Distinct table t tt refl (of_text (group_at Distinct table) t h)
 transform-valid files kind.Top table t h = top-valid table t (of_text (top_at table) t h)
+transform-valid files kind.Session table t h = session-valid table t (of_text (session_at table) t h)
 transform-valid files kind.Join table t h = join-valid table t (of_text (join_at table) t h)
 
 -- the same of answers that may want memory

@@ -56,6 +56,7 @@ right-valid kind.Min table right h = let same : None ≡ right = cc in ap is_som
 right-valid kind.Max table right h = let same : None ≡ right = cc in ap is_some (sym same)
 right-valid kind.Distinct table right h = let same : None ≡ right = cc in ap is_some (sym same)
 right-valid kind.Top table right h = let same : None ≡ right = cc in ap is_some (sym same)
+right-valid kind.Session table right h = let same : None ≡ right = cc in ap is_some (sym same)
 
 entry-valid : (files : Files) (parts : List Part) (table : Members) (entry : Entry) → entry_at files parts table ≡ Ok entry → IsValidEntry entry
 unfolding entry_at

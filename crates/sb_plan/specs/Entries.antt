@@ -65,6 +65,7 @@ own_keys kind.Min = key.Size ∷ key.Every ∷ []
 own_keys kind.Max = key.Size ∷ key.Every ∷ []
 own_keys kind.Distinct = key.Size ∷ key.Every ∷ []
 own_keys kind.Top = key.Size ∷ key.Every ∷ key.Keep ∷ []
+own_keys kind.Session = key.Gap ∷ key.Give ∷ []
 own_keys kind.Join = key.Size ∷ key.Give ∷ key.With ∷ []
 
 -- whether a table of this kind may have the key

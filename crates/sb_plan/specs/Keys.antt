@@ -23,6 +23,7 @@ key_text key.Table = codes "table"
 key_text key.Size = codes "size"
 key_text key.Every = codes "every"
 key_text key.Keep = codes "keep"
+key_text key.Gap = codes "gap"
 key_text key.Give = codes "give"
 
 -- the value at a key: it is there, and it has this type

@@ -12,7 +12,8 @@ use Rattle.sb_aggregate.specs.declared.aggregate.Agg.{Agg}
 use Rattle.sb_aggregate.specs.declared.aggregate.Agg.TheVariants.{Count, Sum, Min, Max, Distinct, Top}
 use Rattle.sb_aggregate.specs.declared.aggregate.TheConstants.{MAX_TOP}
 use Rattle.sb_pipeline.specs.declared.transform.Kind.{Kind}
-use Rattle.sb_pipeline.specs.declared.transform.Kind.TheVariants.{Do, Group, Join}
+use Rattle.sb_pipeline.specs.declared.transform.TheConstants.{MAX_GAP}
+use Rattle.sb_pipeline.specs.declared.transform.Kind.TheVariants.{Do, Group, Session, Join}
 use Rattle.sb_plan.specs.declared.fault.PlanKey.TheVariants as key
 use Rattle.sb_plan.specs.declared.fault.PlanCause.{PlanCause}
 use Rattle.sb_plan.specs.declared.fault.PlanCause.TheVariants.{OutOfRange, TableRow, TableTooLong}
@@ -21,7 +22,7 @@ use Rattle.sb_plan.specs.declared.words.KindName.TheVariants as kind
 use Rattle.sb_plan.specs.declared.TheConstants.{MAX_TABLE_BYTES}
 use Rattle.sb_plan.specs.Failures.{Failure, by_text, in_file, in_place_of}
 use Rattle.sb_plan.specs.Keys.{key_text, typed_at, word_at, number_at}
-use Rattle.sb_plan.specs.Words.{field_named, test_named, change_named, change_by, combine_named}
+use Rattle.sb_plan.specs.Words.{field_named, test_named, change_named, change_by, give_named, combine_named}
 
 -- a filter: `field`, `test`, `number`
 unfoldable pub filter_at : Members → Result Kind PlanCause
@@ -80,6 +81,13 @@ top_at table =
     then_test (number_at 1 MAX_TOP key.Keep table) (λ keep.
     Ok (Group (Top keep) windows)))
 
+-- sessions: `gap` and `give`
+unfoldable pub session_at : Members → Result Kind PlanCause
+session_at table =
+    then_test (number_at 1 MAX_GAP key.Gap table) (λ gap.
+    then_test (word_at give_named key.Give table) (λ agg.
+    Ok (Session agg gap)))
+
 -- a join: `size` of its fixed windows, and `give`
 unfoldable pub join_at : Members → Result Kind PlanCause
 join_at table =
@@ -116,4 +124,5 @@ transform_at files kind.Min table = by_text (group_at Min table)
 transform_at files kind.Max table = by_text (group_at Max table)
 transform_at files kind.Distinct table = by_text (group_at Distinct table)
 transform_at files kind.Top table = by_text (top_at table)
+transform_at files kind.Session table = by_text (session_at table)
 transform_at files kind.Join table = by_text (join_at table)

@@ -8,6 +8,8 @@ use Rattle.sb_pardo.specs.declared.operation.Test.{Test}
 use Rattle.sb_pardo.specs.declared.operation.Test.TheVariants as test
 use Rattle.sb_pardo.specs.declared.operation.Change.{Change}
 use Rattle.sb_pardo.specs.declared.operation.Change.TheVariants as change
+use Rattle.sb_aggregate.specs.declared.aggregate.Agg.{Agg}
+use Rattle.sb_aggregate.specs.declared.aggregate.Agg.TheVariants.{Count, Sum, Min, Max, Distinct}
 use Rattle.sb_join.specs.declared.join.Combine.{Combine}
 use Rattle.sb_join.specs.declared.join.Combine.TheVariants as combine
 use Rattle.sb_plan.specs.declared.words.KindName.{KindName}
@@ -29,6 +31,7 @@ kind_named text =
     else if bytes_eq text (codes "max") then Some kind.Max
     else if bytes_eq text (codes "distinct") then Some kind.Distinct
     else if bytes_eq text (codes "top") then Some kind.Top
+    else if bytes_eq text (codes "session") then Some kind.Session
     else if bytes_eq text (codes "join") then Some kind.Join
     else None
 
@@ -69,6 +72,16 @@ change_by change_name.KeySet number = option_map (λ n. change.KeySet n) (number
 change_by change_name.ValueAdd number = Some (change.ValueAdd number)
 change_by change_name.ValueMul number = Some (change.ValueMul number)
 change_by change_name.ValueSet number = Some (change.ValueSet number)
+
+-- what is made of the values of a session
+unfoldable pub give_named : List ℕ → Option Agg
+give_named text =
+    if bytes_eq text (codes "count") then Some Count
+    else if bytes_eq text (codes "sum") then Some Sum
+    else if bytes_eq text (codes "min") then Some Min
+    else if bytes_eq text (codes "max") then Some Max
+    else if bytes_eq text (codes "distinct") then Some Distinct
+    else None
 
 -- how the values of a pair are combined
 unfoldable pub combine_named : List ℕ → Option Combine

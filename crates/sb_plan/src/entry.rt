@@ -135,6 +135,7 @@ fn own_keys(kind: KindName) -> &'static [PlanKey]
             PlanKey::Every,
         ],
         KindName::Top => &[PlanKey::Size, PlanKey::Every, PlanKey::Keep],
+        KindName::Session => &[PlanKey::Gap, PlanKey::Give],
         KindName::Join => &[PlanKey::Size, PlanKey::Give, PlanKey::With],
     }
 }

@@ -22,6 +22,7 @@ pub enum PlanKey {
     Size,
     Every,
     Keep,
+    Gap,
     Give,
 }
 
@@ -46,6 +47,7 @@ impl PlanKey {
             PlanKey::Size => "size",
             PlanKey::Every => "every",
             PlanKey::Keep => "keep",
+            PlanKey::Gap => "gap",
             PlanKey::Give => "give",
         }
     }
@@ -84,7 +86,7 @@ pub enum PlanCause {
     TwoJoins,
     /// No later transform uses what this one gives, and it is not the last.
     Unused,
-    /// No transform is an aggregation or a join.
+    /// No transform is an aggregation, of windows or of sessions, or a join.
     NoWindow,
 }
 

@@ -15,13 +15,14 @@ use crate::keys::{integer_at, number_at, text_at, value_at};
 use crate::stop::Stop;
 use crate::table::lookup_at;
 use crate::words::{
-    ChangeName, KindName, change_by, change_named, combine_named, field_named, test_named,
+    ChangeName, KindName, change_by, change_named, combine_named, field_named, give_named,
+    test_named,
 };
 use sb_aggregate::{Agg, MAX_TOP};
 use sb_join::Combine;
 use sb_outside::Folder;
 use sb_pardo::{Field, Op, Test};
-use sb_pipeline::Kind;
+use sb_pipeline::{Kind, MAX_GAP};
 use sb_window::{MAX_SIZE, Windows};
 use std::alloc::Global;
 use toml::Table;
@@ -118,6 +119,22 @@ fn top_at(table: &Table) -> Result<Kind, PlanCause>
     Ok(Kind::Group(Agg::Top(keep as u32), windows))
 }
 
+#[tactic(auto, unfolding(crate::specs::Keys::word_at))]
+fn give_at(table: &Table) -> Result<Agg, PlanCause>
+    ensures { result ≡ word_at word.give_named PlanKey.Give (table_view table.now) }
+{
+    give_named(text_at(table, PlanKey::Give)?).ok_or(PlanCause::OutOfRange(PlanKey::Give))
+}
+
+#[tactic(auto, unfolding(crate::specs::Kinds::session_at))]
+fn session_at(table: &Table) -> Result<Kind, PlanCause>
+    ensures { result ≡ kinds.session_at (table_view table.now) }
+{
+    let gap = number_at(table, PlanKey::Gap, 1, MAX_GAP)?;
+    let agg = give_at(table)?;
+    Ok(Kind::Session(agg, gap))
+}
+
 #[tactic(auto, unfolding(crate::specs::Kinds::join_at))]
 fn join_at(table: &Table) -> Result<Kind, PlanCause>
     ensures { result ≡ kinds.join_at (table_view table.now) }
@@ -154,6 +171,7 @@ pub(crate) fn transform_at<F: Folder>(
         KindName::Max => Ok(group_at(table, Agg::Max)?),
         KindName::Distinct => Ok(group_at(table, Agg::Distinct)?),
         KindName::Top => Ok(top_at(table)?),
+        KindName::Session => Ok(session_at(table)?),
         KindName::Join => Ok(join_at(table)?),
     }
 }

@@ -15,6 +15,8 @@ mod kinds;
 pub mod laws;
 mod name;
 mod plan_text;
+#[cfg(test)]
+mod session_tests;
 mod stop;
 mod table;
 #[cfg(test)]

@@ -73,7 +73,7 @@ const FIRST_TESTS: [(&str, PlanCause); 33] = [
         PlanCause::WrongType(PlanKey::Kind),
     ),
     ("{name = \"s\", kind = \"Sum\"}", PlanCause::UnknownKind),
-    ("{name = \"s\", kind = \"session\"}", PlanCause::UnknownKind),
+    ("{name = \"s\", kind = \"window\"}", PlanCause::UnknownKind),
     ("{name = \"s\", kind = \"\"}", PlanCause::UnknownKind),
     (
         "{name = \"s\", kind = \"sum\", late = \"drop\"}",
@@ -487,7 +487,7 @@ const TOGETHER: [(&str, &str, u32, PlanCause); 22] = [
 ];
 
 /// A folder of tables: one that is well, two with a faulty row, and one that is too long.
-fn tables(alloc: Global, failing: Vec<u64>) -> Result<MemFolder, AllocError> {
+pub(crate) fn tables(alloc: Global, failing: Vec<u64>) -> Result<MemFolder, AllocError> {
     let mut files = BTreeMap::new(alloc);
     let ads = Vec::from_slice(alloc, b"101,7\n102,7\n103,9\n")?;
     files.insert("ads.csv".to_string(alloc)?, ads)?;
@@ -503,14 +503,14 @@ fn tables(alloc: Global, failing: Vec<u64>) -> Result<MemFolder, AllocError> {
 }
 
 /// Why the text is no plan.
-fn stop_of(alloc: Global, text: &[u8], folder: &mut MemFolder) -> Option<PlanStop> {
+pub(crate) fn stop_of(alloc: Global, text: &[u8], folder: &mut MemFolder) -> Option<PlanStop> {
     match plan_of(alloc, text, folder) {
         Ok(_) => None,
         Err(stop) => Some(stop),
     }
 }
 
-fn fault(at: u32, what: PlanCause) -> Option<PlanStop> {
+pub(crate) fn fault(at: u32, what: PlanCause) -> Option<PlanStop> {
     Some(PlanStop::Fault(PlanFault { at, what }))
 }
 
@@ -653,7 +653,7 @@ fn loads_that_fail(rt: HostRuntime) -> Result<(), AllocError> {
 }
 
 /// The plan of these elements, if they are one.
-fn plan_in(alloc: Global, elements: &str) -> Result<Option<Plan>, AllocError> {
+pub(crate) fn plan_in(alloc: Global, elements: &str) -> Result<Option<Plan>, AllocError> {
     let mut folder = tables(alloc, Vec::new(alloc))?;
     let text = format!(in alloc; "transform = [{elements}]")?;
     Ok(plan_of(alloc, text.as_bytes(), &mut folder).ok())

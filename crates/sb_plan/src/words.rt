@@ -4,6 +4,7 @@ ghost use Rattle.std.specs.Prelude.{◌≡◌};
 ghost use Rattle.sb_plan.specs.Words as word;
 
 use crate::keys::number_between;
+use sb_aggregate::Agg;
 use sb_join::Combine;
 use sb_pardo::{Change, Field, Test};
 use sb_record::MAX_KEY;
@@ -21,6 +22,7 @@ pub(crate) enum KindName {
     Max,
     Distinct,
     Top,
+    Session,
     Join,
 }
 
@@ -50,6 +52,7 @@ pub(crate) fn kind_named(text: &str) -> Option<KindName>
         "max" => Some(KindName::Max),
         "distinct" => Some(KindName::Distinct),
         "top" => Some(KindName::Top),
+        "session" => Some(KindName::Session),
         "join" => Some(KindName::Join),
         _ => None,
     }
@@ -107,6 +110,20 @@ pub(crate) fn change_by(name: ChangeName, number: i64) -> Option<Change>
         ChangeName::ValueAdd => Some(Change::ValueAdd(number)),
         ChangeName::ValueMul => Some(Change::ValueMul(number)),
         ChangeName::ValueSet => Some(Change::ValueSet(number)),
+    }
+}
+
+#[tactic(auto, unfolding(crate::specs::Words::give_named))]
+pub(crate) fn give_named(text: &str) -> Option<Agg>
+    ensures { result ≡ word.give_named text.now }
+{
+    match text {
+        "count" => Some(Agg::Count),
+        "sum" => Some(Agg::Sum),
+        "min" => Some(Agg::Min),
+        "max" => Some(Agg::Max),
+        "distinct" => Some(Agg::Distinct),
+        _ => None,
     }
 }
 

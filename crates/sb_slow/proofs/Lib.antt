@@ -2,3 +2,5 @@ pub mod Pushed
 pub mod Times
 pub mod Steps
 pub mod Pairs
+pub mod Walking
+pub mod BySession

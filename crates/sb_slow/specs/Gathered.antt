@@ -1,16 +1,24 @@
 -- The values of each keyed window.
-use Rattle.std.specs.Prelude.{ℤ, ◌-◌, List, [], ◌++◌, map, Option, unwrap_or}
-use Rattle.std.specs.List.{flat_map}
+use Rattle.std.specs.Prelude.{ℕ, ℤ, ◌-◌, if◌then◌else◌, List, [], ◌++◌, map, filter, Option, Some, None, unwrap_or}
+use Rattle.std.specs.List.{flat_map, list_any}
 use Rattle.sb_record.specs.declared.item.Record.{Record}
 use Rattle.sb_window.specs.declared.keyed_window.KeyedWindow.{KeyedWindow}
 use Rattle.sb_window.specs.Spacing.{Spacing}
 use Rattle.sb_window.specs.Gatherings.{gathered, joined}
+use Rattle.sb_aggregate.specs.Sessions.{is_in_session}
 use Rattle.sb_join.specs.declared.join.Combine.{Combine}
 use Rattle.sb_join.specs.Joins.{pair_values}
 
 -- the values of the records that lie in a keyed window, where there are any
 abbrev pub values_at : Spacing → List Record → KeyedWindow → Option (List ℤ)
 values_at windows l q = gathered (λ vs. vs) windows l q
+
+-- the values of those of the records that are in a session of the list, where there are any
+abbrev pub session_values_at : ℕ → List Record → List Record → KeyedWindow → Option (List ℤ)
+session_values_at gap l records q =
+    if list_any (is_in_session gap l q) records
+    then Some (map (λ r. r.value) (filter (is_in_session gap l q) records))
+    else None
 
 -- values followed by others, where there are any
 abbrev pub followed : Option (List ℤ) → Option (List ℤ) → Option (List ℤ)

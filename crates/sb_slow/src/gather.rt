@@ -1,13 +1,15 @@
 //! The records of a stream, and the values of each window of a key.
 
-ghost use Rattle.std.specs.Prelude.{◌≡◌, ◌<◌, ◌++◌, [], ◌∷◌, ℕ, All, Some, if◌then◌else◌, OnOk, IfOk};
+ghost use Rattle.std.specs.Prelude.{◌≡◌, ◌≤◌, ◌<◌, ◌++◌, [], ◌∷◌, ℕ, All, Some, if◌then◌else◌, OnOk, IfOk};
 ghost use Rattle.std.specs.BTreeMap.{get, is_at};
 ghost use Rattle.sb_record.specs.Streams as streams_spec;
 ghost use Rattle.sb_window.specs.declared.keyed_window.KeyedWindow.{KeyedWindow as Window};
 ghost use Rattle.sb_window.specs.Windows.{keyed_window_cmp};
 ghost use Rattle.sb_slow.specs.Gathered as spec;
 
-use sb_record::{END_MARK, Item, Record, Sequence, Stream};
+use crate::sessions::session_ends;
+use sb_pipeline::MAX_GAP;
+use sb_record::{END_MARK, Item, NoMemory, Record, Sequence, Stream};
 use sb_window::{KeyedWindow, Windows};
 use std::alloc::{AllocError, Global};
 use std::collections::BTreeMap;
@@ -43,6 +45,26 @@ pub(crate) fn values_by_window(
     let mut values = BTreeMap::new(alloc);
     for record in records {
         add_record(alloc, &mut values, windows, record)?;
+    }
+    Ok(values)
+}
+
+/// The values of each session, in the order of the records.
+pub(crate) fn values_by_session(
+    alloc: Global,
+    gap: u64,
+    records: &[Record],
+) -> Result<BTreeMap<KeyedWindow, Sequence<i64>>, NoMemory>
+    requires gap { gap ≤ MAX_GAP }
+    requires times { All (λ r. r.time < END_MARK) records.now }
+    ensures { IfOk result (λ values. (q : Window)
+        → get keyed_window_cmp values q ≡ spec.session_values_at gap records.now records.now q) }
+{
+    let ends = session_ends(alloc, gap, records)?;
+    let mut values = BTreeMap::new(alloc);
+    for (place, record) in records.iter().enumerate() {
+        let (end, key) = (ends[place], record.key);
+        add_value(alloc, &mut values, KeyedWindow { end, key }, record).map_err(|_| NoMemory)?;
     }
     Ok(values)
 }

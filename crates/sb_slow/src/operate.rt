@@ -1,23 +1,24 @@
 //! What one transform gives for all the records that arrive at it.
 
-ghost use Rattle.std.specs.Prelude.{◌≡◌, ◌<◌, ◌-◌, ◌++◌, [], All, map, unwrap_or, OnOk, IfOk, flat_map};
+ghost use Rattle.std.specs.Prelude.{◌≡◌, ◌≤◌, ◌<◌, ◌-◌, ◌++◌, [], All, map, unwrap_or, OnOk, IfOk, flat_map};
 ghost use Rattle.std.specs.BTreeMap.{IsOrdered, get};
 ghost use Rattle.sb_window.specs.Gatherings.{rows_of_entries};
 ghost use Rattle.sb_window.specs.Windows.{keyed_window_cmp};
 ghost use Rattle.sb_pardo.specs.Validity.{IsValid};
 ghost use Rattle.sb_pardo.specs.Outputs.{outputs_of};
 ghost use Rattle.sb_aggregate.specs.Aggregates.{aggregate_rows, aggregate_values};
+ghost use Rattle.sb_aggregate.specs.Sessions as session_spec;
 ghost use Rattle.sb_join.specs.Joins.{join_rows};
 ghost use Rattle.sb_pipeline.specs.Elements as elements_spec;
 ghost use Rattle.sb_pipeline.specs.Operators as operators;
 ghost use Rattle.sb_pipeline.specs.Plans.{IsValidKind};
 ghost use Rattle.sb_slow.specs.Gathered.{rows_of_pairs};
 
-use crate::gather::values_by_window;
+use crate::gather::{values_by_session, values_by_window};
 use sb_aggregate::{Agg, aggregated};
 use sb_join::{Combine, pair_values};
 use sb_pardo::{Op, apply};
-use sb_pipeline::{KeptRec, Kind};
+use sb_pipeline::{KeptRec, Kind, MAX_GAP};
 use sb_record::{END_MARK, NoMemory, Record, Sequence};
 use sb_window::{KeyedWindow, Windows};
 use std::alloc::Global;
@@ -37,6 +38,10 @@ pub fn output(alloc: Global, kind: &Kind, elements: &[KeptRec]) -> Result<Vec<Re
         Kind::Group(agg, windows) => {
             let records = all_records(alloc, elements)?;
             aggregates(alloc, *agg, windows, &records)
+        }
+        Kind::Session(agg, gap) => {
+            let records = all_records(alloc, elements)?;
+            session_rows(alloc, *agg, *gap, &records)
         }
         Kind::Join(combine, windows) => {
             let left = of_lane(alloc, 0, elements)?;
@@ -94,7 +99,22 @@ fn aggregates(
     aggregates_of(alloc, agg, values)
 }
 
-/// The rows of each keyed window with its values.
+/// The rows of the sessions of records.
+pub fn session_rows(
+    alloc: Global,
+    agg: Agg,
+    gap: u64,
+    records: &[Record],
+) -> Result<Vec<Record>, NoMemory>
+    requires gap { gap ≤ MAX_GAP }
+    requires times { All (λ r. r.time < END_MARK) records.now }
+    ensures { IfOk result (λ rows. rows.items ≡ session_spec.session_rows agg gap records.now) }
+{
+    let values = values_by_session(alloc, gap, records)?;
+    aggregates_of(alloc, agg, values)
+}
+
+/// The rows of each keyed window, or session, with its values.
 fn aggregates_of(
     alloc: Global,
     agg: Agg,

@@ -90,6 +90,32 @@ fn each_output(alloc: Global, op: Op) -> Result<Option<Plan>, Fail> {
 }
 
 #[test]
+fn aggregates_by_session(rt: HostRuntime) -> Result<(), Fail> {
+    let alloc = rt.alloc();
+    let cases = [
+        (
+            Agg::Sum,
+            5,
+            "r,a,1,1,10 r,a,5,1,1 r,a,10,1,2",
+            "10,1,11 15,1,2",
+        ),
+        (Agg::Sum, 5, "r,a,1,1,1 r,a,9,1,1 w,a,1 r,a,5,1,1", "14,1,3"),
+        (Agg::Sum, 5, "r,a,1,1,1 w,a,6 r,a,6,1,1", "6,1,1 11,1,1"),
+        (Agg::Sum, 1, "r,a,1,1,1 r,a,1,1,2 r,a,2,1,4", "2,1,3 3,1,4"),
+        (Agg::Max, 5, "r,a,1,2,1 r,a,3,1,7 r,a,4,2,5", "8,1,7 9,2,5"),
+    ];
+    for (agg, gap, lines, want) in cases {
+        let plan = alone(alloc, Kind::Session(agg, gap))?;
+        assert_eq!(rt;
+            rows_of(alloc, plan, lines)?.as_str(),
+            want,
+            "{agg:?} {gap} {lines}"
+        );
+    }
+    Ok(())
+}
+
+#[test]
 fn aggregates_by_window_and_key(rt: HostRuntime) -> Result<(), Fail> {
     let alloc = rt.alloc();
     let cases = [

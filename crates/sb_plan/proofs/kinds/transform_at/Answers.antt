@@ -3,7 +3,7 @@ use Rattle.toml.specs.View.{table_view}
 use Rattle.sb_plan.specs.Soundness.{IsOfKind}
 use Rattle.sb_plan.specs.declared.words.KindName.TheVariants as kind
 use Rattle.sb_aggregate.specs.declared.aggregate.Agg.TheVariants.{Count, Sum, Min, Max, Distinct}
-use Rattle.sb_plan.proofs.OfKinds.{filter-valid, map-valid, group-valid, top-valid, join-valid, expanded-valid}
+use Rattle.sb_plan.proofs.OfKinds.{filter-valid, map-valid, group-valid, top-valid, session-valid, join-valid, expanded-valid}
 use Rattle.sb_plan.proofs.kinds.transform_at.Goals as goal
 
 pub returns-in-Expand-clause-valid : goal.returns-in-Expand-clause-valid
@@ -35,3 +35,6 @@ returns-in_ok-top_at-in-Top-clause-valid g c = subst (λ name. IsOfKind name c.i
 
 pub returns-in_ok-join_at-in-Join-clause-valid : goal.returns-in_ok-join_at-in-Join-clause-valid
 returns-in_ok-join_at-in-Join-clause-valid g c = subst (λ name. IsOfKind name c.in_ok-join_at-in-Join.field-0) (sym c.in-Join.is) (join-valid (table_view c.args.table.now) c.in_ok-join_at-in-Join.field-0 (sym c.in_ok-join_at-in-Join.ensures))
+
+pub returns-in_ok-session_at-in-Session-clause-valid : goal.returns-in_ok-session_at-in-Session-clause-valid
+returns-in_ok-session_at-in-Session-clause-valid g c = subst (λ name. IsOfKind name c.in_ok-session_at-in-Session.field-0) (sym c.in-Session.is) (session-valid (table_view c.args.table.now) c.in_ok-session_at-in-Session.field-0 (sym c.in_ok-session_at-in-Session.ensures))

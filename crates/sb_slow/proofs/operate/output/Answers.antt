@@ -12,6 +12,11 @@ aggregates-requires c =
     All-same (λ (r : Record). r.time < END_MARK) _ _ (c.deref-in-Group.ensures.value ∙ c.in_ok-records-in-Group.ensures)
     (All-from_recursion (λ r. r.time < END_MARK) (all_records c.args.elements.now) (All-all_records (λ r. r.time < END_MARK) c.args.elements.now (recursion_from_All (λ (e : KeptRec). e.rec.time < END_MARK) c.args.elements.now c.requires.times)))
 
+pub session_rows-requires-clause-times : goal.session_rows-requires-clause-times
+session_rows-requires-clause-times c =
+    All-same (λ (r : Record). r.time < END_MARK) _ _ (c.deref-in-Session.ensures.value ∙ c.in_ok-records-in-Session.ensures)
+    (All-from_recursion (λ r. r.time < END_MARK) (all_records c.args.elements.now) (All-all_records (λ r. r.time < END_MARK) c.args.elements.now (recursion_from_All (λ (e : KeptRec). e.rec.time < END_MARK) c.args.elements.now c.requires.times)))
+
 pub pairs-requires-clause-left : goal.pairs-requires-clause-left
 pairs-requires-clause-left c =
     All-same (λ (r : Record). r.time < END_MARK) _ _ (c.deref-in-Join.ensures.value ∙ c.in_ok-left-in-Join.ensures)
