@@ -38,6 +38,7 @@ use Rattle.sb_core.proofs.LaneLaws.{All-pulled}
 use Rattle.sb_core.proofs.Nodes.{node_at-same, node_at-set_same}
 use Rattle.sb_core.proofs.InTime.{work_epoch}
 use Rattle.sb_core.proofs.LawfulTimely.{lane_of}
+use Rattle.sb_pipeline.specs.Plans.{IsPlan}
 use Rattle.sb_core.proofs.EventLaws.{CarriesFrom, take-carries, arrive-carries, finish-carries, begin-carries, seal-carries, rows-carries, pass-carries, end-carries, work-carries, closed_rises}
 use Rattle.sb_core.proofs.Exactly.{Carries, carried-exact}
 use Rattle.sb_core.proofs.Exactly.Moved.{Nothing, Fed}
@@ -91,11 +92,11 @@ EventCarries plan m later (Begin node lane) = Carries plan m later Nothing
 EventCarries plan m later (Pass node) = Carries plan m later Nothing
 EventCarries plan m later (End node) = Carries plan m later Nothing
 
-pub events-carry : (plan : Shape) (m later : Moment) (event : Event) → Events.after plan m event ≡ Some later → IsLawful plan m → IsLawful plan later → EventCarries plan m later event
-events-carry plan m later (Arrive stream records) h lawful after = arrive-carries plan m later stream records h lawful
-events-carry plan m later (Seal stream mark) h lawful after = seal-carries plan m later stream mark h lawful
-events-carry plan m later (Take node lane number) h lawful after = take-carries plan m later (record { node = node; lane = lane }) number h
-events-carry plan m later (Deliver node lane number) h lawful after = by_case (eqb number 0) h
+pub events-carry : (plan : Shape) → IsPlan plan → (m later : Moment) (event : Event) → Events.after plan m event ≡ Some later → IsLawful plan m → IsLawful plan later → EventCarries plan m later event
+events-carry plan is_plan m later (Arrive stream records) h lawful after = arrive-carries plan m later stream records h lawful
+events-carry plan is_plan m later (Seal stream mark) h lawful after = seal-carries plan m later stream mark h lawful
+events-carry plan is_plan m later (Take node lane number) h lawful after = take-carries plan m later (record { node = node; lane = lane }) number h
+events-carry plan is_plan m later (Deliver node lane number) h lawful after = by_case (eqb number 0) h
   where
     rows : (Choices.pulled (Moments.is_close_of node lane) m.held >>= λ q. Events.deliver_rows plan m q.0 q.1) ≡ Some later → (q : Held × List Held) × (Choices.pulled (Moments.is_close_of node lane) m.held ≡ Some q) × CarriesFrom plan m later q.0
     rows h =
@@ -116,8 +117,8 @@ events-carry plan m later (Deliver node lane number) h lawful after = by_case (e
         → (q : Held × List Held) × (Choices.pulled (λ h. cond b (Moments.is_close_of node lane h) (Moments.is_work node lane number h)) m.held ≡ Some q) × CarriesFrom plan m later q.0
     by_case true h = rows h
     by_case false h = work h
-events-carry plan m later (Finish node lane number) h lawful after = finish-carries plan m later node lane number h lawful
-events-carry plan m later (Begin node lane) h lawful after = begin-carries plan m later node lane h lawful after (mark_rises h)
+events-carry plan is_plan m later (Finish node lane number) h lawful after = finish-carries plan m later node lane number h lawful
+events-carry plan is_plan m later (Begin node lane) h lawful after = begin-carries plan is_plan m later node lane h lawful after (mark_rises h)
   where
     mark_rises : Events.after_begin plan m node lane ≡ Some later → closed_rises plan m later node
     mark_rises h =
@@ -130,21 +131,21 @@ events-carry plan m later (Begin node lane) h lawful after = begin-carries plan 
         let before = ap (λ (x : Node). Marks.closed x.lanes) (node_at-same m node a.0 a.0 a.1) in
         let then = ap (λ (x : Moment). Marks.closed (node_at x node).lanes) (sym is) ∙ ap (λ (x : Node). Marks.closed x.lanes) (node_at-set_same m node a.0 _ a.1) in
         subst (λ x. x ≤ Marks.closed (node_at later node).lanes) (sym before) (subst (λ x. Marks.closed a.0.lanes ≤ x) (sym then) up)
-events-carry plan m later (Pass node) h lawful after =
+events-carry plan is_plan m later (Pass node) h lawful after =
     let a = bind_some (Choices.pulled (Moments.is_close node) m.held) (λ q. Events.after_pass plan m q.0 q.1) later h in
     pass-carries plan m later lawful a.0 (SameSums-pulled (Moments.is_close node) m.held a.0 a.1) (All-pulled (IsHeld plan m) (Moments.is_close node) m.held a.0 a.1 lawful.holds).0 a.2
-events-carry plan m later (End node) h lawful after =
+events-carry plan is_plan m later (End node) h lawful after =
     let a = bind_some (Choices.pulled (Moments.is_close node) m.held) (λ q. Events.after_end m q.0 q.1) later h in
     end-carries plan m later lawful a.0 (SameSums-pulled (Moments.is_close node) m.held a.0 a.1) (All-pulled (IsHeld plan m) (Moments.is_close node) m.held a.0 a.1 lawful.holds).0 a.2
 
 -- each event between lawful moments keeps an exact moment exact
 abbrev EventsKeepExact : Type 0
 EventsKeepExact =
-    (plan : Shape) (m later : Moment) (fed : Stream → List Record) (event : Event) → Events.after plan m event ≡ Some later
+    (plan : Shape) → IsPlan plan → (m later : Moment) (fed : Stream → List Record) (event : Event) → Events.after plan m event ≡ Some later
     → IsLawful plan m → IsLawful plan later → IsExact plan m fed → IsExact plan later (fed_after event fed)
 
 pub events-keep_exact : EventsKeepExact
-events-keep_exact plan m later fed event h lawful after exact = by_event event (events-carry plan m later event h lawful after)
+events-keep_exact plan is_plan m later fed event h lawful after exact = by_event event (events-carry plan is_plan m later event h lawful after)
   where
     by_event : (event : Event) → EventCarries plan m later event → IsExact plan later (fed_after event fed)
     by_event (Arrive A records) c = carried-exact plan m later (Fed A c.0 records) fed (lawful-timely plan m lawful) c.2 exact

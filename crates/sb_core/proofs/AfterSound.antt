@@ -58,7 +58,7 @@ event-sound plan is_plan m later (End node) h sound =
 
 pub events-keep_sound : EventsKeepSound
 events-keep_sound plan is_plan m later event h sound =
-    let then = event-sound plan is_plan m later event h sound in (then, λ fed exact. events-keep_exact plan m later fed event h (lawful_of sound) (lawful_of then) exact)
+    let then = event-sound plan is_plan m later event h sound in (then, λ fed exact. events-keep_exact plan is_plan m later fed event h (lawful_of sound) (lawful_of then) exact)
 
 -- ---- a list of events
 pub runs-keep : (plan : Shape) → IsPlan plan → (events : List Event) (m later : Moment) (fed : Stream → List Record) → Events.run plan events m ≡ Some later → IsSound plan m → IsExact plan m fed → IsSound plan later × IsExact plan later (fed_by events fed)

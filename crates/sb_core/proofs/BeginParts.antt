@@ -12,7 +12,7 @@ use Rattle.sb_pipeline.specs.declared.transform.KeptRec.{KeptRec}
 use Rattle.sb_pipeline.specs.declared.transform.Step.{Step}
 use Rattle.sb_pipeline.specs.Operators.{Operator, operator_at, lanes_of}
 use Rattle.sb_pipeline.specs.Operators.Operator.{ParDo, Windowed, Sink}
-use Rattle.sb_pipeline.specs.Operators.WindowOperator.{Aggregated, Joined}
+use Rattle.sb_pipeline.specs.Operators.WindowOperator.{Aggregated, Sessions, Joined}
 use Rattle.sb_pipeline.specs.Plans.{IsPlan}
 use Rattle.sb_pipeline.specs.Shapes.{Shape}
 use Rattle.sb_core.specs.declared.begin.Closing.{Closing}
@@ -30,7 +30,7 @@ use Rattle.sb_core.specs.Finding.{IsFirst}
 use Rattle.sb_core.specs.Lanes.{closable, with_first_closing}
 use Rattle.sb_core.specs.Marks.{begun, closed}
 use Rattle.sb_core.specs.Moments.{is_close, no_node, node_at}
-use Rattle.sb_core.specs.Soundness.{IsSound, IsKeptAt}
+use Rattle.sb_core.specs.Soundness.{IsSound, AreKeptAt}
 use Rattle.sb_core.proofs.TimeBounds.{bound-before_end}
 use Rattle.sb_core.proofs.InPlace.{then_some, lane-there}
 use Rattle.sb_core.proofs.InTime.{begun_within}
@@ -56,13 +56,14 @@ closable-found (Some c) epoch h = (c, refl, same_Some epoch c.epoch h)
 lanes_of-most : (o : Operator) → lanes_of o ≤ 2
 lanes_of-most (ParDo op) = omega arith
 lanes_of-most (Windowed (Aggregated agg windows)) = omega arith
+lanes_of-most (Windowed (Sessions agg gap)) = omega arith
 lanes_of-most (Windowed (Joined combine windows)) = omega arith
 lanes_of-most Sink = omega arith
 
-kept-bounded : (o : Operator) (mark bound : ℕ) (e : KeptRec) → IsKeptAt o mark bound e → e.rec.time ≤ bound
-kept-bounded (ParDo op) mark bound e h = absurd h
-kept-bounded (Windowed grouping) mark bound e h = h.1
-kept-bounded Sink mark bound e h = h.1
+kept-bounded : (o : Operator) (mark bound : ℕ) (kept : List KeptRec) → AreKeptAt o mark bound kept → AllByRecursion (λ e. e.rec.time ≤ bound) kept
+kept-bounded (ParDo op) mark bound kept all = every (λ e h. absurd h) kept all
+kept-bounded (Windowed grouping) mark bound kept all = every (λ e h. h.1) kept all
+kept-bounded Sink mark bound kept all = every (λ e h. h.1) kept all
 
 module _ (plan : Shape) (is_plan : IsPlan plan) (m : Moment) (sound : IsSound plan m) (k : ℕ) (node : Node) (at : slice_get m.nodes k ≡ Some node) where
   node-is : node_at m k ≡ node
@@ -74,8 +75,8 @@ module _ (plan : Shape) (is_plan : IsPlan plan) (m : Moment) (sound : IsSound pl
   pub kept-times : All (λ e. e.rec.time < END_MARK) node.kept
   kept-times =
       All-from_recursion (λ (e : KeptRec). e.rec.time < END_MARK) node.kept
-      (every (λ e h. let b : e.rec.time ≤ bound_at plan k = kept-bounded (operator_at (slice_get plan.steps k)) (closed (node_at m k).lanes) (bound_at plan k) e h in omega (arith, b, bound-before_end plan is_plan k)) node.kept
-      (subst (λ (n : Node). AllByRecursion (IsKeptAt (operator_at (slice_get plan.steps k)) (closed (node_at m k).lanes) (bound_at plan k)) n.kept) node-is (sound.kept k)))
+      (every (λ e h. omega (arith, h, bound-before_end plan is_plan k)) node.kept
+      (subst (λ (n : Node). AllByRecursion (λ e. e.rec.time ≤ bound_at plan k) n.kept) node-is (kept-bounded (operator_at (slice_get plan.steps k)) (closed (node_at m k).lanes) (bound_at plan k) (node_at m k).kept (sound.kept k))))
 
   pub lanes-few : length node.lanes ≤ 2
   lanes-few = omega (arith, ap (λ (n : Node). length n.lanes) (sym node-is), sound.lanes_there k node-within, lanes_of-most (operator_at (slice_get plan.steps k)))

@@ -9,7 +9,7 @@ use Rattle.std.proofs.lemmas.List.Filters.{sum_by-filter_both}
 use Rattle.sb_record.specs.declared.item.Record.{Record}
 use Rattle.sb_pipeline.specs.declared.transform.KeptRec.{KeptRec}
 use Rattle.sb_pipeline.specs.declared.transform.Kind.{Kind}
-use Rattle.sb_pipeline.specs.declared.transform.Kind.TheVariants.{Do, Group, Join}
+use Rattle.sb_pipeline.specs.declared.transform.Kind.TheVariants.{Do, Group, Session, Join}
 use Rattle.sb_core.specs.declared.moment.Node.{Node}
 use Rattle.sb_core.specs.declared.held.Held.{Held}
 use Rattle.sb_core.specs.declared.held.Held.TheVariants.{Close}
@@ -19,7 +19,7 @@ use Rattle.sb_core.specs.declared.moment.Moment.{Moment}
 use Rattle.sb_core.specs.declared.moment.Cont.{Cont}
 use Rattle.sb_core.specs.declared.moment.CoreLane.{CoreLane}
 use Rattle.sb_record.specs.Records.{sorted, before, at_least, record_cmp}
-use Rattle.sb_pipeline.specs.Operators.{Operator, operator_of, operator_at, grouped}
+use Rattle.sb_pipeline.specs.Operators.{Operator, WindowOperator, operator_of, operator_at, grouped}
 use Rattle.sb_pardo.specs.Outputs.{outputs_of}
 use Rattle.sb_pipeline.specs.Elements.{on_lane, all_records}
 use Rattle.sb_pipeline.specs.Operators.Operator.{ParDo, Windowed, Sink}
@@ -32,7 +32,8 @@ use Rattle.sb_record.proofs.Sums.{SameSums, sum_by-agree, SameSums-map, SameSums
 use Rattle.sb_core.proofs.Lists.{waiting_of}
 use Rattle.sb_core.proofs.Timely.{late, late_for, IsTimely, no_sink, rest_in_time}
 use Rattle.sb_core.proofs.Nodes.{lane_at-set, sum_by-waiting_set, node_at-same, node_at-set_same, node_at-set_other}
-use Rattle.sb_core.proofs.Groupings.{early_one, all_records-append, all_records-filter, grouped-order, grouped-closing}
+use Rattle.sb_core.proofs.WindowOperators.{IsGrouping, closing}
+use Rattle.sb_core.proofs.Groupings.{early_one, all_records-append, all_records-filter, none_early}
 use Rattle.sb_record.proofs.Sorting.{SameSums-in_order}
 use Rattle.sb_core.proofs.Gives.{sum_by-rest, gives-less, sum_by-held_push}
 
@@ -57,7 +58,7 @@ sink_closing mark rows kept es fs same f =
     omega arith
 
 -- the node that closes, by what it does
-closing-gives : (o : Operator) (k : ℕ) (node after : Node) (held : List Held) (h : Held) (rows : List Record) (floor mark : ℕ) (es fs : List KeptRec)
+closing-gives : (o : Operator) → ((g : WindowOperator) → o ≡ Windowed g → IsGrouping g) → (k : ℕ) (node after : Node) (held : List Held) (h : Held) (rows : List Record) (floor mark : ℕ) (es fs : List KeptRec)
     → closed node.lanes ≡ floor → closed after.lanes ≡ mark → floor ≤ mark
     → after.kept ≡ kept_at o mark node.kept
     → ((f : KeptRec → ℕ) → sum_by f (waiting_from 0 after.lanes) ≡ sum_by f (waiting_from 0 node.lanes))
@@ -66,7 +67,7 @@ closing-gives : (o : Operator) (k : ℕ) (node after : Node) (held : List Held) 
     → sum_by (early_one mark) (rest k node held es) ≡ 0
     → SameSums es fs
     → SameSums (gives_by o k node held rows es) (gives_by o k after (held ++ h ∷ []) (rows ++ collected o mark node.kept) fs)
-closing-gives o k node after held h rows floor mark es fs is_floor is_mark rises kept waits idle given late same = by_operator o kept given
+closing-gives o groups k node after held h rows floor mark es fs is_floor is_mark rises kept waits idle given late same = by_operator o groups kept given
   where
     later : List Held
     later = held ++ h ∷ []
@@ -78,30 +79,30 @@ closing-gives o k node after held h rows floor mark es fs is_floor is_mark rises
         let c : sum_by f (flat_map (working k) later) ≡ sum_by f (flat_map (working k) held) + sum_by f (working k h) = sum_by-held_push f (working k) held h in
         omega (arith, same f, waits f, idle f)
 
-    by_operator : (o : Operator) → after.kept ≡ kept_at o mark node.kept → undelivered k h ≡ rows_at o floor mark node.kept
+    by_operator : (o : Operator) → ((g : WindowOperator) → o ≡ Windowed g → IsGrouping g) → after.kept ≡ kept_at o mark node.kept → undelivered k h ≡ rows_at o floor mark node.kept
         → SameSums (gives_by o k node held rows es) (gives_by o k after later (rows ++ collected o mark node.kept) fs)
-    by_operator (ParDo op) kept given f =
+    by_operator (ParDo op) groups kept given f =
         let d : sum_by f (flat_map (undelivered k) later) ≡ sum_by f (flat_map (undelivered k) held) = sum_by-held_push f (undelivered k) held h ∙ ap (λ l. sum_by f (flat_map (undelivered k) held) + sum_by f l) given ∙ omega arith in
         sum_by-append f (flat_map (undelivered k) held) (flat_map (outputs_of op) (all_records (rest k node held es)))
         ∙ (λ i. sym d i
         + SameSums-flat_map (outputs_of op) (all_records (rest k node held es)) (all_records (rest k after later fs)) (SameSums-map (λ e. e.rec) (rest k node held es) (rest k after later fs) rest_same) f i)
         ∙ sym (sum_by-append f (flat_map (undelivered k) later) (flat_map (outputs_of op) (all_records (rest k after later fs))))
-    by_operator (Windowed g) kept given f =
+    by_operator (Windowed g) groups kept given f =
         let some : List KeptRec = rest k node held es in
         let a : sum_by f (gives_by (Windowed g) k node held rows es) ≡ sum_by f (flat_map (undelivered k) held) + sum_by f (at_least floor (grouped g (node.kept ++ some))) =
         sum_by-append f (flat_map (undelivered k) held) (at_least (closed node.lanes) (grouped g (node.kept ++ some))) ∙ ap (λ n. sum_by f (flat_map (undelivered k) held) + sum_by f (at_least n (grouped g (node.kept ++ some)))) is_floor in
         let b : sum_by f (at_least floor (grouped g (node.kept ++ some))) ≡ sum_by f (rows_at (Windowed g) floor mark node.kept) + sum_by f (at_least mark (grouped g (still_open g mark node.kept ++ some))) =
-        grouped-closing g floor mark node.kept some rises late f ∙ sum_by-append f (rows_at (Windowed g) floor mark node.kept) (at_least mark (grouped g (still_open g mark node.kept ++ some))) in
+        closing (groups g refl) floor mark node.kept some rises (none_early mark some late) f ∙ sum_by-append f (rows_at (Windowed g) floor mark node.kept) (at_least mark (grouped g (still_open g mark node.kept ++ some))) in
         let c : sum_by f (at_least mark (grouped g (still_open g mark node.kept ++ some))) ≡ sum_by f (at_least mark (grouped g (after.kept ++ rest k after later fs))) =
         SameSums-filter (λ r. not (nat_lt r.time mark)) (grouped g (still_open g mark node.kept ++ some)) (grouped g (after.kept ++ rest k after later fs))
-        (grouped-order g (still_open g mark node.kept ++ some) (after.kept ++ rest k after later fs)
+        ((groups g refl).order (still_open g mark node.kept ++ some) (after.kept ++ rest k after later fs)
         (λ f. sum_by-append f (still_open g mark node.kept) some ∙ (λ i. sum_by f (sym kept i) + rest_same f i) ∙ sym (sum_by-append f after.kept (rest k after later fs)))) f in
         let d : sum_by f (flat_map (undelivered k) later) ≡ sum_by f (flat_map (undelivered k) held) + sum_by f (rows_at (Windowed g) floor mark node.kept) =
         sum_by-held_push f (undelivered k) held h ∙ ap (λ l. sum_by f (flat_map (undelivered k) held) + sum_by f l) given in
         let e : sum_by f (gives_by (Windowed g) k after later (rows ++ []) fs) ≡ sum_by f (flat_map (undelivered k) later) + sum_by f (at_least mark (grouped g (after.kept ++ rest k after later fs))) =
         sum_by-append f (flat_map (undelivered k) later) (at_least (closed after.lanes) (grouped g (after.kept ++ rest k after later fs))) ∙ ap (λ n. sum_by f (flat_map (undelivered k) later) + sum_by f (at_least n (grouped g (after.kept ++ rest k after later fs)))) is_mark in
         omega arith
-    by_operator Sink kept given f =
+    by_operator Sink groups kept given f =
         sink_closing mark rows node.kept (rest k node held es) (rest k after later fs) rest_same f
         ∙ ap (λ l. sum_by f ((rows ++ sorted (before mark (all_records node.kept))) ++ all_records (l ++ rest k after later fs))) (sym kept)
 
@@ -109,6 +110,7 @@ closing-gives o k node after held h rows floor mark es fs is_floor is_mark rises
 collects_none : (kind : Kind) (mark : ℕ) (es : List KeptRec) → collected (operator_of kind) mark es ≡ []
 collects_none (Do op) mark es = refl
 collects_none (Group agg windows) mark es = refl
+collects_none (Session agg gap) mark es = refl
 collects_none (Join combine windows) mark es = refl
 
 pub none_past : {X : Type 0} (xs : List X) (j : ℕ) → slice_get xs j ≡ None → length xs ≤ j
@@ -144,7 +146,7 @@ module _ (plan : Shape) (m : Moment) (n l : ℕ) (node : Node) (lane : CoreLane)
   abbrev pub after_beginning : Moment
   after_beginning = record m { nodes = slice_set m.nodes n begun_node; held = m.held ++ new_close ∷ []; rows = m.rows ++ collected (operator_at (slice_get plan.steps n)) closing_mark node.kept }
 
-  module _ (at : slice_get m.nodes n ≡ Some node) (in_it : slice_get node.lanes l ≡ Some lane) (rises : closed node.lanes ≤ closing_mark) (timely : IsTimely plan after_beginning) where
+  module _ (groups : (g : WindowOperator) → operator_at (slice_get plan.steps n) ≡ Windowed g → IsGrouping g) (at : slice_get m.nodes n ≡ Some node) (in_it : slice_get node.lanes l ≡ Some lane) (rises : closed node.lanes ≤ closing_mark) (timely : IsTimely plan after_beginning) where
     waits : (f : KeptRec → ℕ) → sum_by f (waiting_from 0 begun_node.lanes) ≡ sum_by f (waiting_from 0 node.lanes)
     waits f =
         let a : sum_by f (waiting_from 0 begun_node.lanes) + sum_by f (on_lane (0 + l) (waiting_in lane)) ≡ sum_by f (waiting_from 0 node.lanes) + sum_by f (on_lane (0 + l) (waiting_in begun_lane)) = sum_by-waiting_set f 0 node.lanes l lane begun_lane in_it in
@@ -173,7 +175,7 @@ module _ (plan : Shape) (m : Moment) (n l : ℕ) (node : Node) (lane : CoreLane)
     closes es fs h same =
         subst (λ x. SameSums (gives_by (operator_at (slice_get plan.steps n)) n x m.held m.rows es) (gives plan after_beginning n fs)) (sym (node_at-same m n node begun_node at)) (
         subst (λ x. SameSums (gives_by (operator_at (slice_get plan.steps n)) n node m.held m.rows es) (gives_by (operator_at (slice_get plan.steps n)) n x after_beginning.held after_beginning.rows fs)) (sym new_node_is) (
-        closing-gives (operator_at (slice_get plan.steps n)) n node begun_node m.held new_close m.rows (closed node.lanes) closing_mark es fs refl refl rises refl waits (λ f. refl)
+        closing-gives (operator_at (slice_get plan.steps n)) groups n node begun_node m.held new_close m.rows (closed node.lanes) closing_mark es fs refl refl rises refl waits (λ f. refl)
         (ap (λ b. cond b (rows_at (operator_at (slice_get plan.steps n)) (closed node.lanes) closing_mark node.kept) []) (eq-eqb n n refl))
         (rest_late es h) same))
 

@@ -47,7 +47,9 @@ use Rattle.sb_core.proofs.LaneLaws.{All-pulled}
 use Rattle.sb_core.proofs.Nodes.{begun_mark, lane_at-set, lane_at-cases, node_at-same, node_at-set_same}
 use Rattle.sb_core.proofs.Moving.{arrival-gives, calm-gives, waiting-with_seal, rows-gives, delivery-gives}
 use Rattle.sb_core.proofs.Finishing.{finished-gives}
+use Rattle.sb_pipeline.specs.Plans.{IsPlan}
 use Rattle.sb_core.proofs.Beginning.{begun-gives}
+use Rattle.sb_core.proofs.WindowsAt.{windows-at}
 use Rattle.sb_core.proofs.Flow.{extra}
 use Rattle.sb_core.proofs.Gives.{lane_at-parts, with_lane-is, sum_by-held_push}
 use Rattle.sb_core.proofs.Taking.{take-gives}
@@ -177,8 +179,8 @@ finish-carries plan m m' n l number h lawful =
 abbrev pub closed_rises : Shape → Moment → Moment → ℕ → Type 0
 closed_rises plan m m' n = Marks.closed (node_at m n).lanes ≤ Marks.closed (node_at m' n).lanes
 
-pub begin-carries : (plan : Shape) (m m' : Moment) (n l : ℕ) → Events.after plan m (Begin n l) ≡ Some m' → IsLawful plan m → IsLawful plan m' → closed_rises plan m m' n → Carries plan m m' Nothing
-begin-carries plan m m' n l h lawful later rises =
+pub begin-carries : (plan : Shape) → IsPlan plan → (m m' : Moment) (n l : ℕ) → Events.after plan m (Begin n l) ≡ Some m' → IsLawful plan m → IsLawful plan m' → closed_rises plan m m' n → Carries plan m m' Nothing
+begin-carries plan is_plan m m' n l h lawful later rises =
     let a = bind_some (slice_get m.nodes n) _ m' h in
     let b = bind_some (slice_get a.0.lanes l) _ m' a.2 in
     let c = bind_some (Lanes.closable b.0.ended b.0.conts) _ m' b.2 in
@@ -191,7 +193,7 @@ begin-carries plan m m' n l h lawful later rises =
     let after = ap (λ (x : Moment). Marks.closed (node_at x n).lanes) (sym is) ∙ ap (λ (x : Node). Marks.closed x.lanes) (node_at-set_same m n a.0 _ a.1) in
     carries-same plan m m'
     (λ k es fs in_plan in_time same. subst (λ z. SameSums (gives plan m k es) (gives plan z k fs)) is
-    (begun-gives plan m n l a.0 b.0 c.0.epoch a.1 b.1 (subst (λ x. x ≤ Marks.closed (slice_set a.0.lanes l begun)) before (subst (λ x. Marks.closed (node_at m n).lanes ≤ x) after rises))
+    (begun-gives plan m n l a.0 b.0 c.0.epoch (windows-at plan is_plan n) a.1 b.1 (subst (λ x. x ≤ Marks.closed (slice_set a.0.lanes l begun)) before (subst (λ x. Marks.closed (node_at m n).lanes ≤ x) after rises))
     (subst (IsTimely plan) (sym is) (lawful-timely plan m' later)) (within_n n within) k es fs in_plan in_time same))
     (admits plan m m' floors)
   where

@@ -34,7 +34,7 @@ use Rattle.sb_core.specs.Exactness.{waiting_from, gives, gives_by, IsExact}
 use Rattle.sb_core.specs.LaneOrder.{IsLane}
 use Rattle.sb_core.specs.Bounds.{bound_at}
 use Rattle.sb_core.specs.Closings.{is_pardo}
-use Rattle.sb_core.specs.Soundness.{out_of, AreNumbered, Begins, IsOpenBelow, IsKeptAt, IsSound}
+use Rattle.sb_core.specs.Soundness.{out_of, AreNumbered, Begins, IsOpenBelow, AreKeptAt, IsSound}
 use Rattle.sb_core.specs.Laws.{RunsAreSound}
 use Rattle.sb_record.proofs.Sums.{SameSums, SameSums-map, SameSums-flat_map}
 use Rattle.sb_core.proofs.Flow.{brought_none, flow_same}
@@ -157,7 +157,7 @@ module _ (plan : Shape) (is_plan : IsPlan plan) (bundle : ℕ) where
           open_source = λ s d lane is h. subst (λ (x : CoreLane). AllByRecursion (λ c. next_epoch x ≤ c.epoch → c.epoch ≡ next_epoch x) x.conts) (sym (only_empty d lane h)) tt;
           open_below = λ k s lane is h. subst (λ (x : CoreLane). AllByRecursion (λ c. next_epoch x ≤ c.epoch → IsOpenBelow (operator_at (slice_get plan.steps k)) (node_at (first plan bundle) k).lanes false (next_epoch x) c.epoch c.floor) x.conts) (sym (only_empty s.down lane h)) tt;
           own_marks = λ k s lane own is h e. subst (λ (x : CoreLane). Begins x.marks own.marks) (sym (only_empty s.down lane h)) tt;
-          kept = λ k. subst (AllByRecursion (IsKeptAt (operator_at (slice_get plan.steps k)) (closed (node_at (first plan bundle) k).lanes) (bound_at plan k))) (sym (kept_none k)) tt;
+          kept = λ k. subst (AreKeptAt (operator_at (slice_get plan.steps k)) (closed (node_at (first plan bundle) k).lanes) (bound_at plan k)) (sym (kept_none k)) tt;
           closes = tt;
           sorted = tt;
           written = tt;

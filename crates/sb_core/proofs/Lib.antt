@@ -1,4 +1,6 @@
 pub mod Fitting
+pub mod WindowOperators
+pub mod OpenWindows
 pub mod WindowsAt
 pub mod Orderly
 pub mod Flow

@@ -1,7 +1,7 @@
 -- What the words on lists and lanes do to the records that wait.
 use Rattle.sb_record.proofs.Numbers.{bind_some}
 use Rattle.std.proofs.Common.{◌≡◌, ℕ, ◌+◌, Bool, true, false, cond, eqb, ltb, List, [], ◌∷◌, ◌++◌, Some, None, Option, sym, refl, ap, ◌∙◌, arith, add_assoc}
-use Rattle.std.specs.List.{sum_by, flat_map, list_any}
+use Rattle.std.specs.List.{filter, sum_by, flat_map, list_any}
 use Rattle.std.proofs.Math.Nat.{add_left_comm}
 use Rattle.std.proofs.lemmas.List.Sums.{sum_by-append, sum_by-cons}
 use Rattle.std.proofs.lemmas.List.Concat.{flat_map-append}
@@ -23,6 +23,17 @@ cond_is_some false o x h = cc
 pub empty_is : {X : Type 0} (l : List X) → is_empty l ≡ true → l ≡ []
 empty_is [] h = refl
 empty_is (x ∷ l) h = cc
+
+-- two filters in the other order
+pub filter_swap : {X : Type 0} (p q : X → Bool) (xs : List X) → filter p (filter q xs) ≡ filter q (filter p xs)
+filter_swap p q [] = refl
+filter_swap {X} p q (x ∷ xs) = by_case (p x) (q x) refl refl (filter_swap p q xs)
+  where
+    by_case : (a b : Bool) → p x ≡ a → q x ≡ b → filter p (filter q xs) ≡ filter q (filter p xs) → filter p (cond b (x ∷ filter q xs) (filter q xs)) ≡ filter q (cond a (x ∷ filter p xs) (filter p xs))
+    by_case true true e f h = (λ i. cond (e i) (x ∷ h i) (h i)) ∙ sym (λ i. cond (f i) (x ∷ filter q (filter p xs)) (filter q (filter p xs)))
+    by_case true false e f h = h ∙ sym (λ i. cond (f i) (x ∷ filter q (filter p xs)) (filter q (filter p xs)))
+    by_case false true e f h = (λ i. cond (e i) (x ∷ filter p (filter q xs)) (filter p (filter q xs))) ∙ h
+    by_case false false e f h = h
 
 -- what was pulled out, and the rest
 pub SameSums-pulled : {X : Type 0} (p : X → Bool) (xs : List X) (q : X × List X) → pulled p xs ≡ Some q → SameSums xs (q.0 ∷ q.1)

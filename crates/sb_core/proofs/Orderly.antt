@@ -20,7 +20,7 @@ use Rattle.sb_core.specs.Moments.{lane_at, node_at, is_work, is_close, is_close_
 use Rattle.sb_core.specs.Closings.{is_pardo}
 use Rattle.sb_core.specs.LaneOrder.{IsLane}
 use Rattle.sb_core.specs.Holdings.{IsHeld, IsCloseOf, is_unpassed}
-use Rattle.sb_core.specs.Soundness.{IsSealedBelow, out_of, AreNumbered, IsOpenBelow, IsKeptAt, Begins, IsSound}
+use Rattle.sb_core.specs.Soundness.{IsSealedBelow, out_of, AreNumbered, IsOpenBelow, AreKeptAt, Begins, IsSound}
 
 pub record IsLawful (plan : Shape) (m : Moment) : Type 0 where
   pub nodes : length m.nodes ≡ length plan.steps + 1
@@ -42,7 +42,7 @@ pub record IsTidy (plan : Shape) (m : Moment) : Type 0 where
   pub open_below : (k : ℕ) (s : Step) (lane : CoreLane) → slice_get plan.steps k ≡ Some s → lane_at m s.down ≡ Some lane
       → AllByRecursion (λ c. next_epoch lane ≤ c.epoch → IsOpenBelow (operator_at (slice_get plan.steps k)) (node_at m k).lanes (list_any (is_unpassed k) m.held) (next_epoch lane) c.epoch c.floor) lane.conts
   pub own_marks : (k : ℕ) (s : Step) (lane own : CoreLane) → slice_get plan.steps k ≡ Some s → lane_at m s.down ≡ Some lane → (node_at m k).lanes ≡ own ∷ [] → Begins lane.marks own.marks
-  pub kept : (k : ℕ) → AllByRecursion (IsKeptAt (operator_at (slice_get plan.steps k)) (closed (node_at m k).lanes) (bound_at plan k)) (node_at m k).kept
+  pub kept : (k : ℕ) → AreKeptAt (operator_at (slice_get plan.steps k)) (closed (node_at m k).lanes) (bound_at plan k) (node_at m k).kept
   pub closes : AllByRecursion (IsCloseOf plan m) m.held
   pub sorted : IsAscending record_cmp m.rows
   pub written : AllByRecursion (λ r. r.time < closed (node_at m (length plan.steps)).lanes) m.rows

@@ -18,7 +18,7 @@ use Rattle.sb_pipeline.specs.Operators.{Operator, operator_at, lanes_of}
 use Rattle.sb_pipeline.specs.Plans.{IsPlan}
 use Rattle.sb_pipeline.specs.Results.{rows_below}
 use Rattle.sb_pipeline.specs.Operators.Operator.{ParDo, Windowed, Sink}
-use Rattle.sb_pipeline.specs.Operators.WindowOperator.{Aggregated, Joined}
+use Rattle.sb_pipeline.specs.Operators.WindowOperator.{Aggregated, Sessions, Joined}
 use Rattle.sb_core.specs.Marks.{closed, first_is_closing, last_of_first}
 use Rattle.sb_core.specs.Moments.{lane_at, node_at, floor_of, floor_at}
 use Rattle.sb_core.specs.Lanes.{next_floor}
@@ -26,7 +26,7 @@ use Rattle.sb_record.specs.declared.item.TheConstants.{END_MARK, MAX_TIME}
 use Rattle.sb_core.specs.LaneOrder.{IsLane, AreContainers}
 use Rattle.sb_core.specs.Bounds.{bound_at}
 use Rattle.sb_core.specs.Holdings.{IsHeld, is_unpassed}
-use Rattle.sb_core.specs.Soundness.{IsKeptAt, IsSound}
+use Rattle.sb_core.specs.Soundness.{AreKeptAt, IsSound}
 use Rattle.sb_core.specs.Laws.{RunsGiveTheRows, fed_by, RowsAreThePlans, RowsAreAll, IsDone, written_to}
 use Rattle.sb_core.proofs.Nodes.{begun_mark}
 use Rattle.sb_core.proofs.Groupings.{early_one}
@@ -39,9 +39,9 @@ use Rattle.sb_core.proofs.FirstMoment.{runs-are_sound}
 pub rows-are_the_plans : RowsAreThePlans
 rows-are_the_plans plan m fed coming sound exact ok =
     rows-are plan m fed coming (lawful-timely plan m (lawful_of sound)) exact ok (tidy_of sound).sorted (tidy_of sound).written
-    (late (node_at m (length plan.steps)).kept (subst (λ o. AllByRecursion (IsKeptAt (operator_at o) (closed (node_at m (length plan.steps)).lanes) (bound_at plan (length plan.steps))) (node_at m (length plan.steps)).kept) (slice_get_past plan.steps (length plan.steps) (omega arith)) ((tidy_of sound).kept (length plan.steps))))
+    (late (node_at m (length plan.steps)).kept (subst (λ o. AreKeptAt (operator_at o) (closed (node_at m (length plan.steps)).lanes) (bound_at plan (length plan.steps)) (node_at m (length plan.steps)).kept) (slice_get_past plan.steps (length plan.steps) (omega arith)) ((tidy_of sound).kept (length plan.steps))))
   where
-    late : (es : List KeptRec) → AllByRecursion (IsKeptAt Sink (closed (node_at m (length plan.steps)).lanes) (bound_at plan (length plan.steps))) es → sum_by (early_one (closed (node_at m (length plan.steps)).lanes)) es ≡ 0
+    late : (es : List KeptRec) → AreKeptAt Sink (closed (node_at m (length plan.steps)).lanes) (bound_at plan (length plan.steps)) es → sum_by (early_one (closed (node_at m (length plan.steps)).lanes)) es ≡ 0
     late [] all = refl
     late (e ∷ es) all = sum_by-cons (early_one (closed (node_at m (length plan.steps)).lanes)) e es ∙ (λ i. zero_early (closed (node_at m (length plan.steps)).lanes) e.rec.time all.0.0 i + late es all.1 i)
 
@@ -84,6 +84,7 @@ module _ (plan : Shape) (is_plan : IsPlan plan) (m : Moment) (sound : IsSound pl
   some_lane : (o : Operator) → 1 ≤ lanes_of o
   some_lane (ParDo op) = omega arith
   some_lane (Windowed (Aggregated agg windows)) = omega arith
+  some_lane (Windowed (Sessions agg gap)) = omega arith
   some_lane (Windowed (Joined combine windows)) = omega arith
   some_lane Sink = omega arith
 

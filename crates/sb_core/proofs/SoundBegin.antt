@@ -2,6 +2,7 @@
 use Rattle.sb_record.proofs.Earlier.{ascending-join}
 use Rattle.sb_record.proofs.Numbers.{bind_some}
 use Rattle.sb_record.proofs.Elements.{All-join, All-passed, every}
+use Rattle.sb_core.proofs.WindowOperators.{IsGrouping, kept-closed}
 use Rattle.sb_core.proofs.WindowsAt.{windows-at}
 use Rattle.sb_core.proofs.Orderly.{lawful_of, tidy_of, sound_of, IsLawful, IsTidy}
 use Rattle.std.proofs.Common.{cond, length-set, ◌≡◌, ℕ, suc, ◌+◌, ◌≤◌, ◌<◌, true, false, not, ltb, List, [], ◌∷◌, ◌++◌, length, Some, None, Option, sym, refl, ap, subst, ◌∙◌, arith, ⊎_elim, append-nil, set as slice_set, add-zero}
@@ -23,11 +24,10 @@ use Rattle.sb_core.specs.declared.held.Held.{Held}
 use Rattle.sb_core.specs.declared.held.Held.TheVariants.{Work, Close}
 use Rattle.sb_record.specs.Orders.{IsAscending}
 use Rattle.sb_record.specs.Records.{record_cmp, before, at_least}
-use Rattle.sb_pipeline.specs.Operators.{Operator, grouped, operator_at}
+use Rattle.sb_pipeline.specs.Operators.{Operator, grouped, operator_at, WindowOperator}
 use Rattle.sb_pipeline.specs.Elements.{all_records}
 use Rattle.sb_pipeline.specs.Plans.{IsPlan}
 use Rattle.sb_pipeline.specs.Operators.Operator.{ParDo, Windowed, Sink}
-use Rattle.sb_pipeline.specs.Operators.WindowOperator.{Aggregated, Joined}
 use Rattle.sb_pipeline.proofs.Elements.{All-all_records}
 use Rattle.sb_record.specs.Reading.{◌>>=◌}
 use Rattle.sb_core.specs.Marks.{before_closing, first_is_closing, last_of_first, closed}
@@ -37,7 +37,7 @@ use Rattle.sb_core.specs.Closings.{is_sink, kept_at, rows_at, collected, is_pard
 use Rattle.sb_core.specs.Events.{after_begin}
 use Rattle.sb_core.specs.Bounds.{bound_at}
 use Rattle.sb_core.specs.Holdings.{is_unpassed, IsCloseOf}
-use Rattle.sb_core.specs.Soundness.{out_of, numbers_of, Begins, IsOpenBelow, IsKeptAt, IsSound}
+use Rattle.sb_core.specs.Soundness.{out_of, numbers_of, Begins, IsOpenBelow, AreKeptAt, IsSound}
 use Rattle.sb_core.proofs.Lists.{cond_is_some}
 use Rattle.sb_core.proofs.Nodes.{lane_at-cases, node_at-same, node_at-set_same, node_at-set_other}
 use Rattle.sb_record.proofs.Sorting.{records_total, in_order-ascending, All-in_order}
@@ -89,8 +89,8 @@ module _ (plan : Shape) (is_plan : IsPlan plan) (m : Moment) (n l : ℕ) (node :
   by_place : (d : Down) → ((d ≡ record { node = n; lane = l }) × (lane_at after d ≡ Some with) × (lane_at m d ≡ Some lane)) ⊎ (lane_at after d ≡ lane_at m d)
   by_place d = lane_at-cases m n l node new lane with at in_it refl d
 
-  kept_before : AllByRecursion (IsKeptAt o (closed node.lanes) (bound_at plan n)) node.kept
-  kept_before = subst (λ (x : Node). AllByRecursion (IsKeptAt (operator_at (slice_get plan.steps n)) (closed x.lanes) (bound_at plan n)) x.kept) (node_at-same m n node new at) (tidy.kept n)
+  kept_before : AreKeptAt o (closed node.lanes) (bound_at plan n) node.kept
+  kept_before = subst (λ (x : Node). AreKeptAt (operator_at (slice_get plan.steps n)) (closed x.lanes) (bound_at plan n) x.kept) (node_at-same m n node new at) (tidy.kept n)
 
   -- a place where the lane began to close, or a lane as it was
   lane_was : (P : CoreLane → CoreLane → Type 0) → P lane with → ((x : CoreLane) → P x x) → (d : Down) (x : CoreLane) → lane_at after d ≡ Some x → (y : CoreLane) × (lane_at m d ≡ Some y) × P y x
@@ -117,14 +117,14 @@ module _ (plan : Shape) (is_plan : IsPlan plan) (m : Moment) (n l : ℕ) (node :
       (more_unpassed k)
 
   -- ---- what is kept
-  kept_after : (o : Operator) (w bound : ℕ) (kept : List KeptRec) → AllByRecursion (IsKeptAt o w bound) kept → AllByRecursion (IsKeptAt o mark bound) (kept_at o mark kept)
-  kept_after (ParDo op) w bound kept all = all
-  kept_after (Windowed (Aggregated agg windows)) w bound kept all = All-passed (IsKeptAt (Windowed (Aggregated agg windows)) w bound) (IsKeptAt (Windowed (Aggregated agg windows)) mark bound) _ (λ e h p. (p, h.1)) kept all
-  kept_after (Windowed (Joined combine windows)) w bound kept all = All-passed (IsKeptAt (Windowed (Joined combine windows)) w bound) (IsKeptAt (Windowed (Joined combine windows)) mark bound) _ (λ e h p. (p, h.1)) kept all
-  kept_after Sink w bound kept all = All-passed (IsKeptAt Sink w bound) (IsKeptAt Sink mark bound) _ (λ e h p. (ltb-false e.rec.time mark (not-true (ltb e.rec.time mark) p), h.1)) kept all
+  kept_after : (o : Operator) → ((g : WindowOperator) → o ≡ Windowed g → IsGrouping g) → (w bound : ℕ) (kept : List KeptRec) → AreKeptAt o w bound kept → AreKeptAt o mark bound (kept_at o mark kept)
+  kept_after (ParDo op) groups w bound kept all = all
+  kept_after (Windowed g) groups w bound kept all = kept-closed (groups g refl) mark bound kept (every (λ e h. h.1) kept all)
+  kept_after Sink groups w bound kept all =
+      All-passed (λ e. (w ≤ e.rec.time) × (e.rec.time ≤ bound)) (λ e. (mark ≤ e.rec.time) × (e.rec.time ≤ bound)) _ (λ e h p. (ltb-false e.rec.time mark (not-true (ltb e.rec.time mark) p), h.1)) kept all
 
   -- ---- the rows of the sink
-  collected_between : (o : Operator) → AllByRecursion (IsKeptAt o (closed node.lanes) (bound_at plan n)) node.kept → AllByRecursion (λ r. (closed node.lanes ≤ r.time) × (r.time < mark)) (collected o mark node.kept)
+  collected_between : (o : Operator) → AreKeptAt o (closed node.lanes) (bound_at plan n) node.kept → AllByRecursion (λ r. (closed node.lanes ≤ r.time) × (r.time < mark)) (collected o mark node.kept)
   collected_between (ParDo op) all = tt
   collected_between (Windowed g) all = tt
   collected_between Sink all =
@@ -206,7 +206,7 @@ module _ (plan : Shape) (is_plan : IsPlan plan) (m : Moment) (n l : ℕ) (node :
   pub begin-sound : IsSound plan after
   begin-sound =
       (sound_of (record {
-        lawful = begin-lawful plan m n l node lane c at in_it closes idle lawful (rows-bounded plan o n (closed node.lanes) (closed node.lanes) mark node.kept (λ g e. windows-at plan is_plan n g e) kept_before);
+        lawful = begin-lawful plan m n l node lane c at in_it closes idle lawful (rows-bounded plan o n (closed node.lanes) (closed node.lanes) mark node.kept (windows-at plan is_plan n) kept_before);
         tidy = record {
           bundle = tidy.bundle;
           lanes = λ k b. ⊎_elim
@@ -221,9 +221,9 @@ module _ (plan : Shape) (is_plan : IsPlan plan) (m : Moment) (n l : ℕ) (node :
               (every (λ c z w. moves k (next_epoch b.0) c.epoch c.floor (z w)) b.0.conts (tidy.open_below k s b.0 is b.1)));
           own_marks = own_marks;
           kept = λ k. ⊎_elim
-              (λ e. subst (λ k. AllByRecursion (IsKeptAt (operator_at (slice_get plan.steps k)) (closed (node_at after k).lanes) (bound_at plan k)) (node_at after k).kept) (sym e)
-              (subst (λ (x : Node). AllByRecursion (IsKeptAt (operator_at (slice_get plan.steps n)) (closed x.lanes) (bound_at plan n)) x.kept) (sym (node_at-set_same m n node new at)) (kept_after o (closed node.lanes) (bound_at plan n) node.kept kept_before)))
-              (λ ne. subst (λ (x : Node). AllByRecursion (IsKeptAt (operator_at (slice_get plan.steps k)) (closed x.lanes) (bound_at plan k)) x.kept) (sym (node_at-set_other m n node new at k ne)) (tidy.kept k)) (cases_eq k n);
+              (λ e. subst (λ k. AreKeptAt (operator_at (slice_get plan.steps k)) (closed (node_at after k).lanes) (bound_at plan k) (node_at after k).kept) (sym e)
+              (subst (λ (x : Node). AreKeptAt (operator_at (slice_get plan.steps n)) (closed x.lanes) (bound_at plan n) x.kept) (sym (node_at-set_same m n node new at)) (kept_after o (windows-at plan is_plan n) (closed node.lanes) (bound_at plan n) node.kept kept_before)))
+              (λ ne. subst (λ (x : Node). AreKeptAt (operator_at (slice_get plan.steps k)) (closed x.lanes) (bound_at plan k) x.kept) (sym (node_at-set_other m n node new at k ne)) (tidy.kept k)) (cases_eq k n);
           closes = All-last (IsCloseOf plan after) m.held close (every close_still m.held tidy.closes) ((rows_sorted o, ((λ h. h), none_of_pardo o)), floor_is);
           sorted = sorted_after;
           written = written_after;

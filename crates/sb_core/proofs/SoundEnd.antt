@@ -3,32 +3,30 @@ use Rattle.sb_record.proofs.Numbers.{bind_some}
 use Rattle.sb_record.proofs.Elements.{All-join, every}
 use Rattle.sb_core.specs.LaneOrder
 use Rattle.sb_core.specs.Moments
+use Rattle.sb_core.proofs.WindowOperators.{kept-more}
 use Rattle.sb_core.proofs.WindowsAt.{windows-at}
 use Rattle.sb_core.proofs.Orderly.{lawful_of, tidy_of, sound_of, IsTidy}
-use Rattle.std.proofs.Common.{◌≡◌, ℕ, suc, zero, ◌+◌, ◌*◌, ◌%◌, ◌/◌, ◌≤◌, ◌<◌, Bool, true, false, not, cond, eqb, List, [], ◌∷◌, ◌++◌, length, drop, Some, Option, sym, refl, ap, subst, ◌∙◌, arith, ⊎_elim, add-zero, zero-add}
-use Rattle.std.specs.Prelude.{◌≢◌, ◌&&◌, ◌||◌, nat_lt, count_by, sum_by}
-use Rattle.std.specs.List.{filter, slice_get, list_any, range_with_len, AllByRecursion}
-use Rattle.std.proofs.lemmas.Bool.{eqb-false, eq-eqb, ne_eqb, cases_eq, eqb-true, lt-ltb}
+use Rattle.std.proofs.Common.{◌≡◌, ℕ, ◌+◌, ◌≤◌, Bool, true, false, not, cond, eqb, List, [], ◌∷◌, ◌++◌, length, drop, Some, Option, sym, refl, ap, subst, ◌∙◌, arith, ⊎_elim, add-zero, zero-add}
+use Rattle.std.specs.Prelude.{◌≢◌, ◌&&◌, ◌||◌, count_by, sum_by}
+use Rattle.std.specs.List.{slice_get, list_any, AllByRecursion}
+use Rattle.std.proofs.lemmas.Bool.{eqb-false, eq-eqb, ne_eqb, cases_eq, eqb-true}
 use Rattle.std.proofs.lemmas.List.Sums.{sum_by-cons, sum_by-le-sum_by}
-use Rattle.std.proofs.Math.Nat.{mul-mod_right, mod-add-div, mod-lt}
-use Rattle.std.proofs.Math.Bool.{or-true, and-false}
+use Rattle.std.proofs.Math.Bool.{and-false}
 use Rattle.std.proofs.lemmas.Option.{same_Some}
-use Rattle.sb_record.specs.declared.item.Record.{Record}
 use Rattle.sb_bundle.specs.declared.bundle.Bundle.{Bundle}
 use Rattle.sb_core.specs.declared.moment.Cont.{Cont}
 use Rattle.sb_core.specs.declared.moment.CoreLane.{CoreLane}
 use Rattle.sb_pipeline.specs.declared.transform.Down.{Down}
 use Rattle.sb_core.specs.declared.moment.Node.{Node}
 use Rattle.sb_pipeline.specs.declared.transform.Step.{Step}
-use Rattle.sb_window.specs.Spacing.{Spacing, AreWindows}
 use Rattle.sb_pipeline.specs.Shapes.{Shape}
 use Rattle.sb_core.specs.declared.moment.Moment.{Moment}
 use Rattle.sb_core.specs.declared.held.Held.{Held}
 use Rattle.sb_core.specs.declared.held.Held.TheVariants.{Work, Close}
-use Rattle.sb_window.specs.Windows.{window_ends}
-use Rattle.sb_pipeline.specs.Operators.{Operator, operator_at, windows_in}
+use Rattle.sb_pipeline.specs.Operators.{Operator, operator_at}
 use Rattle.sb_pipeline.specs.Elements.{on_lane}
 use Rattle.sb_pipeline.specs.Plans.{IsPlan}
+use Rattle.sb_pipeline.proofs.Elements.{All-on_lane}
 use Rattle.sb_pipeline.specs.Operators.Operator.{ParDo, Windowed, Sink}
 use Rattle.sb_record.specs.Reading.{◌>>=◌}
 use Rattle.sb_core.specs.Marks.{before_closing, begun, closed, last_of_first, first_is_closing}
@@ -39,7 +37,7 @@ use Rattle.sb_core.specs.Events.{after_take, after_finish, after_end}
 use Rattle.sb_core.specs.LaneOrder.{IsWithin, IsLane, IsReady, AreContainers}
 use Rattle.sb_core.specs.Bounds.{bound_at}
 use Rattle.sb_core.specs.Holdings.{IsHeld, is_unpassed, IsCloseOf}
-use Rattle.sb_core.specs.Soundness.{out_of, numbers_of, has_cont, IsOpenBelow, IsKeptAt, IsSound}
+use Rattle.sb_core.specs.Soundness.{out_of, numbers_of, has_cont, IsOpenBelow, AreKeptAt, IsSound}
 use Rattle.sb_record.proofs.Sums.{SameSums}
 use Rattle.sb_core.proofs.Lists.{cond_is_some}
 use Rattle.sb_core.proofs.Gives.{lane_at-parts, with_lane-is}
@@ -102,41 +100,6 @@ take-sound plan is_plan m m' d number h sound =
             by_case true false p q = refl
             by_case false b p q = refl
 
--- ---- a time has a window that ends after it
-any_in : (p o : ℕ → Bool) (a n x : ℕ) → a ≤ x → x < a + n → o x ≡ true → p x ≡ true → list_any p (filter o (range_with_len a n)) ≡ true
-any_in p o a zero x low high is passes = absurd (omega arith)
-any_in p o a (suc n) x low high is passes = ⊎_elim here (λ ne. later (any_in p o (a + 1) n x (omega arith) (omega arith) is passes)) (cases_eq a x)
-  where
-    here : a ≡ x → list_any p (cond (o a) (a ∷ filter o (range_with_len (a + 1) n)) (filter o (range_with_len (a + 1) n))) ≡ true
-    here e = ap (λ b. list_any p (cond b (a ∷ filter o (range_with_len (a + 1) n)) (filter o (range_with_len (a + 1) n)))) (ap o e ∙ is) ∙ ap (λ b. b || list_any p (filter o (range_with_len (a + 1) n))) (ap p e ∙ passes)
-
-    later : list_any p (filter o (range_with_len (a + 1) n)) ≡ true → list_any p (cond (o a) (a ∷ filter o (range_with_len (a + 1) n)) (filter o (range_with_len (a + 1) n))) ≡ true
-    later h = by_case (o a) h
-      where
-        by_case : (b : Bool) → list_any p (filter o (range_with_len (a + 1) n)) ≡ true → list_any p (cond b (a ∷ filter o (range_with_len (a + 1) n)) (filter o (range_with_len (a + 1) n))) ≡ true
-        by_case true h = ap (λ b. p a || b) h ∙ or-true (p a)
-        by_case false h = h
-
--- a step that divides the size is within it
-step-within : (every size : ℕ) → 1 ≤ size → size % every ≡ 0 → every ≤ size
-step-within every size some divides = by_quotient (size / every) (mod-add-div size every)
-  where
-    by_quotient : (q : ℕ) → size % every + every * q ≡ size → every ≤ size
-    by_quotient zero h = let none : every * 0 ≡ 0 = omega arith in absurd (omega (arith, some, divides, h, none))
-    by_quotient (suc q) h = let more : every * suc q ≡ every * q + every = omega arith in omega (arith, divides, h, more)
-
-pub ends-later : (windows : Spacing) (mark t : ℕ) → AreWindows windows → mark ≤ t → list_any (λ e. nat_lt mark e) (window_ends windows t) ≡ true
-ends-later windows mark t are h =
-    let q : ℕ = t / windows.every in
-    let a : t % windows.every + windows.every * (t / windows.every) ≡ t = mod-add-div t windows.every in
-    let b : t % windows.every < windows.every = mod-lt t are.some_every in
-    let e : windows.every * (t / windows.every + 1) ≡ windows.every * (t / windows.every) + windows.every = more windows.every (t / windows.every) in
-    any_in (λ e. nat_lt mark e) (λ e. eqb (e % windows.every) 0) (t + 1) windows.size (windows.every * (t / windows.every + 1)) (omega arith) (omega (arith, step-within windows.every windows.size are.some_size are.divides)) (eq-eqb (windows.every * (t / windows.every + 1) % windows.every) 0 (mul-mod_right windows.every (t / windows.every + 1)))
-    (lt-ltb mark (windows.every * (t / windows.every + 1)) (omega arith))
-  where
-    more : (m q : ℕ) → m * (q + 1) ≡ m * q + m
-    more m q = omega arith
-
 -- ---- a Work is finished
 pub out_once : (plan : Shape) (m : Moment) → IsTidy plan m → (d : Down) (lane : CoreLane) → lane_at m d ≡ Some lane → (n : ℕ) → sum_by (out_of n) lane.conts ≤ 1
 out_once plan m tidy d lane at n = omega (arith, sum_by-le-sum_by (out_of n) (numbers_of n) lane.conts (λ c. more _ _), (tidy.numbers d lane at).once n)
@@ -171,8 +134,7 @@ finish-sound plan is_plan m m' sound (Work k l epoch floor number records delive
               (λ xs h. h)
               (λ j s own is e lone_is. (tidy_of sound).own_marks j s lane own is (ap (lane_at m) e ∙ was) lone_is)
               is_plan.further
-              (λ all. All-join (IsKeptAt (operator_at (slice_get plan.steps k)) (closed node.lanes) (bound_at plan k)) node.kept (absorbed (operator_at (slice_get plan.steps k)) (on_lane l records)) all
-              (by_operator (operator_at (slice_get plan.steps k)) refl))
+              (by_operator (operator_at (slice_get plan.steps k)) refl)
               (closes_still plan m k l node new lane (record lane { conts = finish_in epoch number lane.conts }) at in_it refl refl begins (ap (λ n. last_of_first n lane.marks) begins) others refl others closes.1);
         }))
       where
@@ -242,18 +204,13 @@ finish-sound plan is_plan m m' sound (Work k l epoch floor number records delive
             let b : begun_mark lane ≤ held.0.cont.floor = work_floor (bound_at plan k) lane ok epoch number held.0.cont (ap (λ (x : CoreLane). LaneOrder.cont_at epoch x.conts) (sym is_lane) ∙ held.0.of_epoch) held.0.is_out in
             omega (arith, held.0.floor_is)
 
-        by_operator : (o : Operator) → operator_at (slice_get plan.steps k) ≡ o → AllByRecursion (IsKeptAt o (closed node.lanes) (bound_at plan k)) (absorbed o (on_lane l records))
-        by_operator (ParDo op) e = tt
-        by_operator (Windowed g) e = all records held.0.times
-          where
-            all : (rs : List Record) → IsWithin floor (bound_at plan k) rs → AllByRecursion (IsKeptAt (Windowed g) (closed node.lanes) (bound_at plan k)) (on_lane l rs)
-            all [] w = tt
-            all (r ∷ rs) w = ((ends-later (windows_in g) (closed node.lanes) r.time (windows-at plan is_plan k g e) (omega (arith, late, w.0.0)), w.0.1), all rs w.1)
-        by_operator Sink e = all records held.0.times
-          where
-            all : (rs : List Record) → IsWithin floor (bound_at plan k) rs → AllByRecursion (IsKeptAt Sink (closed node.lanes) (bound_at plan k)) (on_lane l rs)
-            all [] w = tt
-            all (r ∷ rs) w = ((omega (arith, late, w.0.0), w.0.1), all rs w.1)
+        in_time : AllByRecursion (λ e. (closed node.lanes ≤ e.rec.time) × (e.rec.time ≤ bound_at plan k)) (on_lane l records)
+        in_time = All-on_lane (λ r. (closed node.lanes ≤ r.time) × (r.time ≤ bound_at plan k)) l records (every (λ r w. (omega (arith, late, w.0), w.1)) records held.0.times)
+
+        by_operator : (o : Operator) → operator_at (slice_get plan.steps k) ≡ o → AreKeptAt o (closed node.lanes) (bound_at plan k) node.kept → AreKeptAt o (closed node.lanes) (bound_at plan k) (node.kept ++ absorbed o (on_lane l records))
+        by_operator (ParDo op) e all = All-join (λ e. ⊥) node.kept [] all tt
+        by_operator (Windowed g) e all = kept-more (windows-at plan is_plan k g e) (closed node.lanes) (bound_at plan k) node.kept (on_lane l records) in_time all
+        by_operator Sink e all = All-join (λ e. (closed node.lanes ≤ e.rec.time) × (e.rec.time ≤ bound_at plan k)) node.kept (on_lane l records) all in_time
 
 -- ---- a closing ends
 -- what has an epoch after the first container's is still there

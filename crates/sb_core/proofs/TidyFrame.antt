@@ -20,7 +20,7 @@ use Rattle.sb_core.specs.Moments.{is_work, lane_at, set_node, with_held, node_at
 use Rattle.sb_core.specs.Lanes.{next_epoch}
 use Rattle.sb_core.specs.Bounds.{bound_at}
 use Rattle.sb_core.specs.Holdings.{is_unpassed, IsCloseOf}
-use Rattle.sb_core.specs.Soundness.{out_of, AreNumbered, Begins, IsOpenBelow, IsKeptAt}
+use Rattle.sb_core.specs.Soundness.{out_of, AreNumbered, Begins, IsOpenBelow, AreKeptAt}
 use Rattle.sb_core.proofs.Orderly.{IsTidy}
 use Rattle.sb_core.proofs.Nodes.{begun_mark, closed-set, node_at-same, node_at-set_same, node_at-set_other}
 use Rattle.sb_core.proofs.Changed.{cases, at_place, of_node, other, closed_same}
@@ -79,7 +79,7 @@ module _ (plan : Shape) (m : Moment) (n l : ℕ) (node new : Node) (lane with : 
       → ((xs : List ℕ) → Begins xs lane.marks → Begins xs with.marks)
       → ((k : ℕ) (s : Step) (own : CoreLane) → slice_get plan.steps k ≡ Some s → s.down ≡ record { node = n; lane = l } → (node_at m k).lanes ≡ own ∷ [] → Begins with.marks own.marks)
       → ((k : ℕ) (s : Step) → slice_get plan.steps k ≡ Some s → k < s.down.node)
-      → (AllByRecursion (IsKeptAt (operator_at (slice_get plan.steps n)) (closed node.lanes) (bound_at plan n)) node.kept → AllByRecursion (IsKeptAt (operator_at (slice_get plan.steps n)) (closed node.lanes) (bound_at plan n)) new.kept)
+      → (AreKeptAt (operator_at (slice_get plan.steps n)) (closed node.lanes) (bound_at plan n) node.kept → AreKeptAt (operator_at (slice_get plan.steps n)) (closed node.lanes) (bound_at plan n) new.kept)
       → AllByRecursion (IsCloseOf plan now) held
       → IsTidy plan now
   tidy_still tidy numbers outs_here outs_other source_here below_here below_other grows marks_here further kept_new closes =
@@ -93,8 +93,8 @@ module _ (plan : Shape) (m : Moment) (n l : ℕ) (node new : Node) (lane with : 
             (λ ne. tidy.open_source s d x is (sym (elsewhere d ne) ∙ h)) (place_or n l d);
         open_below = open_below;
         own_marks = own_marks;
-        kept = λ k. ⊎_elim (λ e. subst (λ k. AllByRecursion (IsKeptAt (operator_at (slice_get plan.steps k)) (closed (node_at now k).lanes) (bound_at plan k)) (node_at now k).kept) (sym e) kept_here)
-            (λ ne. subst (λ (x : Node). AllByRecursion (IsKeptAt (operator_at (slice_get plan.steps k)) (closed x.lanes) (bound_at plan k)) x.kept) (sym (node_at-set_other m n node new at k ne)) (tidy.kept k)) (cases_eq k n);
+        kept = λ k. ⊎_elim (λ e. subst (λ k. AreKeptAt (operator_at (slice_get plan.steps k)) (closed (node_at now k).lanes) (bound_at plan k) (node_at now k).kept) (sym e) kept_here)
+            (λ ne. subst (λ (x : Node). AreKeptAt (operator_at (slice_get plan.steps k)) (closed x.lanes) (bound_at plan k) x.kept) (sym (node_at-set_other m n node new at k ne)) (tidy.kept k)) (cases_eq k n);
         closes = closes;
         sorted = tidy.sorted;
         written = subst (λ z. AllByRecursion (λ r. r.time < z) m.rows) (sym (closed_same plan m n l node new lane with at in_it lanes closings_same begun_same mark_same held (length plan.steps))) tidy.written;
@@ -137,8 +137,8 @@ module _ (plan : Shape) (m : Moment) (n l : ℕ) (node new : Node) (lane with : 
               let z : (node_at m k).lanes ≡ own ∷ [] = ap (λ (x : Node). x.lanes) (sym (node_at-set_other m n node new at k ne)) ∙ lone in
               ⊎_elim (λ e. subst (λ (x : CoreLane). Begins x.marks own.marks) (same_Some with x (sym (placed s.down e) ∙ h)) (marks_here k s own is e z)) (λ o. tidy.own_marks k s x own is (sym (elsewhere s.down o) ∙ h) z) (place_or n l s.down)
 
-      kept_here : AllByRecursion (IsKeptAt (operator_at (slice_get plan.steps n)) (closed (node_at now n).lanes) (bound_at plan n)) (node_at now n).kept
+      kept_here : AreKeptAt (operator_at (slice_get plan.steps n)) (closed (node_at now n).lanes) (bound_at plan n) (node_at now n).kept
       kept_here =
-          subst (λ (x : Node). AllByRecursion (IsKeptAt (operator_at (slice_get plan.steps n)) (closed x.lanes) (bound_at plan n)) x.kept) (sym (node_at-set_same m n node new at))
-          (subst (λ w. AllByRecursion (IsKeptAt (operator_at (slice_get plan.steps n)) w (bound_at plan n)) new.kept) (sym (ap closed lanes ∙ closed-set node.lanes l lane with in_it mark_same))
-          (kept_new (subst (λ (x : Node). AllByRecursion (IsKeptAt (operator_at (slice_get plan.steps n)) (closed x.lanes) (bound_at plan n)) x.kept) (node_at-same m n node new at) (tidy.kept n))))
+          subst (λ (x : Node). AreKeptAt (operator_at (slice_get plan.steps n)) (closed x.lanes) (bound_at plan n) x.kept) (sym (node_at-set_same m n node new at))
+          (subst (λ w. AreKeptAt (operator_at (slice_get plan.steps n)) w (bound_at plan n) new.kept) (sym (ap closed lanes ∙ closed-set node.lanes l lane with in_it mark_same))
+          (kept_new (subst (λ (x : Node). AreKeptAt (operator_at (slice_get plan.steps n)) (closed x.lanes) (bound_at plan n) x.kept) (node_at-same m n node new at) (tidy.kept n))))

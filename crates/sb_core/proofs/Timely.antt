@@ -23,7 +23,7 @@ use Rattle.sb_pipeline.specs.Elements.{on_lane, all_records}
 use Rattle.sb_pipeline.specs.Flow.{arriving, from_stream, from_streams}
 use Rattle.sb_pipeline.specs.Operators.Operator.{ParDo, Windowed, Sink}
 use Rattle.sb_pipeline.specs.declared.transform.Kind.{Kind}
-use Rattle.sb_pipeline.specs.declared.transform.Kind.TheVariants.{Do, Group, Join}
+use Rattle.sb_pipeline.specs.declared.transform.Kind.TheVariants.{Do, Group, Session, Join}
 use Rattle.sb_core.specs.Marks.{closed}
 use Rattle.sb_core.specs.Lanes.{next_floor}
 use Rattle.sb_core.specs.Moments.{lane_at, node_at, floor_of, floor_at}
@@ -61,6 +61,7 @@ pub record IsTimely (plan : Shape) (m : Moment) : Type 0 where
 pub no_sink : (kind : Kind) → is_sink (operator_of kind) ≡ false
 no_sink (Do op) = refl
 no_sink (Group agg windows) = refl
+no_sink (Session agg gap) = refl
 no_sink (Join combine windows) = refl
 
 -- ---- sums of ones that are zero

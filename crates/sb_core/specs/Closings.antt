@@ -5,11 +5,12 @@ use Rattle.sb_record.specs.declared.item.Record.{Record}
 use Rattle.sb_record.specs.Records.{sorted, before, at_least}
 use Rattle.sb_window.specs.Windows.{window_ends}
 use Rattle.sb_pardo.specs.Outputs.{outputs_of}
+use Rattle.sb_aggregate.specs.Sessions.{is_session_open}
 use Rattle.sb_pipeline.specs.declared.transform.KeptRec.{KeptRec}
 use Rattle.sb_pipeline.specs.Elements.{all_records}
 use Rattle.sb_pipeline.specs.Operators.{Operator, WindowOperator, grouped}
 use Rattle.sb_pipeline.specs.Operators.Operator.{ParDo, Windowed, Sink}
-use Rattle.sb_pipeline.specs.Operators.WindowOperator.{Aggregated, Joined}
+use Rattle.sb_pipeline.specs.Operators.WindowOperator.{Aggregated, Sessions, Joined}
 
 abbrev pub is_pardo : Operator → Bool
 is_pardo (ParDo op) = true
@@ -33,10 +34,16 @@ absorbed (ParDo op) elements = []
 absorbed (Windowed grouping) elements = elements
 absorbed Sink elements = elements
 
--- the kept records that have a window with an end above the mark
+-- whether an element is open at a mark: it has a window with an end above the mark, or its session among these elements
+-- ends above it
+abbrev pub is_open : WindowOperator → ℕ → List KeptRec → KeptRec → Bool
+is_open (Aggregated agg windows) mark elements e = list_any (λ end. nat_lt mark end) (window_ends windows e.rec.time)
+is_open (Sessions agg gap) mark elements e = is_session_open gap mark (all_records elements) e.rec
+is_open (Joined combine windows) mark elements e = list_any (λ end. nat_lt mark end) (window_ends windows e.rec.time)
+
+-- the elements that are open at the mark, among themselves
 abbrev pub still_open : WindowOperator → ℕ → List KeptRec → List KeptRec
-still_open (Joined combine windows) mark elements = filter (λ e. list_any (λ end. nat_lt mark end) (window_ends windows e.rec.time)) elements
-still_open (Aggregated agg windows) mark elements = filter (λ e. list_any (λ end. nat_lt mark end) (window_ends windows e.rec.time)) elements
+still_open grouping mark elements = filter (is_open grouping mark elements) elements
 
 -- what stays kept when a mark closes
 abbrev pub kept_at : Operator → ℕ → List KeptRec → List KeptRec
@@ -44,7 +51,8 @@ kept_at (ParDo op) mark elements = elements
 kept_at (Windowed grouping) mark elements = still_open grouping mark elements
 kept_at Sink mark elements = filter (λ e. not (nat_lt e.rec.time mark)) elements
 
--- the rows of a closing: those of the windows with an end above the floor and at most the mark, so with a time from the floor on and below the mark
+-- the rows of a closing: those of the windows, or sessions, with an end above the floor and at most the mark, so with a
+-- time from the floor on and below the mark
 abbrev pub rows_at : Operator → ℕ → ℕ → List KeptRec → List Record
 rows_at (ParDo op) floor mark elements = []
 rows_at (Windowed grouping) floor mark elements = sorted (before mark (at_least floor (grouped grouping elements)))

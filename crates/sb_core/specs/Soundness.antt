@@ -1,21 +1,21 @@
 -- Sound moments: what every event keeps.
-use Rattle.std.specs.Prelude.{◌≡◌, ℕ, ◌+◌, ◌≤◌, ◌<◌, ◌==◌, nat_lt, Bool, true, false, ◌&&◌, List, [], ◌∷◌, length, count_by, sum_by, Some, slice_get}
+use Rattle.std.specs.Prelude.{◌≡◌, ℕ, ◌+◌, ◌≤◌, ◌<◌, ◌==◌, Bool, true, false, ◌&&◌, List, [], ◌∷◌, length, count_by, sum_by, Some, slice_get}
 use Rattle.std.specs.List.{AllByRecursion, list_any}
 use Rattle.sb_record.specs.declared.item.Stream.{Stream}
 use Rattle.sb_record.specs.Orders.{IsAscending}
 use Rattle.sb_record.specs.Records.{record_cmp}
-use Rattle.sb_window.specs.Windows.{window_ends}
 use Rattle.sb_bundle.specs.declared.bundle.TheConstants.{MAX_BUNDLE}
 use Rattle.sb_pipeline.specs.declared.transform.Down.{Down}
 use Rattle.sb_pipeline.specs.declared.transform.KeptRec.{KeptRec}
 use Rattle.sb_pipeline.specs.declared.transform.Step.{Step}
 use Rattle.sb_pipeline.specs.Shapes.{Shape, source}
-use Rattle.sb_pipeline.specs.Operators.{Operator, operator_at, lanes_of, windows_in}
+use Rattle.sb_pipeline.specs.Operators.{Operator, operator_at, lanes_of}
 use Rattle.sb_pipeline.specs.Operators.Operator.{ParDo, Windowed, Sink}
 use Rattle.sb_core.specs.declared.moment.Cont.{Cont}
 use Rattle.sb_core.specs.declared.moment.CoreLane.{CoreLane}
 use Rattle.sb_core.specs.declared.moment.Moment.{Moment}
 use Rattle.sb_core.specs.Bounds.{bound_at}
+use Rattle.sb_core.specs.Closings.{is_open}
 use Rattle.sb_core.specs.Lanes.{next_epoch}
 use Rattle.sb_core.specs.Marks.{first_is_closing, begun, closed}
 use Rattle.sb_core.specs.Moments.{lane_at, node_at, floor_at, epoch_at, is_work, is_close, is_close_of}
@@ -58,11 +58,15 @@ IsOpenBelow (ParDo op) lanes unpassed next epoch floor = list_any (has_cont epoc
 IsOpenBelow (Windowed grouping) lanes unpassed next epoch floor = (unpassed ≡ true) × (epoch ≡ next)
 IsOpenBelow Sink lanes unpassed next epoch floor = ⊥
 
--- what is kept has a window that is not closed, and at the sink a time that is not closed
-abbrev pub IsKeptAt : Operator → ℕ → ℕ → KeptRec → Type 0
-IsKeptAt (ParDo op) mark bound e = ⊥
-IsKeptAt (Windowed grouping) mark bound e = (list_any (λ end. nat_lt mark end) (window_ends (windows_in grouping) e.rec.time) ≡ true) × (e.rec.time ≤ bound)
-IsKeptAt Sink mark bound e = (mark ≤ e.rec.time) × (e.rec.time ≤ bound)
+-- an element of what is kept is open at the mark up to which its node has closed, and at the sink not before it
+abbrev pub IsKeptAt : Operator → ℕ → ℕ → List KeptRec → KeptRec → Type 0
+IsKeptAt (ParDo op) mark bound kept e = ⊥
+IsKeptAt (Windowed grouping) mark bound kept e = (is_open grouping mark kept e ≡ true) × (e.rec.time ≤ bound)
+IsKeptAt Sink mark bound kept e = (mark ≤ e.rec.time) × (e.rec.time ≤ bound)
+
+-- and so are all
+abbrev pub AreKeptAt : Operator → ℕ → ℕ → List KeptRec → Type 0
+AreKeptAt o mark bound kept = AllByRecursion (IsKeptAt o mark bound kept) kept
 
 -- all that holds of a moment between two events: of its nodes and lanes, of what is held, of a transform and the lane below it, and of the rows
 pub record IsSound (plan : Shape) (m : Moment) : Type 0 where
@@ -76,7 +80,8 @@ pub record IsSound (plan : Shape) (m : Moment) : Type 0 where
   pub outs : (d : Down) (lane : CoreLane) → lane_at m d ≡ Some lane → (n : ℕ) → sum_by (out_of n) lane.conts ≡ count_by (is_work d.node d.lane n) m.held
   -- each node: how many closings it has begun, what it keeps, and at most one Close, held exactly while a container is closing
   pub closings : (k : ℕ) → (node_at m k).closings ≡ sum_by begun (node_at m k).lanes
-  pub kept : (k : ℕ) → AllByRecursion (IsKeptAt (operator_at (slice_get plan.steps k)) (closed (node_at m k).lanes) (bound_at plan k)) (node_at m k).kept
+  pub kept : (k : ℕ)
+      → AreKeptAt (operator_at (slice_get plan.steps k)) (closed (node_at m k).lanes) (bound_at plan k) (node_at m k).kept
   pub one_close : (k : ℕ) → count_by (is_close k) m.held ≤ 1
   pub closing_held : (d : Down) (lane : CoreLane) → lane_at m d ≡ Some lane → first_is_closing lane.conts ≡ true → list_any (is_close_of d.node d.lane) m.held ≡ true
   -- each Work and each Close

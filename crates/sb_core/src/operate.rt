@@ -1,18 +1,21 @@
 //! What a node does with a bundle, and at a closing.
 
-ghost use Rattle.std.specs.Prelude.{◌≡◌, ◌≤◌, ◌<◌, ◌++◌, true, All, length, nat_lt, slice_get, filter, not};
+ghost use Rattle.std.specs.Prelude.{◌≡◌, ◌≤◌, ◌<◌, ◌++◌, [], ◌∷◌, if◌then◌else◌, true, All, length, nat_lt, slice_get};
+ghost use Rattle.std.specs.Prelude.{filter, not};
 ghost use Rattle.std.specs.Prelude.{OnOk, OnErr, IfOk, IsOk};
 ghost use Rattle.std.specs.List.{list_any};
 ghost use Rattle.sb_record.specs.Records.{at_least};
+ghost use Rattle.sb_aggregate.specs.Sessions.{is_session_open};
+ghost use Rattle.sb_pipeline.specs.Elements as elements_spec;
 ghost use Rattle.sb_pipeline.specs.Elements.{on_lane};
 ghost use Rattle.sb_pipeline.specs.Operators.{operator_at};
 ghost use Rattle.sb_window.specs.Windows.{window_ends};
 ghost use Rattle.sb_core.specs.Closings as spec;
 
 use sb_pardo::apply;
-use sb_pipeline::{KeptRec, Kind, Plan};
+use sb_pipeline::{KeptRec, Kind, MAX_GAP, Plan};
 use sb_record::{END_MARK, NoMemory, Record};
-use sb_slow::{all_records, output, push_on_lane, sort_below};
+use sb_slow::{all_records, output, push_on_lane, session_ends, sort_below};
 use sb_window::Windows;
 use std::alloc::Global;
 
@@ -101,6 +104,37 @@ fn still_open(
     Ok(left)
 }
 
+/// The elements whose session, among these, ends above the mark.
+fn in_open_sessions(
+    alloc: Global,
+    gap: u64,
+    mark: u64,
+    kept: &[KeptRec],
+) -> Result<Vec<KeptRec>, NoMemory>
+    requires gap { gap ≤ MAX_GAP }
+    requires times { All (λ e. e.rec.time < END_MARK) kept.now }
+    ensures { IfOk result (λ open_.
+        open_.items ≡ filter (λ e. is_session_open gap mark (elements_spec.all_records kept.now) e.rec) kept.now) }
+{
+    let records = all_records(alloc, kept)?;
+    let ends = session_ends(alloc, gap, &records)?;
+    let mut left = Vec::new(alloc);
+    for (place, element) in kept.iter().enumerate() {
+        push_if(mark < ends[place], element, &mut left)?;
+    }
+    Ok(left)
+}
+
+/// Appends the element, where it passes.
+fn push_if(passes: bool, element: &KeptRec, left: &mut Vec<KeptRec>) -> Result<(), NoMemory>
+    ensures { OnOk result (left.new.items ≡ left.old.items ++ (if passes then element.now ∷ [] else [])) }
+{
+    if passes {
+        left.push(*element)?;
+    }
+    Ok(())
+}
+
 /// The elements with a time from the mark on.
 fn from_mark(alloc: Global, mark: u64, kept: &[KeptRec]) -> Result<Vec<KeptRec>, NoMemory>
     ensures { IfOk result (λ left. left.items ≡ filter (λ e. not (nat_lt e.rec.time mark)) kept.now) }
@@ -136,6 +170,7 @@ pub(crate) fn kept_at(
             left.extend_from_slice(kept)?;
             Ok(left)
         }
+        Kind::Session(_, gap) => in_open_sessions(alloc, *gap, mark, kept),
         Kind::Group(_, windows) | Kind::Join(_, windows) => still_open(alloc, windows, mark, kept),
     }
 }

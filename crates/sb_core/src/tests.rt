@@ -397,3 +397,27 @@ fn any_order_gives_the_rows_of_the_plain_program(rt: HostRuntime) -> Result<(), 
         "4,0,5 9,0,6 9,0,15 14,0,6 14,0,10 34,0,1 39,0,1",
     )
 }
+
+#[test]
+fn any_order_gives_the_sessions_of_the_plain_program(rt: HostRuntime) -> Result<(), Fail> {
+    let alloc = rt.alloc();
+    let kinds = vec![in alloc; Kind::Session(Agg::Sum, 5)]?;
+    check_driven(
+        &rt,
+        &chain(alloc, kinds, None)?,
+        "r,a,1,1,2 r,a,4,1,3 r,a,9,1,4 w,a,9 r,a,10,2,7 w,a,12 r,a,13,1,1 r,a,20,1,5",
+        "8,1,5 14,2,7 17,1,5 24,1,5",
+    )?;
+
+    let kinds = vec![in alloc;
+        group(Agg::Sum, 10, 10)?,
+        Kind::Session(Agg::Max, 15),
+        group(Agg::Sum, 100, 100)?,
+    ]?;
+    check_driven(
+        &rt,
+        &chain(alloc, kinds, None)?,
+        "r,a,3,1,4 r,a,13,1,6 w,a,20 r,a,47,1,1",
+        "99,1,7",
+    )
+}
