@@ -56,3 +56,4 @@ pub mod InPlace
 pub mod FromHeld
 pub mod Carried
 pub mod Finished
+pub mod EventParts

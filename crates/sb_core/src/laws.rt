@@ -75,3 +75,9 @@ pub fn parts_keep_sound()
 pub fn held_parts_keep_sound()
     ensures { part.HeldPartsKeepSound }
 {}
+
+/// Each event whose condition holds is what it does to the part of its node: of its node alone, or of the bundle or
+/// closing that it concerns as well.
+pub fn events_are_parts()
+    ensures { part.EventsAreParts }
+{}
