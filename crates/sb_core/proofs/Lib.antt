@@ -57,3 +57,4 @@ pub mod FromHeld
 pub mod Carried
 pub mod Finished
 pub mod EventParts
+pub mod OneLaneLaw

@@ -17,3 +17,4 @@ pub mod Holdings
 pub mod Soundness
 pub mod Laws
 pub mod Parts
+pub mod OneLane

@@ -2,6 +2,7 @@
 //! contract, and does nothing.
 
 ghost use Rattle.sb_core.specs.Laws as law;
+ghost use Rattle.sb_core.specs.OneLane as lane;
 ghost use Rattle.sb_core.specs.Parts as part;
 
 /// Each event whose condition holds keeps a moment sound, and exact for what was fed with what the event feeds.
@@ -80,4 +81,15 @@ pub fn held_parts_keep_sound()
 /// closing that it concerns as well.
 pub fn events_are_parts()
     ensures { part.EventsAreParts }
+{}
+
+/// An event that concerns nothing that is held changes the lane of its place alone. Of these only a watermark adds to
+/// the lane's marks.
+pub fn one_lane_changes()
+    ensures { lane.OneLaneChanges }
+{}
+
+/// So does an event of a bundle or closing. Of these only a closing that passes its watermark adds to the marks.
+pub fn held_one_lane_changes()
+    ensures { lane.HeldOneLaneChanges }
 {}
