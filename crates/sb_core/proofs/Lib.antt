@@ -58,3 +58,4 @@ pub mod Carried
 pub mod Finished
 pub mod EventParts
 pub mod OneLaneLaw
+pub mod LaterRows

@@ -18,3 +18,4 @@ pub mod Soundness
 pub mod Laws
 pub mod Parts
 pub mod OneLane
+pub mod NewRows

@@ -2,6 +2,7 @@
 //! contract, and does nothing.
 
 ghost use Rattle.sb_core.specs.Laws as law;
+ghost use Rattle.sb_core.specs.NewRows as rows;
 ghost use Rattle.sb_core.specs.OneLane as lane;
 ghost use Rattle.sb_core.specs.Parts as part;
 
@@ -92,4 +93,14 @@ pub fn one_lane_changes()
 /// So does an event of a bundle or closing. Of these only a closing that passes its watermark adds to the marks.
 pub fn held_one_lane_changes()
     ensures { lane.HeldOneLaneChanges }
+{}
+
+/// The rows that an event adds have times from the watermark on up to which the sink had closed.
+pub fn new_rows_are_later()
+    ensures { rows.NewRowsAreLater }
+{}
+
+/// An event of a bundle or closing adds no rows.
+pub fn held_add_no_rows()
+    ensures { rows.HeldAddNoRows }
 {}
