@@ -59,3 +59,5 @@ pub mod Finished
 pub mod EventParts
 pub mod OneLaneLaw
 pub mod LaterRows
+pub mod AtRest
+pub mod NoneLeft

@@ -19,3 +19,4 @@ pub mod Laws
 pub mod Parts
 pub mod OneLane
 pub mod NewRows
+pub mod Rest

@@ -5,6 +5,7 @@ ghost use Rattle.sb_core.specs.Laws as law;
 ghost use Rattle.sb_core.specs.NewRows as rows;
 ghost use Rattle.sb_core.specs.OneLane as lane;
 ghost use Rattle.sb_core.specs.Parts as part;
+ghost use Rattle.sb_core.specs.Rest as rest;
 
 /// Each event whose condition holds keeps a moment sound, and exact for what was fed with what the event feeds.
 pub fn events_keep_sound()
@@ -103,4 +104,24 @@ pub fn new_rows_are_later()
 /// An event of a bundle or closing adds no rows.
 pub fn held_add_no_rows()
     ensures { rows.HeldAddNoRows }
+{}
+
+/// With no work left the sink has closed up to the low watermark.
+pub fn closes_low()
+    ensures { rest.ClosesLow }
+{}
+
+/// So the rows are the plan's below the low watermark, whatever still comes.
+pub fn rows_at_rest()
+    ensures { rest.RowsAtRest }
+{}
+
+/// With each stream sealed with the last watermark and no work left, no container is left.
+pub fn settles()
+    ensures { rest.Settles }
+{}
+
+/// Then the rows are all of the plan's.
+pub fn rows_at_the_end()
+    ensures { rest.RowsAtTheEnd }
 {}
