@@ -18,6 +18,7 @@ use Rattle.sb_pipeline.specs.declared.transform.Down.{Down}
 use Rattle.sb_pipeline.specs.declared.transform.Step.{Step}
 use Rattle.sb_core.specs.declared.moment.Node.{Node}
 use Rattle.sb_core.specs.declared.moment.CoreLane.{CoreLane}
+use Rattle.sb_core.specs.Soundness.{IsOpenAtSource}
 use Rattle.sb_pipeline.specs.Shapes.{Shape}
 use Rattle.sb_record.specs.Records.{record_cmp, at_least}
 use Rattle.sb_pipeline.specs.Operators.{Operator, operator_of, operator_at, lanes_of, grouped, output}
@@ -154,7 +155,7 @@ module _ (plan : Shape) (is_plan : IsPlan plan) (bundle : ℕ) where
           lanes = λ k b. ap (λ (x : Node). length x.lanes) (node_is k b) ∙ length-replicate (lanes_of (operator_at (slice_get plan.steps k))) empty_lane;
           numbers = λ d lane h. subst AreNumbered (sym (only_empty d lane h)) numbered_none;
           outs = λ d lane h n. ap (λ (x : CoreLane). sum_by (out_of n) x.conts) (only_empty d lane h);
-          open_source = λ s d lane is h. subst (λ (x : CoreLane). AllByRecursion (λ c. next_epoch x ≤ c.epoch → c.epoch ≡ next_epoch x) x.conts) (sym (only_empty d lane h)) tt;
+          open_source = λ s d lane is h. subst (λ (x : CoreLane). AllByRecursion (λ c. next_epoch x ≤ c.epoch → IsOpenAtSource (next_epoch x) c.epoch c.floor) x.conts) (sym (only_empty d lane h)) tt;
           open_below = λ k s lane is h. subst (λ (x : CoreLane). AllByRecursion (λ c. next_epoch x ≤ c.epoch → IsOpenBelow (operator_at (slice_get plan.steps k)) (node_at (first plan bundle) k).lanes false (next_epoch x) c.epoch c.floor) x.conts) (sym (only_empty s.down lane h)) tt;
           own_marks = λ k s lane own is h e. subst (λ (x : CoreLane). Begins x.marks own.marks) (sym (only_empty s.down lane h)) tt;
           kept = λ k. subst (AreKeptAt (operator_at (slice_get plan.steps k)) (closed (node_at (first plan bundle) k).lanes) (bound_at plan k)) (sym (kept_none k)) tt;

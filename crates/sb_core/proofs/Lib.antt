@@ -58,3 +58,8 @@ pub mod InPlace
 pub mod FromHeld
 pub mod Carried
 pub mod Finished
+pub mod EventParts
+pub mod OneLaneLaw
+pub mod LaterRows
+pub mod AtRest
+pub mod NoneLeft

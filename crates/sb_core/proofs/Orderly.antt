@@ -8,6 +8,7 @@ use Rattle.sb_record.specs.Records.{record_cmp}
 use Rattle.sb_bundle.specs.declared.bundle.TheConstants.{MAX_BUNDLE}
 use Rattle.sb_pipeline.specs.declared.transform.Down.{Down}
 use Rattle.sb_pipeline.specs.declared.transform.Step.{Step}
+use Rattle.sb_core.specs.Soundness.{IsOpenAtSource}
 use Rattle.sb_pipeline.specs.Shapes.{Shape, source}
 use Rattle.sb_pipeline.specs.Operators.{Operator, operator_of, operator_at, lanes_of}
 use Rattle.sb_pipeline.specs.Operators.Operator.{ParDo, Windowed, Sink}
@@ -38,7 +39,7 @@ pub record IsTidy (plan : Shape) (m : Moment) : Type 0 where
   pub lanes : (k : ℕ) → k ≤ length plan.steps → length (node_at m k).lanes ≡ lanes_of (operator_at (slice_get plan.steps k))
   pub numbers : (d : Down) (lane : CoreLane) → lane_at m d ≡ Some lane → AreNumbered lane
   pub outs : (d : Down) (lane : CoreLane) → lane_at m d ≡ Some lane → (n : ℕ) → sum_by (out_of n) lane.conts ≡ count_by (is_work d.node d.lane n) m.held
-  pub open_source : (s : Stream) (d : Down) (lane : CoreLane) → source plan s ≡ Some d → lane_at m d ≡ Some lane → AllByRecursion (λ c. next_epoch lane ≤ c.epoch → c.epoch ≡ next_epoch lane) lane.conts
+  pub open_source : (s : Stream) (d : Down) (lane : CoreLane) → source plan s ≡ Some d → lane_at m d ≡ Some lane → AllByRecursion (λ c. next_epoch lane ≤ c.epoch → IsOpenAtSource (next_epoch lane) c.epoch c.floor) lane.conts
   pub open_below : (k : ℕ) (s : Step) (lane : CoreLane) → slice_get plan.steps k ≡ Some s → lane_at m s.down ≡ Some lane
       → AllByRecursion (λ c. next_epoch lane ≤ c.epoch → IsOpenBelow (operator_at (slice_get plan.steps k)) (node_at m k).lanes (list_any (is_unpassed k) m.held) (next_epoch lane) c.epoch c.floor) lane.conts
   pub own_marks : (k : ℕ) (s : Step) (lane own : CoreLane) → slice_get plan.steps k ≡ Some s → lane_at m s.down ≡ Some lane → (node_at m k).lanes ≡ own ∷ [] → Begins lane.marks own.marks

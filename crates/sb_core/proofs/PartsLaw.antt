@@ -7,7 +7,7 @@ use Rattle.sb_core.specs.Lanes
 use Rattle.sb_core.specs.Marks
 use Rattle.sb_core.specs.Moments
 use Rattle.std.proofs.Common.{◌≡◌, ℕ, suc, zero, ◌+◌, Bool, true, false, not, cond, eqb, List, [], ◌∷◌, ◌++◌, Some, None, Option, sym, refl, ap, ◌∙◌, append-nil, take, drop}
-use Rattle.std.specs.Prelude.{◌||◌}
+use Rattle.std.specs.Prelude.{◌&&◌, ◌||◌}
 use Rattle.std.specs.List.{slice_get, slice_set, list_any}
 use Rattle.std.proofs.lemmas.Bool.{eqb-true, and_parts}
 use Rattle.std.proofs.lemmas.List.Sorted.{IsPermutation-append_comm}
@@ -27,17 +27,17 @@ use Rattle.sb_record.specs.Reading.{◌>>=◌}
 use Rattle.sb_core.specs.Choices.{only_if}
 use Rattle.sb_core.specs.Moments.{with_held, set_node, set_lane, lane_at, with_lane}
 use Rattle.sb_core.specs.Events.{arrived_at}
-use Rattle.sb_core.specs.Laws.{fed_after}
+use Rattle.sb_core.specs.Laws.{concerns, fed_after}
 use Rattle.sb_core.specs.Parts.{PartsKeepSound, HeldPartsKeepSound, Part, only_node, put_in, with_part, PartsAreEvents, held_after, HeldPartsAreEvents}
 use Rattle.sb_core.proofs.Lists.{cond_is_some}
 use Rattle.sb_core.proofs.AnyOrder.{held-in_any_order, idle-by_its_lanes}
 use Rattle.sb_core.proofs.AfterSound.{events-keep_sound}
 
 -- a chain that is known step by step
-chain : {X Y : Type 0} (o : Option X) (f : X → Option Y) (x : X) (y : Y) → o ≡ Some x → f x ≡ Some y → (o >>= f) ≡ Some y
+pub chain : {X Y : Type 0} (o : Option X) (f : X → Option Y) (x : X) (y : Y) → o ≡ Some x → f x ≡ Some y → (o >>= f) ≡ Some y
 chain o f x y h k = ap (λ o. o >>= f) h ∙ k
 
-passing : {X : Type 0} (b : Bool) (o : Option X) (x : X) → b ≡ true → o ≡ Some x → only_if b o ≡ Some x
+pub passing : {X : Type 0} (b : Bool) (o : Option X) (x : X) → b ≡ true → o ≡ Some x → only_if b o ≡ Some x
 passing b o x h k = ap (λ b. cond b o None) h ∙ k
 
 module _ (m : Moment) (d : Down) (node : Node) (at : slice_get m.nodes d.node ≡ Some node) where
@@ -63,7 +63,7 @@ module _ (m : Moment) (d : Down) (node : Node) (at : slice_get m.nodes d.node �
 settle : (m : Moment) (k : ℕ) (rest held : List Held) (p : Part) → rest ++ p.held ≡ held → p.rows ≡ [] → record m { nodes = slice_set m.nodes k p.node; held = held } ≡ with_part k rest m p
 settle m k rest held p e r = λ i. record m { nodes = slice_set m.nodes k p.node; held = sym e i; rows = sym (ap (λ l. m.rows ++ l) r ∙ append-nil m.rows) i }
 
-names : (o : Option Down) (k : ℕ) → (o >>= λ d. Some d.node) ≡ Some k → (d : Down) × (o ≡ Some d) × (d.node ≡ k)
+pub names : (o : Option Down) (k : ℕ) → (o >>= λ d. Some d.node) ≡ Some k → (d : Down) × (o ≡ Some d) × (d.node ≡ k)
 names o k h = let a = bind_some o (λ d. Some d.node) k h in (a.0, a.1, same_Some a.0.node k a.2)
 
 -- whether a lane of the list is closing
@@ -133,6 +133,21 @@ parts-are_events plan m (Begin n l) k node p sound named at h =
     of_node n at_n i lane z = sym (ap (λ (o : Option Node). o >>= λ x. slice_get x.lanes i) at_n) ∙ z
 
 -- ---- events of what is at the head
+-- whose Work or Close it is
+pub owner-close : (n l number y i epoch serial floor mark : ℕ) (rows : List Record) (passed : Bool) → concerns (Deliver n l number) (Close y i epoch serial floor mark rows passed) ≡ true → y ≡ n
+owner-close n l number y i epoch serial floor mark rows passed h = by_case (eqb number 0) h
+  where
+    by_case : (b : Bool) → cond b (eqb y n && eqb i l) false ≡ true → y ≡ n
+    by_case true h = eqb-true y n (and_parts (eqb y n) (eqb i l) h).0
+    by_case false h = cc
+
+pub owner-work : (n l number y i epoch floor other : ℕ) (records : List Record) (delivered : Bool) → concerns (Deliver n l number) (Work y i epoch floor other records delivered) ≡ true → y ≡ n
+owner-work n l number y i epoch floor other records delivered h = by_case (eqb number 0) h
+  where
+    by_case : (b : Bool) → cond b false (eqb y n && (eqb i l && eqb other number)) ≡ true → y ≡ n
+    by_case true h = cc
+    by_case false h = eqb-true y n (and_parts (eqb y n) _ h).0
+
 found : (p : Held → Bool) (h : Held) (rest : List Held) (f : Held × List Held → Option Moment) (y : Moment) → p h ≡ true → f (h, rest) ≡ Some y → (Choices.pulled p (h ∷ rest) >>= f) ≡ Some y
 found p h rest f y e k = chain (Choices.pulled p (h ∷ rest)) f (h, rest) y (ap (λ b. cond {A = Option (Held × List Held)} b (Some (h, rest)) (Choices.pulled p rest >>= λ q. Some (q.0, h ∷ q.1))) e) k
 
@@ -144,7 +159,7 @@ module _ (plan : Shape) (m : Moment) (rest : List Held) (k : ℕ) (node : Node) 
       let q : d.node ≡ k = ap (λ (d : Down). d.node) same ∙ z.2 in
       (q, ap (slice_get m.nodes) q ∙ at)
 
-  rows_part : (n l : ℕ) (h : Held) → Moments.is_close_of n l h ≡ true → (Events.below plan n >>= λ d. Some d.node) ≡ Some k → held_after plan m.bundle (Deliver n l 0) h node ≡ Some p → Events.deliver_rows plan (with_held (h ∷ rest) m) h rest ≡ Some (with_part k rest m p)
+  pub rows_part : (n l : ℕ) (h : Held) → Moments.is_close_of n l h ≡ true → (Events.below plan n >>= λ d. Some d.node) ≡ Some k → held_after plan m.bundle (Deliver n l 0) h node ≡ Some p → Events.deliver_rows plan (with_held (h ∷ rest) m) h rest ≡ Some (with_part k rest m p)
   rows_part n l (Work y i epoch floor number records delivered) t named h = cc
   rows_part n l (Close y i epoch serial floor mark rows passed) t named h =
       let a = bind_some (Events.below plan y) _ p h in
@@ -155,7 +170,7 @@ module _ (plan : Shape) (m : Moment) (rest : List Held) (k : ℕ) (node : Node) 
       chain (Events.below plan y) _ a.0 _ a.1 (passing _ _ _ c.0 w.0)
       ∙ ap Some (settle m a.0.node rest (rest ++ left) p (ap (λ l. rest ++ l) w.1) w.2) ∙ ap (λ k. Some (with_part k rest m p)) z.0
 
-  work_part : (n l number : ℕ) (h : Held) → Moments.is_work n l number h ≡ true → (Events.below plan n >>= λ d. Some d.node) ≡ Some k → held_after plan m.bundle (Deliver n l number) h node ≡ Some p → Events.deliver_work plan (with_held (h ∷ rest) m) h rest ≡ Some (with_part k rest m p)
+  pub work_part : (n l number : ℕ) (h : Held) → Moments.is_work n l number h ≡ true → (Events.below plan n >>= λ d. Some d.node) ≡ Some k → held_after plan m.bundle (Deliver n l number) h node ≡ Some p → Events.deliver_work plan (with_held (h ∷ rest) m) h rest ≡ Some (with_part k rest m p)
   work_part n l number (Close y i epoch serial floor mark rows passed) t named h = cc
   work_part n l number (Work y i epoch floor other records delivered) t named h =
       let a = bind_some (Events.below plan y) _ p h in
@@ -166,7 +181,7 @@ module _ (plan : Shape) (m : Moment) (rest : List Held) (k : ℕ) (node : Node) 
       chain (Events.below plan y) _ a.0 _ a.1 (passing _ _ _ c.0 w.0)
       ∙ ap Some (settle m a.0.node rest (rest ++ left) p (ap (λ l. rest ++ l) w.1) w.2) ∙ ap (λ k. Some (with_part k rest m p)) z.0
 
-  finish_part : (n l number : ℕ) (h : Held) → Moments.is_work n l number h ≡ true → n ≡ k → held_after plan m.bundle (Finish n l number) h node ≡ Some p → Events.after_finish plan (with_held (h ∷ rest) m) h rest ≡ Some (with_part k rest m p)
+  pub finish_part : (n l number : ℕ) (h : Held) → Moments.is_work n l number h ≡ true → n ≡ k → held_after plan m.bundle (Finish n l number) h node ≡ Some p → Events.after_finish plan (with_held (h ∷ rest) m) h rest ≡ Some (with_part k rest m p)
   finish_part n l number (Close y i epoch serial floor mark rows passed) t named h = cc
   finish_part n l number (Work y i epoch floor other records delivered) t named h =
       let b = bind_some (slice_get node.lanes i) _ p h in
@@ -178,7 +193,7 @@ module _ (plan : Shape) (m : Moment) (rest : List Held) (k : ℕ) (node : Node) 
       (chain (slice_get node.lanes i) _ b.0 _ b.1 (passing _ _ _ c.0 refl))
       ∙ ap Some (settle m y rest rest made (append-nil rest) refl) ∙ (λ j. Some (with_part (same j) rest m (is j)))
 
-  pass_part : (n : ℕ) (h : Held) → Moments.is_close n h ≡ true → (Events.below plan n >>= λ d. Some d.node) ≡ Some k → held_after plan m.bundle (Pass n) h node ≡ Some p → Events.after_pass plan (with_held (h ∷ rest) m) h rest ≡ Some (with_part k rest m p)
+  pub pass_part : (n : ℕ) (h : Held) → Moments.is_close n h ≡ true → (Events.below plan n >>= λ d. Some d.node) ≡ Some k → held_after plan m.bundle (Pass n) h node ≡ Some p → Events.after_pass plan (with_held (h ∷ rest) m) h rest ≡ Some (with_part k rest m p)
   pass_part n (Work y i epoch floor number records delivered) t named h = cc
   pass_part n (Close y i epoch serial floor mark rows passed) t named h =
       let a = bind_some (Events.below plan y) _ p h in
@@ -192,7 +207,7 @@ module _ (plan : Shape) (m : Moment) (rest : List Held) (k : ℕ) (node : Node) 
       (chain (lane_at m a.0) _ b.0 _ (lane_there m a.0 node z.1 b.0 b.1) (passing _ _ _ c.0 (lane_put (with_held (rest ++ left) m) a.0 node z.1 (Lanes.with_seal mark b.0))))
       ∙ ap Some (settle m a.0.node rest (rest ++ left) made refl refl) ∙ (λ j. Some (with_part (z.0 j) rest m (is j)))
 
-  end_part : (n : ℕ) (h : Held) → Moments.is_close n h ≡ true → n ≡ k → held_after plan m.bundle (End n) h node ≡ Some p → Events.after_end (with_held (h ∷ rest) m) h rest ≡ Some (with_part k rest m p)
+  pub end_part : (n : ℕ) (h : Held) → Moments.is_close n h ≡ true → n ≡ k → held_after plan m.bundle (End n) h node ≡ Some p → Events.after_end (with_held (h ∷ rest) m) h rest ≡ Some (with_part k rest m p)
   end_part n (Work y i epoch floor number records delivered) t named h = cc
   end_part n (Close y i epoch serial floor mark rows passed) t named h =
       let b = bind_some (slice_get node.lanes i) _ p h in

@@ -18,6 +18,7 @@ use Rattle.sb_core.specs.declared.moment.CoreLane.{CoreLane}
 use Rattle.sb_pipeline.specs.declared.transform.Down.{Down}
 use Rattle.sb_core.specs.declared.moment.Node.{Node}
 use Rattle.sb_pipeline.specs.declared.transform.Step.{Step}
+use Rattle.sb_core.specs.Soundness.{IsOpenAtSource}
 use Rattle.sb_pipeline.specs.Shapes.{Shape}
 use Rattle.sb_core.specs.declared.moment.Moment.{Moment}
 use Rattle.sb_core.specs.declared.held.Held.{Held}
@@ -214,7 +215,7 @@ module _ (plan : Shape) (is_plan : IsPlan plan) (m : Moment) (n l : ℕ) (node :
               (λ ne. ap (λ (x : Node). length x.lanes) (node_at-set_other m n node new at k ne) ∙ tidy.lanes k b) (cases_eq k n);
           numbers = λ d x h. let b = as_before d x h in numbered-less b.0 x b.2.2 (λ i. omega (arith, (b.2.3 i).0)) (tidy.numbers d b.0 b.1);
           outs = λ d x h i. let b = as_before d x h in (b.2.3 i).1 ∙ tidy.outs d b.0 b.1 i ∙ sym (count_snoc (is_work d.node d.lane i) m.held close ∙ add-zero _);
-          open_source = λ s d x is h. let b = as_before d x h in subst (λ z. AllByRecursion (λ c. z ≤ c.epoch → c.epoch ≡ z) x.conts) (ap length (sym b.2.0)) (All-same (λ e f. next_epoch b.0 ≤ e → e ≡ next_epoch b.0) b.0.conts x.conts b.2.1 (tidy.open_source s d b.0 is b.1));
+          open_source = λ s d x is h. let b = as_before d x h in subst (λ z. AllByRecursion (λ c. z ≤ c.epoch → IsOpenAtSource z c.epoch c.floor) x.conts) (ap length (sym b.2.0)) (All-same (λ e f. next_epoch b.0 ≤ e → IsOpenAtSource (next_epoch b.0) e f) b.0.conts x.conts b.2.1 (tidy.open_source s d b.0 is b.1));
           open_below = λ k s x is h. let b = as_before s.down x h in
               subst (λ z. AllByRecursion (λ c. z ≤ c.epoch → IsOpenBelow (operator_at (slice_get plan.steps k)) (node_at after k).lanes (list_any (is_unpassed k) (m.held ++ close ∷ [])) z c.epoch c.floor) x.conts) (ap length (sym b.2.0))
               (All-same (λ e f. next_epoch b.0 ≤ e → IsOpenBelow (operator_at (slice_get plan.steps k)) (node_at after k).lanes (list_any (is_unpassed k) (m.held ++ close ∷ [])) (next_epoch b.0) e f) b.0.conts x.conts b.2.1

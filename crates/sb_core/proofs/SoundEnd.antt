@@ -35,6 +35,7 @@ use Rattle.sb_core.specs.Closings.{absorbed, is_pardo}
 use Rattle.sb_core.specs.Lanes.{finish_in, next_epoch, take_from}
 use Rattle.sb_core.specs.Events.{after_take, after_finish, after_end}
 use Rattle.sb_core.specs.LaneOrder.{IsWithin, IsLane, IsReady, AreContainers}
+use Rattle.sb_core.specs.Soundness.{IsOpenAtSource}
 use Rattle.sb_core.specs.Bounds.{bound_at}
 use Rattle.sb_core.specs.Holdings.{IsHeld, is_unpassed, IsCloseOf}
 use Rattle.sb_core.specs.Soundness.{out_of, numbers_of, has_cont, IsOpenBelow, AreKeptAt, IsSound}
@@ -80,7 +81,7 @@ take-sound plan is_plan m m' d number h sound =
         (numbered-less lane (record lane { conts = q.1 }) refl (λ n. omega (arith, (taken-sums number n lane.conts q took).0)) ((tidy_of sound).numbers d lane at))
         (λ i. (taken-sums number i lane.conts q took).1 ∙ (λ z. (tidy_of sound).outs d lane at i z + here_is i z) ∙ sym (count_snoc (is_work d.node d.lane i) m.held work))
         (λ e ne i. count_snoc (is_work e.node e.lane i) m.held work ∙ ap (λ b. count_by (is_work e.node e.lane i) m.held + cond b 1 0) (not_here e ne i) ∙ add-zero _)
-        (λ s is. All-same (λ e f. next_epoch lane ≤ e → e ≡ next_epoch lane) lane.conts q.1 same ((tidy_of sound).open_source s d lane is at))
+        (λ s is. All-same (λ e f. next_epoch lane ≤ e → IsOpenAtSource (next_epoch lane) e f) lane.conts q.1 same ((tidy_of sound).open_source s d lane is at))
         (λ k s is e. every (λ c z b. moves k (next_epoch lane) c.epoch c.floor (z b)) q.1
         (All-same (λ e f. next_epoch lane ≤ e → IsOpenBelow (operator_at (slice_get plan.steps k)) (node_at m k).lanes (list_any (is_unpassed k) m.held) (next_epoch lane) e f) lane.conts q.1 same ((tidy_of sound).open_below k s lane is (ap (lane_at m) e ∙ at))))
         (λ k s under is ne at_under e f b z. moves k (next_epoch under) e f z)
@@ -127,7 +128,7 @@ finish-sound plan is_plan m m' sound (Work k l epoch floor number records delive
           tidy = tidy_still plan m k l node new lane (record lane { conts = finish_in epoch number lane.conts }) at in_it refl refl begins (ap (λ n. last_of_first n lane.marks) begins) others (tidy_of sound)
               (numbered-less lane (record lane { conts = finish_in epoch number lane.conts }) refl (λ n. (finished-sums epoch number n lane.conts).0) ((tidy_of sound).numbers place lane was))
               outs_here outs_other
-              (λ s is. All-same (λ e f. next_epoch lane ≤ e → e ≡ next_epoch lane) lane.conts (finish_in epoch number lane.conts) same ((tidy_of sound).open_source s place lane is was))
+              (λ s is. All-same (λ e f. next_epoch lane ≤ e → IsOpenAtSource (next_epoch lane) e f) lane.conts (finish_in epoch number lane.conts) same ((tidy_of sound).open_source s place lane is was))
               (λ j s is e. every (λ c z b. moves j (next_epoch lane) c.epoch c.floor (z b)) (finish_in epoch number lane.conts)
               (All-same (λ e f. next_epoch lane ≤ e → IsOpenBelow (operator_at (slice_get plan.steps j)) (node_at m j).lanes (list_any (is_unpassed j) m.held) (next_epoch lane) e f) lane.conts (finish_in epoch number lane.conts) same ((tidy_of sound).open_below j s lane is (ap (lane_at m) e ∙ was))))
               (λ j s under is ne at_under e f b z. moves j (next_epoch under) e f z)
@@ -255,7 +256,7 @@ end-sound plan is_plan m m' sound (Close y l epoch serial floor mark rows passed
               (numbered-less lane (shorter lane) refl (λ n. drop_sum (numbers_of n) lane.conts) ((tidy_of sound).numbers (record { node = y; lane = l }) lane was))
               (λ i. end-outs i lane.conts ok.ready closing ∙ (tidy_of sound).outs (record { node = y; lane = l }) lane was i ∙ sym (works y l i))
               (λ d ne i. works d.node d.lane i)
-              (λ s is. All-drop (λ c. next_epoch lane ≤ c.epoch → c.epoch ≡ next_epoch lane) 1 lane.conts ((tidy_of sound).open_source s (record { node = y; lane = l }) lane is was))
+              (λ s is. All-drop (λ c. next_epoch lane ≤ c.epoch → IsOpenAtSource (next_epoch lane) c.epoch c.floor) 1 lane.conts ((tidy_of sound).open_source s (record { node = y; lane = l }) lane is was))
               (λ k s is e. every (λ c z b. moves k s lane is (ap (lane_at m) e ∙ was) c.epoch c.floor b (z b)) (drop 1 lane.conts)
               (All-drop (λ c. next_epoch lane ≤ c.epoch → IsOpenBelow (operator_at (slice_get plan.steps k)) (node_at m k).lanes (list_any (is_unpassed k) m.held) (next_epoch lane) c.epoch c.floor) 1 lane.conts ((tidy_of sound).open_below k s lane is (ap (lane_at m) e ∙ was))))
               (λ k s under is ne at_under e f b z. moves k s under is at_under e f b z)

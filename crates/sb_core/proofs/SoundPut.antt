@@ -58,6 +58,13 @@ use Rattle.sb_core.proofs.HeldLists.{any_same, any_swap, count_swap, every_both,
 use Rattle.sb_core.proofs.TidyLanes.{has-at}
 use Rattle.sb_core.proofs.TidyPut.{put-tidy}
 
+-- a record that may come shows that the floor is a time
+floor_in_time : (floor : ℕ) (records : List Record) → not (is_empty records) ≡ true → list_all (λ r. nat_le floor r.time && nat_le r.time MAX_TIME) records ≡ true → floor ≤ MAX_TIME
+floor_in_time floor [] some all = cc
+floor_in_time floor (r ∷ records) some all =
+    let t = and_parts (nat_le floor r.time) (nat_le r.time MAX_TIME) (and_parts (nat_le floor r.time && nat_le r.time MAX_TIME) _ all).0 in
+    omega (arith, nat_le-le floor r.time t.0, nat_le-le r.time MAX_TIME t.1)
+
 -- ---- an arrival
 pub arrive-sound : (plan : Shape) (is_plan : IsPlan plan) (m m' : Moment) (s : Stream) (records : List Record) → after_arrive plan m s records ≡ Some m' → IsSound plan m → IsSound plan m'
 arrive-sound plan is_plan m m' s records h sound =
@@ -75,12 +82,14 @@ arrive-sound plan is_plan m m' s records h sound =
         let p = lane_at-parts m d lane at in
         let with : CoreLane = with_arrival (next_epoch lane) (next_floor lane) records lane in
         let made = with_lane-is m d p.0 with m' p.1 (ap (λ x. Moments.with_lane d (with_arrival (next_epoch lane) (next_floor lane) records x) m) (sym same) ∙ h) in
+        let some = and_parts (not (is_empty records)) _ test in
+        let each = (and_parts (nat_le (length records) m.bundle) _ some.1).1 in
         let times : IsWithin (next_floor lane) (bound_at plan d.node) records =
-        list_all-AllByRecursion (λ r. nat_le (next_floor lane) r.time && nat_le r.time MAX_TIME) (λ r. (next_floor lane ≤ r.time) × (r.time ≤ bound_at plan d.node)) (λ r t. let k = and_parts (nat_le (next_floor lane) r.time) (nat_le r.time MAX_TIME) t in (nat_le-le (next_floor lane) r.time k.0, let z : r.time ≤ MAX_TIME = nat_le-le r.time MAX_TIME k.1 in omega arith)) records (and_parts (nat_le (length records) m.bundle) _ (and_parts (not (is_empty records)) _ test).1).1 in
+        list_all-AllByRecursion (λ r. nat_le (next_floor lane) r.time && nat_le r.time MAX_TIME) (λ r. (next_floor lane ≤ r.time) × (r.time ≤ bound_at plan d.node)) (λ r t. let k = and_parts (nat_le (next_floor lane) r.time) (nat_le r.time MAX_TIME) t in (nat_le-le (next_floor lane) r.time k.0, let z : r.time ≤ MAX_TIME = nat_le-le r.time MAX_TIME k.1 in omega arith)) records each in
         subst (IsSound plan) made ((sound_of (record {
           lawful = arrival-lawful plan m d p.0 lane records p.1 p.2 times (lawful_of sound);
           tidy = put-tidy plan is_plan m d p.0 lane (next_epoch lane) (next_floor lane) records m.held p.1 p.2 (arrival-kept (bound_at plan d.node) records lane ((lawful_of sound).lanes d lane at) times) (tidy_of sound)
-              (λ k l i. refl) (λ k. refl) (λ t it. refl) (λ k t it e. absurd (Feeding.sources_apart plan is_plan s d k t is it e)) (tidy_of sound).closes;
+              (λ k l i. refl) (λ k. refl) (λ t it. (refl, floor_in_time (next_floor lane) records some.0 each)) (λ k t it e. absurd (Feeding.sources_apart plan is_plan s d k t is it e)) (tidy_of sound).closes;
         })))
 
 module _ (plan : Shape) (is_plan : IsPlan plan) (m m' : Moment) (sound : IsSound plan m) where

@@ -33,7 +33,7 @@ use Rattle.sb_core.specs.LaneOrder.{IsLane}
 use Rattle.sb_core.specs.Bounds.{bound_at}
 use Rattle.sb_core.specs.Closings.{is_pardo}
 use Rattle.sb_core.specs.Holdings.{IsClosing, IsHeld, is_unpassed, IsCloseOf}
-use Rattle.sb_core.specs.Soundness.{has_cont, Begins, IsOpenBelow, IsSound}
+use Rattle.sb_core.specs.Soundness.{has_cont, Begins, IsOpenAtSource, IsOpenBelow, IsSound}
 use Rattle.sb_record.proofs.Sums.{SameSums}
 use Rattle.sb_core.proofs.Lists.{cond_is_some, empty_is}
 use Rattle.sb_core.proofs.Gives.{lane_at-parts, with_lane-is}
@@ -81,8 +81,8 @@ seal-tidy plan is_plan m d node lane mark held at in_it lawful up fits tidy work
     (numbered-less lane (with_seal mark lane) refl (λ n. omega (arith, numbered-seal mark n lane)) (tidy.numbers d lane was))
     (λ i. outs-seal mark i lane ∙ tidy.outs d lane was i ∙ sym (works d.node d.lane i))
     (λ e ne i. works e.node e.lane i)
-    (λ s is. All-in_epoch (next_epoch lane) (next_floor lane) change (λ c. refl) (λ c. refl) (λ e f. length (lane.marks ++ mark ∷ []) ≤ e → e ≡ length (lane.marks ++ mark ∷ [])) (λ b. absurd (omega (arith, more))) lane.conts
-    (every (λ c z b. absurd (let k : c.epoch ≡ next_epoch lane = z (omega (arith, more)) in omega (arith, more))) lane.conts (tidy.open_source s d lane is was)))
+    (λ s is. All-in_epoch (next_epoch lane) (next_floor lane) change (λ c. refl) (λ c. refl) (λ e f. length (lane.marks ++ mark ∷ []) ≤ e → IsOpenAtSource (length (lane.marks ++ mark ∷ [])) e f) (λ b. absurd (omega (arith, more))) lane.conts
+    (every (λ c z b. absurd (let k : c.epoch ≡ next_epoch lane = (z (omega (arith, more))).0 in omega (arith, more))) lane.conts (tidy.open_source s d lane is was)))
     (λ k s is e. All-in_epoch (next_epoch lane) (next_floor lane) change (λ c. refl) (λ c. refl)
     (λ e f. length (lane.marks ++ mark ∷ []) ≤ e → IsOpenBelow (operator_at (slice_get plan.steps k)) (node_at after k).lanes (list_any (is_unpassed k) held) (length (lane.marks ++ mark ∷ [])) e f)
     (λ b. absurd (omega (arith, more))) lane.conts
@@ -124,7 +124,7 @@ seal-sound plan is_plan m m' s mark h sound =
         let p = lane_at-parts m d lane at in
         let made = with_lane-is m d p.0 (with_seal mark lane) m' p.1 h in
         let up : next_floor lane ≤ mark = nat_le-le (next_floor lane) mark (and_parts (nat_le mark END_MARK) (nat_le (next_floor lane) mark) test).1 in
-        let fits : MarkFits mark (next_epoch lane) lane.conts = marks_fit mark (next_epoch lane) lane.conts ((tidy_of sound).open_source s d lane is at) in
+        let fits : MarkFits mark (next_epoch lane) lane.conts = marks_fit mark (next_epoch lane) lane.conts (every (λ c z b. (z b).0) lane.conts ((tidy_of sound).open_source s d lane is at)) in
         subst (IsSound plan) made ((sound_of (record {
           lawful = seal-lawful plan m d p.0 lane mark p.1 p.2 (lawful_of sound) up fits (λ k t it. Feeding.sources_apart plan is_plan s d k t is it);
           tidy = seal-tidy plan is_plan m d p.0 lane mark m.held p.1 p.2 (lawful_of sound) up fits (tidy_of sound) (λ k l i. refl) (λ k t it ne u. u) (λ k t own it e lone. absurd (Feeding.sources_apart plan is_plan s d k t is it e)) (tidy_of sound).closes;

@@ -10,6 +10,7 @@ use Rattle.sb_record.specs.declared.item.Stream.{Stream}
 use Rattle.sb_pipeline.specs.declared.transform.Down.{Down}
 use Rattle.sb_core.specs.declared.moment.Node.{Node}
 use Rattle.sb_pipeline.specs.declared.transform.Step.{Step}
+use Rattle.sb_core.specs.Soundness.{IsOpenAtSource}
 use Rattle.sb_pipeline.specs.Shapes.{Shape, source}
 use Rattle.sb_core.specs.declared.moment.Moment.{Moment}
 use Rattle.sb_core.specs.declared.held.Held.{Held}
@@ -70,7 +71,7 @@ module _ (plan : Shape) (m : Moment) (n l : ℕ) (node new : Node) (lane with : 
   pub tidy_still : IsTidy plan m → AreNumbered with
       → ((i : ℕ) → sum_by (out_of i) with.conts ≡ count_by (is_work n l i) held)
       → ((d : Down) → d ≢ record { node = n; lane = l } → (i : ℕ) → count_by (is_work d.node d.lane i) held ≡ count_by (is_work d.node d.lane i) m.held)
-      → ((s : Stream) → source plan s ≡ Some (record { node = n; lane = l }) → AllByRecursion (λ c. next_epoch with ≤ c.epoch → c.epoch ≡ next_epoch with) with.conts)
+      → ((s : Stream) → source plan s ≡ Some (record { node = n; lane = l }) → AllByRecursion (λ c. next_epoch with ≤ c.epoch → IsOpenAtSource (next_epoch with) c.epoch c.floor) with.conts)
       → ((k : ℕ) (s : Step) → slice_get plan.steps k ≡ Some s → s.down ≡ record { node = n; lane = l }
       → AllByRecursion (λ c. next_epoch with ≤ c.epoch → IsOpenBelow (operator_at (slice_get plan.steps k)) (node_at now k).lanes (list_any (is_unpassed k) held) (next_epoch with) c.epoch c.floor) with.conts)
       → ((k : ℕ) (s : Step) (under : CoreLane) → slice_get plan.steps k ≡ Some s → s.down ≢ record { node = n; lane = l } → lane_at m s.down ≡ Some under → (e f : ℕ) → next_epoch under ≤ e
@@ -89,7 +90,7 @@ module _ (plan : Shape) (m : Moment) (n l : ℕ) (node new : Node) (lane with : 
         numbers = λ d x h. ⊎_elim (λ c. subst AreNumbered (same_Some with x (sym c.1 ∙ h)) numbers) (λ c. tidy.numbers d x (sym c ∙ h)) (by_place d);
         outs = outs;
         open_source = λ s d x is h. ⊎_elim
-            (λ e. subst (λ (x : CoreLane). AllByRecursion (λ c. next_epoch x ≤ c.epoch → c.epoch ≡ next_epoch x) x.conts) (same_Some with x (sym (placed d e) ∙ h)) (source_here s (is ∙ ap Some e)))
+            (λ e. subst (λ (x : CoreLane). AllByRecursion (λ c. next_epoch x ≤ c.epoch → IsOpenAtSource (next_epoch x) c.epoch c.floor) x.conts) (same_Some with x (sym (placed d e) ∙ h)) (source_here s (is ∙ ap Some e)))
             (λ ne. tidy.open_source s d x is (sym (elsewhere d ne) ∙ h)) (place_or n l d);
         open_below = open_below;
         own_marks = own_marks;

@@ -23,7 +23,7 @@ use Rattle.sb_core.specs.Marks.{begun, last_of_first}
 use Rattle.sb_core.specs.Moments.{is_work, lane_at, set_lane, set_node, with_held, node_at}
 use Rattle.sb_core.specs.Lanes.{next_epoch, with_bundle, with_arrival}
 use Rattle.sb_core.specs.Holdings.{is_unpassed, IsCloseOf}
-use Rattle.sb_core.specs.Soundness.{has_cont, IsOpenBelow}
+use Rattle.sb_core.specs.Soundness.{has_cont, IsOpenAtSource, IsOpenBelow}
 use Rattle.sb_core.proofs.Orderly.{IsTidy}
 use Rattle.sb_core.proofs.Frame.{IsKept}
 use Rattle.sb_core.proofs.Nodes.{begun_mark, node_at-same, node_at-set_same, node_at-set_other}
@@ -62,7 +62,7 @@ pub put-tidy : (plan : Shape) (is_plan : IsPlan plan) (m : Moment) (d : Down) (n
     → slice_get m.nodes d.node ≡ Some node → slice_get node.lanes d.lane ≡ Some lane → IsKept lane (with_arrival epoch floor records lane) → IsTidy plan m
     → ((k l i : ℕ) → count_by (is_work k l i) held ≡ count_by (is_work k l i) m.held)
     → ((k : ℕ) → list_any (is_unpassed k) held ≡ list_any (is_unpassed k) m.held)
-    → ((s : Stream) → source plan s ≡ Some d → epoch ≡ next_epoch lane)
+    → ((s : Stream) → source plan s ≡ Some d → IsOpenAtSource (next_epoch lane) epoch floor)
     → ((k : ℕ) (s : Step) → slice_get plan.steps k ≡ Some s → s.down ≡ d → IsOpenBelow (operator_at (slice_get plan.steps k)) (node_at m k).lanes (list_any (is_unpassed k) m.held) (next_epoch lane) epoch floor)
     → AllByRecursion (IsCloseOf plan m) held
     → IsTidy plan (set_node d.node (set_lane d.lane (with_arrival epoch floor records lane) node) (with_held held m))
@@ -71,7 +71,7 @@ put-tidy plan is_plan m d node lane epoch floor records held at in_it kept tidy 
     (numbered-arrival epoch floor records lane (tidy.numbers d lane was))
     (λ i. outs-arrival epoch floor records lane i ∙ tidy.outs d lane was i ∙ sym (works d.node d.lane i))
     (λ e ne i. works e.node e.lane i)
-    (λ s is. All-in_epoch epoch floor change (λ c. refl) (λ c. refl) (λ e f. next_epoch lane ≤ e → e ≡ next_epoch lane) (λ _. source_here s is) lane.conts (tidy.open_source s d lane is was))
+    (λ s is. All-in_epoch epoch floor change (λ c. refl) (λ c. refl) (λ e f. next_epoch lane ≤ e → IsOpenAtSource (next_epoch lane) e f) (λ _. source_here s is) lane.conts (tidy.open_source s d lane is was))
     (λ k s is e. every (λ c z b. moves k (next_epoch lane) c.epoch c.floor (z b)) (in_epoch_of lane.conts)
     (All-in_epoch epoch floor change (λ c. refl) (λ c. refl) (λ e f. next_epoch lane ≤ e → IsOpenBelow (operator_at (slice_get plan.steps k)) (node_at m k).lanes (list_any (is_unpassed k) m.held) (next_epoch lane) e f)
     (λ _. below_here k s is e) lane.conts (tidy.open_below k s lane is (ap (lane_at m) e ∙ was))))

@@ -17,3 +17,6 @@ pub mod Holdings
 pub mod Soundness
 pub mod Laws
 pub mod Parts
+pub mod OneLane
+pub mod NewRows
+pub mod Rest

@@ -1,5 +1,5 @@
 -- What an event does to the part of one node.
-use Rattle.std.specs.Prelude.{◌≡◌, ℕ, ◌+◌, ◌-◌, ◌^◌, nat_lt, nat_le, true, false, not, ◌&&◌, ◌||◌, List, [], ◌∷◌, ◌++◌, length, take, drop, Option, Some, None, slice_get, slice_set}
+use Rattle.std.specs.Prelude.{◌≡◌, ◌⊎◌, ℕ, ◌+◌, ◌-◌, ◌^◌, nat_lt, nat_le, true, false, not, ◌&&◌, ◌||◌, List, [], ◌∷◌, ◌++◌, length, take, drop, Option, Some, None, slice_get, slice_set}
 use Rattle.std.specs.List.{list_any, list_all}
 use Rattle.sb_record.specs.declared.item.Record.{Record}
 use Rattle.sb_pipeline.specs.Shapes.{Shape, source}
@@ -13,7 +13,7 @@ use Rattle.sb_pipeline.specs.Plans.{IsPlan}
 use Rattle.sb_pipeline.specs.Operators.{operator_at}
 use Rattle.sb_pipeline.specs.Elements.{on_lane}
 use Rattle.sb_record.specs.Reading.{◌>>=◌}
-use Rattle.sb_core.specs.Choices.{only_if, is_empty}
+use Rattle.sb_core.specs.Choices.{only_if, is_empty, pulled}
 use Rattle.sb_core.specs.Lanes.{next_epoch, next_floor, with_arrival, with_seal, take_from, finish_in, closable, with_first_closing}
 use Rattle.sb_core.specs.Marks.{first_is_closing, closed}
 use Rattle.sb_core.specs.Moments.{set_lane, with_held}
@@ -130,3 +130,33 @@ HeldPartsKeepSound =
     → slice_get m.nodes k ≡ Some node → held_after plan m.bundle event h node ≡ Some p
     → IsSound plan (with_part_first k rest m p)
     × KeepsExact plan (with_held (h ∷ rest) m) (with_part_first k rest m p) (event ∷ [])
+
+-- the event concerns nothing that is held, and the moment after it is what it makes of the part of its node
+pub record IsPart (plan : Shape) (m : Moment) (event : Event) (later : Moment) : Type 0 where
+  pub alone : pulled (concerns event) m.held ≡ None
+  pub k : ℕ
+  pub node : Node
+  pub part : Part
+  pub place : place_of plan event ≡ Some k
+  pub there : slice_get m.nodes k ≡ Some node
+  pub does : part_after plan m.bundle event node ≡ Some part
+  pub gives : later ≡ with_part k m.held m part
+
+-- the event concerns this Work or Close, and the moment after it is what it makes of both and of the part of its node
+pub record IsHeldPart (plan : Shape) (m : Moment) (event : Event) (later : Moment) : Type 0 where
+  pub h : Held
+  pub others : List Held
+  pub found : pulled (concerns event) m.held ≡ Some (h, others)
+  pub k : ℕ
+  pub node : Node
+  pub part : Part
+  pub place : place_of plan event ≡ Some k
+  pub there : slice_get m.nodes k ≡ Some node
+  pub does : held_after plan m.bundle event h node ≡ Some part
+  pub gives : later ≡ with_part k others m part
+
+-- each event whose condition holds is one of the two
+abbrev pub EventsAreParts : Type 0
+EventsAreParts =
+    (plan : Shape) (m later : Moment) (event : Event) → after plan m event ≡ Some later → IsSound plan m
+    → IsPart plan m event later ⊎ IsHeldPart plan m event later

@@ -2,6 +2,7 @@
 use Rattle.std.specs.Prelude.{◌≡◌, ℕ, ◌+◌, ◌≤◌, ◌<◌, ◌==◌, Bool, true, false, ◌&&◌, List, [], ◌∷◌, length, count_by, sum_by, Some, slice_get}
 use Rattle.std.specs.List.{AllByRecursion, list_any}
 use Rattle.sb_record.specs.declared.item.Stream.{Stream}
+use Rattle.sb_record.specs.declared.item.TheConstants.{MAX_TIME}
 use Rattle.sb_record.specs.Orders.{IsAscending}
 use Rattle.sb_record.specs.Records.{record_cmp}
 use Rattle.sb_bundle.specs.declared.bundle.TheConstants.{MAX_BUNDLE}
@@ -52,6 +53,10 @@ Begins [] ms = Unit {0}
 Begins (x ∷ xs) [] = ⊥
 Begins (x ∷ xs) (m ∷ ms) = (x ≡ m) × Begins xs ms
 
+-- a container that is not sealed, in a stream's lane: of the next epoch, and made by a record, so its floor is a time
+abbrev pub IsOpenAtSource : ℕ → ℕ → ℕ → Type 0
+IsOpenAtSource next epoch floor = (epoch ≡ next) × (floor ≤ MAX_TIME)
+
 -- a container that is not sealed, below a transform: below a ParDo it has the epoch and the floor of one of the ParDo's own; else it is that of the Close that has not passed its mark
 abbrev pub IsOpenBelow : Operator → List CoreLane → Bool → ℕ → ℕ → ℕ → Type 0
 IsOpenBelow (ParDo op) lanes unpassed next epoch floor = list_any (has_cont epoch floor) lanes ≡ true
@@ -87,9 +92,10 @@ pub record IsSound (plan : Shape) (m : Moment) : Type 0 where
   -- each Work and each Close
   pub holds : AllByRecursion (IsHeld plan m) m.held
   pub closes : AllByRecursion (IsCloseOf plan m) m.held
-  -- each source lane: it is there, and no container is later than its next epoch
+  -- each source lane: it is there, and which containers it has that are not sealed
   pub sources : (s : Stream) (d : Down) → source plan s ≡ Some d → (lane : CoreLane) × (lane_at m d ≡ Some lane)
-  pub open_source : (s : Stream) (d : Down) (lane : CoreLane) → source plan s ≡ Some d → lane_at m d ≡ Some lane → AllByRecursion (λ c. next_epoch lane ≤ c.epoch → c.epoch ≡ next_epoch lane) lane.conts
+  pub open_source : (s : Stream) (d : Down) (lane : CoreLane) → source plan s ≡ Some d → lane_at m d ≡ Some lane
+      → AllByRecursion (λ c. next_epoch lane ≤ c.epoch → IsOpenAtSource (next_epoch lane) c.epoch c.floor) lane.conts
   -- each transform and the lane below it: how far that is sealed, which containers it has that are not, and, below a node of one lane, whose marks its marks are
   pub below : (k : ℕ) (s : Step) → slice_get plan.steps k ≡ Some s → IsSealedBelow m k s.down
   pub open_below : (k : ℕ) (s : Step) (lane : CoreLane) → slice_get plan.steps k ≡ Some s → lane_at m s.down ≡ Some lane

@@ -2,7 +2,10 @@
 //! contract, and does nothing.
 
 ghost use Rattle.sb_core.specs.Laws as law;
+ghost use Rattle.sb_core.specs.NewRows as rows;
+ghost use Rattle.sb_core.specs.OneLane as lane;
 ghost use Rattle.sb_core.specs.Parts as part;
+ghost use Rattle.sb_core.specs.Rest as rest;
 
 /// Each event whose condition holds keeps a moment sound, and exact for what was fed with what the event feeds.
 pub fn events_keep_sound()
@@ -74,4 +77,51 @@ pub fn parts_keep_sound()
 /// The law of an event of the bundle or closing at the head of what is held, by the part of its node alone.
 pub fn held_parts_keep_sound()
     ensures { part.HeldPartsKeepSound }
+{}
+
+/// Each event whose condition holds is what it does to the part of its node: of its node alone, or of the bundle or
+/// closing that it concerns as well.
+pub fn events_are_parts()
+    ensures { part.EventsAreParts }
+{}
+
+/// An event that concerns nothing that is held changes the lane of its place alone. Of these only a watermark adds to
+/// the lane's marks.
+pub fn one_lane_changes()
+    ensures { lane.OneLaneChanges }
+{}
+
+/// So does an event of a bundle or closing. Of these only a closing that passes its watermark adds to the marks.
+pub fn held_one_lane_changes()
+    ensures { lane.HeldOneLaneChanges }
+{}
+
+/// The rows that an event adds have times from the watermark on up to which the sink had closed.
+pub fn new_rows_are_later()
+    ensures { rows.NewRowsAreLater }
+{}
+
+/// An event of a bundle or closing adds no rows.
+pub fn held_add_no_rows()
+    ensures { rows.HeldAddNoRows }
+{}
+
+/// With no work left the sink has closed up to the low watermark.
+pub fn closes_low()
+    ensures { rest.ClosesLow }
+{}
+
+/// So the rows are the plan's below the low watermark, whatever still comes.
+pub fn rows_at_rest()
+    ensures { rest.RowsAtRest }
+{}
+
+/// With each stream sealed with the last watermark and no work left, no container is left.
+pub fn settles()
+    ensures { rest.Settles }
+{}
+
+/// Then the rows are all of the plan's.
+pub fn rows_at_the_end()
+    ensures { rest.RowsAtTheEnd }
 {}

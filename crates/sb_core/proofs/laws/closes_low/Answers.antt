@@ -1,0 +1,5 @@
+use Rattle.sb_core.proofs.AtRest.{closes-low}
+use Rattle.sb_core.proofs.laws.closes_low.Goals as goal
+
+pub returns : goal.returns
+returns c = closes-low

@@ -1,0 +1,5 @@
+use Rattle.sb_core.proofs.EventParts.{events-are_parts}
+use Rattle.sb_core.proofs.laws.events_are_parts.Goals as goal
+
+pub returns : goal.returns
+returns c = events-are_parts

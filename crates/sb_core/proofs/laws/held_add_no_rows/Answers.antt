@@ -1,0 +1,5 @@
+use Rattle.sb_core.proofs.LaterRows.{held-add_no_rows}
+use Rattle.sb_core.proofs.laws.held_add_no_rows.Goals as goal
+
+pub returns : goal.returns
+returns c = held-add_no_rows

@@ -1,0 +1,5 @@
+use Rattle.sb_core.proofs.OneLaneLaw.{held-one_lane_changes}
+use Rattle.sb_core.proofs.laws.held_one_lane_changes.Goals as goal
+
+pub returns : goal.returns
+returns c = held-one_lane_changes

@@ -1,0 +1,5 @@
+use Rattle.sb_core.proofs.LaterRows.{new-rows_are_later}
+use Rattle.sb_core.proofs.laws.new_rows_are_later.Goals as goal
+
+pub returns : goal.returns
+returns c = new-rows_are_later

@@ -1,0 +1,5 @@
+use Rattle.sb_core.proofs.OneLaneLaw.{one-lane_changes}
+use Rattle.sb_core.proofs.laws.one_lane_changes.Goals as goal
+
+pub returns : goal.returns
+returns c = one-lane_changes

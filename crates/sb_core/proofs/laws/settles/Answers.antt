@@ -1,0 +1,5 @@
+use Rattle.sb_core.proofs.NoneLeft.{settles-all}
+use Rattle.sb_core.proofs.laws.settles.Goals as goal
+
+pub returns : goal.returns
+returns c = settles-all
