@@ -60,6 +60,6 @@ pub mod Carried
 pub mod Finished
 pub mod EventParts
 pub mod OneLaneLaw
-pub mod LaterRows
+pub mod NewRowsLaw
 pub mod AtRest
 pub mod NoneLeft
