@@ -20,4 +20,5 @@ key_text-short key.Table = omega arith
 key_text-short key.Size = omega arith
 key_text-short key.Every = omega arith
 key_text-short key.Keep = omega arith
+key_text-short key.Gap = omega arith
 key_text-short key.Give = omega arith

@@ -11,6 +11,8 @@ mod note;
 mod output;
 #[cfg(test)]
 mod plan_tests;
+#[cfg(test)]
+mod session_tests;
 mod status;
 #[cfg(test)]
 mod tests;

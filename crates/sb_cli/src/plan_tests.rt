@@ -8,14 +8,14 @@ use std::test::Fail;
 
 /// What a run gave: its status, the rows, the notes, and how much of the input was read.
 #[derive(Drop)]
-struct Ran {
-    status: Status,
-    rows: Vec<u8>,
-    notes: Vec<u8>,
+pub(crate) struct Ran {
+    pub status: Status,
+    pub rows: Vec<u8>,
+    pub notes: Vec<u8>,
 }
 
 /// A folder of a plan and a table, whose loads of these numbers fail.
-fn folder_of(
+pub(crate) fn folder_of(
     alloc: Global,
     plan: &[u8],
     table: &[u8],
@@ -34,7 +34,7 @@ fn folder_of(
 }
 
 /// A run of a command and the name of its plan over a text.
-fn run(
+pub(crate) fn run(
     alloc: Global,
     command: &str,
     name: &str,
