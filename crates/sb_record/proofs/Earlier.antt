@@ -1,22 +1,24 @@
 -- The rows before a time come before all others.
-use Rattle.std.proofs.Common.{◌≡◌, ℕ, ◌+◌, ◌<◌, ◌≤◌, false, cond, List, [], ◌∷◌, ◌++◌, sym, refl, ap, ◌∙◌, arith}
+use Rattle.std.proofs.Common.{◌≡◌, ℕ, ◌+◌, ◌<◌, ◌≤◌, false, List, [], ◌∷◌, ◌++◌, sym, refl, ap, ◌∙◌, arith}
 use Rattle.std.specs.Prelude.{nat_lt, not}
-use Rattle.std.specs.List.{sum_by, AllByRecursion}
-use Rattle.std.specs.Ordering.{eq_by_cmp, is_lt, nat_cmp, int_cmp, ordering_then}
+use Rattle.std.specs.List.{AllByRecursion}
+use Rattle.std.specs.Ordering.{is_lt, int_cmp, ordering_then}
 use Rattle.std.specs.Cmp.{nat_cmp_is}
 use Rattle.std.specs.declared.cmp.Ordering.TheVariants.{Greater}
 use Rattle.std.proofs.lemmas.Bool.Decides.{nat_tests}
 use Rattle.std.proofs.lemmas.List.Filters.{sum_by-filter_both}
 use Rattle.std.proofs.lemmas.List.Sums.{sum_by-append}
 use Rattle.sb_record.specs.declared.item.Record.{Record}
+use Rattle.sb_record.specs.Keys.{key_cmp}
 use Rattle.sb_record.specs.Orders.{IsAscending}
+use Rattle.sb_record.specs.Reorderings.{IsReordered}
 use Rattle.sb_record.specs.Records.{record_cmp, sorted, before, at_least}
 use Rattle.sb_record.proofs.Elements.{every, All-join, All-anything, All-passed, filter_of_filter}
-use Rattle.sb_record.proofs.Sorting.{SameSums-in_order, All-in_order, records_total, in_order-ascending, sorted-unique}
+use Rattle.sb_record.proofs.Sorting.{IsReordered-in_order, All-in_order, records_total, in_order-ascending, sorted-unique}
 
 -- a record of a later time is not less
 not_less : (w : ℕ) (x y : Record) → x.time < w → w ≤ y.time → is_lt (record_cmp y x) ≡ false
-not_less w x y a b = ap (λ o. is_lt (ordering_then o (ordering_then (nat_cmp y.key x.key) (int_cmp y.value x.value)))) (sym (nat_cmp_is y.time x.time Greater (omega arith)))
+not_less w x y a b = ap (λ o. is_lt (ordering_then o (ordering_then (key_cmp y.key x.key) (int_cmp y.value x.value)))) (sym (nat_cmp_is y.time x.time Greater (omega arith)))
 
 pub ascending-join : (w : ℕ) (xs ys : List Record) → IsAscending record_cmp xs → IsAscending record_cmp ys → AllByRecursion (λ r. r.time < w) xs → AllByRecursion (λ r. w ≤ r.time) ys → IsAscending record_cmp (xs ++ ys)
 ascending-join w [] ys a b low high = b
@@ -39,14 +41,11 @@ sorted-split w l = sym (sorted-unique (sorted (before w l) ++ sorted (at_least w
         (in_order-ascending records_total (before w l)) (in_order-ascending records_total (at_least w l))
         (All-in_order (λ r. r.time < w) record_cmp (before w l) (before-low w l)) (All-in_order (λ r. w ≤ r.time) record_cmp (at_least w l) (at_least-high w l))
 
-    moved : (f : Record → ℕ) → sum_by f (sorted (before w l) ++ sorted (at_least w l)) ≡ sum_by f l
-    moved f =
+    same : IsReordered (sorted (before w l) ++ sorted (at_least w l)) l
+    same f =
         sum_by-append f (sorted (before w l)) (sorted (at_least w l))
-        ∙ (λ i. SameSums-in_order record_cmp (before w l) f i + SameSums-in_order record_cmp (at_least w l) f i)
+        ∙ (λ i. IsReordered-in_order record_cmp (before w l) f i + IsReordered-in_order record_cmp (at_least w l) f i)
         ∙ sum_by-filter_both (λ r. nat_lt r.time w) (λ r. not (nat_lt r.time w)) (λ r. refl) f l
-
-    same : (r : Record) → sum_by (λ x. cond {A = ℕ} (eq_by_cmp record_cmp r x) 1 0) (sorted (before w l) ++ sorted (at_least w l)) ≡ sum_by (λ x. cond (eq_by_cmp record_cmp r x) 1 0) l
-    same r = moved (λ x. cond (eq_by_cmp record_cmp r x) 1 0)
 
 -- what is before an earlier time is before a later one too
 pub before-before : (v w : ℕ) (l : List Record) → v ≤ w → before v (before w l) ≡ before v l

@@ -1,4 +1,7 @@
 pub mod Elements
+pub mod KeyOrder
+pub mod WordBytes
+pub mod Padding
 pub mod Steps
 pub mod Numbers
 pub mod Grammar

@@ -1,7 +1,7 @@
 -- A list put in order has the same elements, ascends, and is the only such list.
-use Rattle.std.proofs.Common.{◌≡◌, ℕ, suc, ◌+◌, ◌<◌, ℤ, Bool, true, false, cond, List, [], ◌∷◌, length, get_or, sym, refl, ap, ◌∙◌, arith}
+use Rattle.std.proofs.Common.{◌≡◌, ℕ, suc, ◌+◌, ◌<◌, ℤ, ◌↔◌, Bool, true, false, cond, List, [], ◌∷◌, length, get_or, sym, refl, ap, ◌∙◌, arith}
 use Rattle.std.specs.Prelude.{count_by, sum_by}
-use Rattle.std.specs.List.{filter, list_any, AllByRecursion}
+use Rattle.std.specs.List.{list_any, AllByRecursion}
 use Rattle.std.specs.List.Sorted.{IsSorted}
 use Rattle.std.specs.Ordering.{eq_by_cmp, is_eq, is_lt, ordering_reverse, ordering_then, nat_cmp, int_cmp}
 use Rattle.std.specs.Cmp.{IsTotalOrder, IsStrictWeakOrder, nat_cmp_total, int_cmp_total, tied_itself}
@@ -14,23 +14,27 @@ use Rattle.std.proofs.lemmas.List.Sorted.{sorted_far, ranks_by}
 use Rattle.std.proofs.lemmas.Map.Lookups.{CmpEqualImpliesEq, exact_pairs, exact_unsigned, exact_signed}
 use Rattle.std.proofs.lemmas.Map.Views.{tells_apart}
 use Rattle.sb_record.specs.declared.item.Record.{Record}
+use Rattle.sb_record.specs.declared.key.Key.{Key}
+use Rattle.sb_record.specs.Keys.{key_cmp}
+use Rattle.sb_record.specs.KeyOrder.{key_cmp_total}
 use Rattle.sb_record.specs.Orders.{put_in_order, in_order, IsAscending}
-use Rattle.sb_record.specs.Records.{record_cmp, SameRecords, sorted}
+use Rattle.sb_record.specs.Records.{record_cmp, count_of, sorted}
 use Rattle.sb_record.proofs.Elements.{every, All-any}
-use Rattle.sb_record.proofs.Sums.{SameSums, SameSums-filter, any_by_count}
+use Rattle.sb_record.proofs.KeyOrder.{exact_keys}
+use Rattle.sb_record.proofs.Sums.{IsReordered, any_by_count}
 
 -- ---- putting in order moves elements alone
-SameSums-put_in_order : {X : Type 0} (cmp : X → X → Ordering) (x : X) (ys : List X) → SameSums (put_in_order cmp x ys) (x ∷ ys)
-SameSums-put_in_order cmp x [] f = refl
-SameSums-put_in_order cmp x (y ∷ ys) f = by_case (is_lt (cmp y x)) (SameSums-put_in_order cmp x ys f)
+IsReordered-put_in_order : {X : Type 0} (cmp : X → X → Ordering) (x : X) (ys : List X) → IsReordered (put_in_order cmp x ys) (x ∷ ys)
+IsReordered-put_in_order cmp x [] f = refl
+IsReordered-put_in_order cmp x (y ∷ ys) f = by_case (is_lt (cmp y x)) (IsReordered-put_in_order cmp x ys f)
   where
     by_case : (b : Bool) → sum_by f (put_in_order cmp x ys) ≡ sum_by f (x ∷ ys) → sum_by f (cond b (y ∷ put_in_order cmp x ys) (x ∷ y ∷ ys)) ≡ sum_by f (x ∷ y ∷ ys)
     by_case true h = omega (arith, h, sum_by-cons f y (put_in_order cmp x ys), sum_by-cons f x ys, sum_by-cons f x (y ∷ ys), sum_by-cons f y ys)
     by_case false h = refl
 
-pub SameSums-in_order : {X : Type 0} (cmp : X → X → Ordering) (xs : List X) → SameSums (in_order cmp xs) xs
-SameSums-in_order cmp [] f = refl
-SameSums-in_order cmp (x ∷ xs) f = SameSums-put_in_order cmp x (in_order cmp xs) f ∙ sum_by-cons f x (in_order cmp xs) ∙ ap (λ n. f x + n) (SameSums-in_order cmp xs f) ∙ sym (sum_by-cons f x xs)
+pub IsReordered-in_order : {X : Type 0} (cmp : X → X → Ordering) (xs : List X) → IsReordered (in_order cmp xs) xs
+IsReordered-in_order cmp [] f = refl
+IsReordered-in_order cmp (x ∷ xs) f = IsReordered-put_in_order cmp x (in_order cmp xs) f ∙ sum_by-cons f x (in_order cmp xs) ∙ ap (λ n. f x + n) (IsReordered-in_order cmp xs f) ∙ sym (sum_by-cons f x xs)
 
 pub All-put_in_order : {X : Type 0} (P : X → Type 0) (cmp : X → X → Ordering) (x : X) (ys : List X) → P x → AllByRecursion P ys → AllByRecursion P (put_in_order cmp x ys)
 All-put_in_order P cmp x [] h all = (h, tt)
@@ -46,12 +50,12 @@ All-in_order P cmp (x ∷ xs) all = All-put_in_order P cmp x (in_order cmp xs) a
 
 -- ---- records are ordered, and records that compare alike are one
 pub records_total : IsTotalOrder record_cmp
-records_total = then_total (on_total (λ (r : Record). r.time) nat_cmp_total) (then_total (on_total (λ (r : Record). r.key) nat_cmp_total) (on_total (λ (r : Record). r.value) int_cmp_total))
+records_total = then_total (on_total (λ (r : Record). r.time) nat_cmp_total) (then_total (on_total (λ (r : Record). r.key) key_cmp_total) (on_total (λ (r : Record). r.value) int_cmp_total))
 
 pub exact_records : CmpEqualImpliesEq record_cmp
 exact_records a b h =
-    ap (λ (p : ℕ × (ℕ × ℤ)). record { time = p.0; key = p.1.0; value = p.1.1 })
-    (exact_pairs nat_cmp (λ x y. ordering_then (nat_cmp x.0 y.0) (int_cmp x.1 y.1)) exact_unsigned (exact_pairs nat_cmp int_cmp exact_unsigned exact_signed) (a.time, (a.key, a.value)) (b.time, (b.key, b.value)) h)
+    ap (λ (p : ℕ × (Key × ℤ)). record { time = p.0; key = p.1.0; value = p.1.1 })
+    (exact_pairs nat_cmp (λ x y. ordering_then (key_cmp x.0 y.0) (int_cmp x.1 y.1)) exact_unsigned (exact_pairs key_cmp int_cmp exact_keys exact_signed) (a.time, (a.key, a.value)) (b.time, (b.key, b.value)) h)
 
 module _ {X : Type 0} {cmp : X → X → Ordering} (o : IsTotalOrder cmp) where
   ranks : IsStrictWeakOrder (λ x y. is_lt (cmp x y))
@@ -125,19 +129,24 @@ module _ {X : Type 0} {cmp : X → X → Ordering} (o : IsTotalOrder cmp) where
 
     -- so one that holds each element as often as another list is that list put in order
     pub ascending-in_order : (xs ys : List X) → IsAscending cmp xs → ((x : X) → count x xs ≡ count x ys) → xs ≡ in_order cmp ys
-    ascending-in_order xs ys up same = ascending-unique xs (in_order cmp ys) up (in_order-ascending ys) (λ x. same x ∙ sym (SameSums-in_order cmp ys (λ z. cond (eq_by_cmp cmp x z) 1 0)))
+    ascending-in_order xs ys up same = ascending-unique xs (in_order cmp ys) up (in_order-ascending ys) (λ x. same x ∙ sym (IsReordered-in_order cmp ys (λ z. cond (eq_by_cmp cmp x z) 1 0)))
 
 -- ---- records
-pub sorted-unique : (rows l : List Record) → IsAscending record_cmp rows → SameRecords rows l → rows ≡ sorted l
-sorted-unique rows l up same = ascending-in_order records_total exact_records rows l up same
+-- the counts of one record are sums
+counts : (l m : List Record) → IsReordered l m → (r : Record) → count_of r l ≡ count_of r m
+counts l m same r = same (λ x. cond (eq_by_cmp record_cmp r x) 1 0)
 
--- every function adds up alike over lists with the same records
-SameSums-records : (l m : List Record) → SameRecords l m → SameSums l m
-SameSums-records l m same f = sym (SameSums-in_order record_cmp l f) ∙ ap (sum_by f) sorted_alike ∙ SameSums-in_order record_cmp m f
+pub sorted-unique : (rows l : List Record) → IsAscending record_cmp rows → IsReordered rows l → rows ≡ sorted l
+sorted-unique rows l up same = ascending-in_order records_total exact_records rows l up (counts rows l same)
+
+-- lists that hold each record equally often differ in order alone
+pub IsReordered-from_counts : (l m : List Record) → ((r : Record) → count_of r l ≡ count_of r m) → IsReordered l m
+IsReordered-from_counts l m same f = sym (IsReordered-in_order record_cmp l f) ∙ ap (sum_by f) sorted_alike ∙ IsReordered-in_order record_cmp m f
   where
     sorted_alike : sorted l ≡ sorted m
-    sorted_alike = sorted-unique (sorted l) m (in_order-ascending records_total l) (λ r. SameSums-in_order record_cmp l (λ x. cond (eq_by_cmp record_cmp r x) 1 0) ∙ same r)
+    sorted_alike =
+        ascending-in_order records_total exact_records (sorted l) m (in_order-ascending records_total l)
+        (λ r. counts (sorted l) l (IsReordered-in_order record_cmp l) r ∙ same r)
 
--- what passes of lists with the same records
-pub SameRecords-filter : (p : Record → Bool) (l m : List Record) → SameRecords l m → SameRecords (filter p l) (filter p m)
-SameRecords-filter p l m same r = SameSums-filter p l m (SameSums-records l m same) (λ x. cond (eq_by_cmp record_cmp r x) 1 0)
+pub counts_tell : (l m : List Record) → IsReordered l m ↔ ((r : Record) → count_of r l ≡ count_of r m)
+counts_tell l m = (counts l m, IsReordered-from_counts l m)

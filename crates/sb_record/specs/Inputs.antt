@@ -3,6 +3,8 @@ use Rattle.std.specs.Prelude.{ℕ, Bool, true, false, List, [], ◌∷◌, ◌++
 use Rattle.sb_record.specs.declared.item.Stream.TheVariants.{A, B}
 use Rattle.sb_record.specs.declared.item.Streams.{Streams}
 use Rattle.sb_record.specs.declared.item.Item.{Item}
+use Rattle.sb_record.specs.declared.key.Keys.{Keys}
+use Rattle.sb_record.specs.declared.intake.LatePolicy.{LatePolicy}
 use Rattle.sb_record.specs.declared.intake.Refusal.{Refusal}
 use Rattle.sb_record.specs.declared.intake.Stop.{Stop}
 use Rattle.sb_record.specs.declared.intake.Stop.TheVariants.{End, Refused, Fault}
@@ -11,8 +13,15 @@ use Rattle.sb_record.specs.Intake.{tested}
 use Rattle.sb_record.specs.Streams.{last_watermark}
 
 -- what the accepted items of an input have said
-abbrev pub progress_of : Streams → List Item → Progress
-progress_of streams items = record { streams = streams; mark_a = last_watermark A items; mark_b = last_watermark B items; lines = length items }
+abbrev pub progress_of : Streams → LatePolicy → Keys → List Item → Progress
+progress_of streams late keys items = record {
+  streams = streams;
+  mark_a = last_watermark A items;
+  mark_b = last_watermark B items;
+  lines = length items;
+  late = late;
+  keys = keys;
+}
 
 -- the items of the lines before the first that is refused, and that line's refusal where there is one
 pub record Accepted : Type 0 where
@@ -25,13 +34,15 @@ accepted_if (Ok item) items rest = rest (items ++ item ∷ [])
 accepted_if (Err refusal) items rest = record { items = items; refused = Some refusal }
 
 -- these items and those of the lines that follow, where each line is tested by what the items before it have said
-abbrev pub accepted_after : Streams → List Item → List (List ℕ) → Accepted
-accepted_after streams items [] = record { items = items; refused = None }
-accepted_after streams items (line ∷ lines) = accepted_if (tested (progress_of streams items) line) items (λ more. accepted_after streams more lines)
+abbrev pub accepted_after : Streams → LatePolicy → Keys → List Item → List (List ℕ) → Accepted
+accepted_after streams late keys items [] = record { items = items; refused = None }
+accepted_after streams late keys items (line ∷ lines) =
+    accepted_if (tested (progress_of streams late keys items) line) items
+    (λ more. accepted_after streams late keys more lines)
 
 -- the accepted items of an input
-abbrev pub accepted : Streams → List (List ℕ) → Accepted
-accepted streams lines = accepted_after streams [] lines
+abbrev pub accepted : Streams → LatePolicy → Keys → List (List ℕ) → Accepted
+accepted streams late keys lines = accepted_after streams late keys [] lines
 
 -- where reading stops: at the first refused line, else where the input ended, or where its source failed
 abbrev pub stop_of : Bool → Option Refusal → Stop

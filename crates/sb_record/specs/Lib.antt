@@ -1,4 +1,8 @@
 pub mod Orders
+pub mod Reorderings
+pub mod Words
+pub mod Keys
+pub mod KeyOrder
 pub mod Records
 pub mod Lines
 pub mod Reading

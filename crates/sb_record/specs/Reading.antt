@@ -1,11 +1,18 @@
 -- How a line is read, from the left: each reader gives a value and the bytes after it.
-use Rattle.std.specs.Prelude.{ℕ, ℤ, pos, negsuc, ◌+◌, ◌-◌, ◌*◌, Bool, ◌&&◌, ◌==◌, nat_lt, nat_le, if◌then◌else◌, List, [], ◌∷◌, Option, Some, None}
+use Rattle.std.specs.Prelude.{ℕ, ℤ, pos, negsuc, ◌+◌, ◌-◌, ◌*◌, Bool, ◌&&◌, ◌==◌, nat_lt, nat_le, if◌then◌else◌, List, [], ◌∷◌, take, drop, Option, Some, None}
 use Rattle.std.specs.Char.{is_ascii_digit}
-use Rattle.sb_record.specs.declared.item.TheConstants.{MAX_KEY, MAX_TIME}
+use Rattle.std.specs.List.{position_or_len}
+use Rattle.sb_record.specs.declared.item.TheConstants.{MAX_TIME}
+use Rattle.sb_record.specs.declared.key.TheConstants.{MAX_KEY}
+use Rattle.sb_record.specs.declared.key.Keys.{Keys}
+use Rattle.sb_record.specs.declared.key.Keys.TheVariants.{Numbers, Words}
+use Rattle.sb_record.specs.declared.key.Key.{Key}
+use Rattle.sb_record.specs.declared.key.Key.TheVariants.{Number, Word}
 use Rattle.sb_record.specs.declared.item.Stream.{Stream}
 use Rattle.sb_record.specs.declared.item.Stream.TheVariants.{A, B}
 use Rattle.sb_record.specs.declared.item.Item.{Item}
 use Rattle.sb_record.specs.declared.item.Item.TheVariants.{Rec, Mark, Skip}
+use Rattle.sb_record.specs.Words.{is_word}
 
 -- the next reader, where the one before it gave a value
 infixl 10 ◌>>=◌
@@ -78,6 +85,28 @@ signed_from (Some rest) bytes = negative_at rest
 unfoldable pub signed_at : List ℕ → Option (ℤ × List ℕ)
 signed_at bytes = signed_from (byte_at 45 bytes) bytes
 
+-- where the first comma stands, or the end
+abbrev pub comma : List ℕ → ℕ
+comma bytes = position_or_len (λ b. b == 44) bytes
+
+-- a word up to the first comma, or to the end
+unfoldable pub word_at : List ℕ → Option (List ℕ × List ℕ)
+word_at bytes =
+    if is_word (take (comma bytes) bytes) then Some (take (comma bytes) bytes, drop (comma bytes) bytes) else None
+
+-- the number as a key
+abbrev pub number_key : ℕ × List ℕ → Option (Key × List ℕ)
+number_key p = Some (Number p.0, p.1)
+
+-- the word as a key
+abbrev pub word_key : List ℕ × List ℕ → Option (Key × List ℕ)
+word_key p = Some (Word p.0, p.1)
+
+-- a key
+unfoldable pub key_at : Keys → List ℕ → Option (Key × List ℕ)
+key_at Numbers bytes = number_at MAX_KEY bytes >>= number_key
+key_at Words bytes = word_at bytes >>= word_key
+
 -- `a` or `b`
 unfoldable pub stream_at : List ℕ → Option (Stream × List ℕ)
 stream_at [] = None
@@ -89,9 +118,14 @@ at_end item [] = Some item
 at_end item (b ∷ rest) = None
 
 -- a record, after its stream
-unfoldable pub record_at : Stream → List ℕ → Option Item
-record_at s bytes =
-    number_at MAX_TIME bytes >>= λ t. byte_at 44 t.1 >>= λ b. number_at MAX_KEY b >>= λ k. byte_at 44 k.1 >>= λ c. signed_at c >>= λ v. at_end (Rec s (record { time = t.0; key = k.0; value = v.0 })) v.1
+unfoldable pub record_at : Keys → Stream → List ℕ → Option Item
+record_at keys s bytes =
+    number_at MAX_TIME bytes >>= λ t.
+    byte_at 44 t.1 >>= λ b.
+    key_at keys b >>= λ k.
+    byte_at 44 k.1 >>= λ c.
+    signed_at c >>= λ v.
+    at_end (Rec s (record { time = t.0; key = k.0; value = v.0 })) v.1
 
 -- a watermark, after its stream
 unfoldable pub mark_at : Stream → List ℕ → Option Item
@@ -101,11 +135,11 @@ mark_at s bytes = number_at MAX_TIME bytes >>= λ t. at_end (Mark s t.0) t.1
 unfoldable pub between : List ℕ → Option (Stream × List ℕ)
 between bytes = byte_at 44 bytes >>= λ b. stream_at b >>= λ s. byte_at 44 s.1 >>= λ c. Some (s.0, c)
 
--- the item of a line
-unfoldable pub item_of : List ℕ → Option Item
-item_of [] = None
-item_of (b ∷ rest) =
+-- the item of a line, where keys are numbers or words
+unfoldable pub item_of : Keys → List ℕ → Option Item
+item_of keys [] = None
+item_of keys (b ∷ rest) =
     if b == 35 then Some Skip
-    else if b == 114 then (between rest >>= λ s. record_at s.0 s.1)
+    else if b == 114 then (between rest >>= λ s. record_at keys s.0 s.1)
     else if b == 119 then (between rest >>= λ s. mark_at s.0 s.1)
     else None

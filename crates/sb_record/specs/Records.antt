@@ -1,21 +1,18 @@
--- Records in order, and lists of them that differ in order alone.
-use Rattle.std.specs.Prelude.{◌≡◌, ℕ, List, count_by, filter, nat_lt, not}
+-- Records in order.
+use Rattle.std.specs.Prelude.{ℕ, List, count_by, filter, nat_lt, not}
 use Rattle.std.specs.Ordering.{nat_cmp, int_cmp, ordering_then, eq_by_cmp}
 use Rattle.std.specs.declared.cmp.Ordering.{Ordering}
 use Rattle.sb_record.specs.declared.item.Record.{Record}
+use Rattle.sb_record.specs.Keys.{key_cmp}
 use Rattle.sb_record.specs.Orders.{in_order}
 
 -- by time, then key, then value
 abbrev pub record_cmp : Record → Record → Ordering
-record_cmp a b = ordering_then (nat_cmp a.time b.time) (ordering_then (nat_cmp a.key b.key) (int_cmp a.value b.value))
+record_cmp a b = ordering_then (nat_cmp a.time b.time) (ordering_then (key_cmp a.key b.key) (int_cmp a.value b.value))
 
 -- how often the list holds the record
 abbrev pub count_of : Record → List Record → ℕ
 count_of r records = count_by (eq_by_cmp record_cmp r) records
-
--- the lists hold each record equally often, so they differ in order alone
-abbrev pub SameRecords : List Record → List Record → Type 0
-SameRecords l m = (r : Record) → count_of r l ≡ count_of r m
 
 -- the records sorted
 abbrev pub sorted : List Record → List Record

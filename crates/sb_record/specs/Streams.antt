@@ -1,11 +1,12 @@
 -- What a list of items says of each stream.
 use Rattle.std.specs.Prelude.{ℕ, Bool, min, if◌then◌else◌, List, [], ◌∷◌, flat_map}
+use Rattle.sb_record.specs.declared.item.Dropped.{Dropped}
 use Rattle.sb_record.specs.declared.item.Record.{Record}
 use Rattle.sb_record.specs.declared.item.Stream.{Stream}
 use Rattle.sb_record.specs.declared.item.Stream.TheVariants.{A, B}
 use Rattle.sb_record.specs.declared.item.Streams.{Streams}
 use Rattle.sb_record.specs.declared.item.Item.{Item}
-use Rattle.sb_record.specs.declared.item.Item.TheVariants.{Rec, Mark}
+use Rattle.sb_record.specs.declared.item.Item.TheVariants.{Rec, Mark, Late}
 
 -- whether the stream is one of these
 abbrev pub uses : Streams → Stream → Bool
@@ -27,6 +28,15 @@ watermark_in s i = []
 -- the records of the stream, in order
 abbrev pub records_of : Stream → List Item → List Record
 records_of s items = flat_map (record_in s) items
+
+-- what was dropped, if the item is a late record
+abbrev pub dropped_in : Item → List Dropped
+dropped_in (Late n t m) = record { line = n; time = t; mark = m } ∷ []
+dropped_in i = []
+
+-- the late records that were dropped, in order
+abbrev pub dropped_of : List Item → List Dropped
+dropped_of items = flat_map dropped_in items
 
 -- the last of the numbers, or n where there is none
 abbrev pub last_or : ℕ → List ℕ → ℕ

@@ -2,10 +2,10 @@
 
 ghost use Rattle.std.specs.Prelude.{◌≡◌, ◌≤◌, ◌<◌, length, OnErr, IfOk};
 ghost use Rattle.sb_record.specs.Intake as spec;
-ghost use Rattle.sb_record.specs.Lines.{IsTextOf};
 ghost use Rattle.sb_record.specs.Streams as streams_spec;
 
 use crate::item::{Item, Stream, Streams};
+use crate::key::Keys;
 use crate::line::{Malformed, read_line};
 use std::marker::Model;
 
@@ -27,10 +27,20 @@ pub enum Refusal {
     Malformed { line: u64 },
     /// Its stream is not one of the pipeline's.
     WrongStream { line: u64 },
-    /// It is a record with a time below the last watermark of its stream. An equal time is not late.
+    /// It is a record with a time below the last watermark of its stream, and late records are refused. An equal time
+    /// is not late.
     Late { line: u64, time: u64, mark: u64 },
     /// It is a watermark below the last one of its stream. An equal one is accepted.
     Back { line: u64, time: u64, mark: u64 },
+}
+
+/// What becomes of a late record: one with a time below the last watermark of its stream.
+#[derive(Clone, Copy, Debug, PartialEq, Eq)]
+pub enum LatePolicy {
+    /// Its line is refused.
+    Refuse,
+    /// Its line is accepted, and the record dropped.
+    Drop,
 }
 
 /// Why the reading of an input stops.
@@ -52,6 +62,8 @@ pub struct Intake {
     mark_a: u64,
     mark_b: u64,
     before: u64,
+    late: LatePolicy,
+    keys: Keys,
 }
 
 impl Model for Intake {
@@ -61,22 +73,31 @@ impl Model for Intake {
 
     ghost Value = { Progress };
 
-    ghost view = { λ s. record { streams = s.streams; mark_a = s.mark_a; mark_b = s.mark_b; lines = s.before } };
+    ghost view = { λ s. record {
+      streams = s.streams;
+      mark_a = s.mark_a;
+      mark_b = s.mark_b;
+      lines = s.before;
+      late = s.late;
+      keys = s.keys;
+    } };
 
     ghost invariant = { λ s. s.before ≤ MAX_LINES };
 }
 
 impl Intake {
     /// The intake of an input after its first `before` lines, at most 4,294,967,295, none of them a watermark.
-    pub fn new(streams: Streams, before: u64) -> Intake
+    pub fn new(streams: Streams, before: u64, late: LatePolicy, keys: Keys) -> Intake
         requires { before ≤ MAX_LINES }
-        ensures { result ≡ spec.started streams before }
+        ensures { result ≡ spec.started streams before late keys }
     {
         Intake {
             streams,
             mark_a: 0,
             mark_b: 0,
             before,
+            late,
+            keys,
         }
     }
 
@@ -101,13 +122,14 @@ impl Intake {
     }
 
     /// Tests the next line, of at most 128 bytes, and gives its item. An accepted line is counted, and its watermark is
-    /// kept. A refused line changes nothing.
+    /// kept. A late record that is dropped is accepted as [`Item::Late`]. A refused line changes nothing.
+    #[tactic(auto, using(crate::proofs::InputLemmas::tested_ok))]
     pub fn accept(&mut self, line: &[u8]) -> Result<Item, Refusal>
         requires { length line.now ≤ MAX_LINE_LENGTH }
         ensures value { result ≡ spec.tested self.old line.now }
         ensures ok { IfOk result (λ i. self.new ≡ spec.after i self.old) }
         ensures err { OnErr result (self.new ≡ self.old) }
-        ensures item { IfOk result (λ i. IsTextOf i line.now) }
+        ensures item { IfOk result (λ i. spec.IsItemOf self.old i line.now) }
         ensures room { IfOk result (λ _. self.old.lines < MAX_LINES) }
     {
         let item = self.tested(line)?;
@@ -124,14 +146,13 @@ impl Intake {
     fn tested(&self, line: &[u8]) -> Result<Item, Refusal>
         requires { length line.now ≤ MAX_LINE_LENGTH }
         ensures value { result ≡ spec.tested self.now line.now }
-        ensures item { IfOk result (λ i. IsTextOf i line.now) }
         ensures room { IfOk result (λ _. self.now.lines < MAX_LINES) }
     {
         if self.before >= MAX_LINES {
             return Err(Refusal::TooMany);
         }
         let number = self.before + 1;
-        match read_line(line) {
+        match read_line(line, self.keys) {
             Ok(item) => self.timely(number, item),
             Err(Malformed) => Err(Refusal::Malformed { line: number }),
         }
@@ -139,35 +160,40 @@ impl Intake {
 
     /// The item, where its stream is one of the pipeline's and its time is not below the stream's last watermark.
     fn timely(&self, line: u64, item: Item) -> Result<Item, Refusal>
-        ensures value { result ≡ spec.timely self.now line item }
-        ensures same { IfOk result (λ i. i ≡ item) }
+        ensures { result ≡ spec.timely self.now line item }
     {
-        match item {
+        match &item {
             Item::Rec(stream, record) => {
-                if !self.uses(stream) {
+                if !self.uses(*stream) {
                     return Err(Refusal::WrongStream { line });
                 }
-                let mark = self.last(stream);
+                let mark = self.last(*stream);
                 if record.time < mark {
-                    return Err(Refusal::Late {
-                        line,
-                        time: record.time,
-                        mark,
-                    });
+                    return self.when_late(line, record.time, mark);
                 }
-                Ok(item)
             }
             Item::Mark(stream, time) => {
-                if !self.uses(stream) {
+                if !self.uses(*stream) {
                     return Err(Refusal::WrongStream { line });
                 }
-                let mark = self.last(stream);
+                let mark = self.last(*stream);
+                let time = *time;
                 if time < mark {
                     return Err(Refusal::Back { line, time, mark });
                 }
-                Ok(item)
             }
-            Item::Skip => Ok(item),
+            Item::Skip | Item::Late { .. } => {}
+        }
+        Ok(item)
+    }
+
+    /// What a line gives whose record has a time below the last watermark of its stream.
+    fn when_late(&self, line: u64, time: u64, mark: u64) -> Result<Item, Refusal>
+        ensures { result ≡ spec.when_late self.now.late line time mark }
+    {
+        match self.late {
+            LatePolicy::Refuse => Err(Refusal::Late { line, time, mark }),
+            LatePolicy::Drop => Ok(Item::Late { line, time, mark }),
         }
     }
 

@@ -2,14 +2,12 @@
 
 ghost use Rattle.std.specs.Prelude.{⊤};
 
+use crate::key::Key;
 use std::alloc::{AllocError, AllocFailed};
 
 /// The greatest time of a record or a watermark of an input. A time is a whole number without a unit of its own: what
 /// it counts (seconds, milliseconds) is up to whoever writes the input.
 pub const MAX_TIME: u64 = 1_000_000_000_000_000;
-
-/// The greatest key of a record of an input.
-pub const MAX_KEY: u64 = 1_000_000_000_000_000_000;
 
 /// The watermark of every stream once the input has ended. It is above every time in the engine.
 pub const END_MARK: u64 = 2_000_000_000_000_000;
@@ -40,7 +38,7 @@ pub struct Record {
     /// When the event happened (its event time), not when its line was read.
     pub time: u64,
     /// What the event is about.
-    pub key: u64,
+    pub key: Key,
     /// The number that it carries.
     pub value: i64,
 }
@@ -68,4 +66,16 @@ pub enum Item {
     Mark(Stream, u64),
     /// Nothing: the line is a comment.
     Skip,
+    /// A record that came too late and is dropped: the number of its line, its time, and the last watermark of its
+    /// stream, which is above that time. It is no record and no watermark.
+    Late { line: u64, time: u64, mark: u64 },
+}
+
+/// What is left of a late record that was dropped: the number of its line, its time, and the last watermark of its
+/// stream.
+#[derive(Clone, Copy, Debug, PartialEq, Eq)]
+pub struct Dropped {
+    pub line: u64,
+    pub time: u64,
+    pub mark: u64,
 }

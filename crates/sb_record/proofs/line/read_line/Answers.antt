@@ -8,12 +8,12 @@ use Rattle.sb_record.proofs.line.read_line.Goals as goal
 
 pub returns-in-Some-clause-exact : goal.returns-in-Some-clause-exact
 returns-in-Some-clause-exact c i = (
-  λ e. item_some c.args.line.now i (sym c.in-Some.ensures ∙ ap result_ok e),
-  λ text. let e : ◌≡◌ {A = Option Item} (Some c.in-Some.item) (Some i) = c.in-Some.ensures ∙ item_reads i c.args.line.now text in ap (λ item. Ok item) (same_Some c.in-Some.item i e),
+  λ e. item_some c.args.keys c.args.line.now i (sym c.in-Some.ensures ∙ ap result_ok e),
+  λ text. let e : ◌≡◌ {A = Option Item} (Some c.in-Some.item) (Some i) = c.in-Some.ensures ∙ item_reads c.args.keys i c.args.line.now text in ap (λ item. Ok item) (same_Some c.in-Some.item i e),
 )
 
 pub returns-in-None-clause-exact : goal.returns-in-None-clause-exact
 returns-in-None-clause-exact c i = (
   λ e. cc,
-  λ text. let e : ◌≡◌ {A = Option Item} None (Some i) = c.in-None.ensures ∙ item_reads i c.args.line.now text in cc,
+  λ text. let e : ◌≡◌ {A = Option Item} None (Some i) = c.in-None.ensures ∙ item_reads c.args.keys i c.args.line.now text in cc,
 )
