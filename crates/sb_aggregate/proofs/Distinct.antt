@@ -12,7 +12,7 @@ use Rattle.std.proofs.lemmas.List.Kept.{IsStrictlySortedBy-dedup, Contains-dedup
 use Rattle.std.proofs.lemmas.Map.Lookups.{CmpEqualImpliesEq, btree_set_from_contains}
 use Rattle.std.proofs.lemmas.Map.Views.{tells_apart}
 use Rattle.sb_record.specs.Orders.{distinct, put_once, by_ordering}
-use Rattle.sb_record.proofs.Sums.{SameSums, any_reordered}
+use Rattle.sb_record.proofs.Sums.{IsReordered, any_reordered}
 use Rattle.sb_record.proofs.Distinct.{distinct-sorted, any_distinct}
 
 -- one passes where one of fewer elements does
@@ -33,7 +33,7 @@ some-distinct {X} R (v ∷ vs) h = some (distinct R vs)
 
 module _ {X : Type 0} {R : X → X → Ordering} (o : IsTotalOrder R) (exact : CmpEqualImpliesEq R) where
   -- the different elements are the same of elements in another order
-  pub distinct-reordered : (vs ws : List X) → SameSums vs ws → distinct R vs ≡ distinct R ws
+  pub distinct-reordered : (vs ws : List X) → IsReordered vs ws → distinct R vs ≡ distinct R ws
   distinct-reordered vs ws h =
       btree_set_from_contains o (record { keys = distinct R vs }) (record { keys = distinct R ws }) (distinct-sorted o vs) (distinct-sorted o ws)
       (λ q. any_distinct o exact q vs ∙ any_reordered (eq_by_cmp R q) vs ws h ∙ sym (any_distinct o exact q ws)) exact
@@ -45,7 +45,7 @@ module _ {X : Type 0} {R : X → X → Ordering} (o : IsTotalOrder R) (exact : C
       (any_among p (dedup (eq_by_cmp R) xs) xs (Contains-from_dedup (eq_by_cmp R) xs), any_among p xs (dedup (eq_by_cmp R) xs) (Contains-dedup (eq_by_cmp_equiv o) (tells_apart exact) xs)) (λ h. h, λ h. h)
 
   -- what `dedup` leaves of a sorted list
-  pub dedup-distinct : (same : X → X → Bool) → ((x y : X) → same x y ≡ eq_by_cmp R x y) → (vs ws : List X) → IsSorted R ws → SameSums ws vs → dedup same ws ≡ distinct R vs
+  pub dedup-distinct : (same : X → X → Bool) → ((x y : X) → same x y ≡ eq_by_cmp R x y) → (vs ws : List X) → IsSorted R ws → IsReordered ws vs → dedup same ws ≡ distinct R vs
   dedup-distinct same ties vs ws up h =
       (λ i. dedup (λ x y. ties x y i) ws)
       ∙ btree_set_from_contains o (record { keys = dedup (eq_by_cmp R) ws }) (record { keys = distinct R vs }) (IsStrictlySortedBy-dedup o (λ x y. refl) ws up) (distinct-sorted o vs)

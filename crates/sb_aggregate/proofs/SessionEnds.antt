@@ -3,14 +3,19 @@ use Rattle.std.proofs.Common.{◌≡◌, ℕ, ◌+◌, ◌-◌, ◌≤◌, ◌<�
 use Rattle.std.specs.Prelude.{◌||◌, ◌&&◌}
 use Rattle.std.specs.List.{filter, list_any, AllByRecursion}
 use Rattle.std.specs.Ordering.{nat_cmp, is_lt}
-use Rattle.std.specs.Cmp.{nat_cmp_total}
+use Rattle.std.specs.Cmp.{nat_cmp_total, eq_by_cmp_equiv}
 use Rattle.std.proofs.lemmas.Bool.{eqb-true, and_parts, false_from_ne_true, ltb-true, ltb-false, eq-eqb, ne_eqb, cases_lt}
 use Rattle.std.proofs.lemmas.Bool.Decides.{nat_tests}
+use Rattle.std.proofs.lemmas.Map.Views.{tells_apart}
 use Rattle.sb_record.specs.declared.item.Record.{Record}
+use Rattle.sb_record.specs.declared.key.Key.{Key}
+use Rattle.sb_record.specs.Keys.{same_key}
+use Rattle.sb_record.specs.KeyOrder.{key_cmp_total}
 use Rattle.sb_record.specs.Orders.{IsAscending}
+use Rattle.sb_record.proofs.KeyOrder.{exact_keys}
 use Rattle.sb_record.proofs.Elements.{every, All-any}
 use Rattle.sb_record.proofs.Sums.{any_reordered}
-use Rattle.sb_record.proofs.Sorting.{SameSums-in_order, in_order-ascending, All-in_order}
+use Rattle.sb_record.proofs.Sorting.{IsReordered-in_order, in_order-ascending, All-in_order}
 use Rattle.sb_aggregate.specs.Laws.{SessionsAreCutAtGaps, LastRecordsEndSessions}
 use Rattle.std.proofs.lemmas.List.Elements.{recursion_from_All}
 use Rattle.std.proofs.lemmas.List.Folds.{list_any_at}
@@ -37,7 +42,7 @@ not_among : (u : ℕ) (us : List ℕ) → AllByRecursion (λ v. u < v) us → li
 not_among u [] all = refl
 not_among u (v ∷ us) all = (λ i. ne_eqb v u (λ same. omega (arith, all.0, same)) i || not_among u us all.1 i)
 
-not_less : (x y : ℕ) → is_lt (nat_cmp y x) ≡ false → x ≤ y
+pub not_less : (x y : ℕ) → is_lt (nat_cmp y x) ≡ false → x ≤ y
 not_less x y h = grind (arith, nat_tests)
 
 end_from-is : (gap t : ℕ) (us : List ℕ) → AllByRecursion (λ u. t ≤ u) us → IsAscending nat_cmp us → IsEndOf (λ u. list_any (λ v. eqb v u) us) gap t (end_from gap t us)
@@ -70,44 +75,47 @@ end_from-is gap t (v ∷ us) from up = by_case (ltb v (t + gap)) refl (end_from-
           goes_on = λ x a b. absurd (omega (arith, a, b));
         }
 
+pub is_same_key : (a b : Key) → a ≡ b → same_key a b ≡ true
+is_same_key a b e = ap (same_key a) (sym e) ∙ (eq_by_cmp_equiv key_cmp_total).refl a
+
 -- whether the key has a record of the time
-abbrev pub has_time : ℕ → List Record → ℕ → Bool
-has_time key l u = list_any (λ r. eqb r.key key && eqb r.time u) l
+abbrev pub has_time : Key → List Record → ℕ → Bool
+has_time key l u = list_any (λ r. same_key r.key key && eqb r.time u) l
 
 -- the times of the key from t on, as they come
-abbrev late : ℕ → ℕ → List Record → List ℕ
-late key t l = map (λ r. r.time) (filter (λ r. eqb r.key key && not (ltb r.time t)) l)
+abbrev late : Key → ℕ → List Record → List ℕ
+late key t l = map (λ r. r.time) (filter (λ r. same_key r.key key && not (ltb r.time t)) l)
 
 -- the times from t on are those of the key
-has-times_from : (key t : ℕ) (l : List Record) (u : ℕ) → t ≤ u → list_any (λ v. eqb v u) (times_from key t l) ≡ has_time key l u
+has-times_from : (key : Key) (t : ℕ) (l : List Record) (u : ℕ) → t ≤ u → list_any (λ v. eqb v u) (times_from key t l) ≡ has_time key l u
 has-times_from key t l u from =
-    any_reordered (λ v. eqb v u) (times_from key t l) (late key t l) (SameSums-in_order nat_cmp (late key t l)) ∙ of_list l
+    any_reordered (λ v. eqb v u) (times_from key t l) (late key t l) (IsReordered-in_order nat_cmp (late key t l)) ∙ of_list l
   where
-    of_list : (l : List Record) → list_any (λ v. eqb v u) (map (λ r. r.time) (filter (λ r. eqb r.key key && not (ltb r.time t)) l)) ≡ has_time key l u
+    of_list : (l : List Record) → list_any (λ v. eqb v u) (map (λ r. r.time) (filter (λ r. same_key r.key key && not (ltb r.time t)) l)) ≡ has_time key l u
     of_list [] = refl
-    of_list (r ∷ l) = by_case (eqb r.key key) (ltb r.time t) refl (of_list l)
+    of_list (r ∷ l) = by_case (same_key r.key key) (ltb r.time t) refl (of_list l)
       where
-        by_case : (a b : Bool) → ltb r.time t ≡ b → list_any (λ v. eqb v u) (map (λ r. r.time) (filter (λ r. eqb r.key key && not (ltb r.time t)) l)) ≡ has_time key l u
-            → list_any (λ v. eqb v u) (map (λ r. r.time) (cond (a && not b) (r ∷ filter (λ r. eqb r.key key && not (ltb r.time t)) l) (filter (λ r. eqb r.key key && not (ltb r.time t)) l))) ≡ (a && eqb r.time u || has_time key l u)
+        by_case : (a b : Bool) → ltb r.time t ≡ b → list_any (λ v. eqb v u) (map (λ r. r.time) (filter (λ r. same_key r.key key && not (ltb r.time t)) l)) ≡ has_time key l u
+            → list_any (λ v. eqb v u) (map (λ r. r.time) (cond (a && not b) (r ∷ filter (λ r. same_key r.key key && not (ltb r.time t)) l) (filter (λ r. same_key r.key key && not (ltb r.time t)) l))) ≡ (a && eqb r.time u || has_time key l u)
         by_case true true e h = h ∙ ap (λ c. c || has_time key l u) (sym (ne_eqb r.time u (λ same. omega (arith, ltb-true r.time t e, same, from))))
         by_case true false e h = ap (λ c. eqb r.time u || c) h
         by_case false b e h = h
 
-times_from-from : (key t : ℕ) (l : List Record) → AllByRecursion (λ u. t ≤ u) (times_from key t l)
+times_from-from : (key : Key) (t : ℕ) (l : List Record) → AllByRecursion (λ u. t ≤ u) (times_from key t l)
 times_from-from key t l = All-in_order (λ u. t ≤ u) nat_cmp (late key t l) (of_list l)
   where
-    of_list : (l : List Record) → AllByRecursion (λ u. t ≤ u) (map (λ r. r.time) (filter (λ r. eqb r.key key && not (ltb r.time t)) l))
+    of_list : (l : List Record) → AllByRecursion (λ u. t ≤ u) (map (λ r. r.time) (filter (λ r. same_key r.key key && not (ltb r.time t)) l))
     of_list [] = tt
-    of_list (r ∷ l) = by_case (eqb r.key key) (ltb r.time t) refl (of_list l)
+    of_list (r ∷ l) = by_case (same_key r.key key) (ltb r.time t) refl (of_list l)
       where
-        by_case : (a b : Bool) → ltb r.time t ≡ b → AllByRecursion (λ u. t ≤ u) (map (λ r. r.time) (filter (λ r. eqb r.key key && not (ltb r.time t)) l))
-            → AllByRecursion (λ u. t ≤ u) (map (λ r. r.time) (cond (a && not b) (r ∷ filter (λ r. eqb r.key key && not (ltb r.time t)) l) (filter (λ r. eqb r.key key && not (ltb r.time t)) l)))
+        by_case : (a b : Bool) → ltb r.time t ≡ b → AllByRecursion (λ u. t ≤ u) (map (λ r. r.time) (filter (λ r. same_key r.key key && not (ltb r.time t)) l))
+            → AllByRecursion (λ u. t ≤ u) (map (λ r. r.time) (cond (a && not b) (r ∷ filter (λ r. same_key r.key key && not (ltb r.time t)) l) (filter (λ r. same_key r.key key && not (ltb r.time t)) l)))
         by_case true false e h = (ltb-false r.time t e, h)
         by_case true true e h = h
         by_case false b e h = h
 
 -- where the session of a time of a key ends is told by the key's times
-pub end-is : (gap key t : ℕ) (l : List Record) → IsEndOf (has_time key l) gap t (end_from gap t (times_from key t l))
+pub end-is : (gap : ℕ) (key : Key) (t : ℕ) (l : List Record) → IsEndOf (has_time key l) gap t (end_from gap t (times_from key t l))
 end-is gap key t l = record {
   later = worked.later;
   silent = λ u a b. sym (has-times_from key t l u (omega (arith, worked.later, b))) ∙ worked.silent u a b;
@@ -148,14 +156,14 @@ sessions-cut gap l r s among same from next = (
       (end-cut (has_time r.key l) gap r.time (λ u a b. false_from_ne_true (has_time r.key l u) (λ has. omega (arith, far, b, later u a has)))),
 )
   where
-    has_it : (key : ℕ) → key ≡ s.key → has_time key l s.time ≡ true
-    has_it key same = let (k, within, at) = among in list_any_at (λ x. eqb x.key key && eqb x.time s.time) l k s within (λ i. eq-eqb (get_or l k s).key key (ap (λ (x : Record). x.key) at ∙ sym same) i && eq-eqb (get_or l k s).time s.time (ap (λ (x : Record). x.time) at) i)
+    has_it : (key : Key) → key ≡ s.key → has_time key l s.time ≡ true
+    has_it key same = let (k, within, at) = among in list_any_at (λ x. same_key x.key key && eqb x.time s.time) l k s within (λ i. is_same_key (get_or l k s).key key (ap (λ (x : Record). x.key) at ∙ sym same) i && eq-eqb (get_or l k s).time s.time (ap (λ (x : Record). x.time) at) i)
 
     later : (u : ℕ) → r.time < u → has_time r.key l u ≡ true → s.time ≤ u
     later u a has =
-        All-any (λ x. x.key ≡ r.key → r.time < x.time → s.time ≤ x.time) (s.time ≤ u) (λ x. eqb x.key r.key && eqb x.time u)
-        (λ x h e. let t : x.time ≡ u = eqb-true x.time u (and_parts (eqb x.key r.key) _ e).1 in
-        let k : s.time ≤ x.time = h (eqb-true x.key r.key (and_parts (eqb x.key r.key) _ e).0) (omega (arith, t, a)) in omega (arith, k, t))
+        All-any (λ x. x.key ≡ r.key → r.time < x.time → s.time ≤ x.time) (s.time ≤ u) (λ x. same_key x.key r.key && eqb x.time u)
+        (λ x h e. let t : x.time ≡ u = eqb-true x.time u (and_parts (same_key x.key r.key) _ e).1 in
+        let k : s.time ≤ x.time = h (tells_apart exact_keys x.key r.key (and_parts (same_key x.key r.key) _ e).0) (omega (arith, t, a)) in omega (arith, k, t))
         l (recursion_from_All (λ (x : Record). x.key ≡ r.key → r.time < x.time → s.time ≤ x.time) l next) has
 
 pub last-ends : LastRecordsEndSessions
@@ -165,7 +173,7 @@ last-ends gap l r last =
   where
     earlier : (u : ℕ) → has_time r.key l u ≡ true → u ≤ r.time
     earlier u has =
-        All-any (λ x. x.key ≡ r.key → x.time ≤ r.time) (u ≤ r.time) (λ x. eqb x.key r.key && eqb x.time u)
-        (λ x h e. let t : x.time ≡ u = eqb-true x.time u (and_parts (eqb x.key r.key) _ e).1 in
-        let k : x.time ≤ r.time = h (eqb-true x.key r.key (and_parts (eqb x.key r.key) _ e).0) in omega (arith, k, t))
+        All-any (λ x. x.key ≡ r.key → x.time ≤ r.time) (u ≤ r.time) (λ x. same_key x.key r.key && eqb x.time u)
+        (λ x h e. let t : x.time ≡ u = eqb-true x.time u (and_parts (same_key x.key r.key) _ e).1 in
+        let k : x.time ≤ r.time = h (tells_apart exact_keys x.key r.key (and_parts (same_key x.key r.key) _ e).0) in omega (arith, k, t))
         l (recursion_from_All (λ (x : Record). x.key ≡ r.key → x.time ≤ r.time) l last) has

@@ -5,15 +5,19 @@ use Rattle.std.specs.List.{filter, list_any, AllByRecursion}
 use Rattle.std.proofs.lemmas.Bool.{lt-ltb, eqb-true, ne_eqb, cases_lt, and_parts, false_from_ne_true}
 use Rattle.std.proofs.lemmas.List.Folds.{list_any-append}
 use Rattle.std.proofs.lemmas.List.Elements.{filter-append, filter_agree}
+use Rattle.std.proofs.lemmas.Map.Views.{tells_apart}
 use Rattle.sb_record.specs.declared.item.Record.{Record}
+use Rattle.sb_record.specs.declared.key.Key.{Key}
+use Rattle.sb_record.specs.Keys.{same_key}
+use Rattle.sb_record.proofs.KeyOrder.{exact_keys}
 use Rattle.sb_record.proofs.Elements.{All-any, filter_of_filter}
-use Rattle.sb_record.proofs.Sums.{SameSums, any_reordered, any_filtered}
+use Rattle.sb_record.proofs.Sums.{IsReordered, any_reordered, any_filtered}
 use Rattle.sb_window.specs.declared.keyed_window.KeyedWindow.{KeyedWindow}
 use Rattle.sb_aggregate.specs.Sessions.{end_from, times_from, session_end, is_in_session, is_session_open}
 use Rattle.sb_aggregate.proofs.SessionEnds.{has_time, end-low, end-is}
 
 -- where the session of a time of a key ends
-abbrev end_at : ℕ → ℕ → List Record → ℕ → ℕ
+abbrev end_at : ℕ → Key → List Record → ℕ → ℕ
 end_at gap key l t = end_from gap t (times_from key t l)
 
 or_left : (a b : Bool) → a ≡ true → (a || b) ≡ true
@@ -30,31 +34,31 @@ or_cases false b P f g h = g h
 le_antisym : (a b : ℕ) → a ≤ b → b ≤ a → a ≡ b
 le_antisym a b h k = omega (arith, h, k)
 
-pub end-after : (gap key : ℕ) (l : List Record) (t : ℕ) → t + gap ≤ end_at gap key l t
+pub end-after : (gap : ℕ) (key : Key) (l : List Record) (t : ℕ) → t + gap ≤ end_at gap key l t
 end-after gap key l t = (end-is gap key t l).later
 
 -- with more times of the key it ends no earlier
-end-more : (gap key : ℕ) (l m : List Record) → ((u : ℕ) → has_time key l u ≡ true → has_time key m u ≡ true) → (t : ℕ) → end_at gap key l t ≤ end_at gap key m t
+end-more : (gap : ℕ) (key : Key) (l m : List Record) → ((u : ℕ) → has_time key l u ≡ true → has_time key m u ≡ true) → (t : ℕ) → end_at gap key l t ≤ end_at gap key m t
 end-more gap key l m within t = end-low (has_time key m) (has_time key l) gap t t (end_at gap key m t) (end_at gap key l t) (end-is gap key t m) (end-is gap key t l) (end-after gap key m t) (λ u _ _ h. within u h)
 
 -- that of a later time ends no earlier
-end-rises : (gap key : ℕ) (l : List Record) (t u : ℕ) → t ≤ u → end_at gap key l t ≤ end_at gap key l u
+end-rises : (gap : ℕ) (key : Key) (l : List Record) (t u : ℕ) → t ≤ u → end_at gap key l t ≤ end_at gap key l u
 end-rises gap key l t u le = end-low (has_time key l) (has_time key l) gap u t (end_at gap key l u) (end_at gap key l t) (end-is gap key u l) (end-is gap key t l) (let k : u + gap ≤ end_at gap key l u = end-after gap key l u in omega (arith, le, k)) (λ _ _ _ h. h)
 
 -- records in another order have the same sessions
-pub end-order : (gap key : ℕ) (l m : List Record) → SameSums l m → (t : ℕ) → end_at gap key l t ≡ end_at gap key m t
+pub end-order : (gap : ℕ) (key : Key) (l m : List Record) → IsReordered l m → (t : ℕ) → end_at gap key l t ≡ end_at gap key m t
 end-order gap key l m same t =
     le_antisym _ _ (end-more gap key l m (λ u h. sym (times u) ∙ h) t) (end-more gap key m l (λ u h. times u ∙ h) t)
   where
     times : (u : ℕ) → has_time key l u ≡ has_time key m u
-    times u = any_reordered (λ r. eqb r.key key && eqb r.time u) l m same
+    times u = any_reordered (λ r. same_key r.key key && eqb r.time u) l m same
 
-has-append : (key : ℕ) (l es : List Record) (u : ℕ) → has_time key (l ++ es) u ≡ (has_time key l u || has_time key es u)
-has-append key l es u = list_any-append (λ r. eqb r.key key && eqb r.time u) l es
+has-append : (key : Key) (l es : List Record) (u : ℕ) → has_time key (l ++ es) u ≡ (has_time key l u || has_time key es u)
+has-append key l es u = list_any-append (λ r. same_key r.key key && eqb r.time u) l es
 
-module _ (gap key mark : ℕ) (l es : List Record) (late : AllByRecursion (λ r. mark ≤ r.time) es) where
+module _ (gap : ℕ) (key : Key) (mark : ℕ) (l es : List Record) (late : AllByRecursion (λ r. mark ≤ r.time) es) where
   late_time : (u : ℕ) → has_time key es u ≡ true → mark ≤ u
-  late_time u h = All-any (λ r. mark ≤ r.time) (mark ≤ u) (λ r. eqb r.key key && eqb r.time u) (λ r k e. let same : r.time ≡ u = eqb-true r.time u (and_parts (eqb r.key key) _ e).1 in omega (arith, k, same)) es late h
+  late_time u h = All-any (λ r. mark ≤ r.time) (mark ≤ u) (λ r. same_key r.key key && eqb r.time u) (λ r k e. let same : r.time ≡ u = eqb-true r.time u (and_parts (same_key r.key key) _ e).1 in omega (arith, k, same)) es late h
 
   -- with later records a session ends no earlier
   pub end-with : (t : ℕ) → end_at gap key l t ≤ end_at gap key (l ++ es) t
@@ -81,20 +85,20 @@ module _ (gap mark : ℕ) (l es : List Record) (late : AllByRecursion (λ r. mar
   abbrev open_ : List Record
   open_ = filter (is_session_open gap mark l) l
 
-  module _ (key : ℕ) where
+  module _ (key : Key) where
     fewer : (u : ℕ) → has_time key (open_ ++ es) u ≡ true → has_time key (l ++ es) u ≡ true
     fewer u h =
         or_cases (has_time key open_ u) (has_time key es u) (has_time key (l ++ es) u ≡ true)
-        (λ k. has-append key l es u ∙ or_left (has_time key l u) (has_time key es u) (any-filter (λ r. eqb r.key key && eqb r.time u) (is_session_open gap mark l) l k))
+        (λ k. has-append key l es u ∙ or_left (has_time key l u) (has_time key es u) (any-filter (λ r. same_key r.key key && eqb r.time u) (is_session_open gap mark l) l k))
         (λ k. has-append key l es u ∙ or_right (has_time key l u) (has_time key es u) k)
         (sym (has-append key open_ es u) ∙ h)
 
     still : (u : ℕ) → mark < end_at gap key l u → has_time key l u ≡ true → has_time key open_ u ≡ true
     still u after h =
-        any_filtered (λ r. eqb r.key key && eqb r.time u) open_ l
-        (filter_of_filter (λ r. eqb r.key key && eqb r.time u) (is_session_open gap mark l)
-        (λ r e. let k : r.key ≡ key = eqb-true r.key key (and_parts (eqb r.key key) _ e).0 in
-        let t : r.time ≡ u = eqb-true r.time u (and_parts (eqb r.key key) _ e).1 in
+        any_filtered (λ r. same_key r.key key && eqb r.time u) open_ l
+        (filter_of_filter (λ r. same_key r.key key && eqb r.time u) (is_session_open gap mark l)
+        (λ r e. let k : r.key ≡ key = tells_apart exact_keys r.key key (and_parts (same_key r.key key) _ e).0 in
+        let t : r.time ≡ u = eqb-true r.time u (and_parts (same_key r.key key) _ e).1 in
         (λ i. ltb mark (end_at gap (k i) l (t i))) ∙ lt-ltb mark (end_at gap key l u) after) l) ∙ h
 
     -- without what has closed a session ends no later
@@ -122,14 +126,14 @@ module _ (gap mark : ℕ) (l es : List Record) (late : AllByRecursion (λ r. mar
 
   -- ---- which records are in a session
   in-below : (q : KeyedWindow) → q.end ≤ mark → (r : Record) → is_in_session gap (l ++ es) q r ≡ is_in_session gap l q r
-  in-below q by_mark r = ap (λ b. eqb r.key q.key && b) (⊎_elim
+  in-below q by_mark r = ap (λ b. same_key r.key q.key && b) (⊎_elim
       (λ after. let up : session_end gap l r ≤ session_end gap (l ++ es) r = end-with gap r.key mark l es late r.time in
       ne_eqb _ q.end (λ e. omega (arith, e, up, after, by_mark)) ∙ sym (ne_eqb (session_end gap l r) q.end (λ e. omega (arith, e, after, by_mark))))
       (λ closed. ap (λ e. eqb e q.end) (end-closed gap r.key mark l es late r.time closed))
       (cases_lt mark (session_end gap l r)))
 
   in-above : (q : KeyedWindow) → mark < q.end → (r : Record) → is_in_session gap (l ++ es) q r ≡ is_in_session gap (open_ ++ es) q r
-  in-above q above r = ap (λ b. eqb r.key q.key && b) (⊎_elim
+  in-above q above r = ap (λ b. same_key r.key q.key && b) (⊎_elim
       (λ after. ap (λ e. eqb e q.end) (sym (end-open r.key r.time after)))
       (λ closed. let low : session_end gap (open_ ++ es) r ≤ session_end gap (l ++ es) r = open-low r.key r.time in
       ne_eqb _ q.end (λ e. omega (arith, e, closed, above)) ∙ sym (ne_eqb (session_end gap (open_ ++ es) r) q.end (λ e. omega (arith, e, low, closed, above))))
@@ -146,7 +150,7 @@ module _ (gap mark : ℕ) (l es : List Record) (late : AllByRecursion (λ r. mar
       none : (rs : List Record) → AllByRecursion (λ r. mark ≤ r.time) rs → filter (is_in_session gap l q) rs ≡ []
       none [] all = refl
       none (r ∷ rs) all = ap (λ b. cond b (r ∷ filter (is_in_session gap l q) rs) (filter (is_in_session gap l q) rs))
-          (false_from_ne_true (is_in_session gap l q r) (λ e. let same : session_end gap l r ≡ q.end = eqb-true (session_end gap l r) q.end (and_parts (eqb r.key q.key) _ e).1 in
+          (false_from_ne_true (is_in_session gap l q r) (λ e. let same : session_end gap l r ≡ q.end = eqb-true (session_end gap l r) q.end (and_parts (same_key r.key q.key) _ e).1 in
           let up : r.time + gap ≤ session_end gap l r = end-after gap r.key l r.time in omega (arith, same, up, some, by_mark, all.0)))
           ∙ none rs all.1
 
@@ -160,7 +164,7 @@ module _ (gap mark : ℕ) (l es : List Record) (late : AllByRecursion (λ r. mar
     where
       is_open : (r : Record) → is_in_session gap (l ++ es) q r ≡ true → is_session_open gap mark l r ≡ true
       is_open r e =
-          let same : session_end gap (l ++ es) r ≡ q.end = eqb-true (session_end gap (l ++ es) r) q.end (and_parts (eqb r.key q.key) _ e).1 in
+          let same : session_end gap (l ++ es) r ≡ q.end = eqb-true (session_end gap (l ++ es) r) q.end (and_parts (same_key r.key q.key) _ e).1 in
           ⊎_elim (λ after. lt-ltb mark (session_end gap l r) after)
           (λ closed. let k : session_end gap (l ++ es) r ≡ session_end gap l r = end-closed gap r.key mark l es late r.time closed in absurd (omega (arith, k, same, closed, above)))
           (cases_lt mark (session_end gap l r))

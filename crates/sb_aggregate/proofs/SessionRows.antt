@@ -10,9 +10,10 @@ use Rattle.std.proofs.lemmas.Bool.{lt-ltb, ltb-true, ltb-false, eqb-true, cases_
 use Rattle.std.proofs.lemmas.List.Elements.{filter_agree, recursion_from_All}
 use Rattle.std.proofs.lemmas.Map.Made.{All-is_member}
 use Rattle.sb_record.specs.declared.item.Record.{Record}
+use Rattle.sb_record.specs.Keys.{same_key}
 use Rattle.sb_record.specs.Records.{before}
 use Rattle.sb_record.proofs.Elements.{every, All-any, All-map, All-flat_map, filter_all}
-use Rattle.sb_record.proofs.Sums.{SameSums, SameSums-map, SameSums-filter, sum_by-filter, any_by_count}
+use Rattle.sb_record.proofs.Sums.{IsReordered, IsReordered-map, IsReordered-filter, sum_by-filter, any_by_count}
 use Rattle.sb_record.proofs.Distinct.{distinct-same, any_distinct}
 use Rattle.sb_window.specs.declared.keyed_window.KeyedWindow.{KeyedWindow}
 use Rattle.sb_window.specs.Windows.{keyed_window_cmp}
@@ -27,7 +28,7 @@ use Rattle.sb_aggregate.proofs.SessionLaws.{end-after, end-order, end-with, end-
 
 -- ---- a session is among those of the records just where one is in it
 of_record : (gap : ℕ) (l : List Record) (q : KeyedWindow) (r : Record) → eq_by_cmp keyed_window_cmp q (session_of gap l r) ≡ is_in_session gap l q r
-of_record gap l q r = (eq_by_cmp_equiv keyed_windows_total).symm q (session_of gap l r) ∙ same_keyed_window (session_of gap l r) q ∙ and_comm (eqb (session_end gap l r) q.end) (eqb r.key q.key)
+of_record gap l q r = (eq_by_cmp_equiv keyed_windows_total).symm q (session_of gap l r) ∙ same_keyed_window (session_of gap l r) q ∙ and_comm (eqb (session_end gap l r) q.end) (same_key r.key q.key)
 
 any_of : (gap : ℕ) (l : List Record) (q : KeyedWindow) (rs : List Record) → list_any (eq_by_cmp keyed_window_cmp q) (map (session_of gap l) rs) ≡ list_any (is_in_session gap l q) rs
 any_of gap l q [] = refl
@@ -41,16 +42,16 @@ All-sessions gap l =
     every (λ q h. sym (any_sessions gap q l) ∙ h) (sessions_of gap l)
     (recursion_from_All (λ q. is_member (eq_by_cmp keyed_window_cmp) (sessions_of gap l) q ≡ true) (sessions_of gap l) (All-is_member (eq_by_cmp_equiv keyed_windows_total) (sessions_of gap l)))
 
-any_same : {X : Type 0} (p q : X → Bool) (l m : List X) → SameSums (filter p l) (filter q m) → list_any p l ≡ list_any q m
+any_same : {X : Type 0} (p q : X → Bool) (l m : List X) → IsReordered (filter p l) (filter q m) → list_any p l ≡ list_any q m
 any_same p q l m h = any_by_count p l ∙ ap (ltb 0) (sym (sum_by-filter (λ _. 1) p l) ∙ h (λ _. 1) ∙ sum_by-filter (λ _. 1) q m) ∙ sym (any_by_count q m)
 
 -- ---- the rows of some times are those of any list whose sessions that end then hold the same records, in any order
-pub session_rows-same : (agg : Agg) (gap : ℕ) (t : ℕ → Bool) (l m : List Record) → ((q : KeyedWindow) → t (q.end - 1) ≡ true → SameSums (filter (is_in_session gap l q) l) (filter (is_in_session gap m q) m))
+pub session_rows-same : (agg : Agg) (gap : ℕ) (t : ℕ → Bool) (l m : List Record) → ((q : KeyedWindow) → t (q.end - 1) ≡ true → IsReordered (filter (is_in_session gap l q) l) (filter (is_in_session gap m q) m))
     → when t (session_rows agg gap l) ≡ when t (session_rows agg gap m)
 session_rows-same agg gap t l m same =
     when-rows t (λ q. aggregate_values agg (values_in_session gap l q)) (sessions_of gap l)
     ∙ flat_map-agree (λ q. t (q.end - 1)) (rows_in_session agg gap l) (rows_in_session agg gap m)
-    (λ q e. ap (map (row q)) (aggregates-orderless agg (values_in_session gap l q) (values_in_session gap m q) (SameSums-map (λ r. r.value) (filter (is_in_session gap l q) l) (filter (is_in_session gap m q) m) (same q e)))) (sessions_of gap l)
+    (λ q e. ap (map (row q)) (aggregates-orderless agg (values_in_session gap l q) (values_in_session gap m q) (IsReordered-map (λ r. r.value) (filter (is_in_session gap l q) l) (filter (is_in_session gap m q) m) (same q e)))) (sessions_of gap l)
     ∙ ap (flat_map (rows_in_session agg gap m))
     (distinct-same keyed_windows_total exact_keyed_windows (λ q. t (q.end - 1)) (map (session_of gap l) l) (map (session_of gap m) m)
     (λ q e. any_of gap l q l ∙ any_same (is_in_session gap l q) (is_in_session gap m q) l m (same q e) ∙ sym (any_of gap m q m)))
@@ -61,7 +62,7 @@ pub session_rows-orderless : SessionRowsDoNotDependOnOrder
 session_rows-orderless agg gap l m h =
     sym (filter_all (session_rows agg gap l))
     ∙ session_rows-same agg gap (λ _. true) l m
-    (λ q e f. ap (sum_by f) (filter_agree (is_in_session gap l q) (is_in_session gap m q) (λ r. ap (λ e. eqb r.key q.key && eqb e q.end) (end-order gap r.key l m h r.time)) l) ∙ SameSums-filter (is_in_session gap m q) l m h f)
+    (λ q e f. ap (sum_by f) (filter_agree (is_in_session gap l q) (is_in_session gap m q) (λ r. ap (λ e. same_key r.key q.key && eqb e q.end) (end-order gap r.key l m h r.time)) l) ∙ IsReordered-filter (is_in_session gap m q) l m h f)
     ∙ filter_all (session_rows agg gap m)
 
 -- ---- the law of closing
@@ -75,7 +76,7 @@ module _ (agg : Agg) (gap : ℕ) (t : ℕ → Bool) (mark : ℕ) (l later : List
       none : (q : KeyedWindow) → q.end ≡ 0 → (m rs : List Record) → filter (is_in_session gap m q) rs ≡ []
       none q z m [] = refl
       none q z m (r ∷ rs) = ap (λ b. cond b (r ∷ filter (is_in_session gap m q) rs) (filter (is_in_session gap m q) rs))
-          (false_from_ne_true (is_in_session gap m q r) (λ e. let same : session_end gap m r ≡ q.end = eqb-true (session_end gap m r) q.end (and_parts (eqb r.key q.key) _ e).1 in
+          (false_from_ne_true (is_in_session gap m q r) (λ e. let same : session_end gap m r ≡ q.end = eqb-true (session_end gap m r) q.end (and_parts (same_key r.key q.key) _ e).1 in
           let up : r.time + gap ≤ session_end gap m r = end-after gap r.key m r.time in omega (arith, same, up, some, z)))
           ∙ none q z m rs
 
@@ -98,7 +99,7 @@ end-within gap bound l r low h = ⊎_elim
     (λ k. k) (cases_lt (bound + gap) (session_end gap l r))
   where
     low_time : (u : ℕ) → has_time r.key l u ≡ true → u ≤ bound
-    low_time u is = All-any (λ r. r.time ≤ bound) (u ≤ bound) (λ s. eqb s.key r.key && eqb s.time u) (λ s k e. let same : s.time ≡ u = eqb-true s.time u (and_parts (eqb s.key r.key) _ e).1 in omega (arith, k, same)) l low is
+    low_time u is = All-any (λ r. r.time ≤ bound) (u ≤ bound) (λ s. same_key s.key r.key && eqb s.time u) (λ s k e. let same : s.time ≡ u = eqb-true s.time u (and_parts (same_key s.key r.key) _ e).1 in omega (arith, k, same)) l low is
 
 pub session_rows-times : (agg : Agg) (gap bound : ℕ) (l : List Record) → 1 ≤ gap → AllByRecursion (λ r. r.time ≤ bound) l → AllByRecursion (λ r. r.time + 1 ≤ bound + gap) (session_rows agg gap l)
 session_rows-times agg gap bound l some low =
@@ -109,7 +110,7 @@ session_rows-times agg gap bound l some low =
     last : (q : KeyedWindow) → list_any (is_in_session gap l q) l ≡ true → (q.end - 1) + 1 ≤ bound + gap
     last q h =
         All-any (λ r. r.time ≤ bound) ((q.end - 1) + 1 ≤ bound + gap) (is_in_session gap l q)
-        (λ r k e. let same : session_end gap l r ≡ q.end = eqb-true (session_end gap l r) q.end (and_parts (eqb r.key q.key) _ e).1 in
+        (λ r k e. let same : session_end gap l r ≡ q.end = eqb-true (session_end gap l r) q.end (and_parts (same_key r.key q.key) _ e).1 in
         let within : session_end gap l r ≤ bound + gap = end-within gap bound l r low k in omega (arith, same, within, some)) l low h
 
 -- ---- what is open stays open

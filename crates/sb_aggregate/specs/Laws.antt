@@ -2,8 +2,9 @@
 use Rattle.std.specs.Prelude.{◌≡◌, ◌≤◌, ◌<◌, ◌+◌, ℕ, List, ◌++◌, All, Contains, filter}
 use Rattle.sb_record.specs.declared.item.Record.{Record}
 use Rattle.sb_record.specs.Records.{before, at_least}
+use Rattle.sb_record.specs.Reorderings.{IsReordered}
 use Rattle.sb_window.specs.Spacing.{Spacing}
-use Rattle.sb_window.specs.Reorderings.{IsReordered, IgnoresOrder}
+use Rattle.sb_window.specs.Reorderings.{IgnoresOrder}
 use Rattle.sb_aggregate.specs.declared.aggregate.TheConstants.{MAX_TOP}
 use Rattle.sb_aggregate.specs.declared.aggregate.Agg.{Agg}
 use Rattle.sb_aggregate.specs.Aggregates.{aggregate_values, aggregate_rows}

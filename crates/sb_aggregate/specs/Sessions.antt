@@ -3,6 +3,8 @@ use Rattle.std.specs.Prelude.{ℕ, ℤ, ◌+◌, ◌-◌, ◌==◌, nat_lt, Bool
 use Rattle.std.specs.List.{flat_map}
 use Rattle.std.specs.Ordering.{nat_cmp}
 use Rattle.sb_record.specs.declared.item.Record.{Record}
+use Rattle.sb_record.specs.declared.key.Key.{Key}
+use Rattle.sb_record.specs.Keys.{same_key}
 use Rattle.sb_record.specs.Orders.{in_order, distinct}
 use Rattle.sb_window.specs.declared.keyed_window.KeyedWindow.{KeyedWindow}
 use Rattle.sb_window.specs.Windows.{keyed_window_cmp}
@@ -16,8 +18,8 @@ end_from gap t [] = t + gap
 end_from gap t (next ∷ times) = if nat_lt next (t + gap) then end_from gap next times else t + gap
 
 -- the times of a key from t on, in order
-abbrev pub times_from : ℕ → ℕ → List Record → List ℕ
-times_from key t l = in_order nat_cmp (map (λ r. r.time) (filter (λ r. (r.key == key) && not (nat_lt r.time t)) l))
+abbrev pub times_from : Key → ℕ → List Record → List ℕ
+times_from key t l = in_order nat_cmp (map (λ r. r.time) (filter (λ r. same_key r.key key && not (nat_lt r.time t)) l))
 
 -- the end of a record's session
 abbrev pub session_end : ℕ → List Record → Record → ℕ
@@ -33,7 +35,7 @@ sessions_of gap l = distinct keyed_window_cmp (map (session_of gap l) l)
 
 -- whether the record is in the session
 abbrev pub is_in_session : ℕ → List Record → KeyedWindow → Record → Bool
-is_in_session gap l q r = (r.key == q.key) && (session_end gap l r == q.end)
+is_in_session gap l q r = same_key r.key q.key && (session_end gap l r == q.end)
 
 -- the values of the records in the session
 abbrev pub values_in_session : ℕ → List Record → KeyedWindow → List ℤ

@@ -88,7 +88,7 @@ impl Cutter {
         ensures sound { IfOk result (λ given. IfSome given (IsBundleOf self.old)) }
         ensures err { OnErr result (self.new ≡ self.old) }
     {
-        let Ok(()) = self.held.push(next) else {
+        let Ok(()) = self.held.push(Record { ..next }) else {
             return Err(NoMemory);
         };
         if self.held.len() < self.size as usize {
@@ -131,6 +131,7 @@ impl Cutter {
 #[cfg(test)]
 mod tests {
     use super::*;
+    use sb_record::Key;
     use std::alloc::AllocError;
 
     /// A call of a cutter: a record of a time, or a watermark.
@@ -159,7 +160,7 @@ mod tests {
                 Push(time) if time >= cutter.floor() => {
                     let next = Record {
                         time,
-                        key: 0,
+                        key: Key::Number(0),
                         value: 0,
                     };
                     cutter.push(next).map_err(|_| AllocError)?

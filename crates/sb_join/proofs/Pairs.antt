@@ -5,12 +5,12 @@ use Rattle.std.specs.List.{filter, flat_map, sum_by}
 use Rattle.std.proofs.lemmas.Bool.{ltb-true}
 use Rattle.sb_record.specs.declared.item.Record.{Record}
 use Rattle.sb_record.specs.Records.{before}
+use Rattle.sb_record.specs.Reorderings.{IsReordered}
 use Rattle.sb_record.proofs.Elements.{filter_all}
-use Rattle.sb_record.proofs.Sums.{SameSums-map, SameSums-flat_map_each, any_reordered, any_filtered}
+use Rattle.sb_record.proofs.Sums.{IsReordered-map, IsReordered-flat_map_each, any_reordered, any_filtered}
 use Rattle.sb_window.specs.declared.keyed_window.KeyedWindow.{KeyedWindow}
 use Rattle.sb_window.specs.Spacing.{Spacing}
 use Rattle.sb_window.specs.Windows.{is_in, keyed_windows, values_in}
-use Rattle.sb_window.specs.Reorderings.{IsReordered}
 use Rattle.sb_window.proofs.Rows.{row, values_in-reordered, when, when-rows, flat_map-agree, in_closed, keyed_windows-same}
 use Rattle.sb_join.specs.declared.join.Combine.{Combine}
 use Rattle.sb_join.specs.Joins.{combined, pair_values, pairs, join_rows}
@@ -20,11 +20,11 @@ module _ (combine : Combine) (windows : Spacing) where
   -- ---- records in another order
   reordered_pair_values : (xs ws ys zs : List ℤ) → IsReordered xs ws → IsReordered ys zs → IsReordered (pair_values combine xs ys) (pair_values combine ws zs)
   reordered_pair_values xs ws ys zs h k =
-      SameSums-flat_map_each (λ x. map (combined combine x) ys) (λ x. map (combined combine x) zs) (λ x. SameSums-map (combined combine x) ys zs k) xs ws h
+      IsReordered-flat_map_each (λ x. map (combined combine x) ys) (λ x. map (combined combine x) zs) (λ x. IsReordered-map (combined combine x) ys zs k) xs ws h
 
   pub pairs-reordered : (q : KeyedWindow) (l m r s : List Record) → IsReordered l m → IsReordered r s → IsReordered (pairs combine windows l r q) (pairs combine windows m s q)
   pairs-reordered q l m r s h k =
-      SameSums-map (row q) (pair_values combine (values_in windows q l) (values_in windows q r)) (pair_values combine (values_in windows q m) (values_in windows q s))
+      IsReordered-map (row q) (pair_values combine (values_in windows q l) (values_in windows q r)) (pair_values combine (values_in windows q m) (values_in windows q s))
       (reordered_pair_values (values_in windows q l) (values_in windows q m) (values_in windows q r) (values_in windows q s) (values_in-reordered windows q l m h) (values_in-reordered windows q r s k))
 
   keyed_windows-reordered : (l m : List Record) → IsReordered l m → keyed_windows windows l ≡ keyed_windows windows m
@@ -35,7 +35,7 @@ module _ (combine : Combine) (windows : Spacing) where
 
   pub join_rows-reordered : (l m r s : List Record) → IsReordered l m → IsReordered r s → IsReordered (join_rows combine windows l r) (join_rows combine windows m s)
   join_rows-reordered l m r s h k f =
-      SameSums-flat_map_each (pairs combine windows l r) (pairs combine windows m s) (λ q. pairs-reordered q l m r s h k) (keyed_windows windows l) (keyed_windows windows l) (λ g. refl) f
+      IsReordered-flat_map_each (pairs combine windows l r) (pairs combine windows m s) (λ q. pairs-reordered q l m r s h k) (keyed_windows windows l) (keyed_windows windows l) (λ g. refl) f
       ∙ ap (λ qs. sum_by f (flat_map (pairs combine windows m s) qs)) (keyed_windows-reordered l m h)
 
   -- ---- the rows of some times

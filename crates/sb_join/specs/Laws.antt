@@ -2,8 +2,8 @@
 use Rattle.std.specs.Prelude.{◌≡◌, ℕ, List}
 use Rattle.sb_record.specs.declared.item.Record.{Record}
 use Rattle.sb_record.specs.Records.{before}
+use Rattle.sb_record.specs.Reorderings.{IsReordered}
 use Rattle.sb_window.specs.Spacing.{Spacing}
-use Rattle.sb_window.specs.Reorderings.{IsReordered}
 use Rattle.sb_join.specs.declared.join.Combine.{Combine}
 use Rattle.sb_join.specs.Joins.{join_rows}
 

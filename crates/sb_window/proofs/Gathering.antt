@@ -10,10 +10,13 @@ use Rattle.std.proofs.lemmas.List.{map-append}
 use Rattle.std.proofs.lemmas.List.Elements.{filter-append, recursion_from_All, All-from_recursion}
 use Rattle.std.proofs.lemmas.List.Folds.{list_any-append, list_any_none, flat_map-map}
 use Rattle.std.proofs.lemmas.Option.{cond_some}
-use Rattle.std.proofs.lemmas.Map.Views.{All-found}
+use Rattle.std.proofs.lemmas.Map.Views.{All-found, tells_apart}
 use Rattle.std.proofs.lemmas.Map.Made.{is_some-lookup}
 use Rattle.std.proofs.lemmas.Map.Lookups.{btree_set_from_contains}
 use Rattle.sb_record.specs.declared.item.Record.{Record}
+use Rattle.sb_record.specs.declared.key.Key.{Key}
+use Rattle.sb_record.specs.Keys.{same_key}
+use Rattle.sb_record.proofs.KeyOrder.{exact_keys}
 use Rattle.sb_record.proofs.Elements.{every}
 use Rattle.sb_record.proofs.Sums.{any_filtered, none_pass}
 use Rattle.sb_record.proofs.Distinct.{distinct-sorted}
@@ -69,11 +72,11 @@ gathered-append {V} made join joins windows q l m =
 
 -- ---- end by end
 -- what is made of one value of a key, for a keyed window of that key with its end among these
-abbrev pub made_at : {V : Type 0} → V → ℕ → List ℕ → KeyedWindow → Option V
-made_at v key ends q = cond (eqb key q.key && list_any (λ e. eqb e q.end) ends) (Some v) None
+abbrev pub made_at : {V : Type 0} → V → Key → List ℕ → KeyedWindow → Option V
+made_at v key ends q = cond (same_key key q.key && list_any (λ e. eqb e q.end) ends) (Some v) None
 
-pub made_at-no_ends : {V : Type 0} (v : V) (key : ℕ) (q : KeyedWindow) → made_at v key [] q ≡ None
-made_at-no_ends {V} v key q = elim (eqb key q.key) as (λ b. cond {A = Option V} (b && false) (Some v) None ≡ None) [ true ↦ refl | false ↦ refl ]
+pub made_at-no_ends : {V : Type 0} (v : V) (key : Key) (q : KeyedWindow) → made_at v key [] q ≡ None
+made_at-no_ends {V} v key q = elim (same_key key q.key) as (λ b. cond {A = Option V} (b && false) (Some v) None ≡ None) [ true ↦ refl | false ↦ refl ]
 
 -- at all ends of its time it is what is gathered of the record
 pub made_at-window_ends : {V : Type 0} (made : List ℤ → V) (windows : Spacing) (r : Record) (q : KeyedWindow) → made_at (made (r.value ∷ [])) r.key (window_ends windows r.time) q ≡ gathered made windows (r ∷ []) q
@@ -88,19 +91,19 @@ not_among : (x : ℕ) (es : List ℕ) → AllByRecursion (λ e. x < e) es → li
 not_among x es all = list_any_none (λ e. eqb e x) es (All-from_recursion (λ e. eqb e x ≡ false) es (every (λ e h. ne_eqb e x (λ same. omega (arith, h, same))) es all))
 
 -- a step of a loop over rising ends, which joins what is made of one value to what there is at each
-pub made_at-more : {V : Type 0} (join : V → V → V) (v : V) (key e : ℕ) (es : List ℕ) → Rising (e ∷ es) → (now later : KeyedWindow → Option V)
+pub made_at-more : {V : Type 0} (join : V → V → V) (v : V) (key : Key) (e : ℕ) (es : List ℕ) → Rising (e ∷ es) → (now later : KeyedWindow → Option V)
     → ((q : KeyedWindow) → later q ≡ cond (is_at (keyed_window_cmp (record { end = e; key = key })) q) (joined join (now (record { end = e; key = key })) (Some v)) (now q))
     → (q : KeyedWindow) → joined join (later q) (made_at v key es q) ≡ joined join (now q) (made_at v key (e ∷ es) q)
 made_at-more {V} join v key e es rising now later step q =
     ap (λ o. joined join o (made_at v key es q)) (step q ∙ ap (λ b. cond b (joined join (now (record { end = e; key = key })) (Some v)) (now q)) (same_keyed_window (record { end = e; key = key }) q))
-    ∙ by_case (eqb e q.end) (eqb key q.key) refl refl
+    ∙ by_case (eqb e q.end) (same_key key q.key) refl refl
   where
-    by_case : (a k : Bool) → eqb e q.end ≡ a → eqb key q.key ≡ k
+    by_case : (a k : Bool) → eqb e q.end ≡ a → same_key key q.key ≡ k
         → joined join (cond (a && k) (joined join (now (record { end = e; key = key })) (Some v)) (now q)) (cond (k && list_any (λ x. eqb x q.end) es) (Some v) None)
         ≡ joined join (now q) (cond (k && (a || list_any (λ x. eqb x q.end) es)) (Some v) None)
     by_case true true c d =
         let end_is : e ≡ q.end = eqb-true e q.end c in
-        let key_is : key ≡ q.key = eqb-true key q.key d in
+        let key_is : key ≡ q.key = tells_apart exact_keys key q.key d in
         let none : list_any (λ x. eqb x q.end) es ≡ false = ap (λ y. list_any (λ x. eqb x y) es) (sym end_is) ∙ not_among e es rising.0 in
         ap (λ b. joined join (joined join (now (record { end = e; key = key })) (Some v)) (cond b (Some v) None)) none
         ∙ joined_none join (joined join (now (record { end = e; key = key })) (Some v))

@@ -3,7 +3,7 @@ use Rattle.std.proofs.Common.{◌≡◌, ℕ, ℤ, ◌+◌, ◌-◌, ◌%◌, �
 use Rattle.std.specs.Prelude.{◌||◌, ◌&&◌, nat_lt}
 use Rattle.std.specs.List.{filter, list_any, flat_map, AllByRecursion}
 use Rattle.std.specs.Ordering.{eq_by_cmp, nat_cmp}
-use Rattle.std.specs.Cmp.{IsTotalOrder, nat_cmp_total, eq_by_cmp_equiv}
+use Rattle.std.specs.Cmp.{IsTotalOrder, nat_cmp_total, eq_by_cmp_equiv, tied_then}
 use Rattle.std.proofs.lemmas.Cmp.{then_total, on_total}
 use Rattle.std.proofs.lemmas.Bool.Decides.{nat_tests}
 use Rattle.std.proofs.Math.Bool.{and_comm, and-or_distrib_right}
@@ -14,39 +14,47 @@ use Rattle.std.proofs.lemmas.Map.Lookups.{CmpEqualImpliesEq, exact_pairs, exact_
 use Rattle.std.proofs.lemmas.Map.Made.{All-is_member}
 use Rattle.std.specs.Set.{is_member}
 use Rattle.sb_record.specs.declared.item.Record.{Record}
+use Rattle.sb_record.specs.declared.key.Key.{Key}
+use Rattle.sb_record.specs.Keys.{key_cmp, same_key}
+use Rattle.sb_record.specs.KeyOrder.{key_cmp_total}
 use Rattle.sb_record.specs.Records.{before}
+use Rattle.sb_record.specs.Reorderings.{IsReordered}
+use Rattle.sb_record.proofs.KeyOrder.{exact_keys}
 use Rattle.sb_record.proofs.Elements.{every, All-any, All-map, All-flat_map, filter_all, filter_of_filter}
-use Rattle.sb_record.proofs.Sums.{SameSums-map, SameSums-filter, any_reordered, any_filtered, none_pass}
+use Rattle.sb_record.proofs.Sums.{IsReordered-map, IsReordered-filter, any_reordered, any_filtered, none_pass}
 use Rattle.sb_record.proofs.Distinct.{distinct-same, any_distinct}
 use Rattle.sb_window.specs.declared.keyed_window.KeyedWindow.{KeyedWindow}
 use Rattle.sb_window.specs.Spacing.{Spacing}
 use Rattle.sb_window.specs.Windows.{window_ends, keyed_window_cmp, windows_of, keyed_windows, is_in, values_in}
 use Rattle.sb_window.specs.Aggregations.{rows_in, rows_by}
-use Rattle.sb_window.specs.Reorderings.{IsReordered, IgnoresOrder}
+use Rattle.sb_window.specs.Reorderings.{IgnoresOrder}
 use Rattle.sb_window.specs.Laws.{RowsDoNotDependOnOrder, ClosedWindowsDependOnEarlierRecords}
 use Rattle.sb_window.proofs.Multiples.{All-window_ends}
 
 -- ---- keyed windows are ordered, and those that compare alike are one
 pub keyed_windows_total : IsTotalOrder keyed_window_cmp
-keyed_windows_total = then_total (on_total (λ (q : KeyedWindow). q.end) nat_cmp_total) (on_total (λ (q : KeyedWindow). q.key) nat_cmp_total)
+keyed_windows_total = then_total (on_total (λ (q : KeyedWindow). q.end) nat_cmp_total) (on_total (λ (q : KeyedWindow). q.key) key_cmp_total)
 
 pub exact_keyed_windows : CmpEqualImpliesEq keyed_window_cmp
-exact_keyed_windows a b h = ap (λ (p : ℕ × ℕ). record { end = p.0; key = p.1 }) (exact_pairs nat_cmp nat_cmp exact_unsigned exact_unsigned (a.end, a.key) (b.end, b.key) h)
+exact_keyed_windows a b h = ap (λ (p : ℕ × Key). record { end = p.0; key = p.1 }) (exact_pairs nat_cmp key_cmp exact_unsigned exact_keys (a.end, a.key) (b.end, b.key) h)
 
 -- whether two keyed windows are one
-pub same_keyed_window : (p q : KeyedWindow) → eq_by_cmp keyed_window_cmp p q ≡ (eqb p.end q.end && eqb p.key q.key)
-same_keyed_window p q = grind (arith, nat_tests)
+pub same_keyed_window : (p q : KeyedWindow) → eq_by_cmp keyed_window_cmp p q ≡ (eqb p.end q.end && same_key p.key q.key)
+same_keyed_window p q = sym (tied_then (nat_cmp p.end q.end) (key_cmp p.key q.key)) ∙ ap (λ b. b && same_key p.key q.key) same_end
+  where
+    same_end : eq_by_cmp nat_cmp p.end q.end ≡ eqb p.end q.end
+    same_end = grind (arith, nat_tests)
 
 -- a keyed window is among those of a record just where the record lies in it
 any_windows_of : (windows : Spacing) (q : KeyedWindow) (r : Record) → list_any (eq_by_cmp keyed_window_cmp q) (windows_of windows r) ≡ is_in windows q r
-any_windows_of windows q r = among (window_ends windows r.time) ∙ and_comm _ (eqb r.key q.key)
+any_windows_of windows q r = among (window_ends windows r.time) ∙ and_comm _ (same_key r.key q.key)
   where
-    one : (e : ℕ) → eq_by_cmp keyed_window_cmp q (record { end = e; key = r.key }) ≡ (eqb e q.end && eqb r.key q.key)
+    one : (e : ℕ) → eq_by_cmp keyed_window_cmp q (record { end = e; key = r.key }) ≡ (eqb e q.end && same_key r.key q.key)
     one e = (eq_by_cmp_equiv keyed_windows_total).symm q (record { end = e; key = r.key }) ∙ same_keyed_window (record { end = e; key = r.key }) q
 
-    among : (es : List ℕ) → list_any (eq_by_cmp keyed_window_cmp q) (map (λ e. record { end = e; key = r.key }) es) ≡ (list_any (λ e. eqb e q.end) es && eqb r.key q.key)
+    among : (es : List ℕ) → list_any (eq_by_cmp keyed_window_cmp q) (map (λ e. record { end = e; key = r.key }) es) ≡ (list_any (λ e. eqb e q.end) es && same_key r.key q.key)
     among [] = refl
-    among (e ∷ es) = (λ i. one e i || among es i) ∙ sym (and-or_distrib_right (eqb e q.end) _ (eqb r.key q.key))
+    among (e ∷ es) = (λ i. one e i || among es i) ∙ sym (and-or_distrib_right (eqb e q.end) _ (same_key r.key q.key))
 
 any_windows : (windows : Spacing) (q : KeyedWindow) (l : List Record) → list_any (eq_by_cmp keyed_window_cmp q) (flat_map (windows_of windows) l) ≡ list_any (is_in windows q) l
 any_windows windows q [] = refl
@@ -67,7 +75,7 @@ pub end-of : (windows : Spacing) (q : KeyedWindow) (r : Record) → is_in window
 end-of windows q r h =
     All-any (λ e. (r.time < e) × (e ≤ r.time + windows.size) × (e % windows.every ≡ 0)) ((r.time < q.end) × (q.end ≤ r.time + windows.size)) (λ e. eqb e q.end)
     (λ e within same. let is : e ≡ q.end = eqb-true e q.end same in (omega (arith, within.0), omega (arith, within.1)))
-    (window_ends windows r.time) (All-window_ends windows r.time) (and_parts (eqb r.key q.key) _ h).1
+    (window_ends windows r.time) (All-window_ends windows r.time) (and_parts (same_key r.key q.key) _ h).1
 
 -- the last time of a keyed window that has records, where their times are bounded
 pub last_time : (windows : Spacing) (bound : ℕ) (q : KeyedWindow) (l : List Record) → AllByRecursion (λ r. r.time ≤ bound) l → list_any (is_in windows q) l ≡ true → (q.end - 1) + 1 ≤ bound + windows.size
@@ -89,7 +97,7 @@ list_any-weaker p q w l h = let (k, x, within, at, passes) = Any-from_list_any p
 pub in_open : (windows : Spacing) (mark : ℕ) (q : KeyedWindow) → mark < q.end → (l : List Record) → filter (is_in windows q) (filter (is_open_at windows mark) l) ≡ filter (is_in windows q) l
 in_open windows mark q after l =
     filter_of_filter (is_in windows q) (is_open_at windows mark)
-    (λ r h. list_any-weaker (λ e. eqb e q.end) (λ e. nat_lt mark e) (λ x e. let is : x ≡ q.end = eqb-true x q.end e in lt-ltb mark x (omega arith)) (window_ends windows r.time) (and_parts (eqb r.key q.key) _ h).1) l
+    (λ r h. list_any-weaker (λ e. eqb e q.end) (λ e. nat_lt mark e) (λ x e. let is : x ≡ q.end = eqb-true x q.end e in lt-ltb mark x (omega arith)) (window_ends windows r.time) (and_parts (same_key r.key q.key) _ h).1) l
 
 -- no record lies in a window that ends at 0
 pub none_in_zero : (windows : Spacing) (q : KeyedWindow) → q.end ≡ 0 → (l : List Record) → filter (is_in windows q) l ≡ []
@@ -141,7 +149,7 @@ when-rows t values (q ∷ qs) =
 
 -- the values of records that differ in order alone
 pub values_in-reordered : (windows : Spacing) (q : KeyedWindow) (l m : List Record) → IsReordered l m → IsReordered (values_in windows q l) (values_in windows q m)
-values_in-reordered windows q l m h = SameSums-map (λ r. r.value) (filter (is_in windows q) l) (filter (is_in windows q) m) (SameSums-filter (is_in windows q) l m h)
+values_in-reordered windows q l m h = IsReordered-map (λ r. r.value) (filter (is_in windows q) l) (filter (is_in windows q) m) (IsReordered-filter (is_in windows q) l m h)
 
 module _ (values : List ℤ → List ℤ) (windows : Spacing) where
   -- the rows of some times are those of any list whose keyed windows of these times have records alike and give the same

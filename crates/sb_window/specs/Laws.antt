@@ -3,11 +3,12 @@ use Rattle.std.specs.Prelude.{◌≡◌, ℕ, ℤ, ◌+◌, ◌/◌, ◌%◌, �
 use Rattle.std.specs.List.Sorted.{IsStrictlyIncreasing}
 use Rattle.sb_record.specs.declared.item.Record.{Record}
 use Rattle.sb_record.specs.Records.{before}
+use Rattle.sb_record.specs.Reorderings.{IsReordered}
 use Rattle.sb_window.specs.declared.windows.TheConstants.{MAX_SIZE, MAX_WINDOWS_OF_A_TIME}
 use Rattle.sb_window.specs.Spacing.{Spacing, AreWindows}
 use Rattle.sb_window.specs.Windows.{window_ends}
 use Rattle.sb_window.specs.Aggregations.{rows_by, sum_values}
-use Rattle.sb_window.specs.Reorderings.{IsReordered, IgnoresOrder}
+use Rattle.sb_window.specs.Reorderings.{IgnoresOrder}
 
 -- the greatest size of a window, and in how many windows a time may lie
 pub record Limits : Type 0 where

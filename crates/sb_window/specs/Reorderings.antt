@@ -1,9 +1,6 @@
--- Lists that differ in order alone.
-use Rattle.std.specs.Prelude.{◌≡◌, ℕ, ℤ, List, sum_by}
-
--- every function adds up alike over both lists, so they hold the same elements, each equally often
-abbrev pub IsReordered : {X : Type 0} → List X → List X → Type 0
-IsReordered {X} l m = (f : X → ℕ) → sum_by f l ≡ sum_by f m
+-- Functions of values that do not depend on their order.
+use Rattle.std.specs.Prelude.{◌≡◌, ℤ, List}
+use Rattle.sb_record.specs.Reorderings.{IsReordered}
 
 -- the function gives the same of values in another order
 abbrev pub IgnoresOrder : (List ℤ → List ℤ) → Type 0

@@ -4,6 +4,7 @@ use Rattle.std.specs.List.{flat_map, list_any, range_with_len}
 use Rattle.std.specs.Ordering.{nat_cmp, ordering_then}
 use Rattle.std.specs.declared.cmp.Ordering.{Ordering}
 use Rattle.sb_record.specs.declared.item.Record.{Record}
+use Rattle.sb_record.specs.Keys.{key_cmp, same_key}
 use Rattle.sb_record.specs.Orders.{distinct}
 use Rattle.sb_window.specs.declared.windows.BadWindow.{BadWindow}
 use Rattle.sb_window.specs.declared.windows.BadWindow.TheVariants.{Size, Every}
@@ -24,7 +25,7 @@ window_ends windows t = filter (λ e. (e % windows.every) == 0) (range_with_len 
 
 -- by end, then key
 abbrev pub keyed_window_cmp : KeyedWindow → KeyedWindow → Ordering
-keyed_window_cmp a b = ordering_then (nat_cmp a.end b.end) (nat_cmp a.key b.key)
+keyed_window_cmp a b = ordering_then (nat_cmp a.end b.end) (key_cmp a.key b.key)
 
 -- the keyed windows of a record
 abbrev pub windows_of : Spacing → Record → List KeyedWindow
@@ -36,7 +37,7 @@ keyed_windows windows l = distinct keyed_window_cmp (flat_map (windows_of window
 
 -- whether the record lies in the keyed window
 abbrev pub is_in : Spacing → KeyedWindow → Record → Bool
-is_in windows q r = (r.key == q.key) && list_any (λ e. e == q.end) (window_ends windows r.time)
+is_in windows q r = same_key r.key q.key && list_any (λ e. e == q.end) (window_ends windows r.time)
 
 -- the values of the records that lie in the keyed window
 abbrev pub values_in : Spacing → KeyedWindow → List Record → List ℤ
