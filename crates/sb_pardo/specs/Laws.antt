@@ -2,7 +2,7 @@
 use Rattle.std.specs.Prelude.{◌≡◌, ◌≤◌, List, ◌++◌, flat_map, length}
 use Rattle.std.specs.List.{AllByRecursion}
 use Rattle.sb_record.specs.declared.item.Record.{Record}
-use Rattle.sb_record.specs.declared.item.TheConstants.{MAX_KEY}
+use Rattle.sb_record.specs.Keys.{IsKey}
 use Rattle.sb_pardo.specs.declared.operation.TheConstants.{MAX_ADDENDS}
 use Rattle.sb_pardo.specs.declared.operation.Op.{Op}
 use Rattle.sb_pardo.specs.declared.table_file.TheConstants.{MAX_ROWS}
@@ -22,9 +22,9 @@ OutputsOverAJoinedListAreJoined = (op : Op) (l m : List Record) → flat_map (ou
 abbrev pub OutputsKeepTheTime : Type 0
 OutputsKeepTheTime = (op : Op) (r : Record) → AllByRecursion (λ output. output.time ≡ r.time) (outputs_of op r)
 
--- what a valid operation gives for a record with a key in range has a key in range
+-- what a valid operation gives for a record with a key that it may have, has a key that it may have
 abbrev pub OutputsKeepKeysInRange : Type 0
-OutputsKeepKeysInRange = (op : Op) (r : Record) → IsValid op → r.key ≤ MAX_KEY → AllByRecursion (λ output. output.key ≤ MAX_KEY) (outputs_of op r)
+OutputsKeepKeysInRange = (op : Op) (r : Record) → IsValid op → IsKey r.key → AllByRecursion (λ output. IsKey output.key) (outputs_of op r)
 
 -- a valid operation gives at most so many records for one, and so many are at most eight
 abbrev pub OutputsAreFew : Type 0

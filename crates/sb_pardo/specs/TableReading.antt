@@ -1,11 +1,13 @@
 -- What it is to read the rows of a table one after another.
 use Rattle.std.specs.Prelude.{◌≡◌, ℕ, ◌+◌, List, [], ◌∷◌, Option, Some, Bool, true, false, Result, Ok, Err, ⊤}
 use Rattle.std.specs.Borrow.{Bor}
-use Rattle.std.specs.Ordering.{nat_cmp}
 use Rattle.std.specs.FinMap.{FinMap}
 use Rattle.csv.specs.Reading.{AreRecords, Ready, default_config, reader_config, reader_state, reader_trim, source_of}
 use Rattle.csv.specs.declared.reader.Reader.{Reader}
 use Rattle.csv.specs.declared.reader.Trim.TheVariants as trim
+use Rattle.sb_record.specs.Keys.{key_cmp}
+use Rattle.sb_record.specs.declared.key.Key.{Key}
+use Rattle.sb_record.specs.declared.key.Keys.{Keys}
 use Rattle.sb_pardo.specs.TableFiles.{Fields, table_from}
 use Rattle.sb_pardo.specs.declared.table_file.TableStop.{TableStop}
 use Rattle.sb_pardo.specs.declared.table_file.TableStop.TheVariants as stop
@@ -33,8 +35,8 @@ FindsRow rows true fields after = (rest : List Fields) × (rows ≡ fields ∷ r
 FindsRow rows false fields after = rows ≡ []
 
 -- of these rows, from row n on, the first went into the table, or there was none, or it is at fault
-abbrev pub TakesRow : ℕ → List Fields → FinMap nat_cmp ℕ → Result Bool TableStop → TextReader → FinMap nat_cmp ℕ → Type 0
-TakesRow n rows seen (Ok true) after table = (rest : List Fields) × HasRows after rest × (table_from n seen rows ≡ table_from (n + 1) table rest)
-TakesRow n rows seen (Ok false) after table = table_from n seen rows ≡ Ok table
-TakesRow n rows seen (Err (stop.Fault fault)) after table = table_from n seen rows ≡ Err fault
-TakesRow n rows seen (Err stop.Memory) after table = ⊤
+abbrev pub TakesRow : Keys → ℕ → List Fields → FinMap key_cmp Key → Result Bool TableStop → TextReader → FinMap key_cmp Key → Type 0
+TakesRow keys n rows seen (Ok true) after table = (rest : List Fields) × HasRows after rest × (table_from keys n seen rows ≡ table_from keys (n + 1) table rest)
+TakesRow keys n rows seen (Ok false) after table = table_from keys n seen rows ≡ Ok table
+TakesRow keys n rows seen (Err (stop.Fault fault)) after table = table_from keys n seen rows ≡ Err fault
+TakesRow keys n rows seen (Err stop.Memory) after table = ⊤

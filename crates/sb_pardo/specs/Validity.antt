@@ -1,6 +1,6 @@
 -- The operations that a plan may have.
 use Rattle.std.specs.Prelude.{◌≤◌, ℕ, length}
-use Rattle.sb_record.specs.declared.item.TheConstants.{MAX_KEY}
+use Rattle.sb_record.specs.declared.key.TheConstants.{MAX_KEY}
 use Rattle.sb_pardo.specs.declared.operation.TheConstants.{MAX_ADDENDS}
 use Rattle.sb_pardo.specs.declared.operation.Change.{Change}
 use Rattle.sb_pardo.specs.declared.operation.Change.TheVariants.{KeyMod, KeyDiv, KeySet, ValueAdd, ValueMul, ValueSet}
@@ -12,7 +12,7 @@ use Rattle.sb_pardo.specs.Tables.{HasKeyImages}
 abbrev pub IsDivisor : ℕ → Type 0
 IsDivisor n = (1 ≤ n) × (n ≤ MAX_KEY)
 
--- a key in range stays in range
+-- a number that a key may be stays one
 abbrev pub IsValidChange : Change → Type 0
 IsValidChange (KeyMod n) = IsDivisor n
 IsValidChange (KeyDiv n) = IsDivisor n

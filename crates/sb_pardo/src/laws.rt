@@ -14,7 +14,7 @@ pub fn outputs_over_a_joined_list_are_joined()
     ensures { law.OutputsOverAJoinedListAreJoined }
 {}
 
-/// What an operation gives for a record has the record's time, and a valid operation keeps keys in range.
+/// What an operation gives for a record has the record's time, and a valid operation keeps keys such as a record may have.
 pub fn outputs_keep_the_time()
     ensures time { law.OutputsKeepTheTime }
     ensures key { law.OutputsKeepKeysInRange }

@@ -9,7 +9,8 @@ use sb_record::{MAX_KEY, Sequence};
 /// How many addends an [`Op::Expand`] may have.
 pub const MAX_ADDENDS: usize = 8;
 
-/// A field of a record, as a whole number: a key above the greatest `i64` is itself, and not negative.
+/// A field of a record, as a whole number: a key above the greatest `i64` is itself, and not negative. A key that is a
+/// word is no number.
 #[derive(Clone, Copy, Debug, PartialEq, Eq)]
 pub enum Field {
     Time,
@@ -35,11 +36,11 @@ pub enum Test {
 /// A change of one field.
 #[derive(Clone, Copy, Debug, PartialEq, Eq)]
 pub enum Change {
-    /// The key becomes its remainder on division by the number.
+    /// The key becomes its remainder on division by the number. A word stays as it is.
     KeyMod(u64),
-    /// The key becomes its quotient by the number, rounded down.
+    /// The key becomes its quotient by the number, rounded down. A word stays as it is.
     KeyDiv(u64),
-    /// The key becomes the number.
+    /// The key becomes the number, whatever it was.
     KeySet(u64),
     /// The number is added to the value, modulo 2^64.
     ValueAdd(i64),
@@ -52,7 +53,8 @@ pub enum Change {
 /// An operation, which gives a list of records for each record. It never changes a record's time.
 #[derive(Drop)]
 pub enum Op {
-    /// The record where its field passes the test against the number, and else nothing.
+    /// The record where its field is a number that passes the test against the other number, and else nothing. So a
+    /// filter on the key gives nothing for a word.
     Filter(Field, Test, i64),
     /// The record, changed.
     Map(Change),

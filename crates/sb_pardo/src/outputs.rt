@@ -9,7 +9,7 @@ use crate::changes::{changed, value_plus, with_key};
 use crate::filters::passes;
 use crate::operation::{Change, Field, Op, Test};
 use crate::table::Table;
-use sb_record::{NoMemory, Record};
+use sb_record::{Key, NoMemory, Record};
 
 /// Appends what the operation gives for each record, in the records' order. The only error is that there is no memory
 /// for as many records as the operation can give; `into` is then as it was.
@@ -91,6 +91,8 @@ fn expand(addends: &[i64], input: &Record, into: &mut Vec<Record>)
     ensures len { vec_len into.new ≡ vec_len into.old + length addends.now }
     ensures capacity { vec_capacity into.new ≡ vec_capacity into.old }
 {
+    // Without a name of this type the check does not find it in this function.
+    let _key: &Key = &input.key;
     for addend in addends {
         into.push_reserved(value_plus(input, *addend));
     }
@@ -102,7 +104,7 @@ fn look_up_each(table: &Table, records: &[Record], into: &mut Vec<Record>)
     ensures { into.new.items ≡ into.old.items ++ flat_map (outputs_of (Op.Lookup table.now)) records.now }
 {
     for input in records {
-        if let Some(image) = table.image(input.key) {
+        if let Some(image) = table.image(&input.key) {
             into.push_reserved(with_key(input, image));
         }
     }

@@ -2,6 +2,7 @@
 
 ghost use Rattle.std.specs.Prelude.{◌≡◌, ◌≤◌, List, IfOk};
 ghost use Rattle.csv.specs.Records.{fields_of};
+ghost use Rattle.sb_record.specs.Keys.{IsKey};
 ghost use Rattle.sb_pardo.specs.TableFiles as spec;
 ghost use Rattle.sb_pardo.specs.TableFiles.{AnswersTable, Fields, table_of};
 ghost use Rattle.sb_pardo.specs.TableReading.{HasRows, TakesRow};
@@ -9,7 +10,7 @@ ghost use Rattle.sb_pardo.specs.TableReading.{HasRows, TakesRow};
 use crate::table::Table;
 use crate::table_rows::{columns_of, key_of, next_row, rows_in};
 use csv::{ByteRecord, Reader};
-use sb_record::MAX_KEY;
+use sb_record::{Key, Keys};
 use std::alloc::Global;
 
 /// The most rows of a table.
@@ -48,20 +49,21 @@ pub enum TableStop {
 }
 
 impl Table {
-    /// The table of a text without a head line: each row is a key and its image, in decimal digits from 0 to
-    /// [`MAX_KEY`](sb_record::MAX_KEY), without a sign or leading zeros.
+    /// The table of a text without a head line: each row is a key and its image. Where keys are numbers, both are in
+    /// decimal digits from 0 to [`MAX_KEY`](sb_record::MAX_KEY), without a sign or leading zeros; where keys are words,
+    /// both are words.
     ///
     /// # Errors
     ///
     /// The first faulty row, counted from 1, and the first test that it fails.
-    pub fn read(alloc: Global, bytes: &[u8]) -> Result<Table, TableStop>
-        ensures { AnswersTable result (table_of bytes.now) }
+    pub fn read(alloc: Global, bytes: &[u8], keys: Keys) -> Result<Table, TableStop>
+        ensures { AnswersTable result (table_of keys bytes.now) }
     {
         let mut reader = rows_in(alloc, bytes);
         let mut row = ByteRecord::new(alloc);
         let mut table = Table::new(alloc);
         for number in 1..=MAX_ROWS {
-            if !take_row(number, &mut reader, &mut row, &mut table)? {
+            if !take_row(keys, number, &mut reader, &mut row, &mut table)? {
                 return Ok(table);
             }
         }
@@ -80,20 +82,20 @@ impl Table {
 
 /// The key and the image of a row that comes after those in `table`, or its first fault.
 #[tactic(auto, unfolding(crate::specs::TableFiles::entry_of))]
-fn entry_of(table: &Table, row: &ByteRecord) -> Result<(u64, u64), RowFault>
-    ensures value { result ≡ spec.entry_of table.now (fields_of row.now) }
-    ensures range { IfOk result (λ entry. entry.1 ≤ MAX_KEY) }
+fn entry_of(keys: Keys, table: &Table, row: &ByteRecord) -> Result<(Key, Key), RowFault>
+    ensures value { result ≡ spec.entry_of keys table.now (fields_of row.now) }
+    ensures range { IfOk result (λ entry. IsKey entry.1) }
 {
     let Some((first, second)) = columns_of(row) else {
         return Err(RowFault::Width);
     };
-    let Some(key) = key_of(first) else {
+    let Some(key) = key_of(keys, first) else {
         return Err(RowFault::Key);
     };
-    let Some(image) = key_of(second) else {
+    let Some(image) = key_of(keys, second) else {
         return Err(RowFault::Image);
     };
-    if table.image(key).is_some() {
+    if table.image(&key).is_some() {
         return Err(RowFault::Repeated);
     }
     Ok((key, image))
@@ -101,6 +103,7 @@ fn entry_of(table: &Table, row: &ByteRecord) -> Result<(u64, u64), RowFault>
 
 /// Takes the next row, which has this number, into the table. Says whether there was one.
 fn take_row(
+    keys: Keys,
     number: u32,
     reader: &mut Reader<&[u8]>,
     row: &mut ByteRecord,
@@ -108,7 +111,7 @@ fn take_row(
 ) -> Result<bool, TableStop>
     requires { number ≤ MAX_ROWS }
     ensures { (rows : List Fields) → HasRows reader.old rows
-        → TakesRow number rows table.old result reader.new table.new }
+        → TakesRow keys number rows table.old result reader.new table.new }
 {
     let Ok(found) = next_row(reader, row) else {
         return Err(TableStop::Memory);
@@ -116,7 +119,7 @@ fn take_row(
     if !found {
         return Ok(false);
     }
-    let (key, image) = match entry_of(table, row) {
+    let (key, image) = match entry_of(keys, table, row) {
         Ok(entry) => entry,
         Err(what) => return Err(TableStop::Fault(TableFault { row: number, what })),
     };

@@ -3,12 +3,14 @@
 ghost use Rattle.std.specs.Prelude.{◌≡◌, ◌≤◌, List, IfOk, IfSome};
 ghost use Rattle.std.specs.Option.{option_map};
 ghost use Rattle.csv.specs.Records.{fields_of};
+ghost use Rattle.sb_record.specs.Keys.{IsKey};
+ghost use Rattle.sb_record.specs.Reading.{whole_number};
 ghost use Rattle.sb_pardo.specs.TableFiles as spec;
 ghost use Rattle.sb_pardo.specs.TableFiles.{Fields, rows_of};
 ghost use Rattle.sb_pardo.specs.TableReading.{FindsRow, HasRows};
 
 use csv::{ByteRecord, Reader, ReaderBuilder};
-use sb_record::{MAX_KEY, NoMemory, read_number};
+use sb_record::{Key, Keys, MAX_KEY, NoMemory, Word, read_number};
 use std::alloc::Global;
 
 /// A reader at the first row of a text.
@@ -42,10 +44,21 @@ pub(crate) fn columns_of(row: &ByteRecord) -> Option<(&[u8], &[u8])>
     row.get(0).zip(row.get(1))
 }
 
-/// The key that a field spells.
-pub(crate) fn key_of(field: &[u8]) -> Option<u64>
-    ensures value { result ≡ spec.key_of field.now }
-    ensures range { IfSome result (λ key. key ≤ MAX_KEY) }
+/// The number that a field spells, in decimal digits.
+fn number_of(field: &[u8]) -> Option<u64>
+    ensures value { result ≡ whole_number MAX_KEY field.now }
+    ensures range { IfSome result (λ number. number ≤ MAX_KEY) }
 {
     read_number(MAX_KEY, field)
+}
+
+/// The key that a field spells.
+pub(crate) fn key_of(keys: Keys, field: &[u8]) -> Option<Key>
+    ensures value { result ≡ spec.key_of keys field.now }
+    ensures range { IfSome result IsKey }
+{
+    match keys {
+        Keys::Numbers => number_of(field).map(Key::Number),
+        Keys::Words => Word::new(field).map(Key::Word),
+    }
 }

@@ -1,14 +1,35 @@
 //! What each operation gives for records, those at the ends of their ranges too; and which texts are tables.
 
+ghost use Rattle.sb_record.specs.Keys.{IsKey};
+
 use crate::{Change, Field, Op, RowFault, Table, TableFault, TableStop, Test, apply, is_valid};
-use sb_record::{MAX_KEY, Record, Sequence};
+use sb_record::{Key, Keys, MAX_KEY, Record, Sequence, Word};
 use std::alloc::Global;
 use std::test::Fail;
 
 /// One more than the greatest `i64`.
 const HIGH_KEY: u64 = 9_223_372_036_854_775_808;
 
-fn at(time: u64, key: u64, value: i64) -> Record {
+/// A word of the most bytes that one may have.
+const LONGEST: &str = "xxxxxxxxxxxxxxxxxxxxxxxx";
+
+fn at(time: u64, number: u64, value: i64) -> Record {
+    let key = Key::Number(number);
+    Record { time, key, value }
+}
+
+/// The text as a key, where it is a word, else the number 0.
+fn word(text: &str) -> Key
+    ensures { IsKey result }
+{
+    match Word::new(text.as_bytes()) {
+        Some(word) => Key::Word(word),
+        None => Key::Number(0),
+    }
+}
+
+fn named(time: u64, text: &str, value: i64) -> Record {
+    let key = word(text);
     Record { time, key, value }
 }
 
@@ -55,6 +76,41 @@ fn filters_by_each_field(rt: HostRuntime) -> Result<(), Fail> {
 }
 
 #[test]
+fn passes_no_word_by_its_key(rt: HostRuntime) -> Result<(), Fail> {
+    let (word, number) = (named(10, "9", 5), at(10, 9, 5));
+    // Whether `number` passes.
+    let cases = [
+        (Field::Key, Test::Less, 9, false),
+        (Field::Key, Test::Less, 10, true),
+        (Field::Key, Test::AtMost, 9, true),
+        (Field::Key, Test::Equal, 9, true),
+        (Field::Key, Test::AtLeast, 9, true),
+        (Field::Key, Test::More, 9, false),
+        (Field::Key, Test::More, -1, true),
+    ];
+    for (field, test, limit, number_passes) in cases {
+        let op = Op::Filter(field, test, limit);
+        let mut into = Vec::new(rt.alloc());
+        assert!(rt; is_valid(&op));
+        assert_eq!(rt; apply(&op, &[word, number, word], &mut into), Ok(()));
+        assert!(rt; !into.contains(&word), "{test:?} {limit}");
+        assert_eq!(rt; into.contains(&number), number_passes, "{test:?} {limit}");
+    }
+    Ok(())
+}
+
+#[test]
+fn filters_words_by_their_values(rt: HostRuntime) -> Result<(), Fail> {
+    let op = Op::Filter(Field::Value, Test::Equal, 5);
+    let mut into = Vec::new(rt.alloc());
+    let inputs = [named(10, "9", 5), named(10, "cat", 6), named(10, "dog", 5)];
+    assert_eq!(rt; apply(&op, &inputs, &mut into), Ok(()));
+    let outputs = [named(10, "9", 5), named(10, "dog", 5)];
+    assert_eq!(rt; into.as_slice(), outputs.as_slice());
+    Ok(())
+}
+
+#[test]
 fn changes_one_field(rt: HostRuntime) -> Result<(), Fail> {
     let cases = [
         (Change::KeyMod(10), at(1, 1_234, 5), at(1, 4, 5)),
@@ -62,7 +118,11 @@ fn changes_one_field(rt: HostRuntime) -> Result<(), Fail> {
         (Change::KeyDiv(100), at(1, 1_299, 5), at(1, 12, 5)),
         (Change::KeyDiv(1), at(1, MAX_KEY, 5), at(1, MAX_KEY, 5)),
         (Change::KeySet(MAX_KEY), at(1, 0, 5), at(1, MAX_KEY, 5)),
+        (Change::KeyMod(7), named(1, "9", 5), named(1, "9", 5)),
+        (Change::KeyDiv(7), named(1, "9", 5), named(1, "9", 5)),
+        (Change::KeySet(7), named(1, "9", 5), at(1, 7, 5)),
         (Change::ValueAdd(-7), at(1, 2, 5), at(1, 2, -2)),
+        (Change::ValueAdd(1), named(1, "cat", 5), named(1, "cat", 6)),
         (Change::ValueAdd(1), at(1, 2, i64::MAX), at(1, 2, i64::MIN)),
         (Change::ValueAdd(-1), at(1, 2, i64::MIN), at(1, 2, i64::MAX)),
         (Change::ValueMul(-3), at(1, 2, 5), at(1, 2, -15)),
@@ -83,11 +143,17 @@ fn changes_one_field(rt: HostRuntime) -> Result<(), Fail> {
 #[test]
 fn appends_in_order(rt: HostRuntime) -> Result<(), Fail> {
     let mut table = Table::new(rt.alloc());
-    assert_eq!(rt; table.insert(1, 5), Ok(None));
-    assert_eq!(rt; table.insert(HIGH_KEY, MAX_KEY), Ok(None));
-    assert_eq!(rt; table.insert(1, 6), Ok(Some(5)));
-    assert_eq!(rt; table.image(1), Some(6));
-    assert_eq!(rt; table.image(2), None);
+    assert_eq!(rt; table.insert(Key::Number(1), Key::Number(5)), Ok(None));
+    assert_eq!(rt;
+        table.insert(Key::Number(HIGH_KEY), Key::Number(MAX_KEY)),
+        Ok(None)
+    );
+    assert_eq!(rt;
+        table.insert(Key::Number(1), Key::Number(6)),
+        Ok(Some(Key::Number(5)))
+    );
+    assert_eq!(rt; image_of(&table, 1), Some(6));
+    assert_eq!(rt; image_of(&table, 2), None);
 
     let look_up = Op::Lookup(table);
     let expand = Op::Expand(Sequence::new(Vec::from_slice(rt.alloc(), &[10, -1])?));
@@ -95,7 +161,8 @@ fn appends_in_order(rt: HostRuntime) -> Result<(), Fail> {
     let inputs = [at(3, HIGH_KEY, 0), at(4, 2, 0), at(5, 1, i64::MIN)];
     let mut into = Vec::new(rt.alloc());
     assert_eq!(rt; apply(&look_up, &inputs, &mut into), Ok(()));
-    assert_eq!(rt; apply(&expand, &inputs[1..], &mut into), Ok(()));
+    let inputs = [at(4, 2, 0), at(5, 1, i64::MIN)];
+    assert_eq!(rt; apply(&expand, &inputs, &mut into), Ok(()));
     let outputs = [
         at(3, MAX_KEY, 0),
         at(5, 6, i64::MIN),
@@ -103,6 +170,37 @@ fn appends_in_order(rt: HostRuntime) -> Result<(), Fail> {
         at(4, 2, -1),
         at(5, 1, i64::MIN + 10),
         at(5, 1, i64::MAX),
+    ];
+    assert_eq!(rt; into.as_slice(), outputs.as_slice());
+    Ok(())
+}
+
+#[test]
+fn appends_records_of_words_in_order(rt: HostRuntime) -> Result<(), Fail> {
+    let mut table = Table::new(rt.alloc());
+    assert_eq!(rt; table.insert(word("cat"), word("pet")), Ok(None));
+    assert_eq!(rt; table.insert(word("dog"), Key::Number(7)), Ok(None));
+    assert_eq!(rt; table.insert(Key::Number(1), word("one")), Ok(None));
+
+    let look_up = Op::Lookup(table);
+    let expand = Op::Expand(Sequence::new(Vec::from_slice(rt.alloc(), &[10, -1])?));
+    assert!(rt; is_valid(&look_up) && is_valid(&expand));
+    let mut into = Vec::new(rt.alloc());
+    let inputs = [
+        named(3, "dog", 0),
+        named(4, "elm", 0),
+        at(5, 1, 0),
+        named(6, "1", 0),
+        named(7, "cat", 0),
+    ];
+    assert_eq!(rt; apply(&look_up, &inputs, &mut into), Ok(()));
+    assert_eq!(rt; apply(&expand, &[named(8, "elm", 0)], &mut into), Ok(()));
+    let outputs = [
+        at(3, 7, 0),
+        named(5, "one", 0),
+        named(7, "pet", 0),
+        named(8, "elm", 10),
+        named(8, "elm", -1),
     ];
     assert_eq!(rt; into.as_slice(), outputs.as_slice());
     Ok(())
@@ -127,9 +225,27 @@ fn refuses_what_a_plan_may_not_have(rt: HostRuntime) -> Result<(), Fail> {
     Ok(())
 }
 
-/// Why the text is no table, where it is none.
+/// The table of a text of numbers.
+fn read_numbers(alloc: Global, text: &str) -> Result<Table, TableStop> {
+    Table::read(alloc, text.as_bytes(), Keys::Numbers)
+}
+
+/// The image of a number, where it is a number too.
+fn image_of(table: &Table, number: u64) -> Option<u64> {
+    match table.image(&Key::Number(number)) {
+        Some(Key::Number(image)) => Some(image),
+        _ => None,
+    }
+}
+
+/// Why the text is no table of numbers, where it is none.
 fn stop_of(alloc: Global, text: &str) -> Option<TableStop> {
-    Table::read(alloc, text.as_bytes()).err()
+    read_numbers(alloc, text).err()
+}
+
+/// Why the text is no table of words, where it is none.
+fn stop_of_words(alloc: Global, text: &str) -> Option<TableStop> {
+    Table::read(alloc, text.as_bytes(), Keys::Words).err()
 }
 
 const fn fault(row: u32, what: RowFault) -> Option<TableStop> {
@@ -149,24 +265,21 @@ fn reads_one_table_in_all_its_spellings(rt: HostRuntime) -> Result<(), Fail> {
         "103,9\n102,7\n101,7\n",
     ];
     for text in spellings {
-        let table = Table::read(rt.alloc(), text.as_bytes())?;
+        let table = read_numbers(rt.alloc(), text)?;
         for (key, image) in [(101, 7), (102, 7), (103, 9)] {
-            assert_eq!(rt; table.image(key), Some(image), "{key} in {text:?}");
+            assert_eq!(rt; image_of(&table, key), Some(image), "{key} in {text:?}");
         }
         for key in [0, 7, 9, 100, 104, MAX_KEY] {
-            assert_eq!(rt; table.image(key), None, "{key} in {text:?}");
+            assert_eq!(rt; image_of(&table, key), None, "{key} in {text:?}");
         }
     }
     for text in ["", "\n", "\r\n\r\n", "\u{feff}"] {
-        let table = Table::read(rt.alloc(), text.as_bytes())?;
-        assert_eq!(rt; table.image(0), None, "{text:?}");
+        let table = read_numbers(rt.alloc(), text)?;
+        assert_eq!(rt; image_of(&table, 0), None, "{text:?}");
     }
-    let ends = Table::read(
-        rt.alloc(),
-        b"0,1000000000000000000\n1000000000000000000,0\n",
-    )?;
-    assert_eq!(rt; ends.image(0), Some(MAX_KEY));
-    assert_eq!(rt; ends.image(MAX_KEY), Some(0));
+    let ends = read_numbers(rt.alloc(), "0,1000000000000000000\n1000000000000000000,0\n")?;
+    assert_eq!(rt; image_of(&ends, 0), Some(MAX_KEY));
+    assert_eq!(rt; image_of(&ends, MAX_KEY), Some(0));
     Ok(())
 }
 
@@ -240,9 +353,9 @@ fn takes_as_many_rows_as_a_table_may_have(rt: HostRuntime) -> Result<(), Fail> {
     for key in 0..100_000 {
         write!(most, "{key},7\n")?;
     }
-    let table = Table::read(alloc, most.as_bytes())?;
-    assert_eq!(rt; table.image(99_999), Some(7));
-    assert_eq!(rt; table.image(100_000), None);
+    let table = read_numbers(alloc, &most)?;
+    assert_eq!(rt; image_of(&table, 99_999), Some(7));
+    assert_eq!(rt; image_of(&table, 100_000), None);
     for row in ["100000,7", "0,7", "x", "1,2,3", "1,y"] {
         let text = format!(in alloc; "{most}{row}\n")?;
         assert_eq!(rt;
@@ -254,4 +367,60 @@ fn takes_as_many_rows_as_a_table_may_have(rt: HostRuntime) -> Result<(), Fail> {
     let text = format!(in alloc; "x,7\n{most}")?;
     assert_eq!(rt; stop_of(alloc, &text), fault(1, RowFault::Key));
     Ok(())
+}
+
+#[test]
+fn reads_tables_of_words(rt: HostRuntime) -> Result<(), Fail> {
+    let spellings = [
+        "cat,pet\ndog,pet\n9,09\n09,xxxxxxxxxxxxxxxxxxxxxxxx\n",
+        "\u{feff}\"cat\",pet\r\ndog,\"pet\"\r\n\n\"9\",\"09\"\n09,xxxxxxxxxxxxxxxxxxxxxxxx",
+    ];
+    for text in spellings {
+        let table = Table::read(rt.alloc(), text.as_bytes(), Keys::Words)?;
+        for (key, image) in [("cat", "pet"), ("dog", "pet"), ("9", "09"), ("09", LONGEST)] {
+            assert_eq!(rt;
+                table.image(&word(key)),
+                Some(word(image)),
+                "{key} in {text:?}"
+            );
+        }
+        for key in ["ca", "cats", "Cat", "pet", "009", LONGEST] {
+            assert_eq!(rt; table.image(&word(key)), None, "{key} in {text:?}");
+        }
+        assert_eq!(rt; table.image(&Key::Number(9)), None, "{text:?}");
+    }
+    let numbers = read_numbers(rt.alloc(), "9,1\n")?;
+    assert_eq!(rt; numbers.image(&word("9")), None);
+    Ok(())
+}
+
+#[test]
+fn names_the_first_fault_of_a_table_of_words(rt: HostRuntime) {
+    let cases = [
+        ("cat,pet\ncat,bird\n", 2, RowFault::Repeated),
+        ("cat,pet\n\"cat\",pet\n", 2, RowFault::Repeated),
+        ("cat\n", 1, RowFault::Width),
+        ("cat,pet,\n", 1, RowFault::Width),
+        (",pet\n", 1, RowFault::Key),
+        ("a cat,pet\n", 1, RowFault::Key),
+        ("\"a,cat\",pet\n", 1, RowFault::Key),
+        ("\"a\"\"cat\",pet\n", 1, RowFault::Key),
+        ("cat\x7f,pet\n", 1, RowFault::Key),
+        ("k\u{e4}se,pet\n", 1, RowFault::Key),
+        ("xxxxxxxxxxxxxxxxxxxxxxxxx,pet\n", 1, RowFault::Key),
+        ("cat,\n", 1, RowFault::Image),
+        ("cat,a pet\n", 1, RowFault::Image),
+        ("cat, pet\n", 1, RowFault::Image),
+        ("cat,xxxxxxxxxxxxxxxxxxxxxxxxx\n", 1, RowFault::Image),
+        // Two faults in one row.
+        (",\n", 1, RowFault::Key),
+        ("cat,pet\ncat,\n", 2, RowFault::Image),
+    ];
+    for (text, row, what) in cases {
+        assert_eq!(rt;
+            stop_of_words(rt.alloc(), text),
+            fault(row, what),
+            "{text:?}"
+        );
+    }
 }
