@@ -34,4 +34,4 @@ RowsOfEarlierWatermarksComeFirst =
 -- no row of a plan over records that lines can give is too late: all rows are all that the plan gives, sorted
 abbrev pub AllRowsAreTheSortedOutput : Type 0
 AllRowsAreTheSortedOutput =
-    (plan : Shape) → IsPlan plan → (streams : Stream → List Record) → ((s : Stream) → All IsInRange (streams s)) → all_rows plan streams ≡ sorted (output_of plan streams)
+    (plan : Shape) → IsPlan plan → (streams : Stream → List Record) → ((s : Stream) → All (IsInRange plan.keys) (streams s)) → all_rows plan streams ≡ sorted (output_of plan streams)

@@ -43,7 +43,8 @@ has_windows (Join combine windows) = true
 abbrev pub IsPlace : List Step → Down → Type 0
 IsPlace steps place = (place.node ≤ length steps) × (place.lane < lanes_of (operator_at (slice_get steps place.node)))
 
--- the output of each transform goes to a lane of a later node, and each lane of each node is fed once
+-- the output of each transform goes to a lane of a later node, and each lane of each node is fed once; what becomes of
+-- late records, and what keys are, does not matter
 pub record IsPlan (plan : Shape) : Type 0 where
   pub some : 1 ≤ length plan.steps
   pub most : length plan.steps ≤ MAX_TRANSFORMS

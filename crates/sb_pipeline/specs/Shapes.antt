@@ -1,19 +1,37 @@
--- Shapes: the transforms of a pipeline in their order, and where what each gives goes.
+-- Shapes: the transforms of a pipeline in their order, where what each gives goes, and how its input is read.
 use Rattle.std.specs.Prelude.{ℕ, Bool, ◌&&◌, ◌==◌, List, [], ◌∷◌, ◌++◌, map, count_by, Option, Some, None, is_some}
+use Rattle.sb_record.specs.declared.intake.LatePolicy.{LatePolicy}
+use Rattle.sb_record.specs.declared.intake.LatePolicy.TheVariants.{Refuse}
 use Rattle.sb_record.specs.declared.item.Stream.{Stream}
 use Rattle.sb_record.specs.declared.item.Stream.TheVariants.{A, B}
 use Rattle.sb_record.specs.declared.item.Streams.{Streams}
+use Rattle.sb_record.specs.declared.key.Keys.{Keys}
+use Rattle.sb_record.specs.declared.key.Keys.TheVariants.{Numbers}
 use Rattle.sb_window.specs.Spacing.{fixed}
 use Rattle.sb_aggregate.specs.declared.aggregate.Agg.TheVariants.{Sum}
 use Rattle.sb_pipeline.specs.declared.transform.Down.{Down}
 use Rattle.sb_pipeline.specs.declared.transform.Kind.TheVariants.{Group}
 use Rattle.sb_pipeline.specs.declared.transform.Step.{Step}
 
--- the transforms are the nodes from 0 on, and the node after them is the sink; the sources are where the streams go, if anywhere
+-- the transforms are the nodes from 0 on, and the node after them is the sink; the sources are where the streams go, if
+-- anywhere; then what becomes of late records of the input, and what its keys are
 pub record Shape : Type 0 where
   pub steps : List Step
   pub source_a : Option Down
   pub source_b : Option Down
+  pub late : LatePolicy
+  pub keys : Keys
+
+-- the shape of these transforms and sources that refuses late records and whose keys are numbers
+abbrev pub shape_of : List Step → Option Down → Option Down → Shape
+shape_of steps source_a source_b =
+    record {
+      steps = steps;
+      source_a = source_a;
+      source_b = source_b;
+      late = Refuse;
+      keys = Numbers;
+    }
 
 -- where the stream goes, if the plan uses it
 abbrev pub source : Shape → Stream → Option Down
@@ -44,8 +62,5 @@ feeds plan place = count_by (is_same_place place) (downs plan)
 -- one sum over fixed windows of stream a
 abbrev pub sum_shape : ℕ → Shape
 sum_shape size =
-    record {
-      steps = record { kind = Group Sum (fixed size); down = record { node = 1; lane = 0 } } ∷ [];
-      source_a = Some (record { node = 0; lane = 0 });
-      source_b = None;
-    }
+    shape_of (record { kind = Group Sum (fixed size); down = record { node = 1; lane = 0 } } ∷ [])
+    (Some (record { node = 0; lane = 0 })) None

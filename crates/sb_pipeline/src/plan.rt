@@ -9,7 +9,7 @@ ghost use Rattle.sb_pipeline.specs.Shapes as shape;
 use crate::transform::{Down, Kind, Step};
 use crate::validity::{is_plan, lanes_at};
 use sb_aggregate::Agg;
-use sb_record::{NoMemory, Sequence, Stream, Streams};
+use sb_record::{Keys, LatePolicy, NoMemory, Sequence, Stream, Streams};
 use sb_window::{MAX_SIZE, Windows};
 use std::alloc::Global;
 use std::marker::Model;
@@ -21,11 +21,15 @@ use std::marker::Model;
 /// - Each operation and each aggregation is valid, and a join has fixed windows.
 /// - Each transform sends to a lane of a later node, and each stream that is used to a lane of a node.
 /// - Each lane of each node is fed once.
+///
+/// It also says what becomes of late records of its input, and what the keys of its input are.
 #[derive(Drop)]
 pub struct Plan {
     steps: Sequence<Step>,
     source_a: Option<Down>,
     source_b: Option<Down>,
+    late: LatePolicy,
+    keys: Keys,
 }
 
 impl Model for Plan {
@@ -38,19 +42,19 @@ impl Model for Plan {
 
     ghost coded = { Prim.hlevel (codes, step.the_row.coded) };
 
-    ghost view = { λ p. record { steps = p.steps; source_a = p.source_a; source_b = p.source_b } };
+    ghost view = { λ p.
+        record { steps = p.steps; source_a = p.source_a; source_b = p.source_b; late = p.late; keys = p.keys } };
 
-    ghost invariant = { λ p. IsPlan (record { steps = p.steps; source_a = p.source_a; source_b = p.source_b }) };
+    ghost invariant = { λ p. IsPlan
+        (record { steps = p.steps; source_a = p.source_a; source_b = p.source_b; late = p.late; keys = p.keys }) };
 }
 
 impl Plan {
     /// The plan of these transforms in their order, where each stream goes to its source, if it has one. There is none
-    /// just where a rule of plans is broken. It takes no memory.
+    /// just where a rule of plans is broken. It refuses late records, and its keys are numbers. It takes no memory.
     pub fn new(steps: Vec<Step>, source_a: Option<Down>, source_b: Option<Down>) -> Option<Plan>
-        ensures valid { IsSome result
-            ↔ IsPlan (record { steps = steps.items; source_a = source_a; source_b = source_b }) }
-        ensures value { IfSome result
-            (λ plan. plan ≡ record { steps = steps.items; source_a = source_a; source_b = source_b }) }
+        ensures valid { IsSome result ↔ IsPlan (shape.shape_of steps.items source_a source_b) }
+        ensures value { IfSome result (λ plan. plan ≡ shape.shape_of steps.items source_a source_b) }
     {
         if !is_plan(&steps, source_a, source_b) {
             return None;
@@ -59,7 +63,37 @@ impl Plan {
             steps: Sequence::new(steps),
             source_a,
             source_b,
+            late: LatePolicy::Refuse,
+            keys: Keys::Numbers,
         })
+    }
+
+    /// The same plan with this policy on late records of its input.
+    pub fn with_late(self, late: LatePolicy) -> Plan
+        ensures { result ≡ record self { late = late } }
+    {
+        Plan { late, ..self }
+    }
+
+    /// The same plan with these keys in its input.
+    pub fn with_keys(self, keys: Keys) -> Plan
+        ensures { result ≡ record self { keys = keys } }
+    {
+        Plan { keys, ..self }
+    }
+
+    /// What becomes of late records of its input.
+    pub fn late(&self) -> LatePolicy
+        ensures { result ≡ self.now.late }
+    {
+        self.late
+    }
+
+    /// What the keys of its input are.
+    pub fn keys(&self) -> Keys
+        ensures { result ≡ self.now.keys }
+    {
+        self.keys
     }
 
     /// How many transforms there are: the nodes below this are transforms, and this node is the sink.
@@ -121,7 +155,8 @@ impl Plan {
     }
 }
 
-/// The plan of the sums of stream a, by key, over fixed windows of a size from 1 to 10^12.
+/// The plan of the sums of stream a, by key, over fixed windows of a size from 1 to 10^12. It refuses late records, and
+/// its keys are numbers.
 pub fn sum_plan(alloc: Global, size: u64) -> Result<Plan, NoMemory>
     requires some_size { 1 ≤ size }
     requires most_size { size ≤ MAX_SIZE }
@@ -137,5 +172,7 @@ pub fn sum_plan(alloc: Global, size: u64) -> Result<Plan, NoMemory>
         steps: Sequence::new(steps),
         source_a: Some(Down { node: 0, lane: 0 }),
         source_b: None,
+        late: LatePolicy::Refuse,
+        keys: Keys::Numbers,
     })
 }

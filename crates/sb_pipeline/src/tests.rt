@@ -4,7 +4,7 @@ use crate::{Down, Kind, Plan, Step, sum_plan};
 use sb_aggregate::Agg;
 use sb_join::Combine;
 use sb_pardo::{Change, Field, Op, Test};
-use sb_record::{Stream, Streams};
+use sb_record::{Keys, LatePolicy, Stream, Streams};
 use sb_window::Windows;
 use std::alloc::{AllocError, Global};
 
@@ -284,4 +284,21 @@ fn plan_of_a_sum(rt: HostRuntime) {
     assert_eq!(rt; plan.transforms(), 1);
     let only_a = Streams { a: true, b: false };
     assert_eq!(rt; plan.streams(), only_a);
+}
+
+#[test]
+fn plans_of_words_that_drop_late_records(rt: HostRuntime) {
+    let Ok(plan) = sum_plan(rt.alloc(), 1_000) else {
+        assert!(rt; false, "no memory");
+        return;
+    };
+    assert_eq!(rt; plan.late(), LatePolicy::Refuse);
+    assert_eq!(rt; plan.keys(), Keys::Numbers);
+    let plan = plan.with_keys(Keys::Words);
+    assert_eq!(rt; plan.late(), LatePolicy::Refuse);
+    assert_eq!(rt; plan.keys(), Keys::Words);
+    let plan = plan.with_late(LatePolicy::Drop);
+    assert_eq!(rt; plan.late(), LatePolicy::Drop);
+    assert_eq!(rt; plan.keys(), Keys::Words);
+    assert_eq!(rt; plan.transforms(), 1);
 }

@@ -1,6 +1,6 @@
 //! Which lists of transforms and sources are plans.
 
-ghost use Rattle.std.specs.Prelude.{◌≡◌, ◌≤◌, ◌<◌, ◌↔◌, IsTrue, IfSome, All, ℕ, Some, length, map, slice_get, count_by};
+ghost use Rattle.std.specs.Prelude.{◌≡◌, ◌≤◌, ◌<◌, ◌↔◌, IsTrue, IfSome, All, ℕ, Some, length, slice_get, count_by};
 ghost use Rattle.sb_pipeline.specs.declared.transform.Step.{Step as AStep};
 ghost use Rattle.sb_pipeline.specs.declared.transform.Down.{Down as ADown};
 ghost use Rattle.sb_pipeline.specs.Operators.{lanes_of, operator_at, operator_of};
@@ -12,7 +12,7 @@ use sb_aggregate::Agg;
 
 /// Whether the transforms, with the streams going to their sources, are a plan.
 pub(crate) fn is_plan(steps: &[Step], source_a: Option<Down>, source_b: Option<Down>) -> bool
-    ensures { IsTrue result ↔ IsPlan (record { steps = steps.now; source_a = source_a; source_b = source_b }) }
+    ensures { IsTrue result ↔ IsPlan (shape.shape_of steps.now source_a source_b) }
 {
     are_transforms(steps)
         && send_further(steps)
@@ -128,7 +128,7 @@ fn lanes_of(kind: &Kind) -> u32
 fn are_fed_once(steps: &[Step], source_a: Option<Down>, source_b: Option<Down>) -> bool
     requires { length steps.now ≤ MAX_TRANSFORMS }
     ensures { IsTrue result ↔ ((place : ADown) → IsPlace steps.now place
-        → shape.feeds (record { steps = steps.now; source_a = source_a; source_b = source_b }) place ≡ 1) }
+        → shape.feeds (shape.shape_of steps.now source_a source_b) place ≡ 1) }
 {
     for node in 0..=steps.len() as u32 {
         if !are_lanes_fed_once(steps, source_a, source_b, node) {
@@ -147,7 +147,7 @@ fn are_lanes_fed_once(
 ) -> bool
     requires { length steps.now ≤ MAX_TRANSFORMS }
     ensures { IsTrue result ↔ ((lane : ℕ) → lane < lanes_of (operator_at (slice_get steps.now node))
-        → shape.feeds (record { steps = steps.now; source_a = source_a; source_b = source_b })
+        → shape.feeds (shape.shape_of steps.now source_a source_b)
         (record { node = node; lane = lane }) ≡ 1) }
 {
     for lane in 0..lanes_at(steps, node) {
@@ -161,7 +161,7 @@ fn are_lanes_fed_once(
 /// How many transforms and streams send to the place.
 fn feeds(steps: &[Step], source_a: Option<Down>, source_b: Option<Down>, place: Down) -> usize
     requires { length steps.now ≤ MAX_TRANSFORMS }
-    ensures { result ≡ shape.feeds (record { steps = steps.now; source_a = source_a; source_b = source_b }) place }
+    ensures { result ≡ shape.feeds (shape.shape_of steps.now source_a source_b) place }
 {
     step_feeds(steps, place) + source_feeds(source_a, place) + source_feeds(source_b, place)
 }
@@ -169,13 +169,9 @@ fn feeds(steps: &[Step], source_a: Option<Down>, source_b: Option<Down>, place: 
 /// How many transforms send to the place.
 fn step_feeds(steps: &[Step], place: Down) -> usize
     ensures few { result ≤ length steps.now }
-    ensures count { result ≡ count_by (shape.is_same_place place) (map (λ s. s.down) steps.now) }
+    ensures count { result ≡ count_by (λ s. shape.is_same_place place s.down) steps.now }
 {
-    steps
-        .iter()
-        .map(|step| step.down)
-        .filter(|down| place == *down)
-        .count()
+    steps.iter().filter(|step| place == step.down).count()
 }
 
 /// 1 where the stream goes to the place, and else 0.
