@@ -11,10 +11,12 @@ use Rattle.std.proofs.lemmas.List.{map-append}
 use Rattle.std.proofs.lemmas.List.Elements.{filter-append, recursion_from_All}
 use Rattle.std.proofs.lemmas.List.Folds.{list_any-append, flat_map-map}
 use Rattle.std.proofs.lemmas.Option.{cond_some}
-use Rattle.std.proofs.lemmas.Map.Views.{All-found}
+use Rattle.std.proofs.lemmas.Map.Views.{All-found, tells_apart}
 use Rattle.std.proofs.lemmas.Map.Made.{is_some-lookup}
 use Rattle.std.proofs.lemmas.Map.Lookups.{btree_set_from_contains}
 use Rattle.sb_record.specs.declared.item.Record.{Record}
+use Rattle.sb_record.specs.Keys.{same_key}
+use Rattle.sb_record.proofs.KeyOrder.{exact_keys}
 use Rattle.sb_record.proofs.Sums.{none_pass}
 use Rattle.sb_record.proofs.Distinct.{distinct-sorted}
 use Rattle.sb_window.specs.declared.keyed_window.KeyedWindow.{KeyedWindow}
@@ -33,7 +35,7 @@ pub session_values-more : (gap : ℕ) (l m : List Record) (r : Record) (q : Keye
 session_values-more gap l m r q =
     (λ i. cond (list_any-append (is_in_session gap l q) m (r ∷ []) i) (Some (values-append i)) None)
     ∙ by_case (is_in_session gap l q r) (list_any (is_in_session gap l q) m) refl refl
-    ∙ ap (λ b. cond b (followed (session_values_at gap l m (session_of gap l r)) (Some (r.value ∷ []))) (session_values_at gap l m q)) (sym (same_keyed_window (session_of gap l r) q ∙ and_comm (eqb (session_end gap l r) q.end) (eqb r.key q.key)))
+    ∙ ap (λ b. cond b (followed (session_values_at gap l m (session_of gap l r)) (Some (r.value ∷ []))) (session_values_at gap l m q)) (sym (same_keyed_window (session_of gap l r) q ∙ and_comm (eqb (session_end gap l r) q.end) (same_key r.key q.key)))
   where
     values-append : map (λ (r : Record). r.value) (filter (is_in_session gap l q) (m ++ r ∷ [])) ≡ map (λ r. r.value) (filter (is_in_session gap l q) m) ++ map (λ r. r.value) (filter (is_in_session gap l q) (r ∷ []))
     values-append = ap (map (λ (r : Record). r.value)) (filter-append (is_in_session gap l q) m (r ∷ [])) ∙ map-append (λ (r : Record). r.value) (filter (is_in_session gap l q) m) (filter (is_in_session gap l q) (r ∷ []))
@@ -42,7 +44,7 @@ session_values-more gap l m r q =
     vs = map (λ r. r.value) (filter (is_in_session gap l q) m)
 
     here : is_in_session gap l q r ≡ true → q ≡ session_of gap l r
-    here e = λ i. record { end = sym (eqb-true (session_end gap l r) q.end (and_parts (eqb r.key q.key) _ e).1) i; key = sym (eqb-true r.key q.key (and_parts (eqb r.key q.key) _ e).0) i }
+    here e = λ i. record { end = sym (eqb-true (session_end gap l r) q.end (and_parts (same_key r.key q.key) _ e).1) i; key = sym (tells_apart exact_keys r.key q.key (and_parts (same_key r.key q.key) _ e).0) i }
 
     by_case : (a b : Bool) → is_in_session gap l q r ≡ a → list_any (is_in_session gap l q) m ≡ b
         → cond {A = Option (List ℤ)} (b || (a || false)) (Some (map (λ r. r.value) (filter (is_in_session gap l q) m) ++ map (λ (r : Record). r.value) (cond a (r ∷ []) []))) None

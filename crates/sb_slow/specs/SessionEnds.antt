@@ -1,16 +1,17 @@
 -- The ends of sessions, worked out from the last time of each key on.
-use Rattle.std.specs.Prelude.{ℕ, ◌+◌, ◌==◌, nat_lt, ◌&&◌, if◌then◌else◌, List, Option, Some, None}
+use Rattle.std.specs.Prelude.{ℕ, ◌+◌, nat_lt, ◌&&◌, if◌then◌else◌, List, Option, Some, None}
 use Rattle.std.specs.Ordering.{nat_cmp, ordering_then, flip_args}
 use Rattle.std.specs.declared.cmp.Ordering.{Ordering}
 use Rattle.sb_record.specs.declared.item.Record.{Record}
+use Rattle.sb_record.specs.Keys.{key_cmp, same_key}
 use Rattle.sb_record.specs.Orders.{IsAscending}
-use Rattle.sb_window.specs.Reorderings.{IsReordered}
+use Rattle.sb_record.specs.Reorderings.{IsReordered}
 use Rattle.sb_slow.specs.declared.sessions.KeyedTime.{KeyedTime}
 use Rattle.sb_slow.specs.declared.sessions.Ended.{Ended}
 
 -- by key, then time
 abbrev pub keyed_time_cmp : KeyedTime → KeyedTime → Ordering
-keyed_time_cmp a b = ordering_then (nat_cmp a.key b.key) (nat_cmp a.time b.time)
+keyed_time_cmp a b = ordering_then (key_cmp a.key b.key) (nat_cmp a.time b.time)
 
 abbrev pub time_of : Record → KeyedTime
 time_of r = record { key = r.key; time = r.time }
@@ -24,4 +25,4 @@ pub record AreLatestFirst (ts us : List KeyedTime) : Type 0 where
 abbrev pub end_before : ℕ → KeyedTime → Option Ended → ℕ
 end_before gap at None = at.time + gap
 end_before gap at (Some next) =
-    if (next.at.key == at.key) && nat_lt next.at.time (at.time + gap) then next.end else at.time + gap
+    if same_key next.at.key at.key && nat_lt next.at.time (at.time + gap) then next.end else at.time + gap

@@ -133,7 +133,8 @@ pub fn push_on_lane(
     ensures succeeds { vec_len elements.old + length records.now ≤ vec_capacity elements.old → IsOk result }
 {
     for record in records {
-        elements.push(KeptRec { lane, rec: *record })?;
+        let rec = Record { ..*record };
+        elements.push(KeptRec { lane, rec })?;
     }
     Ok(())
 }

@@ -25,7 +25,7 @@ pub(crate) fn records_of(
     let mut records = Vec::new(alloc);
     for item in items {
         match item {
-            Item::Rec(from, record) if *from == stream => records.push(*record)?,
+            Item::Rec(from, record) if *from == stream => records.push(Record { ..*record })?,
             _ => {}
         }
     }
@@ -64,7 +64,7 @@ pub(crate) fn values_by_session(
     let mut values = BTreeMap::new(alloc);
     for (place, record) in records.iter().enumerate() {
         let (end, key) = (ends[place], record.key);
-        add_value(alloc, &mut values, KeyedWindow { end, key }, record).map_err(|_| NoMemory)?;
+        add_value(alloc, &mut values, KeyedWindow { end, key }, record)?;
     }
     Ok(values)
 }

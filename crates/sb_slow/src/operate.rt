@@ -57,7 +57,7 @@ pub fn all_records(alloc: Global, elements: &[KeptRec]) -> Result<Vec<Record>, N
 {
     let mut records = Vec::new(alloc);
     for element in elements {
-        records.push(element.rec)?;
+        records.push(Record { ..element.rec })?;
     }
     Ok(records)
 }
@@ -69,7 +69,7 @@ fn of_lane(alloc: Global, lane: u32, elements: &[KeptRec]) -> Result<Vec<Record>
     let mut records = Vec::new(alloc);
     for element in elements {
         if element.lane == lane {
-            records.push(element.rec)?;
+            records.push(Record { ..element.rec })?;
         }
     }
     Ok(records)
@@ -127,7 +127,7 @@ fn aggregates_of(
     for (window, values) in values {
         let mut values = values.into_vec();
         aggregated(agg, &mut values)?;
-        push_rows(window, &values, &mut rows)?;
+        push_rows(&window, &values, &mut rows)?;
     }
     Ok(rows)
 }
@@ -166,7 +166,7 @@ fn pairs_of(
         values.clear();
         let right = values_of(right, &window);
         pair_values(combine, left.as_slice(), right, &mut values)?;
-        push_rows(window, &values, &mut rows)?;
+        push_rows(&window, &values, &mut rows)?;
     }
     Ok(rows)
 }
@@ -185,10 +185,10 @@ fn values_of<'a>(
 }
 
 /// Appends a row of a keyed window for each value.
-fn push_rows(window: KeyedWindow, values: &[i64], rows: &mut Vec<Record>) -> Result<(), NoMemory>
+fn push_rows(window: &KeyedWindow, values: &[i64], rows: &mut Vec<Record>) -> Result<(), NoMemory>
     ensures { OnOk result
         (rows.new.items
-        ≡ rows.old.items ++ map (λ v. record { time = window.end - 1; key = window.key; value = v }) values.now) }
+        ≡ rows.old.items ++ map (λ v. record { time = window.now.end - 1; key = window.now.key; value = v }) values.now) }
 {
     for value in values {
         rows.push(Record {

@@ -9,14 +9,14 @@ ghost use Rattle.sb_aggregate.specs.Sessions.{session_end};
 ghost use Rattle.sb_slow.specs.SessionEnds as spec;
 
 use sb_pipeline::MAX_GAP;
-use sb_record::{END_MARK, NoMemory, Record};
+use sb_record::{END_MARK, Key, NoMemory, Record};
 use std::alloc::Global;
 use std::collections::BTreeMap;
 
 /// A time of a key. They are ordered by key, then time.
 #[derive(Clone, Copy, Debug, PartialEq, Eq, PartialOrd, Ord)]
 pub(crate) struct KeyedTime {
-    pub key: u64,
+    pub key: Key,
     pub time: u64,
 }
 
@@ -36,8 +36,7 @@ pub fn session_ends(alloc: Global, gap: u64, records: &[Record]) -> Result<Vec<u
     let by_time = ends_by_time(alloc, gap, records)?;
     let mut ends = Vec::new(alloc);
     for record in records {
-        ends.push(end_at(&by_time, gap, record))
-            .map_err(|_| NoMemory)?;
+        ends.push(end_at(&by_time, gap, record))?;
     }
     Ok(ends)
 }
@@ -79,9 +78,12 @@ fn ends_by_time(
     let mut ends = BTreeMap::new(alloc);
     let mut later = None;
     for at in times {
-        let end = end_before(gap, at, later);
-        ends.insert(at, end).map_err(|_| NoMemory)?;
-        later = Some(Ended { at, end });
+        let end = end_before(gap, &at, &later);
+        ends.insert(KeyedTime { ..at }, end)?;
+        later = Some(Ended {
+            at: KeyedTime { ..at },
+            end,
+        });
     }
     Ok(ends)
 }
@@ -90,19 +92,30 @@ fn ends_by_time(
 fn latest_first(alloc: Global, records: &[Record]) -> Result<Vec<KeyedTime>, NoMemory>
     ensures { IfOk result (λ times. spec.AreLatestFirst times.items (map spec.time_of records.now)) }
 {
-    let mut times = Vec::new(alloc);
-    for record in records {
-        times.push(time_of(record)).map_err(|_| NoMemory)?;
-    }
+    let mut times = times_of(alloc, records)?;
     times.sort_unstable_by(|a, b| b.cmp(a));
     Ok(times)
 }
 
+/// The times of the records, in their order.
+fn times_of(alloc: Global, records: &[Record]) -> Result<Vec<KeyedTime>, NoMemory>
+    ensures { IfOk result (λ times. times.items ≡ map spec.time_of records.now) }
+{
+    let mut times = Vec::new(alloc);
+    for record in records {
+        times.push(KeyedTime {
+            key: record.key,
+            time: record.time,
+        })?;
+    }
+    Ok(times)
+}
+
 /// The end of the session of a time, where that of the next later time is known.
-fn end_before(gap: u64, at: KeyedTime, later: Option<Ended>) -> u64
+fn end_before(gap: u64, at: &KeyedTime, later: &Option<Ended>) -> u64
     requires gap { gap ≤ MAX_GAP }
-    requires time { at.time < END_MARK }
-    ensures { result ≡ spec.end_before gap at later }
+    requires time { at.now.time < END_MARK }
+    ensures { result ≡ spec.end_before gap at.now later.now }
 {
     match later {
         Some(next) if next.at.key == at.key && next.at.time < at.time + gap => next.end,

@@ -8,26 +8,42 @@ use sb_aggregate::{Agg, MAX_TOP};
 use sb_join::Combine;
 use sb_pardo::{Change, Field, Op, Table, Test};
 use sb_pipeline::{Down, Kind, Plan, Step};
-use sb_record::{END_MARK, Item, MAX_KEY, Sequence, read_line};
+use sb_record::{END_MARK, Item, Key, Keys, MAX_KEY, Record, Sequence, read_line};
 use sb_window::{BadWindow, Windows};
 use std::alloc::{AllocError, Global};
 use std::test::Fail;
 
 /// The items of lines, with a space between each two.
-fn items_of(alloc: Global, lines: &str) -> Result<Vec<Item>, Fail>
-    ensures { IfOk result (λ items. All IsItemInRange items.items) }
+fn items_of(alloc: Global, keys: Keys, lines: &str) -> Result<Vec<Item>, Fail>
+    ensures { IfOk result (λ items. All (IsItemInRange keys) items.items) }
 {
     let mut items = Vec::new(alloc);
+    // By this the prover is told of the types that an item holds.
+    let _held = Record {
+        time: 0,
+        key: Key::Number(0),
+        value: 0,
+    };
     for line in lines.split_whitespace() {
-        items.push(read_line(line.as_bytes())?)?;
+        let item = read_line(line.as_bytes(), keys)?;
+        items.push(item)?;
     }
     Ok(items)
+}
+
+/// Adds a key at the end of a text.
+fn push_key(text: &mut String, key: &Key) -> Result<(), Fail> {
+    match key {
+        Key::Number(number) => write!(text, "{number}")?,
+        Key::Word(word) => text.push_str(str::from_utf8(word.as_slice())?)?,
+    }
+    Ok(())
 }
 
 /// The rows below a time, as `end,key,value`, with a space between each two.
 fn rows_below(alloc: Global, plan: Option<Plan>, lines: &str, below: u64) -> Result<String, Fail> {
     let plan = plan.ok_or("no plan")?;
-    let items = items_of(alloc, lines)?;
+    let items = items_of(alloc, plan.keys(), lines)?;
     let rows = slow_rows(alloc, &plan, &items, below)?;
     let mut text = String::new(alloc);
     for row in &rows {
@@ -35,7 +51,9 @@ fn rows_below(alloc: Global, plan: Option<Plan>, lines: &str, below: u64) -> Res
             text.push_str(" ")?;
         }
         let end = row.time.saturating_add(1);
-        write!(text, "{end},{},{}", row.key, row.value)?;
+        write!(text, "{end},")?;
+        push_key(&mut text, &row.key)?;
+        write!(text, ",{}", row.value)?;
     }
     Ok(text)
 }
@@ -112,6 +130,8 @@ fn aggregates_by_session(rt: HostRuntime) -> Result<(), Fail> {
             "{agg:?} {gap} {lines}"
         );
     }
+    assert!(rt; alone(alloc, Kind::Session(Agg::Sum, 0))?.is_none());
+    assert!(rt; alone(alloc, Kind::Session(Agg::Top(1), 1))?.is_none());
     Ok(())
 }
 
@@ -295,6 +315,45 @@ fn changes_one_field(rt: HostRuntime) -> Result<(), Fail> {
     Ok(())
 }
 
+/// The plan, with words for keys.
+fn of_words(plan: Option<Plan>) -> Option<Plan> {
+    plan.map(|plan| plan.with_keys(Keys::Words))
+}
+
+#[test]
+fn gathers_words(rt: HostRuntime) -> Result<(), Fail> {
+    let alloc = rt.alloc();
+    let cases = [
+        (
+            group(Agg::Sum, 10, 10)?,
+            "r,a,1,redd,1 r,a,3,red,5 r,a,2,blue,7 r,a,4,red,2",
+            "10,blue,7 10,red,7 10,redd,1",
+        ),
+        (
+            group(Agg::Sum, 10, 10)?,
+            "r,a,1,9,1 r,a,2,10,2",
+            "10,10,2 10,9,1",
+        ),
+        (
+            Kind::Session(Agg::Sum, 5),
+            "r,a,1,9,1 r,a,3,10,7 r,a,4,9,5",
+            "8,10,7 9,9,6",
+        ),
+    ];
+    for (kind, lines, want) in cases {
+        let plan = of_words(alone(alloc, kind)?);
+        assert_eq!(rt; rows_of(alloc, plan, lines)?.as_str(), want, "{lines}");
+    }
+    let plan = of_words(joined(alloc, join(Combine::Add, 10)?)?);
+    let rows = rows_of(
+        alloc,
+        plan,
+        "r,a,1,red,1 r,a,1,reds,9 r,b,2,red,3 r,b,2,re,3",
+    )?;
+    assert_eq!(rt; rows.as_str(), "10,red,4");
+    Ok(())
+}
+
 #[test]
 fn passes_on_from_transform_to_transform(rt: HostRuntime) -> Result<(), Fail> {
     let alloc = rt.alloc();
@@ -321,7 +380,7 @@ fn counts_views_by_campaign(rt: HostRuntime) -> Result<(), Fail> {
     let alloc = rt.alloc();
     let mut campaigns = Table::new(alloc);
     for (advertisement, campaign) in [(101, 7), (102, 7), (103, 9)] {
-        campaigns.insert(advertisement, campaign)?;
+        campaigns.insert(Key::Number(advertisement), Key::Number(campaign))?;
     }
     let kinds = vec![in alloc;
         Kind::Do(Op::Filter(Field::Value, Test::Equal, 1)),
