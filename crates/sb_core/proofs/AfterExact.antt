@@ -33,7 +33,7 @@ use Rattle.sb_core.specs.Closings.{is_pardo}
 use Rattle.sb_core.specs.Holdings.{IsWork, IsHeld, is_unpassed}
 use Rattle.sb_core.proofs.Orderly.{IsLawful}
 use Rattle.sb_core.specs.Laws.{concerns, fed_after}
-use Rattle.sb_core.proofs.Lists.{cond_is_some, SameSums-pulled}
+use Rattle.sb_core.proofs.Lists.{cond_is_some, IsReordered-pulled}
 use Rattle.sb_core.proofs.LaneLaws.{All-pulled}
 use Rattle.sb_core.proofs.Nodes.{node_at-same, node_at-set_same}
 use Rattle.sb_core.proofs.InTime.{work_epoch}
@@ -101,7 +101,7 @@ events-carry plan is_plan m later (Deliver node lane number) h lawful after = by
     rows : (Choices.pulled (Moments.is_close_of node lane) m.held >>= λ q. Events.deliver_rows plan m q.0 q.1) ≡ Some later → (q : Held × List Held) × (Choices.pulled (Moments.is_close_of node lane) m.held ≡ Some q) × CarriesFrom plan m later q.0
     rows h =
         let a = bind_some (Choices.pulled (Moments.is_close_of node lane) m.held) (λ q. Events.deliver_rows plan m q.0 q.1) later h in
-        (a.0, a.1, rows-carries plan m later lawful a.0 (SameSums-pulled (Moments.is_close_of node lane) m.held a.0 a.1) (All-pulled (IsHeld plan m) (Moments.is_close_of node lane) m.held a.0 a.1 lawful.holds).0 a.2)
+        (a.0, a.1, rows-carries plan m later lawful a.0 (IsReordered-pulled (Moments.is_close_of node lane) m.held a.0 a.1) (All-pulled (IsHeld plan m) (Moments.is_close_of node lane) m.held a.0 a.1 lawful.holds).0 a.2)
 
     work : (Choices.pulled (Moments.is_work node lane number) m.held >>= λ q. Events.deliver_work plan m q.0 q.1) ≡ Some later → (q : Held × List Held) × (Choices.pulled (Moments.is_work node lane number) m.held ≡ Some q) × CarriesFrom plan m later q.0
     work h =
@@ -109,7 +109,7 @@ events-carry plan is_plan m later (Deliver node lane number) h lawful after = by
         let held = (All-pulled (IsHeld plan m) (Moments.is_work node lane number) m.held a.0 a.1 lawful.holds).0 in (
           a.0,
           a.1,
-          work-carries plan m later lawful a.0 (SameSums-pulled (Moments.is_work node lane number) m.held a.0 a.1) held a.2
+          work-carries plan m later lawful a.0 (IsReordered-pulled (Moments.is_work node lane number) m.held a.0 a.1) held a.2
               (λ y l epoch floor n records s e is pardo. not_sealed plan m lawful y l epoch floor n records false s (subst (IsHeld plan m) e held) pardo is),
         )
 
@@ -133,10 +133,10 @@ events-carry plan is_plan m later (Begin node lane) h lawful after = begin-carri
         subst (λ x. x ≤ Marks.closed (node_at later node).lanes) (sym before) (subst (λ x. Marks.closed a.0.lanes ≤ x) (sym then) up)
 events-carry plan is_plan m later (Pass node) h lawful after =
     let a = bind_some (Choices.pulled (Moments.is_close node) m.held) (λ q. Events.after_pass plan m q.0 q.1) later h in
-    pass-carries plan m later lawful a.0 (SameSums-pulled (Moments.is_close node) m.held a.0 a.1) (All-pulled (IsHeld plan m) (Moments.is_close node) m.held a.0 a.1 lawful.holds).0 a.2
+    pass-carries plan m later lawful a.0 (IsReordered-pulled (Moments.is_close node) m.held a.0 a.1) (All-pulled (IsHeld plan m) (Moments.is_close node) m.held a.0 a.1 lawful.holds).0 a.2
 events-carry plan is_plan m later (End node) h lawful after =
     let a = bind_some (Choices.pulled (Moments.is_close node) m.held) (λ q. Events.after_end m q.0 q.1) later h in
-    end-carries plan m later lawful a.0 (SameSums-pulled (Moments.is_close node) m.held a.0 a.1) (All-pulled (IsHeld plan m) (Moments.is_close node) m.held a.0 a.1 lawful.holds).0 a.2
+    end-carries plan m later lawful a.0 (IsReordered-pulled (Moments.is_close node) m.held a.0 a.1) (All-pulled (IsHeld plan m) (Moments.is_close node) m.held a.0 a.1 lawful.holds).0 a.2
 
 -- each event between lawful moments keeps an exact moment exact
 abbrev EventsKeepExact : Type 0

@@ -18,7 +18,7 @@ use Rattle.sb_core.specs.Exactness.{IsExact}
 use Rattle.sb_core.specs.Holdings.{IsHeld, IsCloseOf}
 use Rattle.sb_core.specs.Soundness.{IsSound}
 use Rattle.sb_core.specs.Laws.{EventsKeepSound, fed_after, fed_by}
-use Rattle.sb_core.proofs.Lists.{SameSums-pulled}
+use Rattle.sb_core.proofs.Lists.{IsReordered-pulled}
 use Rattle.sb_core.proofs.LaneLaws.{All-pulled}
 use Rattle.sb_core.proofs.AfterExact.{events-keep_exact}
 use Rattle.sb_core.proofs.SoundPut.{arrive-sound, rows-sound, work-sound}
@@ -35,26 +35,26 @@ event-sound plan is_plan m later (Deliver node lane number) h sound = by_case (e
     rows : Choices.pulled (Moments.is_close_of node lane) m.held >>= (λ q. Events.deliver_rows plan m q.0 q.1) ≡ Some later → IsSound plan later
     rows h =
         let a = bind_some (Choices.pulled (Moments.is_close_of node lane) m.held) (λ q. Events.deliver_rows plan m q.0 q.1) later h in
-        rows-sound plan is_plan m later sound a.0 (SameSums-pulled (Moments.is_close_of node lane) m.held a.0 a.1) (All-pulled (IsHeld plan m) (Moments.is_close_of node lane) m.held a.0 a.1 (lawful_of sound).holds) (All-pulled (IsCloseOf plan m) (Moments.is_close_of node lane) m.held a.0 a.1 (tidy_of sound).closes) a.2
+        rows-sound plan is_plan m later sound a.0 (IsReordered-pulled (Moments.is_close_of node lane) m.held a.0 a.1) (All-pulled (IsHeld plan m) (Moments.is_close_of node lane) m.held a.0 a.1 (lawful_of sound).holds) (All-pulled (IsCloseOf plan m) (Moments.is_close_of node lane) m.held a.0 a.1 (tidy_of sound).closes) a.2
 
     work : Choices.pulled (Moments.is_work node lane number) m.held >>= (λ q. Events.deliver_work plan m q.0 q.1) ≡ Some later → IsSound plan later
     work h =
         let a = bind_some (Choices.pulled (Moments.is_work node lane number) m.held) (λ q. Events.deliver_work plan m q.0 q.1) later h in
-        work-sound plan is_plan m later sound a.0 (SameSums-pulled (Moments.is_work node lane number) m.held a.0 a.1) (All-pulled (IsHeld plan m) (Moments.is_work node lane number) m.held a.0 a.1 (lawful_of sound).holds) (All-pulled (IsCloseOf plan m) (Moments.is_work node lane number) m.held a.0 a.1 (tidy_of sound).closes) a.2
+        work-sound plan is_plan m later sound a.0 (IsReordered-pulled (Moments.is_work node lane number) m.held a.0 a.1) (All-pulled (IsHeld plan m) (Moments.is_work node lane number) m.held a.0 a.1 (lawful_of sound).holds) (All-pulled (IsCloseOf plan m) (Moments.is_work node lane number) m.held a.0 a.1 (tidy_of sound).closes) a.2
 
     by_case : (b : Bool) → cond {A = Option Moment} b (Choices.pulled (Moments.is_close_of node lane) m.held >>= λ q. Events.deliver_rows plan m q.0 q.1) (Choices.pulled (Moments.is_work node lane number) m.held >>= λ q. Events.deliver_work plan m q.0 q.1) ≡ Some later → IsSound plan later
     by_case true h = rows h
     by_case false h = work h
 event-sound plan is_plan m later (Finish node lane number) h sound =
     let a = bind_some (Choices.pulled (Moments.is_work node lane number) m.held) (λ q. Events.after_finish plan m q.0 q.1) later h in
-    finish-sound plan is_plan m later sound a.0 (SameSums-pulled (Moments.is_work node lane number) m.held a.0 a.1) (All-pulled (IsHeld plan m) (Moments.is_work node lane number) m.held a.0 a.1 (lawful_of sound).holds) (All-pulled (IsCloseOf plan m) (Moments.is_work node lane number) m.held a.0 a.1 (tidy_of sound).closes) a.2
+    finish-sound plan is_plan m later sound a.0 (IsReordered-pulled (Moments.is_work node lane number) m.held a.0 a.1) (All-pulled (IsHeld plan m) (Moments.is_work node lane number) m.held a.0 a.1 (lawful_of sound).holds) (All-pulled (IsCloseOf plan m) (Moments.is_work node lane number) m.held a.0 a.1 (tidy_of sound).closes) a.2
 event-sound plan is_plan m later (Begin node lane) h sound = begins-sound plan is_plan m later node lane h sound
 event-sound plan is_plan m later (Pass node) h sound =
     let a = bind_some (Choices.pulled (Moments.is_close node) m.held) (λ q. Events.after_pass plan m q.0 q.1) later h in
-    pass-sound plan is_plan m later sound a.0 (SameSums-pulled (Moments.is_close node) m.held a.0 a.1) (All-pulled (IsHeld plan m) (Moments.is_close node) m.held a.0 a.1 (lawful_of sound).holds) (All-pulled (IsCloseOf plan m) (Moments.is_close node) m.held a.0 a.1 (tidy_of sound).closes) a.2
+    pass-sound plan is_plan m later sound a.0 (IsReordered-pulled (Moments.is_close node) m.held a.0 a.1) (All-pulled (IsHeld plan m) (Moments.is_close node) m.held a.0 a.1 (lawful_of sound).holds) (All-pulled (IsCloseOf plan m) (Moments.is_close node) m.held a.0 a.1 (tidy_of sound).closes) a.2
 event-sound plan is_plan m later (End node) h sound =
     let a = bind_some (Choices.pulled (Moments.is_close node) m.held) (λ q. Events.after_end m q.0 q.1) later h in
-    end-sound plan is_plan m later sound a.0 (SameSums-pulled (Moments.is_close node) m.held a.0 a.1) (All-pulled (IsHeld plan m) (Moments.is_close node) m.held a.0 a.1 (lawful_of sound).holds) (All-pulled (IsCloseOf plan m) (Moments.is_close node) m.held a.0 a.1 (tidy_of sound).closes) a.2
+    end-sound plan is_plan m later sound a.0 (IsReordered-pulled (Moments.is_close node) m.held a.0 a.1) (All-pulled (IsHeld plan m) (Moments.is_close node) m.held a.0 a.1 (lawful_of sound).holds) (All-pulled (IsCloseOf plan m) (Moments.is_close node) m.held a.0 a.1 (tidy_of sound).closes) a.2
 
 pub events-keep_sound : EventsKeepSound
 events-keep_sound plan is_plan m later event h sound =

@@ -32,7 +32,7 @@ use Rattle.sb_pipeline.specs.declared.transform.KeptRec.{KeptRec}
 use Rattle.sb_core.specs.Holdings.{IsHeld, is_unpassed, IsCloseOf}
 use Rattle.sb_core.specs.Soundness.{IsOpenBelow, IsSound}
 use Rattle.sb_core.specs.Laws.{NewAtTheHead, IdleByItsLanes, takes_up, HeldInAnyOrder, EventsAtTheHead, concerns, changed, delivered_now, passed_now, fed_after}
-use Rattle.sb_record.proofs.Sums.{SameSums, SameSums-flat_map}
+use Rattle.sb_record.proofs.Sums.{IsReordered, IsReordered-flat_map}
 use Rattle.sb_core.proofs.Lists.{cond_is_some}
 use Rattle.sb_core.proofs.Gives.{gives-less, sum_by-rest}
 use Rattle.sb_core.proofs.Exactly.{Carries, carries-same, carried-exact}
@@ -119,14 +119,14 @@ module _ (plan : Shape) (m : Moment) (held : List Held) (same : IsPermutation m.
       tidy = (tidy_of sound)
 
   -- each node has yet to give the same
-  pub permuted-gives : (k : ℕ) (es fs : List KeptRec) → SameSums es fs → SameSums (gives plan m k es) (gives plan (with_held held m) k fs)
+  pub permuted-gives : (k : ℕ) (es fs : List KeptRec) → IsReordered es fs → IsReordered (gives plan m k es) (gives plan (with_held held m) k fs)
   permuted-gives k es fs h =
       gives-less (operator_at (slice_get plan.steps k)) k (node_at m k) (node_at m k) m.held held m.rows m.rows [] es fs
-      (SameSums-flat_map (undelivered k) m.held held sums)
+      (IsReordered-flat_map (undelivered k) m.held held sums)
       (λ f.
       let a : sum_by f (rest k (node_at m k) m.held es) ≡ _ = sum_by-rest f k (node_at m k) m.held es in
       let b : sum_by f (rest k (node_at m k) held fs) ≡ _ = sum_by-rest f k (node_at m k) held fs in
-      let c : sum_by f (flat_map (working k) m.held) ≡ sum_by f (flat_map (working k) held) = SameSums-flat_map (working k) m.held held sums f in
+      let c : sum_by f (flat_map (working k) m.held) ≡ sum_by f (flat_map (working k) held) = IsReordered-flat_map (working k) m.held held sums f in
       a ∙ (λ i. (sum_by f (waiting_from 0 (node_at m k).lanes) + c i) + h f i) ∙ sym b)
       refl refl (λ _. refl) (λ _. refl)
 

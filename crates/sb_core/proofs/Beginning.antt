@@ -28,13 +28,13 @@ use Rattle.sb_core.specs.Closings.{is_sink, kept_at, rows_at, collected, still_o
 use Rattle.sb_core.specs.Lanes.{with_first_closing}
 use Rattle.sb_core.specs.Moments.{set_lane, node_at}
 use Rattle.sb_core.specs.Exactness.{waiting_in, waiting_from, working, undelivered, rest, gives, gives_by}
-use Rattle.sb_record.proofs.Sums.{SameSums, sum_by-agree, SameSums-map, SameSums-flat_map, SameSums-filter}
+use Rattle.sb_record.proofs.Sums.{IsReordered, sum_by-agree, IsReordered-map, IsReordered-flat_map, IsReordered-filter}
 use Rattle.sb_core.proofs.Lists.{waiting_of}
 use Rattle.sb_core.proofs.Timely.{late, late_for, IsTimely, no_sink, rest_in_time}
 use Rattle.sb_core.proofs.Nodes.{lane_at-set, sum_by-waiting_set, node_at-same, node_at-set_same, node_at-set_other}
 use Rattle.sb_core.proofs.WindowOperators.{IsGrouping, closing}
 use Rattle.sb_core.proofs.Groupings.{early_one, all_records-append, all_records-filter, none_early}
-use Rattle.sb_record.proofs.Sorting.{SameSums-in_order}
+use Rattle.sb_record.proofs.Sorting.{IsReordered-in_order}
 use Rattle.sb_core.proofs.Gives.{sum_by-rest, gives-less, sum_by-held_push}
 
 waiting-first_closing : (cs : List Cont) → waiting_of (with_first_closing cs) ≡ waiting_of cs
@@ -42,8 +42,8 @@ waiting-first_closing [] = refl
 waiting-first_closing (c ∷ cs) = refl
 
 -- the sink gives the same, with the rows before the mark among its rows
-sink_closing : (mark : ℕ) (rows : List Record) (kept es fs : List KeptRec) → SameSums es fs
-    → SameSums (rows ++ all_records (kept ++ es)) ((rows ++ sorted (before mark (all_records kept))) ++ all_records (filter (λ e. not (nat_lt e.rec.time mark)) kept ++ fs))
+sink_closing : (mark : ℕ) (rows : List Record) (kept es fs : List KeptRec) → IsReordered es fs
+    → IsReordered (rows ++ all_records (kept ++ es)) ((rows ++ sorted (before mark (all_records kept))) ++ all_records (filter (λ e. not (nat_lt e.rec.time mark)) kept ++ fs))
 sink_closing mark rows kept es fs same f =
     let a : sum_by f (rows ++ all_records (kept ++ es)) ≡ sum_by f rows + sum_by f (all_records (kept ++ es)) = sum_by-append f rows (all_records (kept ++ es)) in
     let b : sum_by f (all_records (kept ++ es)) ≡ sum_by f (all_records kept) + sum_by f (all_records es) = ap (sum_by f) (all_records-append kept es) ∙ sum_by-append f (all_records kept) (all_records es) in
@@ -51,8 +51,8 @@ sink_closing mark rows kept es fs same f =
     let c : sum_by f (all_records (later ++ fs)) ≡ sum_by f (all_records later) + sum_by f (all_records fs) = ap (sum_by f) (all_records-append later fs) ∙ sum_by-append f (all_records later) (all_records fs) in
     let d : sum_by f (all_records later) ≡ sum_by f (at_least mark (all_records kept)) = ap (sum_by f) (all_records-filter (λ r. not (nat_lt r.time mark)) kept) in
     let e : sum_by f (before mark (all_records kept)) + sum_by f (at_least mark (all_records kept)) ≡ sum_by f (all_records kept) = sum_by-filter_both (λ r. nat_lt r.time mark) (λ r. not (nat_lt r.time mark)) (λ r. refl) f (all_records kept) in
-    let g : sum_by f (sorted (before mark (all_records kept))) ≡ sum_by f (before mark (all_records kept)) = SameSums-in_order record_cmp (before mark (all_records kept)) f in
-    let h : sum_by f (all_records es) ≡ sum_by f (all_records fs) = SameSums-map (λ e. e.rec) es fs same f in
+    let g : sum_by f (sorted (before mark (all_records kept))) ≡ sum_by f (before mark (all_records kept)) = IsReordered-in_order record_cmp (before mark (all_records kept)) f in
+    let h : sum_by f (all_records es) ≡ sum_by f (all_records fs) = IsReordered-map (λ e. e.rec) es fs same f in
     let i : sum_by f ((rows ++ sorted (before mark (all_records kept))) ++ all_records (later ++ fs)) ≡ (sum_by f rows + sum_by f (sorted (before mark (all_records kept)))) + sum_by f (all_records (later ++ fs)) =
     sum_by-append f (rows ++ sorted (before mark (all_records kept))) (all_records (later ++ fs)) ∙ ap (λ n. n + sum_by f (all_records (later ++ fs))) (sum_by-append f rows (sorted (before mark (all_records kept)))) in
     omega arith
@@ -65,14 +65,14 @@ closing-gives : (o : Operator) → ((g : WindowOperator) → o ≡ Windowed g �
     → ((f : KeptRec → ℕ) → sum_by f (working k h) ≡ 0)
     → undelivered k h ≡ rows_at o floor mark node.kept
     → sum_by (early_one mark) (rest k node held es) ≡ 0
-    → SameSums es fs
-    → SameSums (gives_by o k node held rows es) (gives_by o k after (held ++ h ∷ []) (rows ++ collected o mark node.kept) fs)
+    → IsReordered es fs
+    → IsReordered (gives_by o k node held rows es) (gives_by o k after (held ++ h ∷ []) (rows ++ collected o mark node.kept) fs)
 closing-gives o groups k node after held h rows floor mark es fs is_floor is_mark rises kept waits idle given late same = by_operator o groups kept given
   where
     later : List Held
     later = held ++ h ∷ []
 
-    rest_same : SameSums (rest k node held es) (rest k after later fs)
+    rest_same : IsReordered (rest k node held es) (rest k after later fs)
     rest_same f =
         let a : sum_by f (rest k node held es) ≡ (sum_by f (waiting_from 0 node.lanes) + sum_by f (flat_map (working k) held)) + sum_by f es = sum_by-rest f k node held es in
         let b : sum_by f (rest k after later fs) ≡ (sum_by f (waiting_from 0 after.lanes) + sum_by f (flat_map (working k) later)) + sum_by f fs = sum_by-rest f k after later fs in
@@ -80,12 +80,12 @@ closing-gives o groups k node after held h rows floor mark es fs is_floor is_mar
         omega (arith, same f, waits f, idle f)
 
     by_operator : (o : Operator) → ((g : WindowOperator) → o ≡ Windowed g → IsGrouping g) → after.kept ≡ kept_at o mark node.kept → undelivered k h ≡ rows_at o floor mark node.kept
-        → SameSums (gives_by o k node held rows es) (gives_by o k after later (rows ++ collected o mark node.kept) fs)
+        → IsReordered (gives_by o k node held rows es) (gives_by o k after later (rows ++ collected o mark node.kept) fs)
     by_operator (ParDo op) groups kept given f =
         let d : sum_by f (flat_map (undelivered k) later) ≡ sum_by f (flat_map (undelivered k) held) = sum_by-held_push f (undelivered k) held h ∙ ap (λ l. sum_by f (flat_map (undelivered k) held) + sum_by f l) given ∙ omega arith in
         sum_by-append f (flat_map (undelivered k) held) (flat_map (outputs_of op) (all_records (rest k node held es)))
         ∙ (λ i. sym d i
-        + SameSums-flat_map (outputs_of op) (all_records (rest k node held es)) (all_records (rest k after later fs)) (SameSums-map (λ e. e.rec) (rest k node held es) (rest k after later fs) rest_same) f i)
+        + IsReordered-flat_map (outputs_of op) (all_records (rest k node held es)) (all_records (rest k after later fs)) (IsReordered-map (λ e. e.rec) (rest k node held es) (rest k after later fs) rest_same) f i)
         ∙ sym (sum_by-append f (flat_map (undelivered k) later) (flat_map (outputs_of op) (all_records (rest k after later fs))))
     by_operator (Windowed g) groups kept given f =
         let some : List KeptRec = rest k node held es in
@@ -94,7 +94,7 @@ closing-gives o groups k node after held h rows floor mark es fs is_floor is_mar
         let b : sum_by f (at_least floor (grouped g (node.kept ++ some))) ≡ sum_by f (rows_at (Windowed g) floor mark node.kept) + sum_by f (at_least mark (grouped g (still_open g mark node.kept ++ some))) =
         closing (groups g refl) floor mark node.kept some rises (none_early mark some late) f ∙ sum_by-append f (rows_at (Windowed g) floor mark node.kept) (at_least mark (grouped g (still_open g mark node.kept ++ some))) in
         let c : sum_by f (at_least mark (grouped g (still_open g mark node.kept ++ some))) ≡ sum_by f (at_least mark (grouped g (after.kept ++ rest k after later fs))) =
-        SameSums-filter (λ r. not (nat_lt r.time mark)) (grouped g (still_open g mark node.kept ++ some)) (grouped g (after.kept ++ rest k after later fs))
+        IsReordered-filter (λ r. not (nat_lt r.time mark)) (grouped g (still_open g mark node.kept ++ some)) (grouped g (after.kept ++ rest k after later fs))
         ((groups g refl).order (still_open g mark node.kept ++ some) (after.kept ++ rest k after later fs)
         (λ f. sum_by-append f (still_open g mark node.kept) some ∙ (λ i. sum_by f (sym kept i) + rest_same f i) ∙ sym (sum_by-append f after.kept (rest k after later fs)))) f in
         let d : sum_by f (flat_map (undelivered k) later) ≡ sum_by f (flat_map (undelivered k) held) + sum_by f (rows_at (Windowed g) floor mark node.kept) =
@@ -171,15 +171,15 @@ module _ (plan : Shape) (m : Moment) (n l : ℕ) (node : Node) (lane : CoreLane)
         let e : sum_by f (flat_map (working n) after_beginning.held) ≡ sum_by f (flat_map (working n) m.held) + 0 = sum_by-held_push f (working n) m.held new_close in
         omega (arith, waits f)
 
-    closes : (es fs : List KeptRec) → sum_by (late m n) es ≡ 0 → SameSums es fs → SameSums (gives plan m n es) (gives plan after_beginning n fs)
+    closes : (es fs : List KeptRec) → sum_by (late m n) es ≡ 0 → IsReordered es fs → IsReordered (gives plan m n es) (gives plan after_beginning n fs)
     closes es fs h same =
-        subst (λ x. SameSums (gives_by (operator_at (slice_get plan.steps n)) n x m.held m.rows es) (gives plan after_beginning n fs)) (sym (node_at-same m n node begun_node at)) (
-        subst (λ x. SameSums (gives_by (operator_at (slice_get plan.steps n)) n node m.held m.rows es) (gives_by (operator_at (slice_get plan.steps n)) n x after_beginning.held after_beginning.rows fs)) (sym new_node_is) (
+        subst (λ x. IsReordered (gives_by (operator_at (slice_get plan.steps n)) n x m.held m.rows es) (gives plan after_beginning n fs)) (sym (node_at-same m n node begun_node at)) (
+        subst (λ x. IsReordered (gives_by (operator_at (slice_get plan.steps n)) n node m.held m.rows es) (gives_by (operator_at (slice_get plan.steps n)) n x after_beginning.held after_beginning.rows fs)) (sym new_node_is) (
         closing-gives (operator_at (slice_get plan.steps n)) groups n node begun_node m.held new_close m.rows (closed node.lanes) closing_mark es fs refl refl rises refl waits (λ f. refl)
         (ap (λ b. cond b (rows_at (operator_at (slice_get plan.steps n)) (closed node.lanes) closing_mark node.kept) []) (eq-eqb n n refl))
         (rest_late es h) same))
 
-    elsewhere : (k : ℕ) → k ≢ n → k ≤ length plan.steps → n ≤ length plan.steps → (es fs : List KeptRec) → SameSums es fs → SameSums (gives plan m k es) (gives plan after_beginning k fs)
+    elsewhere : (k : ℕ) → k ≢ n → k ≤ length plan.steps → n ≤ length plan.steps → (es fs : List KeptRec) → IsReordered es fs → IsReordered (gives plan m k es) (gives plan after_beginning k fs)
     elsewhere k ne within_k within_n es fs same =
         let other : node_at after_beginning k ≡ node_at m k = node_at-set_other m n node begun_node at k ne in
         gives-less (operator_at (slice_get plan.steps k)) k (node_at m k) (node_at after_beginning k) m.held after_beginning.held m.rows after_beginning.rows [] es fs
@@ -193,7 +193,7 @@ module _ (plan : Shape) (m : Moment) (n l : ℕ) (node : Node) (lane : CoreLane)
         (ap (λ (x : Node). x.kept) other) (ap (λ (x : Node). closed x.lanes) other) (λ _. refl)
         (rows_of_others plan k n closing_mark m.rows node.kept within_k within_n ne)
 
-    pub begun-gives : n ≤ length plan.steps → (k : ℕ) (es fs : List KeptRec) → k ≤ length plan.steps → sum_by (late m k) es ≡ 0 → SameSums es fs → SameSums (gives plan m k es) (gives plan after_beginning k fs)
+    pub begun-gives : n ≤ length plan.steps → (k : ℕ) (es fs : List KeptRec) → k ≤ length plan.steps → sum_by (late m k) es ≡ 0 → IsReordered es fs → IsReordered (gives plan m k es) (gives plan after_beginning k fs)
     begun-gives within_n k es fs within in_time same = ⊎_elim
-        (λ e. subst (λ k. sum_by (late m k) es ≡ 0 → SameSums (gives plan m k es) (gives plan after_beginning k fs)) (sym e) (λ h. closes es fs h same) in_time)
+        (λ e. subst (λ k. sum_by (late m k) es ≡ 0 → IsReordered (gives plan m k es) (gives plan after_beginning k fs)) (sym e) (λ h. closes es fs h same) in_time)
         (λ ne. elsewhere k ne within within_n es fs same) (cases_eq k n)

@@ -27,7 +27,7 @@ use Rattle.sb_core.proofs.Fitting.{Fits}
 use Rattle.sb_core.specs.Closings.{is_pardo}
 use Rattle.sb_core.specs.Holdings.{IsWork, IsClosing, IsHeld, is_unpassed}
 use Rattle.sb_core.proofs.Orderly.{IsLawful}
-use Rattle.sb_record.proofs.Sums.{SameSums}
+use Rattle.sb_record.proofs.Sums.{IsReordered}
 use Rattle.sb_window.specs.declared.windows.TheConstants.{MAX_SIZE}
 use Rattle.sb_core.proofs.Frame.{IsKept, frame, holds_still}
 use Rattle.sb_core.proofs.LawfulArrive.{put-lane, put-kept, next_fits}
@@ -96,7 +96,7 @@ images_within op floor bound l all = All-flat_map (λ r. (floor ≤ r.time) × (
 
 -- ---- the next rows of a Close
 pub rows-lawful : (plan : Shape) (m : Moment) (d : Down) (node : Node) (lane : CoreLane) (y l epoch serial floor mark : ℕ) (rows : List Record) (others : List Held) (count : ℕ)
-    → slice_get m.nodes d.node ≡ Some node → slice_get node.lanes d.lane ≡ Some lane → IsLawful plan m → SameSums m.held (Close y l epoch serial floor mark rows false ∷ others) → AllByRecursion (IsHeld plan m) others
+    → slice_get m.nodes d.node ≡ Some node → slice_get node.lanes d.lane ≡ Some lane → IsLawful plan m → IsReordered m.held (Close y l epoch serial floor mark rows false ∷ others) → AllByRecursion (IsHeld plan m) others
     → IsClosing plan m y l epoch serial floor mark rows false → bound_at plan y + MAX_SIZE ≤ bound_at plan d.node → next_epoch lane ≡ serial → next_floor lane ≡ floor
     → IsLawful plan (set_node d.node (set_lane d.lane (with_arrival serial floor (take count rows) lane) node) (with_held (others ++ Close y l epoch serial floor mark (drop count rows) false ∷ []) m))
 rows-lawful plan m d node lane y l epoch serial floor mark rows others count at in_it lawful pulled holds closing further next low =
@@ -144,7 +144,7 @@ rows-lawful plan m d node lane y l epoch serial floor mark rows others count at 
 
 -- ---- a ParDo's Work
 pub work-lawful : (plan : Shape) (m : Moment) (d : Down) (node : Node) (lane : CoreLane) (op : Op) (y l epoch floor number : ℕ) (records : List Record) (others : List Held)
-    → slice_get m.nodes d.node ≡ Some node → slice_get node.lanes d.lane ≡ Some lane → IsLawful plan m → SameSums m.held (Work y l epoch floor number records false ∷ others) → AllByRecursion (IsHeld plan m) others
+    → slice_get m.nodes d.node ≡ Some node → slice_get node.lanes d.lane ≡ Some lane → IsLawful plan m → IsReordered m.held (Work y l epoch floor number records false ∷ others) → AllByRecursion (IsHeld plan m) others
     → IsWork plan m y l epoch floor number records false → is_pardo (operator_at (slice_get plan.steps y)) ≡ true → bound_at plan y + MAX_SIZE ≤ bound_at plan d.node
     → next_epoch lane ≤ epoch → next_floor lane ≤ floor → (epoch ≡ next_epoch lane → floor ≡ next_floor lane) → Fits epoch floor lane.conts
     → IsLawful plan (set_node d.node (set_lane d.lane (with_arrival epoch floor (flat_map (outputs_of op) records) lane) node) (with_held (others ++ Work y l epoch floor number records true ∷ []) m))

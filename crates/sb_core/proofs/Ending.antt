@@ -22,7 +22,7 @@ use Rattle.sb_core.specs.LaneOrder.{AreContainers, IsLane, IsReady, cont_at}
 use Rattle.sb_core.specs.Bounds.{bound_at}
 use Rattle.sb_core.specs.Holdings.{IsHeld, is_unpassed}
 use Rattle.sb_core.proofs.Orderly.{IsLawful}
-use Rattle.sb_record.proofs.Sums.{SameSums}
+use Rattle.sb_record.proofs.Sums.{IsReordered}
 use Rattle.sb_core.proofs.LaneLaws.{DifferInBundles, containers-differ, finish_in-differ}
 use Rattle.sb_core.proofs.Nodes.{begun_mark}
 use Rattle.sb_core.proofs.InTime.{next_mark, out_behind}
@@ -86,7 +86,7 @@ module _ (bound : ℕ) (lane : CoreLane) (ok : IsLane bound lane) (closing : fir
 
 -- ---- a closing ends
 pub end-lawful : (plan : Shape) (m : Moment) (node : Node) (lane : CoreLane) (y l epoch serial floor mark : ℕ) (rows : List Record) (others : List Held)
-    → slice_get m.nodes y ≡ Some node → slice_get node.lanes l ≡ Some lane → IsLawful plan m → SameSums m.held (Close y l epoch serial floor mark rows true ∷ others) → AllByRecursion (IsHeld plan m) others
+    → slice_get m.nodes y ≡ Some node → slice_get node.lanes l ≡ Some lane → IsLawful plan m → IsReordered m.held (Close y l epoch serial floor mark rows true ∷ others) → AllByRecursion (IsHeld plan m) others
     → first_is_closing lane.conts ≡ true → IsLawful plan (set_node y (set_lane l (shorter lane) node) (with_held others m))
 end-lawful plan m node lane y l epoch serial floor mark rows others at in_it lawful pulled holds closing =
     lawful_still plan m y l node (set_lane l (shorter lane) node) lane (shorter lane) at in_it refl refl begins marks others lawful
@@ -198,7 +198,7 @@ finish-out epoch number at floor other (x ∷ cs) c ne h f out = one (eqb x.epoc
 
 pub finish-lawful : (plan : Shape) (m : Moment) (node new : Node) (lane : CoreLane) (k l epoch floor number : ℕ) (records : List Record) (delivered : Bool) (others : List Held)
     → slice_get m.nodes k ≡ Some node → slice_get node.lanes l ≡ Some lane → new.lanes ≡ slice_set node.lanes l (record lane { conts = finish_in epoch number lane.conts }) → new.closings ≡ node.closings
-    → IsLawful plan m → SameSums m.held (Work k l epoch floor number records delivered ∷ others) → AllByRecursion (IsHeld plan m) others
+    → IsLawful plan m → IsReordered m.held (Work k l epoch floor number records delivered ∷ others) → AllByRecursion (IsHeld plan m) others
     → count_by (is_work k l number) m.held ≤ 1 → IsLawful plan (set_node k new (with_held others m))
 finish-lawful plan m node new lane k l epoch floor number records delivered others at in_it lanes closings lawful pulled holds once =
     lawful_still plan m k l node new lane (record lane { conts = finish_in epoch number lane.conts }) at in_it lanes closings begins marks others lawful

@@ -37,8 +37,8 @@ use Rattle.sb_core.specs.LaneOrder.{AreContainers, IsLane, IsReady}
 use Rattle.sb_core.specs.Bounds.{bound_at}
 use Rattle.sb_core.specs.Closings.{is_pardo}
 use Rattle.sb_core.proofs.Orderly.{IsLawful}
-use Rattle.sb_record.proofs.Sums.{SameSums, SameSums-flat_map}
-use Rattle.sb_core.proofs.Lists.{cond_is_some, waiting_of, SameSums-pulled}
+use Rattle.sb_record.proofs.Sums.{IsReordered, IsReordered-flat_map}
+use Rattle.sb_core.proofs.Lists.{cond_is_some, waiting_of, IsReordered-pulled}
 use Rattle.sb_pipeline.specs.Operators.{Operator, operator_at}
 use Rattle.sb_pardo.specs.Outputs.{outputs_of}
 use Rattle.sb_pipeline.specs.Operators.Operator.{ParDo, Windowed, Sink}
@@ -152,7 +152,7 @@ arrive-carries plan m m' s records h lawful =
         let mark = arrival_calm (bound_at plan d.node) (Lanes.next_epoch lane) (Lanes.next_floor lane) records lane (lawful.lanes d lane at) (omega arith) in
         let times = list_all-AllByRecursion (λ r. nat_le (Lanes.next_floor lane) r.time && nat_le r.time TheConstants.MAX_TIME) (λ r. (floor_at m d ≤ r.time) × (r.time ≤ TheConstants.MAX_TIME)) (λ r t. let k = and_parts (nat_le (Lanes.next_floor lane) r.time) (nat_le r.time TheConstants.MAX_TIME) t in (subst (λ n. n ≤ r.time) (sym (ap floor_of at)) (nat_le-le (Lanes.next_floor lane) r.time k.0), nat_le-le r.time TheConstants.MAX_TIME k.1)) records (and_parts (nat_le (length records) m.bundle) _ (and_parts (not (Choices.is_empty records)) _ test).1).1 in
         carries-fed plan m m' s d records is
-        (λ k es fs x. subst (λ z. SameSums (gives plan m k es) (gives plan z k fs)) made
+        (λ k es fs x. subst (λ z. IsReordered (gives plan m k es) (gives plan z k fs)) made
         (arrival-gives plan m d p.0 lane p.1 p.2 (Lanes.next_epoch lane) (Lanes.next_floor lane) records m.held mark k es fs [] (λ f. refl) (λ f. refl) (λ _. refl) x))
         (admits_more plan m m' s d records is times floors)
 
@@ -160,9 +160,9 @@ arrive-carries plan m m' s records h lawful =
 pub finish-carries : (plan : Shape) (m m' : Moment) (n l number : ℕ) → Events.after plan m (Finish n l number) ≡ Some m' → IsLawful plan m → Carries plan m m' Nothing
 finish-carries plan m m' n l number h lawful =
     let a = bind_some (Choices.pulled (Moments.is_work n l number) m.held) _ m' h in
-    go a.0 (SameSums-pulled (Moments.is_work n l number) m.held a.0 a.1) (All-pulled (IsHeld plan m) (Moments.is_work n l number) m.held a.0 a.1 lawful.holds).0 a.2
+    go a.0 (IsReordered-pulled (Moments.is_work n l number) m.held a.0 a.1) (All-pulled (IsHeld plan m) (Moments.is_work n l number) m.held a.0 a.1 lawful.holds).0 a.2
   where
-    go : (q : Held × List Held) → SameSums m.held (q.0 ∷ q.1) → IsHeld plan m q.0 → Events.after_finish plan m q.0 q.1 ≡ Some m' → Carries plan m m' Nothing
+    go : (q : Held × List Held) → IsReordered m.held (q.0 ∷ q.1) → IsHeld plan m q.0 → Events.after_finish plan m q.0 q.1 ≡ Some m' → Carries plan m m' Nothing
     go (Close k l epoch serial floor mark rows passed, others) pulled held h = cc
     go (Work k l epoch floor number records delivered, others) pulled held h =
         let a = bind_some (slice_get m.nodes k) _ m' h in
@@ -171,7 +171,7 @@ finish-carries plan m m' n l number h lawful =
         let is = same_Some _ _ c.1 in
         let floors : (e : Down) → floor_at m' e ≡ floor_at m e = λ e. ap (λ x. floor_at x e) (sym is) ∙ floor-set m k l a.0 _ b.0 (record b.0 { conts = Lanes.finish_in epoch number b.0.conts }) a.1 b.1 refl refl e in
         carries-same plan m m'
-        (λ n es fs within in_time same. subst (λ z. SameSums (gives plan m n es) (gives plan z n fs)) is
+        (λ n es fs within in_time same. subst (λ z. IsReordered (gives plan m n es) (gives plan z n fs)) is
         (finished-gives plan m k l epoch floor number records delivered others a.0 b.0 pulled a.1 b.1 c.0 held.only_pardo n es fs same))
         (admits plan m m' floors)
 
@@ -192,7 +192,7 @@ begin-carries plan is_plan m m' n l h lawful later rises =
     let before = ap (λ (x : Node). Marks.closed x.lanes) (node_at-same m n a.0 a.0 a.1) in
     let after = ap (λ (x : Moment). Marks.closed (node_at x n).lanes) (sym is) ∙ ap (λ (x : Node). Marks.closed x.lanes) (node_at-set_same m n a.0 _ a.1) in
     carries-same plan m m'
-    (λ k es fs in_plan in_time same. subst (λ z. SameSums (gives plan m k es) (gives plan z k fs)) is
+    (λ k es fs in_plan in_time same. subst (λ z. IsReordered (gives plan m k es) (gives plan z k fs)) is
     (begun-gives plan m n l a.0 b.0 c.0.epoch (windows-at plan is_plan n) a.1 b.1 (subst (λ x. x ≤ Marks.closed (slice_set a.0.lanes l begun)) before (subst (λ x. Marks.closed (node_at m n).lanes ≤ x) after rises))
     (subst (IsTimely plan) (sym is) (lawful-timely plan m' later)) (within_n n within) k es fs in_plan in_time same))
     (admits plan m m' floors)
@@ -233,7 +233,7 @@ seal-carries plan m m' s mark h lawful =
         let up : Lanes.next_floor lane ≤ mark = nat_le-le (Lanes.next_floor lane) mark (and_parts (nat_le mark TheConstants.END_MARK) (nat_le (Lanes.next_floor lane) mark) test).1 in
         let floors : (e : Down) → floor_at m e ≤ floor_at m' e = λ e. subst (λ x. floor_at m e ≤ floor_at x e) made (floor-rises m d.node d.lane p.0 (Moments.set_lane d.lane (Lanes.with_seal mark lane) p.0) lane (Lanes.with_seal mark lane) p.1 p.2 refl (subst (λ n. Lanes.next_floor lane ≤ n) (sym (sealed_floor mark lane)) up) e) in
         carries-same plan m m'
-        (λ k es fs within in_time same. subst (λ z. SameSums (gives plan m k es) (gives plan z k fs)) made
+        (λ k es fs within in_time same. subst (λ z. IsReordered (gives plan m k es) (gives plan z k fs)) made
         (calm-gives plan m d p.0 lane p.1 p.2 (Lanes.with_seal mark lane) m.held (seal_calm (bound_at plan d.node) mark lane (lawful.lanes d lane at)) (waiting-with_seal mark lane) (λ k f. refl) (λ k f. refl) k es fs same))
         (admits_less plan m m' floors)
 
@@ -268,7 +268,7 @@ module _ (plan : Shape) (m m' : Moment) (lawful : IsLawful plan m) where
   place : (d : Down) (node : Node) (lane : CoreLane) → slice_get m.nodes d.node ≡ Some node → slice_get node.lanes d.lane ≡ Some lane → Moments.lane_at m d ≡ Some lane
   place d node lane at in_it = ap (λ (o : Option Node). o >>= λ n. slice_get n.lanes d.lane) at ∙ in_it
 
-  pub rows-carries : (q : Held × List Held) → SameSums m.held (q.0 ∷ q.1) → IsHeld plan m q.0 → Events.deliver_rows plan m q.0 q.1 ≡ Some m' → CarriesFrom plan m m' q.0
+  pub rows-carries : (q : Held × List Held) → IsReordered m.held (q.0 ∷ q.1) → IsHeld plan m q.0 → Events.deliver_rows plan m q.0 q.1 ≡ Some m' → CarriesFrom plan m m' q.0
   rows-carries (Work k l epoch floor number records delivered, others) pulled held h = cc
   rows-carries (Close y l epoch serial floor mark rows passed, others) pulled held h =
       let a = bind_some (Events.below plan y) _ m' h in
@@ -291,12 +291,12 @@ module _ (plan : Shape) (m m' : Moment) (lawful : IsLawful plan m) where
           let further : y < d.node = subst (λ (d : Down). y < d.node) down (lawful.below y s is).further in
           let calm : begun_mark (Lanes.with_arrival serial floor (take m.bundle rows) p.1) ≡ begun_mark p.1 = arrival_calm (bound_at plan d.node) serial floor (take m.bundle rows) p.1 (lawful.lanes d p.1 at) (omega arith) in
           carries-given plan m m' y d (take m.bundle rows) (slice_get_within plan.steps y s is) further (λ t e. ap (λ (s : Step). s.down) (same_Some t s (sym e ∙ is)) ∙ down)
-          (λ k es fs same. subst (λ z. SameSums (gives plan m k es) (extra y (take m.bundle rows) k ++ gives plan z k fs)) p.4
+          (λ k es fs same. subst (λ z. IsReordered (gives plan m k es) (extra y (take m.bundle rows) k ++ gives plan z k fs)) p.4
           (rows-gives plan m y l epoch serial floor mark rows passed others m.bundle d p.0 p.1 p.2 p.3 pulled further (transform_is plan y s is) calm k es fs same))
           (admits plan m m' (λ e. ap (λ x. floor_at x e) (sym p.4) ∙ floor-set m d.node d.lane p.0 (Moments.set_lane d.lane (Lanes.with_arrival serial floor (take m.bundle rows) p.1) p.0) p.1 (Lanes.with_arrival serial floor (take m.bundle rows) p.1) p.2 p.3 refl refl e))
 
   -- ---- a mark is passed
-  pub pass-carries : (q : Held × List Held) → SameSums m.held (q.0 ∷ q.1) → IsHeld plan m q.0 → Events.after_pass plan m q.0 q.1 ≡ Some m' → Carries plan m m' Nothing
+  pub pass-carries : (q : Held × List Held) → IsReordered m.held (q.0 ∷ q.1) → IsHeld plan m q.0 → Events.after_pass plan m q.0 q.1 ≡ Some m' → Carries plan m m' Nothing
   pass-carries (Work k l epoch floor number records delivered, others) pulled held h = cc
   pass-carries (Close y l epoch serial floor mark rows passed, others) pulled held h =
       let a = bind_some (Events.below plan y) _ m' h in
@@ -308,11 +308,11 @@ module _ (plan : Shape) (m m' : Moment) (lawful : IsLawful plan m) where
       done : List Held
       done = others ++ Close y l epoch serial floor mark rows true ∷ []
 
-      und : (k : ℕ) → SameSums (flat_map (undelivered k) m.held) (flat_map (undelivered k) done)
-      und k f = SameSums-flat_map (undelivered k) m.held (Close y l epoch serial floor mark rows passed ∷ others) pulled f ∙ sum_by-append f (cond (eqb y k) rows []) (flat_map (undelivered k) others) ∙ add_comm _ _ ∙ sym (sum_by-held_push f (undelivered k) others (Close y l epoch serial floor mark rows true))
+      und : (k : ℕ) → IsReordered (flat_map (undelivered k) m.held) (flat_map (undelivered k) done)
+      und k f = IsReordered-flat_map (undelivered k) m.held (Close y l epoch serial floor mark rows passed ∷ others) pulled f ∙ sum_by-append f (cond (eqb y k) rows []) (flat_map (undelivered k) others) ∙ add_comm _ _ ∙ sym (sum_by-held_push f (undelivered k) others (Close y l epoch serial floor mark rows true))
 
-      work : (k : ℕ) → SameSums (flat_map (working k) m.held) (flat_map (working k) done)
-      work k f = SameSums-flat_map (working k) m.held (Close y l epoch serial floor mark rows passed ∷ others) pulled f ∙ sym (sum_by-held_push f (working k) others (Close y l epoch serial floor mark rows true) ∙ omega arith)
+      work : (k : ℕ) → IsReordered (flat_map (working k) m.held) (flat_map (working k) done)
+      work k f = IsReordered-flat_map (working k) m.held (Close y l epoch serial floor mark rows passed ∷ others) pulled f ∙ sym (sum_by-held_push f (working k) others (Close y l epoch serial floor mark rows true) ∙ omega arith)
 
       go : (d : Down) (lane : CoreLane) (s : Step) → slice_get plan.steps y ≡ Some s → s.down ≡ d → Moments.lane_at m d ≡ Some lane → passed ≡ false → Moments.with_lane d (Lanes.with_seal mark lane) (Moments.with_held done m) ≡ Some m' → Carries plan m m' Nothing
       go d lane s is down at unpassed h =
@@ -322,12 +322,12 @@ module _ (plan : Shape) (m m' : Moment) (lawful : IsLawful plan m) where
           let up : Lanes.next_floor lane ≤ mark = omega (arith, held.rises) in
           let floors : (e : Down) → floor_at m e ≤ floor_at m' e = λ e. subst (λ x. floor_at m e ≤ floor_at x e) made (floor-rises m d.node d.lane p.0 (Moments.set_lane d.lane (Lanes.with_seal mark lane) p.0) lane (Lanes.with_seal mark lane) p.1 p.2 refl (subst (λ n. Lanes.next_floor lane ≤ n) (sym (sealed_floor mark lane)) up) e) in
           carries-same plan m m'
-          (λ k es fs within in_time same. subst (λ z. SameSums (gives plan m k es) (gives plan z k fs)) made
+          (λ k es fs within in_time same. subst (λ z. IsReordered (gives plan m k es) (gives plan z k fs)) made
           (calm-gives plan m d p.0 lane p.1 p.2 (Lanes.with_seal mark lane) done (seal_calm (bound_at plan d.node) mark lane (lawful.lanes d lane at)) (waiting-with_seal mark lane) und work k es fs same))
           (admits_less plan m m' floors)
 
   -- ---- a closing ends
-  pub end-carries : (q : Held × List Held) → SameSums m.held (q.0 ∷ q.1) → IsHeld plan m q.0 → Events.after_end m q.0 q.1 ≡ Some m' → Carries plan m m' Nothing
+  pub end-carries : (q : Held × List Held) → IsReordered m.held (q.0 ∷ q.1) → IsHeld plan m q.0 → Events.after_end m q.0 q.1 ≡ Some m' → Carries plan m m' Nothing
   end-carries (Work k l epoch floor number records delivered, others) pulled held h = cc
   end-carries (Close y l epoch serial floor mark rows passed, others) pulled held h =
       let a = bind_some (Moments.lane_at m (record { node = y; lane = l })) _ m' h in
@@ -337,21 +337,21 @@ module _ (plan : Shape) (m m' : Moment) (lawful : IsLawful plan m) where
       place_of : Down
       place_of = record { node = y; lane = l }
 
-      und : rows ≡ [] → (k : ℕ) → SameSums (flat_map (undelivered k) m.held) (flat_map (undelivered k) others)
-      und e k f = SameSums-flat_map (undelivered k) m.held (Close y l epoch serial floor mark rows passed ∷ others) pulled f ∙ ap (λ r. sum_by f (r ++ flat_map (undelivered k) others)) (none (eqb y k) e)
+      und : rows ≡ [] → (k : ℕ) → IsReordered (flat_map (undelivered k) m.held) (flat_map (undelivered k) others)
+      und e k f = IsReordered-flat_map (undelivered k) m.held (Close y l epoch serial floor mark rows passed ∷ others) pulled f ∙ ap (λ r. sum_by f (r ++ flat_map (undelivered k) others)) (none (eqb y k) e)
         where
           none : (b : Bool) → rows ≡ [] → cond b rows [] ≡ []
           none true e = e
           none false e = refl
 
-      work : (k : ℕ) → SameSums (flat_map (working k) m.held) (flat_map (working k) others)
-      work k f = SameSums-flat_map (working k) m.held (Close y l epoch serial floor mark rows passed ∷ others) pulled f
+      work : (k : ℕ) → IsReordered (flat_map (working k) m.held) (flat_map (working k) others)
+      work k f = IsReordered-flat_map (working k) m.held (Close y l epoch serial floor mark rows passed ∷ others) pulled f
 
       shorter : CoreLane → CoreLane
       shorter lane = record lane { conts = drop 1 lane.conts; ended = lane.ended + 1 }
 
       -- the container that goes has nothing waiting, and the next one is not closing
-      waits : (cs : List Cont) → Marks.first_is_closing cs ≡ true → IsReady cs → SameSums (waiting_of (drop 1 cs)) (waiting_of cs)
+      waits : (cs : List Cont) → Marks.first_is_closing cs ≡ true → IsReady cs → IsReordered (waiting_of (drop 1 cs)) (waiting_of cs)
       waits [] c ready f = refl
       waits (x ∷ cs) c ready f = ap (λ w. sum_by f (flat_map (λ b. b.records) w ++ waiting_of cs)) (sym (ready c).0)
 
@@ -370,12 +370,12 @@ module _ (plan : Shape) (m m' : Moment) (lawful : IsLawful plan m) where
           let ok : IsLane (bound_at plan y) lane = lawful.lanes place_of lane at in
           let made = with_lane-is (Moments.with_held others m) place_of p.0 (shorter lane) m' p.1 h in
           carries-same plan m m'
-          (λ k es fs within in_time same. subst (λ z. SameSums (gives plan m k es) (gives plan z k fs)) made
+          (λ k es fs within in_time same. subst (λ z. IsReordered (gives plan m k es) (gives plan z k fs)) made
           (calm-gives plan m place_of p.0 lane p.1 p.2 (shorter lane) others (calm_end lane closing ok.others) (waits lane.conts closing ok.ready) (und none) work k es fs same))
           (admits plan m m' (λ e. ap (λ x. floor_at x e) (sym made) ∙ floor-set m y l p.0 (Moments.set_lane l (shorter lane) p.0) lane (shorter lane) p.1 p.2 refl refl e))
 
   -- ---- a ParDo's Work is delivered, into an epoch that is not sealed below
-  pub work-carries : (q : Held × List Held) → SameSums m.held (q.0 ∷ q.1) → IsHeld plan m q.0 → Events.deliver_work plan m q.0 q.1 ≡ Some m'
+  pub work-carries : (q : Held × List Held) → IsReordered m.held (q.0 ∷ q.1) → IsHeld plan m q.0 → Events.deliver_work plan m q.0 q.1 ≡ Some m'
       → ((y l epoch floor number : ℕ) (records : List Record) (s : Step) → q.0 ≡ Work y l epoch floor number records false → slice_get plan.steps y ≡ Some s → is_pardo (operator_at (slice_get plan.steps y)) ≡ true → epoch_at m s.down ≤ epoch) → CarriesFrom plan m m' q.0
   work-carries (Close k l epoch serial floor mark rows passed, others) pulled held h sealed = cc
   work-carries (Work y l epoch floor number records delivered, others) pulled held h sealed =
@@ -399,9 +399,9 @@ module _ (plan : Shape) (m m' : Moment) (lawful : IsLawful plan m) where
           let next : epoch_at m s.down ≡ Lanes.next_epoch p.1 = ap (epoch_at m) down ∙ ap epoch_of at in
           let further : y < d.node = subst (λ (d : Down). y < d.node) down (lawful.below y s is).further in
           let calm : begun_mark (Lanes.with_arrival epoch floor images p.1) ≡ begun_mark p.1 = arrival_calm (bound_at plan d.node) epoch floor images p.1 (lawful.lanes d p.1 at) (omega arith) in
-          let open_pulled : SameSums m.held (Work y l epoch floor number records false ∷ others) = λ g. pulled g ∙ ap (λ b. sum_by g (Work y l epoch floor number records b ∷ others)) f in
+          let open_pulled : IsReordered m.held (Work y l epoch floor number records false ∷ others) = λ g. pulled g ∙ ap (λ b. sum_by g (Work y l epoch floor number records b ∷ others)) f in
           subst (λ o. Carries plan m m' (Given y d (Closings.delivery o records))) (sym e) (
           carries-given plan m m' y d images (slice_get_within plan.steps y s is) further (λ t e. ap (λ (s : Step). s.down) (same_Some t s (sym e ∙ is)) ∙ down)
-          (λ k es fs same. subst (λ z. SameSums (gives plan m k es) (extra y images k ++ gives plan z k fs)) p.4
+          (λ k es fs same. subst (λ z. IsReordered (gives plan m k es) (extra y images k ++ gives plan z k fs)) p.4
           (delivery-gives plan m op y l epoch floor number records others d p.0 p.1 p.2 p.3 open_pulled further e calm k es fs same))
           (admits plan m m' (λ e. ap (λ x. floor_at x e) (sym p.4) ∙ floor-set m d.node d.lane p.0 (Moments.set_lane d.lane (Lanes.with_arrival epoch floor images p.1) p.0) p.1 (Lanes.with_arrival epoch floor images p.1) p.2 p.3 refl refl e)))

@@ -1,7 +1,6 @@
 -- What an event does to what each node has yet to give, and so that it keeps a moment exact.
 use Rattle.std.proofs.Common.{◌≡◌, ℕ, ◌+◌, ◌≤◌, ◌<◌, Bool, true, false, cond, ltb, List, [], ◌++◌, length, Some, subst, sym, refl, ap, ◌∙◌, arith, append_assoc, zero-add, ⊎_elim}
 use Rattle.std.specs.List.{sum_by, slice_get}
-use Rattle.std.specs.Ordering.{eq_by_cmp}
 use Rattle.std.proofs.lemmas.List.Sums.{sum_by-append}
 use Rattle.std.proofs.lemmas.List.Concat.{flat_map-append}
 use Rattle.std.proofs.lemmas.Bool.{ne_eqb, le-ltb, lt-ltb, cases_eq}
@@ -13,12 +12,11 @@ use Rattle.sb_pipeline.specs.declared.transform.Down.{Down}
 use Rattle.sb_pipeline.specs.declared.transform.Step.{Step}
 use Rattle.sb_pipeline.specs.Shapes.{Shape, source}
 use Rattle.sb_core.specs.declared.moment.Moment.{Moment}
-use Rattle.sb_record.specs.Records.{record_cmp, count_of}
 use Rattle.sb_pipeline.specs.Elements.{on_lane}
 use Rattle.sb_pipeline.specs.Flow.{Sent, arriving, from_stream, from_streams, sent_from}
 use Rattle.sb_pipeline.specs.Results.{output_of}
 use Rattle.sb_core.specs.Exactness.{gives, final, IsAdmissible, IsExact}
-use Rattle.sb_record.proofs.Sums.{SameSums}
+use Rattle.sb_record.proofs.Sums.{IsReordered}
 use Rattle.sb_core.proofs.Flow.{Moves, IsInTime, IsOnItsWay, flow_moves, flow_in_time, in_flight, in_flight_more, brought, brought_none, sum_by-brought, extra}
 use Rattle.sb_core.proofs.Timely.{late, IsTimely, gives_in_time, streams_in_time}
 
@@ -74,7 +72,7 @@ Leads plan (Given y d records) = (y < length plan.steps) × (y < d.node) × ((s 
 -- from m to m' this moves, and nothing else
 pub record Carries (plan : Shape) (m m' : Moment) (c : Moved) : Type 0 where
   pub leads : Leads plan c
-  pub moves : (k : ℕ) (es fs : List KeptRec) → k ≤ length plan.steps → sum_by (late m k) es ≡ 0 → SameSums es (flight_of c k k ++ fs) → SameSums (gives plan m k es) (more_of c k ++ gives plan m' k fs)
+  pub moves : (k : ℕ) (es fs : List KeptRec) → k ≤ length plan.steps → sum_by (late m k) es ≡ 0 → IsReordered es (flight_of c k k ++ fs) → IsReordered (gives plan m k es) (more_of c k ++ gives plan m' k fs)
   pub less : (coming : Stream → List Record) → IsAdmissible plan m' coming → IsAdmissible plan m (coming_before c coming)
 
 -- what node k has yet to give, where this comes of the streams
@@ -87,7 +85,7 @@ on_its_way plan m m' Nothing leads f i n s is = zero-add (sum_by f (brought n (r
 on_its_way plan m m' (Fed t d records) leads f i n s is = ap (λ z. sum_by f (brought n (record { down = d; records = records })) + z) (brought_none f n s.down) ∙ omega arith
 on_its_way plan m m' (Given y d records) leads f i n s is = in_flight_more y d records f i n s.down (λ e. leads.2 s (ap (slice_get plan.steps) (sym e) ∙ is))
 
-landed : (plan : Shape) (c : Moved) → Leads plan c → (k : ℕ) → SameSums (flight_of c (length plan.steps) k) (flight_of c k k)
+landed : (plan : Shape) (c : Moved) → Leads plan c → (k : ℕ) → IsReordered (flight_of c (length plan.steps) k) (flight_of c k k)
 landed plan Nothing leads k f = refl
 landed plan (Fed s d records) leads k f = refl
 landed plan (Given y d records) leads k f = ⊎_elim here elsewhere (cases_eq d.node k)
@@ -113,7 +111,7 @@ none_at_sink plan (Fed s d records) leads = refl
 none_at_sink plan (Given y d records) leads = ap (λ b. cond b records []) (ne_eqb (length plan.steps) y (λ e. omega (arith, leads.0, e)))
 
 -- what the streams bring before
-streams_bring : (plan : Shape) (c : Moved) → Leads plan c → (coming : Stream → List Record) (n : ℕ) → SameSums (arriving n (from_streams plan (coming_before c coming))) (flight_of c 0 n ++ arriving n (from_streams plan coming))
+streams_bring : (plan : Shape) (c : Moved) → Leads plan c → (coming : Stream → List Record) (n : ℕ) → IsReordered (arriving n (from_streams plan (coming_before c coming))) (flight_of c 0 n ++ arriving n (from_streams plan coming))
 streams_bring plan Nothing leads coming n f = refl
 streams_bring plan (Given y d records) leads coming n f = ap (λ b. sum_by f (cond b (brought n (record { down = d; records = records })) [] ++ arriving n (from_streams plan coming))) (sym (le-ltb y 0 (omega arith)))
 streams_bring plan (Fed s d records) leads coming n f = come s leads
@@ -145,7 +143,7 @@ streams_bring plan (Fed s d records) leads coming n f = come s leads
 
 -- ---- at each node: what it had yet to give is what moved of it, and what it has yet to give
 pub carried-given : (plan : Shape) (m m' : Moment) (c : Moved) → IsTimely plan m → Carries plan m m' c → (k : ℕ) → k ≤ length plan.steps → (coming : Stream → List Record) → IsAdmissible plan m' coming
-    → SameSums (given_where plan m k (coming_before c coming)) (more_of c k ++ given_where plan m' k coming)
+    → IsReordered (given_where plan m k (coming_before c coming)) (more_of c k ++ given_where plan m' k coming)
 carried-given plan m m' c timely carries k within coming ok =
     let give = gives plan m in
     let also = gives plan m' in
@@ -156,8 +154,8 @@ carried-given plan m m' c timely carries k within coming ok =
     let p = sent_from give 0 plan.steps (from_streams plan before) in
     let q = sent_from also 0 plan.steps (from_streams plan coming) in
     let in_time : (n : ℕ) → sum_by (late m n) (arriving n (from_streams plan before)) ≡ 0 = streams_in_time plan m timely before (carries.less coming ok) in
-    let moved : SameSums (arriving k p) (flight_of c (length plan.steps) k ++ arriving k q) =
-    subst (λ z. SameSums (arriving k p) (flight_of c z k ++ arriving k q)) (zero-add (length plan.steps))
+    let moved : IsReordered (arriving k p) (flight_of c (length plan.steps) k ++ arriving k q) =
+    subst (λ z. IsReordered (arriving k p) (flight_of c z k ++ arriving k q)) (zero-add (length plan.steps))
     (flow_moves plan give also (flight_of c) (more_of c) (late m) move time (on_its_way plan m m' c carries.leads) 0 plan.steps left (from_streams plan before) (from_streams plan coming) in_time (streams_bring plan c carries.leads coming) k) in
     let late_end : sum_by (late m k) (arriving k p) ≡ 0 = flow_in_time plan give also (flight_of c) (more_of c) (late m) time 0 plan.steps left (from_streams plan before) in_time k in
     carries.moves k (arriving k p) (arriving k q) within late_end
@@ -177,28 +175,28 @@ fed_joined (Fed s d records) fed coming t = joined s t
 
 -- ---- at the sink: the moment stays exact
 pub carried-exact : (plan : Shape) (m m' : Moment) (c : Moved) (fed : Stream → List Record) → IsTimely plan m → Carries plan m m' c → IsExact plan m fed → IsExact plan m' (fed_with c fed)
-carried-exact plan m m' c fed timely carries exact coming ok r =
-    let flows : SameSums (final plan m (coming_before c coming)) (final plan m' coming) =
+carried-exact plan m m' c fed timely carries exact coming ok f =
+    let flows : IsReordered (final plan m (coming_before c coming)) (final plan m' coming) =
     λ f. carried-given plan m m' c timely carries (length plan.steps) (omega arith) coming ok f ∙ ap (λ l. sum_by f (l ++ final plan m' coming)) (none_at_sink plan c carries.leads) in
-    sym (flows (λ x. cond (eq_by_cmp record_cmp r x) 1 0)) ∙ exact (coming_before c coming) (carries.less coming ok) r
-    ∙ ap (λ streams. count_of r (output_of plan streams)) (λ i s. fed_joined c fed coming s i)
+    sym (flows f) ∙ exact (coming_before c coming) (carries.less coming ok) f
+    ∙ ap (λ streams. sum_by f (output_of plan streams)) (λ i s. fed_joined c fed coming s i)
 
 -- ---- the three kinds
 pub carries-same : (plan : Shape) (m m' : Moment)
-    → ((k : ℕ) (es fs : List KeptRec) → k ≤ length plan.steps → sum_by (late m k) es ≡ 0 → SameSums es fs → SameSums (gives plan m k es) (gives plan m' k fs))
+    → ((k : ℕ) (es fs : List KeptRec) → k ≤ length plan.steps → sum_by (late m k) es ≡ 0 → IsReordered es fs → IsReordered (gives plan m k es) (gives plan m' k fs))
     → ((coming : Stream → List Record) → IsAdmissible plan m' coming → IsAdmissible plan m coming)
     → Carries plan m m' Nothing
 carries-same plan m m' same less = record { leads = tt; moves = same; less = less }
 
 pub carries-given : (plan : Shape) (m m' : Moment) (y : ℕ) (d : Down) (records : List Record)
     → y < length plan.steps → y < d.node → ((s : Step) → slice_get plan.steps y ≡ Some s → s.down ≡ d)
-    → ((k : ℕ) (es fs : List KeptRec) → SameSums es (in_flight y d records k k ++ fs) → SameSums (gives plan m k es) (extra y records k ++ gives plan m' k fs))
+    → ((k : ℕ) (es fs : List KeptRec) → IsReordered es (in_flight y d records k k ++ fs) → IsReordered (gives plan m k es) (extra y records k ++ gives plan m' k fs))
     → ((coming : Stream → List Record) → IsAdmissible plan m' coming → IsAdmissible plan m coming)
     → Carries plan m m' (Given y d records)
 carries-given plan m m' y d records within further leads same less = record { leads = (within, further, leads); moves = λ k es fs low time h. same k es fs h; less = less }
 
 pub carries-fed : (plan : Shape) (m m' : Moment) (s : Stream) (d : Down) (records : List Record) → source plan s ≡ Some d
-    → ((k : ℕ) (es fs : List KeptRec) → SameSums es (brought k (record { down = d; records = records }) ++ fs) → SameSums (gives plan m k es) (gives plan m' k fs))
+    → ((k : ℕ) (es fs : List KeptRec) → IsReordered es (brought k (record { down = d; records = records }) ++ fs) → IsReordered (gives plan m k es) (gives plan m' k fs))
     → ((coming : Stream → List Record) → IsAdmissible plan m' coming → IsAdmissible plan m (with_more s records coming))
     → Carries plan m m' (Fed s d records)
 carries-fed plan m m' s d records is same less = record { leads = is; moves = λ k es fs low time h. same k es fs h; less = less }

@@ -37,7 +37,7 @@ use Rattle.sb_core.specs.Bounds.{bound_at}
 use Rattle.sb_core.specs.Closings.{is_pardo}
 use Rattle.sb_core.specs.Soundness.{out_of, AreNumbered, Begins, IsOpenBelow, AreKeptAt, IsSound}
 use Rattle.sb_core.specs.Laws.{RunsAreSound}
-use Rattle.sb_record.proofs.Sums.{SameSums, SameSums-map, SameSums-flat_map}
+use Rattle.sb_record.proofs.Sums.{IsReordered, IsReordered-map, IsReordered-flat_map}
 use Rattle.sb_core.proofs.Flow.{brought_none, flow_same}
 use Rattle.sb_core.proofs.Groupings.{grouped-order}
 use Rattle.sb_core.proofs.AfterSound.{runs-keep}
@@ -170,23 +170,23 @@ module _ (plan : Shape) (is_plan : IsPlan plan) (bundle : ℕ) where
   from_zero [] = refl
   from_zero (r ∷ l) = (λ i. cond (not (le-ltb r.time 0 (omega arith) i)) (r ∷ at_least 0 l) (at_least 0 l)) ∙ ap (λ m. r ∷ m) (from_zero l)
 
-  same_by : (o : Operator) (k : ℕ) (node : Node) → waiting_from 0 node.lanes ≡ [] → node.kept ≡ [] → closed node.lanes ≡ 0 → (es fs : List KeptRec) → SameSums es fs → SameSums (gives_by o k node [] [] es) (output o fs)
+  same_by : (o : Operator) (k : ℕ) (node : Node) → waiting_from 0 node.lanes ≡ [] → node.kept ≡ [] → closed node.lanes ≡ 0 → (es fs : List KeptRec) → IsReordered es fs → IsReordered (gives_by o k node [] [] es) (output o fs)
   same_by (ParDo op) k node waits kept none es fs h f =
-      ap (λ w. sum_by f (flat_map (outputs_of op) (all_records ((w ++ []) ++ es)))) waits ∙ SameSums-flat_map (outputs_of op) (all_records es) (all_records fs) (SameSums-map (λ e. e.rec) es fs h) f
+      ap (λ w. sum_by f (flat_map (outputs_of op) (all_records ((w ++ []) ++ es)))) waits ∙ IsReordered-flat_map (outputs_of op) (all_records es) (all_records fs) (IsReordered-map (λ e. e.rec) es fs h) f
   same_by (Windowed g) k node waits kept none es fs h f =
       (λ i. sum_by f (at_least (none i) (grouped g (kept i ++ ((waits i ++ []) ++ es))))) ∙ ap (sum_by f) (from_zero (grouped g es)) ∙ grouped-order g es fs h f
   same_by Sink k node waits kept none es fs h f =
-      (λ i. sum_by f (all_records (kept i ++ ((waits i ++ []) ++ es)))) ∙ SameSums-map (λ e. e.rec) es fs h f
+      (λ i. sum_by f (all_records (kept i ++ ((waits i ++ []) ++ es)))) ∙ IsReordered-map (λ e. e.rec) es fs h f
 
-  pub same_first : (k : ℕ) (es fs : List KeptRec) → SameSums es fs → SameSums (gives plan (first plan bundle) k es) (output (operator_at (slice_get plan.steps k)) fs)
+  pub same_first : (k : ℕ) (es fs : List KeptRec) → IsReordered es fs → IsReordered (gives plan (first plan bundle) k es) (output (operator_at (slice_get plan.steps k)) fs)
   same_first k es fs h =
       same_by (operator_at (slice_get plan.steps k)) k (node_at (first plan bundle) k) (by_node (λ x. waiting_from 0 x.lanes ≡ []) (λ o. none_waits 0 (lanes_of o)) refl k) (kept_none k) (closed_none k) es fs h
 
   pub first-exact : IsExact plan (first plan bundle) (λ s. [])
-  first-exact coming ok r =
+  first-exact coming ok f =
       flow_same plan (gives plan (first plan bundle)) (λ k es. output (operator_at (slice_get plan.steps k)) es) (λ _ _. []) (λ _. []) (λ _ _. 0)
       (λ k es fs within in_time h. same_first k es fs h) (λ k es s is h. none (gives plan (first plan bundle) k es))
-      (λ f i n s is. zero-add _ ∙ brought_none f n s.down) refl coming coming (λ n. none (arriving n (from_streams plan coming))) (λ n f. refl) (λ x. cond (Ordering.eq_by_cmp record_cmp r x) 1 0)
+      (λ f i n s is. zero-add _ ∙ brought_none f n s.down) refl coming coming (λ n. none (arriving n (from_streams plan coming))) (λ n f. refl) f
     where
       none : {X : Type 0} (l : List X) → sum_by (λ x. 0) l ≡ 0
       none [] = refl

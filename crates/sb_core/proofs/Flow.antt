@@ -14,7 +14,7 @@ use Rattle.sb_pipeline.specs.declared.transform.Step.{Step}
 use Rattle.sb_pipeline.specs.Shapes.{Shape}
 use Rattle.sb_pipeline.specs.Flow.{Sent, arriving, sent_from, from_streams, flow}
 use Rattle.sb_pipeline.specs.Elements.{on_lane}
-use Rattle.sb_record.proofs.Sums.{SameSums, sum_by-map}
+use Rattle.sb_record.proofs.Sums.{IsReordered, sum_by-map}
 
 -- what one list on its way brings to a node
 abbrev pub brought : ℕ → Sent → List KeptRec
@@ -27,7 +27,7 @@ sum_by-arriving_push f k sent s =
     ∙ ap (λ n. sum_by f (arriving k sent) + n) (sum_by-append f (brought k s) [] ∙ omega arith)
 
 -- lists that add up alike bring what adds up alike
-pub sum_by-brought : (f : KeptRec → ℕ) (k : ℕ) (d : Down) (l m o : List Record) → SameSums l (m ++ o)
+pub sum_by-brought : (f : KeptRec → ℕ) (k : ℕ) (d : Down) (l m o : List Record) → IsReordered l (m ++ o)
     → sum_by f (brought k (record { down = d; records = l })) ≡ sum_by f (brought k (record { down = d; records = m })) + sum_by f (brought k (record { down = d; records = o }))
 sum_by-brought f k d l m o h = by_case (eqb d.node k)
   where
@@ -90,8 +90,8 @@ module _ (plan : Shape) (give also : ℕ → List KeptRec → List Record) (flig
   abbrev pub Moves : Type 0
   Moves =
       (k : ℕ) (es fs : List KeptRec) → k ≤ length plan.steps → sum_by (late k) es ≡ 0
-      → SameSums es (flight k k ++ fs)
-      → SameSums (give k es) (more k ++ also k fs)
+      → IsReordered es (flight k k ++ fs)
+      → IsReordered (give k es) (more k ++ also k fs)
 
   -- nothing late comes out where nothing late goes in
   abbrev pub IsInTime : Type 0
@@ -125,8 +125,8 @@ module _ (plan : Shape) (give also : ℕ → List KeptRec → List Record) (flig
   pub flow_moves : Moves → IsInTime → IsOnItsWay
       → (i : ℕ) (ss : List Step) → ((j : ℕ) → slice_get plan.steps (i + j) ≡ slice_get ss j)
       → (p q : List Sent) → ((n : ℕ) → sum_by (late n) (arriving n p) ≡ 0)
-      → ((n : ℕ) → SameSums (arriving n p) (flight i n ++ arriving n q))
-      → (n : ℕ) → SameSums (arriving n (sent_from give i ss p)) (flight (i + length ss) n ++ arriving n (sent_from also i ss q))
+      → ((n : ℕ) → IsReordered (arriving n p) (flight i n ++ arriving n q))
+      → (n : ℕ) → IsReordered (arriving n (sent_from give i ss p)) (flight (i + length ss) n ++ arriving n (sent_from also i ss q))
   flow_moves move time leads i [] left p q ok same n f = same n f ∙ ap (λ z. sum_by f (flight z n ++ arriving n q)) (omega arith)
   flow_moves move time leads i (s ∷ ss) left p q ok same n f =
       flow_moves move time leads (i + 1) ss (λ j. ap (slice_get plan.steps) (omega arith) ∙ left (suc j)) _ _ later again n f
@@ -138,9 +138,9 @@ module _ (plan : Shape) (give also : ℕ → List KeptRec → List Record) (flig
       later : (n : ℕ) → sum_by (late n) (arriving n (p ++ record { down = s.down; records = give i (arriving i p) } ∷ [])) ≡ 0
       later n = sum_by-arriving_push (late n) n p _ ∙ (λ z. ok n z + late_brought n s.down (give i (arriving i p)) (time i _ s it (ok i)) z)
 
-      again : (n : ℕ) → SameSums (arriving n (p ++ record { down = s.down; records = give i (arriving i p) } ∷ [])) (flight (i + 1) n ++ arriving n (q ++ record { down = s.down; records = also i (arriving i q) } ∷ []))
+      again : (n : ℕ) → IsReordered (arriving n (p ++ record { down = s.down; records = give i (arriving i p) } ∷ [])) (flight (i + 1) n ++ arriving n (q ++ record { down = s.down; records = also i (arriving i q) } ∷ []))
       again n f =
-          let gave : SameSums (give i (arriving i p)) (more i ++ also i (arriving i q)) = move i _ _ (within i s it) (ok i) (same i) in
+          let gave : IsReordered (give i (arriving i p)) (more i ++ also i (arriving i q)) = move i _ _ (within i s it) (ok i) (same i) in
           let a : sum_by f (arriving n (p ++ record { down = s.down; records = give i (arriving i p) } ∷ [])) ≡ sum_by f (arriving n p) + sum_by f (brought n (record { down = s.down; records = give i (arriving i p) })) = sum_by-arriving_push f n p _ in
           let b : sum_by f (arriving n (q ++ record { down = s.down; records = also i (arriving i q) } ∷ [])) ≡ sum_by f (arriving n q) + sum_by f (brought n (record { down = s.down; records = also i (arriving i q) })) = sum_by-arriving_push f n q _ in
           let c : sum_by f (brought n (record { down = s.down; records = give i (arriving i p) })) ≡ sum_by f (brought n (record { down = s.down; records = more i })) + sum_by f (brought n (record { down = s.down; records = also i (arriving i q) })) = sum_by-brought f n s.down _ _ _ gave in
@@ -152,15 +152,15 @@ module _ (plan : Shape) (give also : ℕ → List KeptRec → List Record) (flig
   pub flow_same : Moves → IsInTime → IsOnItsWay → more (length plan.steps) ≡ []
       → (streams others : Stream → List Record)
       → ((n : ℕ) → sum_by (late n) (arriving n (from_streams plan streams)) ≡ 0)
-      → ((n : ℕ) → SameSums (arriving n (from_streams plan streams)) (flight 0 n ++ arriving n (from_streams plan others)))
-      → SameSums (flow plan give streams) (flow plan also others)
+      → ((n : ℕ) → IsReordered (arriving n (from_streams plan streams)) (flight 0 n ++ arriving n (from_streams plan others)))
+      → IsReordered (flow plan give streams) (flow plan also others)
   flow_same move time leads none streams others ok same f =
       let n = length plan.steps in
       let left : (j : ℕ) → slice_get plan.steps (0 + j) ≡ slice_get plan.steps j = λ j. ap (slice_get plan.steps) (zero-add j) in
       let p = sent_from give 0 plan.steps (from_streams plan streams) in
       let q = sent_from also 0 plan.steps (from_streams plan others) in
-      let at_end : SameSums (arriving n p) (flight n n ++ arriving n q) =
-      subst (λ z. SameSums (arriving n p) (flight z n ++ arriving n q)) (zero-add n) (flow_moves move time leads 0 plan.steps left (from_streams plan streams) (from_streams plan others) ok same n) in
+      let at_end : IsReordered (arriving n p) (flight n n ++ arriving n q) =
+      subst (λ z. IsReordered (arriving n p) (flight z n ++ arriving n q)) (zero-add n) (flow_moves move time leads 0 plan.steps left (from_streams plan streams) (from_streams plan others) ok same n) in
       let late_end : sum_by (late n) (arriving n p) ≡ 0 = flow_in_time time 0 plan.steps left (from_streams plan streams) ok n in
       move n (arriving n p) (arriving n q) (omega arith) late_end at_end f
       ∙ ap (λ l. sum_by f (l ++ also n (arriving n q))) none

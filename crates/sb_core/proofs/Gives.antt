@@ -24,7 +24,7 @@ use Rattle.sb_core.specs.Marks.{closed}
 use Rattle.sb_core.specs.Closings.{is_sink}
 use Rattle.sb_core.specs.Moments.{lane_at, with_lane, set_lane, set_node, with_held, node_at}
 use Rattle.sb_core.specs.Exactness.{waiting_in, waiting_from, working, undelivered, rest, gives_by, gives}
-use Rattle.sb_record.proofs.Sums.{SameSums, SameSums-map, SameSums-flat_map, SameSums-filter}
+use Rattle.sb_record.proofs.Sums.{IsReordered, IsReordered-map, IsReordered-flat_map, IsReordered-filter}
 use Rattle.sb_core.proofs.Flow.{brought}
 use Rattle.sb_core.proofs.Groupings.{grouped-order}
 use Rattle.sb_core.proofs.Nodes.{begun_mark, waiting-changed, kept-changed, closed-changed}
@@ -36,36 +36,36 @@ sum_by-rest f k node held es =
 
 -- a node that gives u less, and has the same left to work off
 pub gives-less : (o : Operator) (k : ℕ) (node after : Node) (held later : List Held) (rows more : List Record) (u : List Record) (es fs : List KeptRec)
-    → SameSums (flat_map (undelivered k) held) (u ++ flat_map (undelivered k) later)
-    → SameSums (rest k node held es) (rest k after later fs)
+    → IsReordered (flat_map (undelivered k) held) (u ++ flat_map (undelivered k) later)
+    → IsReordered (rest k node held es) (rest k after later fs)
     → after.kept ≡ node.kept → closed after.lanes ≡ closed node.lanes → (is_sink o ≡ true → u ≡ []) → (is_sink o ≡ true → more ≡ rows)
-    → SameSums (gives_by o k node held rows es) (u ++ gives_by o k after later more fs)
+    → IsReordered (gives_by o k node held rows es) (u ++ gives_by o k after later more fs)
 gives-less (ParDo op) k node after held later rows more u es fs und same kept mark sink more_is f =
     sum_by-append f (flat_map (undelivered k) held) (flat_map (outputs_of op) (all_records (rest k node held es)))
-    ∙ (λ i. und f i + SameSums-flat_map (outputs_of op) (all_records (rest k node held es)) (all_records (rest k after later fs)) (SameSums-map (λ e. e.rec) (rest k node held es) (rest k after later fs) same) f i)
+    ∙ (λ i. und f i + IsReordered-flat_map (outputs_of op) (all_records (rest k node held es)) (all_records (rest k after later fs)) (IsReordered-map (λ e. e.rec) (rest k node held es) (rest k after later fs) same) f i)
     ∙ ap (λ n. n + sum_by f (flat_map (outputs_of op) (all_records (rest k after later fs)))) (sum_by-append f u (flat_map (undelivered k) later))
     ∙ add_assoc _ _ _
     ∙ ap (λ n. sum_by f u + n) (sym (sum_by-append f (flat_map (undelivered k) later) (flat_map (outputs_of op) (all_records (rest k after later fs)))))
     ∙ sym (sum_by-append f u (gives_by (ParDo op) k after later more fs))
 gives-less (Windowed g) k node after held later rows more u es fs und same kept mark sink more_is f =
     sum_by-append f (flat_map (undelivered k) held) (at_least (closed node.lanes) (grouped g (node.kept ++ rest k node held es)))
-    ∙ (λ i. und f i + SameSums-filter (λ r. not (ltb r.time (closed node.lanes))) (grouped g (node.kept ++ rest k node held es)) (grouped g (after.kept ++ rest k after later fs)) (grouped-order g (node.kept ++ rest k node held es) (after.kept ++ rest k after later fs) all) f i)
+    ∙ (λ i. und f i + IsReordered-filter (λ r. not (ltb r.time (closed node.lanes))) (grouped g (node.kept ++ rest k node held es)) (grouped g (after.kept ++ rest k after later fs)) (grouped-order g (node.kept ++ rest k node held es) (after.kept ++ rest k after later fs) all) f i)
     ∙ ap (λ n. sum_by f (u ++ flat_map (undelivered k) later) + sum_by f (at_least n (grouped g (after.kept ++ rest k after later fs)))) (sym mark)
     ∙ ap (λ n. n + sum_by f (at_least (closed after.lanes) (grouped g (after.kept ++ rest k after later fs)))) (sum_by-append f u (flat_map (undelivered k) later))
     ∙ add_assoc _ _ _
     ∙ ap (λ n. sum_by f u + n) (sym (sum_by-append f (flat_map (undelivered k) later) (at_least (closed after.lanes) (grouped g (after.kept ++ rest k after later fs)))))
     ∙ sym (sum_by-append f u (gives_by (Windowed g) k after later more fs))
   where
-    all : SameSums (node.kept ++ rest k node held es) (after.kept ++ rest k after later fs)
+    all : IsReordered (node.kept ++ rest k node held es) (after.kept ++ rest k after later fs)
     all f = sum_by-append f node.kept (rest k node held es) ∙ (λ i. sum_by f (sym kept i) + same f i) ∙ sym (sum_by-append f after.kept (rest k after later fs))
 gives-less Sink k node after held later rows more u es fs und same kept mark sink more_is f =
     sum_by-append f rows (all_records (node.kept ++ rest k node held es))
-    ∙ ap (λ n. sum_by f rows + n) (SameSums-map (λ e. e.rec) (node.kept ++ rest k node held es) (after.kept ++ rest k after later fs) all f)
+    ∙ ap (λ n. sum_by f rows + n) (IsReordered-map (λ e. e.rec) (node.kept ++ rest k node held es) (after.kept ++ rest k after later fs) all f)
     ∙ sym (sum_by-append f rows (all_records (after.kept ++ rest k after later fs)))
     ∙ ap (λ l. sum_by f (l ++ all_records (after.kept ++ rest k after later fs))) (sym (more_is refl))
     ∙ ap (λ l. sum_by f (l ++ gives_by Sink k after later more fs)) (sym (sink refl))
   where
-    all : SameSums (node.kept ++ rest k node held es) (after.kept ++ rest k after later fs)
+    all : IsReordered (node.kept ++ rest k node held es) (after.kept ++ rest k after later fs)
     all f = sum_by-append f node.kept (rest k node held es) ∙ (λ i. sum_by f (sym kept i) + same f i) ∙ sym (sum_by-append f after.kept (rest k after later fs))
 
 -- ---- where a lane is
@@ -91,11 +91,11 @@ sum_by-held_push f g held h = ap (sum_by f) (flat_map-append g held (h ∷ [])) 
 module _ (plan : Shape) (m : Moment) (d : Down) (node : Node) (lane with : CoreLane) (held : List Held) where
   pub lane-gives : slice_get m.nodes d.node ≡ Some node → slice_get node.lanes d.lane ≡ Some lane → begun_mark with ≡ begun_mark lane
       → (k : ℕ) (es fs : List KeptRec) (u : List Record)
-      → SameSums (flat_map (undelivered k) m.held) (u ++ flat_map (undelivered k) held)
+      → IsReordered (flat_map (undelivered k) m.held) (u ++ flat_map (undelivered k) held)
       → ((f : KeptRec → ℕ) → sum_by f (brought k (record { down = d; records = waiting_in lane })) + (sum_by f (flat_map (working k) m.held) + sum_by f es)
       ≡ sum_by f (brought k (record { down = d; records = waiting_in with })) + (sum_by f (flat_map (working k) held) + sum_by f fs))
       → (is_sink (operator_at (slice_get plan.steps k)) ≡ true → u ≡ [])
-      → SameSums (gives plan m k es) (u ++ gives plan (set_node d.node (set_lane d.lane with node) (with_held held m)) k fs)
+      → IsReordered (gives plan m k es) (u ++ gives plan (set_node d.node (set_lane d.lane with node) (with_held held m)) k fs)
   lane-gives at in_it mark k es fs u und same sink =
       gives-less (operator_at (slice_get plan.steps k)) k (node_at m k) (node_at (set_node d.node (set_lane d.lane with node) m) k) m.held held m.rows m.rows u es fs und
       (λ f.

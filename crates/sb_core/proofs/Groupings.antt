@@ -8,7 +8,7 @@ use Rattle.std.proofs.lemmas.List.Sums.{sum_by-cons, length-filter}
 use Rattle.std.proofs.lemmas.List.Elements.{filter-append, All-from_recursion}
 use Rattle.sb_record.specs.declared.item.Record.{Record}
 use Rattle.sb_record.specs.Records.{before, at_least}
-use Rattle.sb_record.proofs.Sums.{SameSums, SameSums-map, SameSums-filter}
+use Rattle.sb_record.proofs.Sums.{IsReordered, IsReordered-map, IsReordered-filter}
 use Rattle.sb_window.specs.Spacing.{Spacing, AreWindows}
 use Rattle.sb_window.proofs.Rows.{is_open_at, rows_by-same, rows_by-before}
 use Rattle.sb_aggregate.specs.declared.aggregate.Agg.{Agg}
@@ -87,13 +87,13 @@ before-later mark l later from = filter-append (λ r. nat_lt r.time mark) l late
     none (r ∷ rs) from = ap (λ b. cond b (r ∷ before mark rs) (before mark rs)) (le-ltb r.time mark from.0) ∙ none rs from.1
 
 -- ---- the law of order, of any grouping
-pub grouped-order : (g : WindowOperator) (es fs : List KeptRec) → SameSums es fs → SameSums (grouped g es) (grouped g fs)
-grouped-order (Aggregated agg windows) es fs h f = ap (sum_by f) (aggregate_rows-orderless agg windows (all_records es) (all_records fs) (SameSums-map (λ e. e.rec) es fs h))
-grouped-order (Sessions agg gap) es fs h f = ap (sum_by f) (session_rows-orderless agg gap (all_records es) (all_records fs) (SameSums-map (λ e. e.rec) es fs h))
+pub grouped-order : (g : WindowOperator) (es fs : List KeptRec) → IsReordered es fs → IsReordered (grouped g es) (grouped g fs)
+grouped-order (Aggregated agg windows) es fs h f = ap (sum_by f) (aggregate_rows-orderless agg windows (all_records es) (all_records fs) (IsReordered-map (λ e. e.rec) es fs h))
+grouped-order (Sessions agg gap) es fs h f = ap (sum_by f) (session_rows-orderless agg gap (all_records es) (all_records fs) (IsReordered-map (λ e. e.rec) es fs h))
 grouped-order (Joined combine windows) es fs h f = join_rows-reordered combine windows (of_lane 0 es) (of_lane 0 fs) (of_lane 1 es) (of_lane 1 fs) (in_lane 0) (in_lane 1) f
   where
-    in_lane : (l : ℕ) → SameSums (of_lane l es) (of_lane l fs)
-    in_lane l = SameSums-map (λ e. e.rec) (filter (λ e. eqb e.lane l) es) (filter (λ e. eqb e.lane l) fs) (SameSums-filter (λ e. eqb e.lane l) es fs h)
+    in_lane : (l : ℕ) → IsReordered (of_lane l es) (of_lane l fs)
+    in_lane l = IsReordered-map (λ e. e.rec) (filter (λ e. eqb e.lane l) es) (filter (λ e. eqb e.lane l) fs) (IsReordered-filter (λ e. eqb e.lane l) es fs h)
 
 -- ---- an aggregation of windows
 pub aggregated : (agg : Agg) (windows : Spacing) → AreWindows windows → IsGrouping (Aggregated agg windows)

@@ -13,7 +13,7 @@ use Rattle.sb_core.specs.declared.moment.Cont.{Cont}
 use Rattle.sb_record.specs.Reading.{◌>>=◌}
 use Rattle.sb_core.specs.Choices.{pulled, is_empty}
 use Rattle.sb_core.specs.Lanes.{fresh, in_epoch, with_bundle, take_from}
-use Rattle.sb_record.proofs.Sums.{SameSums, sum_by-flat_map}
+use Rattle.sb_record.proofs.Sums.{IsReordered, sum_by-flat_map}
 
 pub cond_is_some : {X : Type 0} (b : Bool) (o : Option X) (x : X) → cond b o None ≡ Some x → (b ≡ true) × (o ≡ Some x)
 cond_is_some true o x h = (refl, h)
@@ -36,9 +36,9 @@ filter_swap {X} p q (x ∷ xs) = by_case (p x) (q x) refl refl (filter_swap p q 
     by_case false false e f h = h
 
 -- what was pulled out, and the rest
-pub SameSums-pulled : {X : Type 0} (p : X → Bool) (xs : List X) (q : X × List X) → pulled p xs ≡ Some q → SameSums xs (q.0 ∷ q.1)
-SameSums-pulled p [] q h f = cc
-SameSums-pulled {X} p (y ∷ xs) q h f = by_case (p y) h (λ r e. SameSums-pulled p xs r e f)
+pub IsReordered-pulled : {X : Type 0} (p : X → Bool) (xs : List X) (q : X × List X) → pulled p xs ≡ Some q → IsReordered xs (q.0 ∷ q.1)
+IsReordered-pulled p [] q h f = cc
+IsReordered-pulled {X} p (y ∷ xs) q h f = by_case (p y) h (λ r e. IsReordered-pulled p xs r e f)
   where
     by_case : (b : Bool) → cond {A = Option (X × List X)} b (Some (y, xs)) (pulled p xs >>= λ q. Some (q.0, y ∷ q.1)) ≡ Some q
         → ((r : X × List X) → pulled p xs ≡ Some r → sum_by f xs ≡ sum_by f (r.0 ∷ r.1)) → sum_by f (y ∷ xs) ≡ sum_by f (q.0 ∷ q.1)
@@ -72,8 +72,8 @@ of_cont c = flat_map (λ b. b.records) c.waiting
 
 -- a change in an epoch that adds these records adds them to what waits
 pub waiting-in_epoch : (epoch floor : ℕ) (change : Cont → Cont) (more : List Record)
-    → ((c : Cont) → SameSums (of_cont (change c)) (more ++ of_cont c))
-    → (cs : List Cont) → SameSums (waiting_of (in_epoch epoch floor change cs)) (more ++ waiting_of cs)
+    → ((c : Cont) → IsReordered (of_cont (change c)) (more ++ of_cont c))
+    → (cs : List Cont) → IsReordered (waiting_of (in_epoch epoch floor change cs)) (more ++ waiting_of cs)
 waiting-in_epoch epoch floor change more adds [] f =
     sum_by-append f (of_cont (change (fresh epoch floor))) [] ∙ (λ i. adds (fresh epoch floor) f i + 0) ∙ omega arith
 waiting-in_epoch epoch floor change more adds (c ∷ cs) f = by_case (eqb c.epoch epoch) (ltb epoch c.epoch) (waiting-in_epoch epoch floor change more adds cs f)
@@ -104,14 +104,14 @@ waiting-in_epoch epoch floor change more adds (c ∷ cs) f = by_case (eqb c.epoc
     by_case false false h = on h
 
 -- a bundle more
-pub waiting-with_bundle : (b : Bundle) (c : Cont) → SameSums (of_cont (with_bundle b c)) (b.records ++ of_cont c)
+pub waiting-with_bundle : (b : Bundle) (c : Cont) → IsReordered (of_cont (with_bundle b c)) (b.records ++ of_cont c)
 waiting-with_bundle b c f =
     ap (sum_by f) (flat_map-append (λ b. b.records) c.waiting (b ∷ []))
     ∙ sum_by-append f (of_cont c) (b.records ++ []) ∙ ap (λ n. sum_by f (of_cont c) + n) (sum_by-append f b.records [])
     ∙ omega arith ∙ sym (sum_by-append f b.records (of_cont c))
 
 -- a bundle is taken
-pub waiting-take_from : (number : ℕ) (cs : List Cont) (q : Bundle × List Cont) → take_from number cs ≡ Some q → SameSums (waiting_of cs) (q.0.records ++ waiting_of q.1)
+pub waiting-take_from : (number : ℕ) (cs : List Cont) (q : Bundle × List Cont) → take_from number cs ≡ Some q → IsReordered (waiting_of cs) (q.0.records ++ waiting_of q.1)
 waiting-take_from number [] q h f = cc
 waiting-take_from number (c ∷ cs) q h f = by_case (list_any (λ b. eqb b.number number) c.waiting) h (λ r e. waiting-take_from number cs r e f)
   where
@@ -122,7 +122,7 @@ waiting-take_from number (c ∷ cs) q h f = by_case (list_any (λ b. eqb b.numbe
     by_case true h ih =
         let b = bind_some (pulled (λ b. eqb b.number number) c.waiting) _ q h in
         let same : ◌≡◌ {A = Bundle × List Cont} (b.0.0, record c { waiting = b.0.1; out = c.out ++ number ∷ [] } ∷ cs) q = same_Some _ _ b.2 in
-        let got = SameSums-pulled (λ b. eqb b.number number) c.waiting b.0 b.1 (λ b. sum_by f b.records) in
+        let got = IsReordered-pulled (λ b. eqb b.number number) c.waiting b.0 b.1 (λ b. sum_by f b.records) in
         let one : sum_by f (of_cont c) ≡ sum_by f b.0.0.records + sum_by f (flat_map (λ b. b.records) b.0.1) =
         sum_by-flat_map f (λ b. b.records) c.waiting ∙ got ∙ sum_by-cons (λ b. sum_by f b.records) b.0.0 b.0.1 ∙ ap (λ n. sum_by f b.0.0.records + n) (sym (sum_by-flat_map f (λ b. b.records) b.0.1)) in
         sum_by-append f (of_cont c) (waiting_of cs) ∙ ap (λ n. n + sum_by f (waiting_of cs)) one

@@ -23,7 +23,7 @@ use Rattle.sb_core.specs.Closings.{is_sink}
 use Rattle.sb_core.specs.Moments.{set_lane, set_node, with_held, node_at}
 use Rattle.sb_core.specs.Lanes.{with_arrival, with_seal, with_bundle, next_epoch, next_floor}
 use Rattle.sb_core.specs.Exactness.{waiting_in, waiting_from, working, undelivered, rest, gives, gives_by}
-use Rattle.sb_record.proofs.Sums.{SameSums, SameSums-map, SameSums-flat_map}
+use Rattle.sb_record.proofs.Sums.{IsReordered, IsReordered-map, IsReordered-flat_map}
 use Rattle.sb_core.proofs.Flow.{brought, sum_by-brought, in_flight, extra}
 use Rattle.sb_core.proofs.Lists.{waiting-in_epoch, waiting-with_bundle}
 use Rattle.sb_core.proofs.Nodes.{begun_mark, node_at-set_other}
@@ -31,22 +31,22 @@ use Rattle.sb_core.proofs.Groupings.{all_records-append, all_records-on_lane}
 use Rattle.sb_core.proofs.Gives.{sum_by-rest, lane-gives, sum_by-held_push}
 
 -- one more bundle waits
-waiting-with_arrival : (epoch floor : ℕ) (records : List Record) (lane : CoreLane) → SameSums (waiting_in (with_arrival epoch floor records lane)) (records ++ waiting_in lane)
+waiting-with_arrival : (epoch floor : ℕ) (records : List Record) (lane : CoreLane) → IsReordered (waiting_in (with_arrival epoch floor records lane)) (records ++ waiting_in lane)
 waiting-with_arrival epoch floor records lane =
     waiting-in_epoch epoch floor (with_bundle (record { number = lane.arrived + 1; epoch = epoch; floor = floor; records = records })) records (waiting-with_bundle (record { number = lane.arrived + 1; epoch = epoch; floor = floor; records = records })) lane.conts
 
-pub waiting-with_seal : (mark : ℕ) (lane : CoreLane) → SameSums (waiting_in (with_seal mark lane)) (waiting_in lane)
+pub waiting-with_seal : (mark : ℕ) (lane : CoreLane) → IsReordered (waiting_in (with_seal mark lane)) (waiting_in lane)
 waiting-with_seal mark lane = waiting-in_epoch (next_epoch lane) (next_floor lane) (λ c. record c { mark = Some mark }) [] (λ c f. refl) lane.conts
 
 module _ (plan : Shape) (m : Moment) (d : Down) (node : Node) (lane : CoreLane) (at : slice_get m.nodes d.node ≡ Some node) (in_it : slice_get node.lanes d.lane ≡ Some lane) where
   -- a bundle comes, and what is held changes: a node that gives u less and works off the same
   pub arrival-gives : (epoch floor : ℕ) (records : List Record) (held : List Held) → begun_mark (with_arrival epoch floor records lane) ≡ begun_mark lane
       → (k : ℕ) (es fs : List KeptRec) (u : List Record)
-      → SameSums (flat_map (undelivered k) m.held) (u ++ flat_map (undelivered k) held)
-      → SameSums (flat_map (working k) m.held) (flat_map (working k) held)
+      → IsReordered (flat_map (undelivered k) m.held) (u ++ flat_map (undelivered k) held)
+      → IsReordered (flat_map (working k) m.held) (flat_map (working k) held)
       → (is_sink (operator_at (slice_get plan.steps k)) ≡ true → u ≡ [])
-      → SameSums es (brought k (record { down = d; records = records }) ++ fs)
-      → SameSums (gives plan m k es) (u ++ gives plan (set_node d.node (set_lane d.lane (with_arrival epoch floor records lane) node) (with_held held m)) k fs)
+      → IsReordered es (brought k (record { down = d; records = records }) ++ fs)
+      → IsReordered (gives plan m k es) (u ++ gives plan (set_node d.node (set_lane d.lane (with_arrival epoch floor records lane) node) (with_held held m)) k fs)
   arrival-gives epoch floor records held mark k es fs u und work sink same =
       lane-gives plan m d node lane (with_arrival epoch floor records lane) held at in_it mark k es fs u und
       (λ f.
@@ -57,11 +57,11 @@ module _ (plan : Shape) (m : Moment) (d : Down) (node : Node) (lane : CoreLane) 
       sink
 
   -- a lane in which the same waits
-  pub calm-gives : (with : CoreLane) (held : List Held) → begun_mark with ≡ begun_mark lane → SameSums (waiting_in with) (waiting_in lane)
-      → ((k : ℕ) → SameSums (flat_map (undelivered k) m.held) (flat_map (undelivered k) held))
-      → ((k : ℕ) → SameSums (flat_map (working k) m.held) (flat_map (working k) held))
-      → (k : ℕ) (es fs : List KeptRec) → SameSums es fs
-      → SameSums (gives plan m k es) (gives plan (set_node d.node (set_lane d.lane with node) (with_held held m)) k fs)
+  pub calm-gives : (with : CoreLane) (held : List Held) → begun_mark with ≡ begun_mark lane → IsReordered (waiting_in with) (waiting_in lane)
+      → ((k : ℕ) → IsReordered (flat_map (undelivered k) m.held) (flat_map (undelivered k) held))
+      → ((k : ℕ) → IsReordered (flat_map (working k) m.held) (flat_map (working k) held))
+      → (k : ℕ) (es fs : List KeptRec) → IsReordered es fs
+      → IsReordered (gives plan m k es) (gives plan (set_node d.node (set_lane d.lane with node) (with_held held m)) k fs)
   calm-gives with held mark waits und work k es fs same =
       lane-gives plan m d node lane with held at in_it mark k es fs [] (und k)
       (λ f.
@@ -85,7 +85,7 @@ in_flight_is y d moved k h = ⊎_elim
 -- ---- a ParDo's Work is delivered
 module _ (plan : Shape) (m : Moment) (op : Op) (y l epoch floor number : ℕ) (records : List Record) (others : List Held) (d : Down) (node : Node) (lane : CoreLane)
     (at : slice_get m.nodes d.node ≡ Some node) (in_it : slice_get node.lanes d.lane ≡ Some lane)
-    (pulled : SameSums m.held (Work y l epoch floor number records false ∷ others)) (down : y < d.node) (is : operator_at (slice_get plan.steps y) ≡ ParDo op) where
+    (pulled : IsReordered m.held (Work y l epoch floor number records false ∷ others)) (down : y < d.node) (is : operator_at (slice_get plan.steps y) ≡ ParDo op) where
   abbrev pub images : List Record
   images = flat_map (outputs_of op) records
 
@@ -95,12 +95,12 @@ module _ (plan : Shape) (m : Moment) (op : Op) (y l epoch floor number : ℕ) (r
   abbrev pub after_delivery : Moment
   after_delivery = set_node d.node (set_lane d.lane (with_arrival epoch floor images lane) node) (with_held held_after m)
 
-  und_same : (k : ℕ) → SameSums (flat_map (undelivered k) m.held) (flat_map (undelivered k) held_after)
-  und_same k f = SameSums-flat_map (undelivered k) m.held (Work y l epoch floor number records false ∷ others) pulled f ∙ sym (sum_by-held_push f (undelivered k) others (Work y l epoch floor number records true) ∙ omega arith)
+  und_same : (k : ℕ) → IsReordered (flat_map (undelivered k) m.held) (flat_map (undelivered k) held_after)
+  und_same k f = IsReordered-flat_map (undelivered k) m.held (Work y l epoch floor number records false ∷ others) pulled f ∙ sym (sum_by-held_push f (undelivered k) others (Work y l epoch floor number records true) ∙ omega arith)
 
-  work_less : (k : ℕ) → SameSums (flat_map (working k) m.held) (cond (eqb y k) (on_lane l records) [] ++ flat_map (working k) held_after)
+  work_less : (k : ℕ) → IsReordered (flat_map (working k) m.held) (cond (eqb y k) (on_lane l records) [] ++ flat_map (working k) held_after)
   work_less k f =
-      SameSums-flat_map (working k) m.held (Work y l epoch floor number records false ∷ others) pulled f
+      IsReordered-flat_map (working k) m.held (Work y l epoch floor number records false ∷ others) pulled f
       ∙ ap (λ z. sum_by f (z ++ flat_map (working k) others)) (open_work (eqb y k))
       ∙ sum_by-append f (cond (eqb y k) (on_lane l records) []) (flat_map (working k) others)
       ∙ ap (λ n. sum_by f (cond (eqb y k) (on_lane l records) []) + n) (sym (sum_by-held_push f (working k) others (Work y l epoch floor number records true) ∙ ap (λ z. sum_by f (flat_map (working k) others) + sum_by f z) (done_work (eqb y k)) ∙ omega arith))
@@ -115,7 +115,7 @@ module _ (plan : Shape) (m : Moment) (op : Op) (y l epoch floor number : ℕ) (r
       done_work false = refl
 
   -- the ParDo itself
-  gives_images : (es fs : List KeptRec) → SameSums es fs → SameSums (gives plan m y es) (images ++ gives plan after_delivery y fs)
+  gives_images : (es fs : List KeptRec) → IsReordered es fs → IsReordered (gives plan m y es) (images ++ gives plan after_delivery y fs)
   gives_images es fs same f =
       ap (λ o. sum_by f (gives_by o y (node_at m y) m.held m.rows es)) is
       ∙ by_pardo
@@ -125,7 +125,7 @@ module _ (plan : Shape) (m : Moment) (op : Op) (y l epoch floor number : ℕ) (r
       other : node_at after_delivery y ≡ node_at m y
       other = node_at-set_other m d.node node (set_lane d.lane (with_arrival epoch floor images lane) node) at y (λ e. omega (arith, down))
 
-      rest_less : SameSums (rest y (node_at m y) m.held es) (on_lane l records ++ rest y (node_at m y) held_after fs)
+      rest_less : IsReordered (rest y (node_at m y) m.held es) (on_lane l records ++ rest y (node_at m y) held_after fs)
       rest_less g =
           let a : sum_by g (rest y (node_at m y) m.held es) ≡ (sum_by g (waiting_from 0 (node_at m y).lanes) + sum_by g (flat_map (working y) m.held)) + sum_by g es = sum_by-rest g y (node_at m y) m.held es in
           let b : sum_by g (rest y (node_at m y) held_after fs) ≡ (sum_by g (waiting_from 0 (node_at m y).lanes) + sum_by g (flat_map (working y) held_after)) + sum_by g fs = sum_by-rest g y (node_at m y) held_after fs in
@@ -140,24 +140,24 @@ module _ (plan : Shape) (m : Moment) (op : Op) (y l epoch floor number : ℕ) (r
           let left = rest y (node_at m y) held_after fs in
           let a : sum_by f (gives_by (ParDo op) y (node_at m y) m.held m.rows es) ≡ sum_by f (flat_map (undelivered y) m.held) + sum_by f (flat_map (outputs_of op) (all_records some)) = sum_by-append f (flat_map (undelivered y) m.held) (flat_map (outputs_of op) (all_records some)) in
           let b : sum_by f (flat_map (outputs_of op) (all_records some)) ≡ sum_by f images + sum_by f (flat_map (outputs_of op) (all_records left)) =
-          SameSums-flat_map (outputs_of op) (all_records some) (all_records (on_lane l records ++ left)) (SameSums-map (λ e. e.rec) some (on_lane l records ++ left) rest_less) f
+          IsReordered-flat_map (outputs_of op) (all_records some) (all_records (on_lane l records ++ left)) (IsReordered-map (λ e. e.rec) some (on_lane l records ++ left) rest_less) f
           ∙ ap (λ r. sum_by f (flat_map (outputs_of op) r)) (all_records-append (on_lane l records) left ∙ ap (λ r. r ++ all_records left) (all_records-on_lane l records))
           ∙ ap (sum_by f) (flat_map-append (outputs_of op) records (all_records left)) ∙ sum_by-append f images (flat_map (outputs_of op) (all_records left)) in
           let c : sum_by f (images ++ gives_by (ParDo op) y (node_at m y) held_after m.rows fs) ≡ sum_by f images + sum_by f (gives_by (ParDo op) y (node_at m y) held_after m.rows fs) = sum_by-append f images (gives_by (ParDo op) y (node_at m y) held_after m.rows fs) in
           let e : sum_by f (gives_by (ParDo op) y (node_at m y) held_after m.rows fs) ≡ sum_by f (flat_map (undelivered y) held_after) + sum_by f (flat_map (outputs_of op) (all_records left)) = sum_by-append f (flat_map (undelivered y) held_after) (flat_map (outputs_of op) (all_records left)) in
           omega (arith, und_same y f)
 
-  pub delivery-gives : begun_mark (with_arrival epoch floor images lane) ≡ begun_mark lane → (k : ℕ) (es fs : List KeptRec) → SameSums es (in_flight y d images k k ++ fs)
-      → SameSums (gives plan m k es) (extra y images k ++ gives plan after_delivery k fs)
+  pub delivery-gives : begun_mark (with_arrival epoch floor images lane) ≡ begun_mark lane → (k : ℕ) (es fs : List KeptRec) → IsReordered es (in_flight y d images k k ++ fs)
+      → IsReordered (gives plan m k es) (extra y images k ++ gives plan after_delivery k fs)
   delivery-gives mark k es fs same = ⊎_elim here elsewhere (cases_eq k y)
     where
-      here : k ≡ y → SameSums (gives plan m k es) (extra y images k ++ gives plan after_delivery k fs)
+      here : k ≡ y → IsReordered (gives plan m k es) (extra y images k ++ gives plan after_delivery k fs)
       here e f =
-          let plain : SameSums es fs = λ g. same g ∙ ap (λ b. sum_by g (cond b (brought k (record { down = d; records = images })) [] ++ fs)) (le-ltb y k (omega arith)) in
+          let plain : IsReordered es fs = λ g. same g ∙ ap (λ b. sum_by g (cond b (brought k (record { down = d; records = images })) [] ++ fs)) (le-ltb y k (omega arith)) in
           ap (λ k. sum_by f (gives plan m k es)) e ∙ gives_images es fs plain f
           ∙ ap (λ k. sum_by f (images ++ gives plan after_delivery k fs)) (sym e) ∙ ap (λ b. sum_by f (cond b images [] ++ gives plan after_delivery k fs)) (sym (eq-eqb k y e))
 
-      elsewhere : k ≢ y → SameSums (gives plan m k es) (extra y images k ++ gives plan after_delivery k fs)
+      elsewhere : k ≢ y → IsReordered (gives plan m k es) (extra y images k ++ gives plan after_delivery k fs)
       elsewhere ne f =
           arrival-gives plan m d node lane at in_it epoch floor images held_after mark k es fs [] (und_same k)
           (λ g. work_less k g ∙ ap (λ b. sum_by g (cond b (on_lane l records) [] ++ flat_map (working k) held_after)) (ne_eqb y k (λ e. ne (sym e))))
@@ -167,23 +167,23 @@ module _ (plan : Shape) (m : Moment) (op : Op) (y l epoch floor number : ℕ) (r
 -- ---- the next rows of a Close are delivered
 module _ (plan : Shape) (m : Moment) (y l epoch serial floor mark : ℕ) (rows : List Record) (passed : Bool) (others : List Held) (count : ℕ) (d : Down) (node : Node) (lane : CoreLane)
     (at : slice_get m.nodes d.node ≡ Some node) (in_it : slice_get node.lanes d.lane ≡ Some lane)
-    (pulled : SameSums m.held (Close y l epoch serial floor mark rows passed ∷ others)) (down : y < d.node) (no_sink : is_sink (operator_at (slice_get plan.steps y)) ≡ false) where
+    (pulled : IsReordered m.held (Close y l epoch serial floor mark rows passed ∷ others)) (down : y < d.node) (no_sink : is_sink (operator_at (slice_get plan.steps y)) ≡ false) where
   abbrev pub held_less : List Held
   held_less = others ++ Close y l epoch serial floor mark (drop count rows) passed ∷ []
 
-  pub rows-gives : begun_mark (with_arrival serial floor (take count rows) lane) ≡ begun_mark lane → (k : ℕ) (es fs : List KeptRec) → SameSums es (in_flight y d (take count rows) k k ++ fs)
-      → SameSums (gives plan m k es) (extra y (take count rows) k ++ gives plan (set_node d.node (set_lane d.lane (with_arrival serial floor (take count rows) lane) node) (with_held held_less m)) k fs)
+  pub rows-gives : begun_mark (with_arrival serial floor (take count rows) lane) ≡ begun_mark lane → (k : ℕ) (es fs : List KeptRec) → IsReordered es (in_flight y d (take count rows) k k ++ fs)
+      → IsReordered (gives plan m k es) (extra y (take count rows) k ++ gives plan (set_node d.node (set_lane d.lane (with_arrival serial floor (take count rows) lane) node) (with_held held_less m)) k fs)
   rows-gives calm k es fs same =
       arrival-gives plan m d node lane at in_it serial floor (take count rows) held_less calm k es fs (extra y (take count rows) k)
       (λ f.
       let a : sum_by f (flat_map (undelivered k) m.held) ≡ sum_by f (cond (eqb y k) rows []) + sum_by f (flat_map (undelivered k) others) =
-      SameSums-flat_map (undelivered k) m.held (Close y l epoch serial floor mark rows passed ∷ others) pulled f ∙ sum_by-append f (cond (eqb y k) rows []) (flat_map (undelivered k) others) in
+      IsReordered-flat_map (undelivered k) m.held (Close y l epoch serial floor mark rows passed ∷ others) pulled f ∙ sum_by-append f (cond (eqb y k) rows []) (flat_map (undelivered k) others) in
       let b : sum_by f (flat_map (undelivered k) held_less) ≡ sum_by f (flat_map (undelivered k) others) + sum_by f (cond (eqb y k) (drop count rows) []) = sum_by-held_push f (undelivered k) others (Close y l epoch serial floor mark (drop count rows) passed) in
       let c : sum_by f (cond (eqb y k) rows []) ≡ sum_by f (extra y (take count rows) k) + sum_by f (cond (eqb y k) (drop count rows) []) =
       cut f (eqb y k) ∙ ap (λ b. sum_by f (cond b (take count rows) []) + sum_by f (cond (eqb y k) (drop count rows) [])) (flip y k) in
       let e : sum_by f (extra y (take count rows) k ++ flat_map (undelivered k) held_less) ≡ sum_by f (extra y (take count rows) k) + sum_by f (flat_map (undelivered k) held_less) = sum_by-append f (extra y (take count rows) k) (flat_map (undelivered k) held_less) in
       omega arith)
-      (λ f. SameSums-flat_map (working k) m.held (Close y l epoch serial floor mark rows passed ∷ others) pulled f ∙ sym (sum_by-held_push f (working k) others (Close y l epoch serial floor mark (drop count rows) passed) ∙ omega arith))
+      (λ f. IsReordered-flat_map (working k) m.held (Close y l epoch serial floor mark rows passed ∷ others) pulled f ∙ sym (sum_by-held_push f (working k) others (Close y l epoch serial floor mark (drop count rows) passed) ∙ omega arith))
       (λ sink. ⊎_elim (λ e. let x : true ≡ false = sym sink ∙ ap (λ k. is_sink (operator_at (slice_get plan.steps k))) e ∙ no_sink in cc) (λ ne. ap (λ b. cond b (take count rows) []) (ne_eqb k y ne)) (cases_eq k y))
       (λ g. same g ∙ ap (λ z. sum_by g (z ++ fs)) (in_flight_is y d (take count rows) k down))
     where

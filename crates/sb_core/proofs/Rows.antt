@@ -11,7 +11,7 @@ use Rattle.sb_pipeline.specs.declared.transform.KeptRec.{KeptRec}
 use Rattle.sb_record.specs.declared.item.Stream.{Stream}
 use Rattle.sb_pipeline.specs.Shapes.{Shape}
 use Rattle.sb_core.specs.declared.moment.Moment.{Moment}
-use Rattle.sb_record.specs.Records.{record_cmp, count_of, before}
+use Rattle.sb_record.specs.Records.{record_cmp, before}
 use Rattle.sb_record.specs.Orders.{IsAscending}
 use Rattle.sb_pipeline.specs.Operators.{operator_at}
 use Rattle.sb_pipeline.specs.Elements.{all_records}
@@ -24,7 +24,8 @@ use Rattle.sb_record.proofs.Sums.{sum_by-map}
 use Rattle.sb_core.proofs.Flow.{flow_in_time}
 use Rattle.sb_core.proofs.Groupings.{early, early_one, none_before}
 use Rattle.sb_core.proofs.Timely.{late, IsTimely, gives_in_time, rest_in_time, streams_in_time}
-use Rattle.sb_record.proofs.Sorting.{sorted-unique, SameRecords-filter}
+use Rattle.sb_record.proofs.Sorting.{sorted-unique}
+use Rattle.sb_record.proofs.Sums.{IsReordered-filter}
 
 before-all : (w : ℕ) (l : List Record) → AllByRecursion (λ r. r.time < w) l → before w l ≡ l
 before-all w [] all = refl
@@ -37,8 +38,8 @@ pub rows-are : (plan : Shape) (m : Moment) (fed coming : Stream → List Record)
     → sum_by (early_one (closed (node_at m (length plan.steps)).lanes)) (node_at m (length plan.steps)).kept ≡ 0
     → m.rows ≡ rows_below (closed (node_at m (length plan.steps)).lanes) plan (λ s. fed s ++ coming s)
 rows-are plan m fed coming timely exact ok up low kept =
-    sorted-unique m.rows (before w (output_of plan (λ s. fed s ++ coming s))) up (λ r.
-    ap (λ l. count_of r l) (sym written) ∙ SameRecords-filter (λ r. nat_lt r.time w) (final plan m coming) (output_of plan (λ s. fed s ++ coming s)) (exact coming ok) r)
+    sorted-unique m.rows (before w (output_of plan (λ s. fed s ++ coming s))) up (λ f.
+    ap (sum_by f) (sym written) ∙ IsReordered-filter (λ r. nat_lt r.time w) (final plan m coming) (output_of plan (λ s. fed s ++ coming s)) (exact coming ok) f)
   where
     n : ℕ
     n = length plan.steps

@@ -27,7 +27,7 @@ use Rattle.sb_core.specs.Bounds.{bound_at}
 use Rattle.sb_core.specs.Holdings.{IsWork, IsClosing, IsHeld, is_unpassed}
 use Rattle.sb_core.specs.Soundness.{IsSealedBelow}
 use Rattle.sb_core.proofs.Orderly.{IsLawful}
-use Rattle.sb_record.proofs.Sums.{SameSums}
+use Rattle.sb_record.proofs.Sums.{IsReordered}
 use Rattle.sb_core.proofs.LaneLaws.{last_from, MarkFits, containers-seal}
 use Rattle.sb_core.proofs.Nodes.{begun_mark}
 use Rattle.sb_core.proofs.InEpoch.{containers_out, others_calm, still_ready}
@@ -153,7 +153,7 @@ seal-lawful plan m d node lane mark at in_it lawful up fits apart =
 
 -- ---- the lane below a Close
 pub pass-lawful : (plan : Shape) (is_plan : IsPlan plan) (m : Moment) (d : Down) (node : Node) (lane : CoreLane) (y l epoch serial floor mark : ℕ) (rows : List Record) (others : List Held) (s : Step)
-    → slice_get m.nodes d.node ≡ Some node → slice_get node.lanes d.lane ≡ Some lane → IsLawful plan m → SameSums m.held (Close y l epoch serial floor mark rows false ∷ others) → AllByRecursion (IsHeld plan m) others
+    → slice_get m.nodes d.node ≡ Some node → slice_get node.lanes d.lane ≡ Some lane → IsLawful plan m → IsReordered m.held (Close y l epoch serial floor mark rows false ∷ others) → AllByRecursion (IsHeld plan m) others
     → IsClosing plan m y l epoch serial floor mark rows false → rows ≡ [] → slice_get plan.steps y ≡ Some s → s.down ≡ d → next_floor lane ≤ mark → MarkFits mark (next_epoch lane) lane.conts
     → IsLawful plan (set_node d.node (set_lane d.lane (with_seal mark lane) node) (with_held (others ++ Close y l epoch serial floor mark rows true ∷ []) m))
 pass-lawful plan is_plan m d node lane y l epoch serial floor mark rows others s at in_it lawful pulled holds closing none is down up fits =

@@ -39,7 +39,7 @@ use Rattle.sb_core.specs.Soundness.{IsOpenAtSource}
 use Rattle.sb_core.specs.Bounds.{bound_at}
 use Rattle.sb_core.specs.Holdings.{IsHeld, is_unpassed, IsCloseOf}
 use Rattle.sb_core.specs.Soundness.{out_of, numbers_of, has_cont, IsOpenBelow, AreKeptAt, IsSound}
-use Rattle.sb_record.proofs.Sums.{SameSums}
+use Rattle.sb_record.proofs.Sums.{IsReordered}
 use Rattle.sb_core.proofs.Lists.{cond_is_some}
 use Rattle.sb_core.proofs.Gives.{lane_at-parts, with_lane-is}
 use Rattle.sb_core.proofs.Nodes.{begun_mark, node_at-set_other}
@@ -108,7 +108,7 @@ out_once plan m tidy d lane at n = omega (arith, sum_by-le-sum_by (out_of n) (nu
     more : (a b : ℕ) → b ≤ a + b
     more a b = omega arith
 
-pub finish-sound : (plan : Shape) (is_plan : IsPlan plan) (m m' : Moment) → IsSound plan m → (q : Held × List Held) → SameSums m.held (q.0 ∷ q.1) → IsHeld plan m q.0 × AllByRecursion (IsHeld plan m) q.1 → IsCloseOf plan m q.0 × AllByRecursion (IsCloseOf plan m) q.1
+pub finish-sound : (plan : Shape) (is_plan : IsPlan plan) (m m' : Moment) → IsSound plan m → (q : Held × List Held) → IsReordered m.held (q.0 ∷ q.1) → IsHeld plan m q.0 × AllByRecursion (IsHeld plan m) q.1 → IsCloseOf plan m q.0 × AllByRecursion (IsCloseOf plan m) q.1
     → after_finish plan m q.0 q.1 ≡ Some m' → IsSound plan m'
 finish-sound plan is_plan m m' sound (Close k l epoch serial floor mark rows passed, others) pulled held closes h = cc
 finish-sound plan is_plan m m' sound (Work k l epoch floor number records delivered, others) pulled held closes h =
@@ -236,7 +236,7 @@ none_any : {X : Type 0} (p : X → Bool) (xs : List X) → AllByRecursion (λ x.
 none_any p [] all = refl
 none_any p (x ∷ xs) all = (λ i. all.0 i || list_any p xs) ∙ none_any p xs all.1
 
-pub end-sound : (plan : Shape) (is_plan : IsPlan plan) (m m' : Moment) → IsSound plan m → (q : Held × List Held) → SameSums m.held (q.0 ∷ q.1) → IsHeld plan m q.0 × AllByRecursion (IsHeld plan m) q.1 → IsCloseOf plan m q.0 × AllByRecursion (IsCloseOf plan m) q.1
+pub end-sound : (plan : Shape) (is_plan : IsPlan plan) (m m' : Moment) → IsSound plan m → (q : Held × List Held) → IsReordered m.held (q.0 ∷ q.1) → IsHeld plan m q.0 × AllByRecursion (IsHeld plan m) q.1 → IsCloseOf plan m q.0 × AllByRecursion (IsCloseOf plan m) q.1
     → after_end m q.0 q.1 ≡ Some m' → IsSound plan m'
 end-sound plan is_plan m m' sound (Work k l epoch floor number records delivered, others) pulled held closes h = cc
 end-sound plan is_plan m m' sound (Close y l epoch serial floor mark rows passed, others) pulled held closes h =
@@ -247,7 +247,7 @@ end-sound plan is_plan m m' sound (Close y l epoch serial floor mark rows passed
     (go p.0 a.0 p.1 p.2 (subst (λ (x : CoreLane). first_is_closing x.conts ≡ true) (same_Some held.0.lane a.0 (sym held.0.there ∙ a.1)) held.0.closing)
     (λ f. pulled f ∙ ap (λ b. sum_by f (Close y l epoch serial floor mark rows b ∷ others)) c.0))
   where
-    go : (node : Node) (lane : CoreLane) → slice_get m.nodes y ≡ Some node → slice_get node.lanes l ≡ Some lane → first_is_closing lane.conts ≡ true → SameSums m.held (Close y l epoch serial floor mark rows true ∷ others)
+    go : (node : Node) (lane : CoreLane) → slice_get m.nodes y ≡ Some node → slice_get node.lanes l ≡ Some lane → first_is_closing lane.conts ≡ true → IsReordered m.held (Close y l epoch serial floor mark rows true ∷ others)
         → IsSound plan (set_node y (set_lane l (shorter lane) node) (with_held others m))
     go node lane at in_it closing first =
         (sound_of (record {

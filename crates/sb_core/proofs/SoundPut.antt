@@ -42,7 +42,7 @@ use Rattle.sb_record.specs.Records.{record_cmp}
 use Rattle.sb_core.specs.Bounds.{bound_at}
 use Rattle.sb_core.specs.Holdings.{IsWork, IsClosing, IsHeld, is_unpassed, IsCloseOf}
 use Rattle.sb_core.specs.Soundness.{has_cont, IsOpenBelow, IsSound}
-use Rattle.sb_record.proofs.Sums.{SameSums}
+use Rattle.sb_record.proofs.Sums.{IsReordered}
 use Rattle.sb_window.specs.declared.windows.TheConstants.{MAX_SIZE}
 use Rattle.sb_core.proofs.Lists.{cond_is_some}
 use Rattle.sb_core.proofs.Gives.{lane_at-parts, with_lane-is}
@@ -112,12 +112,12 @@ module _ (plan : Shape) (is_plan : IsPlan plan) (m m' : Moment) (sound : IsSound
   place d node lane at in_it = ap (λ (o : Option Node). o >>= λ n. slice_get n.lanes d.lane) at ∙ in_it
 
   -- one held and the others: which of them are a Close that is not passed
-  unpassed_first : (y l epoch serial floor mark : ℕ) (rows : List Record) (others : List Held) → SameSums m.held (Close y l epoch serial floor mark rows false ∷ others) → list_any (is_unpassed y) m.held ≡ true
+  unpassed_first : (y l epoch serial floor mark : ℕ) (rows : List Record) (others : List Held) → IsReordered m.held (Close y l epoch serial floor mark rows false ∷ others) → list_any (is_unpassed y) m.held ≡ true
   unpassed_first y l epoch serial floor mark rows others pulled =
       any_same (is_unpassed y) m.held (Close y l epoch serial floor mark rows false ∷ others) (pulled (λ h. cond (is_unpassed y h) 1 0)) ∙ ap (λ b. (b && true) || list_any (is_unpassed y) others) (eq-eqb y y refl)
 
   -- ---- the next rows of a Close
-  pub rows-sound : (q : Held × List Held) → SameSums m.held (q.0 ∷ q.1) → IsHeld plan m q.0 × AllByRecursion (IsHeld plan m) q.1 → IsCloseOf plan m q.0 × AllByRecursion (IsCloseOf plan m) q.1 → deliver_rows plan m q.0 q.1 ≡ Some m' → IsSound plan m'
+  pub rows-sound : (q : Held × List Held) → IsReordered m.held (q.0 ∷ q.1) → IsHeld plan m q.0 × AllByRecursion (IsHeld plan m) q.1 → IsCloseOf plan m q.0 × AllByRecursion (IsCloseOf plan m) q.1 → deliver_rows plan m q.0 q.1 ≡ Some m' → IsSound plan m'
   rows-sound (Work k l epoch floor number records delivered, others) pulled held closes h = cc
   rows-sound (Close y l epoch serial floor mark rows passed, others) pulled held closes h =
       let a = bind_some (below plan y) _ m' h in
@@ -136,7 +136,7 @@ module _ (plan : Shape) (is_plan : IsPlan plan) (m m' : Moment) (sound : IsSound
           let next : next_epoch p.1 ≡ serial = sym (ap epoch_of at) ∙ ap (epoch_at m) (sym down) ∙ close.next_under refl s is in
           let low : next_floor p.1 ≡ floor = sym (ap floor_of at) ∙ ap (floor_at m) (sym down) ∙ close.under refl s is in
           let further : bound_at plan y + MAX_SIZE ≤ bound_at plan d.node = subst (λ (d : Down). bound_at plan y + MAX_SIZE ≤ bound_at plan d.node) down (bound-rises plan is_plan y s is) in
-          let first : SameSums m.held (Close y l epoch serial floor mark rows false ∷ others) = λ f. pulled f ∙ ap (λ b. sum_by f (Close y l epoch serial floor mark rows b ∷ others)) e in
+          let first : IsReordered m.held (Close y l epoch serial floor mark rows false ∷ others) = λ f. pulled f ∙ ap (λ b. sum_by f (Close y l epoch serial floor mark rows b ∷ others)) e in
           let ok : IsLane (bound_at plan d.node) p.1 = lawful.lanes d p.1 at in
           let fits : Fits serial floor p.1.conts = subst (λ z. Fits z floor p.1.conts) next (subst (λ z. Fits (next_epoch p.1) z p.1.conts) low (next_fits (bound_at plan d.node) p.1 ok)) in
           let times : IsWithin floor (bound_at plan d.node) (take m.bundle rows) = All-take (λ r. (floor ≤ r.time) × (r.time ≤ bound_at plan d.node)) m.bundle rows (every (λ r k. (k.0, omega (arith, k.1, further))) rows close.times) in
@@ -175,7 +175,7 @@ module _ (plan : Shape) (is_plan : IsPlan plan) (m m' : Moment) (sound : IsSound
   lone_closed (x ∷ []) (suc l) lane one h = cc
   lone_closed (x ∷ y ∷ lanes) l lane one h = absurd (omega arith)
 
-  pub work-sound : (q : Held × List Held) → SameSums m.held (q.0 ∷ q.1) → IsHeld plan m q.0 × AllByRecursion (IsHeld plan m) q.1 → IsCloseOf plan m q.0 × AllByRecursion (IsCloseOf plan m) q.1 → deliver_work plan m q.0 q.1 ≡ Some m' → IsSound plan m'
+  pub work-sound : (q : Held × List Held) → IsReordered m.held (q.0 ∷ q.1) → IsHeld plan m q.0 × AllByRecursion (IsHeld plan m) q.1 → IsCloseOf plan m q.0 × AllByRecursion (IsCloseOf plan m) q.1 → deliver_work plan m q.0 q.1 ≡ Some m' → IsSound plan m'
   work-sound (Close k l epoch serial floor mark rows passed, others) pulled held closes h = cc
   work-sound (Work y l epoch floor number records delivered, others) pulled held closes h =
       let a = bind_some (below plan y) _ m' h in
@@ -196,7 +196,7 @@ module _ (plan : Shape) (is_plan : IsPlan plan) (m m' : Moment) (sound : IsSound
           let at : lane_at m d ≡ Some p.1 = place d p.0 p.1 p.2 p.3 in
           let pardo : is_pardo (operator_at (slice_get plan.steps y)) ≡ true = ap is_pardo e in
           let work : IsWork plan m y l epoch floor number records false = subst (λ b. IsWork plan m y l epoch floor number records b) f held.0 in
-          let first : SameSums m.held (Work y l epoch floor number records false ∷ others) = λ g. pulled g ∙ ap (λ b. sum_by g (Work y l epoch floor number records b ∷ others)) f in
+          let first : IsReordered m.held (Work y l epoch floor number records false ∷ others) = λ g. pulled g ∙ ap (λ b. sum_by g (Work y l epoch floor number records b ∷ others)) f in
           let own : IsLane (bound_at plan y) work.lane = lawful.lanes (record { node = y; lane = l }) work.lane work.there in
           let one : length (node_at m y).lanes ≡ 1 = lawful.one_lane y pardo in
           let in_node : slice_get (node_at m y).lanes l ≡ Some work.lane = lane_of plan m lawful y l work.lane work.there in

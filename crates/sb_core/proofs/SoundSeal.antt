@@ -34,7 +34,7 @@ use Rattle.sb_core.specs.Bounds.{bound_at}
 use Rattle.sb_core.specs.Closings.{is_pardo}
 use Rattle.sb_core.specs.Holdings.{IsClosing, IsHeld, is_unpassed, IsCloseOf}
 use Rattle.sb_core.specs.Soundness.{has_cont, Begins, IsOpenAtSource, IsOpenBelow, IsSound}
-use Rattle.sb_record.proofs.Sums.{SameSums}
+use Rattle.sb_record.proofs.Sums.{IsReordered}
 use Rattle.sb_core.proofs.Lists.{cond_is_some, empty_is}
 use Rattle.sb_core.proofs.Gives.{lane_at-parts, with_lane-is}
 use Rattle.sb_core.proofs.Nodes.{begun_mark}
@@ -131,7 +131,7 @@ seal-sound plan is_plan m m' s mark h sound =
         })))
 
 -- ---- a mark is passed
-pub pass-sound : (plan : Shape) (is_plan : IsPlan plan) (m m' : Moment) → IsSound plan m → (q : Held × List Held) → SameSums m.held (q.0 ∷ q.1) → IsHeld plan m q.0 × AllByRecursion (IsHeld plan m) q.1 → IsCloseOf plan m q.0 × AllByRecursion (IsCloseOf plan m) q.1
+pub pass-sound : (plan : Shape) (is_plan : IsPlan plan) (m m' : Moment) → IsSound plan m → (q : Held × List Held) → IsReordered m.held (q.0 ∷ q.1) → IsHeld plan m q.0 × AllByRecursion (IsHeld plan m) q.1 → IsCloseOf plan m q.0 × AllByRecursion (IsCloseOf plan m) q.1
     → after_pass plan m q.0 q.1 ≡ Some m' → IsSound plan m'
 pass-sound plan is_plan m m' sound (Work k l epoch floor number records delivered, others) pulled held closes h = cc
 pass-sound plan is_plan m m' sound (Close y l epoch serial floor mark rows passed, others) pulled held closes h =
@@ -194,7 +194,7 @@ pass-sound plan is_plan m m' sound (Close y l epoch serial floor mark rows passe
         let done : List Held = others ++ Close y l epoch serial floor mark rows true ∷ [] in
         let made = with_lane-is (with_held done m) d p.0 (with_seal mark lane) m' p.1 h in
         let close : IsClosing plan m y l epoch serial floor mark rows false = subst (λ b. IsClosing plan m y l epoch serial floor mark rows b) unpassed held.0 in
-        let first : SameSums m.held (Close y l epoch serial floor mark rows false ∷ others) = λ f. pulled f ∙ ap (λ b. sum_by f (Close y l epoch serial floor mark rows b ∷ others)) unpassed in
+        let first : IsReordered m.held (Close y l epoch serial floor mark rows false ∷ others) = λ f. pulled f ∙ ap (λ b. sum_by f (Close y l epoch serial floor mark rows b ∷ others)) unpassed in
         let next : next_epoch lane ≡ serial = sym (ap epoch_of at) ∙ ap (epoch_at m) (sym down) ∙ close.next_under refl s is in
         let low : next_floor lane ≡ floor = sym (ap floor_of at) ∙ ap (floor_at m) (sym down) ∙ close.under refl s is in
         let up : next_floor lane ≤ mark = omega (arith, close.rises) in

@@ -19,7 +19,7 @@ use Rattle.sb_core.specs.Events.{after_take}
 use Rattle.sb_core.specs.Marks.{last_of_first, first_is_closing}
 use Rattle.sb_core.specs.Choices.{pulled}
 use Rattle.sb_core.specs.Exactness.{waiting_in, working, undelivered, gives}
-use Rattle.sb_record.proofs.Sums.{SameSums}
+use Rattle.sb_record.proofs.Sums.{IsReordered}
 use Rattle.sb_core.proofs.Flow.{brought, sum_by-brought}
 use Rattle.sb_core.proofs.Lists.{waiting-take_from}
 use Rattle.sb_core.proofs.Nodes.{begun_mark}
@@ -41,14 +41,14 @@ take_from-closing number (c ∷ cs) q h = by_case (list_any (λ b. eqb b.number 
         let same : ◌≡◌ {A = Bundle × List Cont} (b.0.0, c ∷ b.0.1) q = same_Some _ _ b.2 in
         ap (λ (r : Bundle × List Cont). first_is_closing r.1) (sym same)
 
-pub take-gives : (plan : Shape) (m m' : Moment) (d : Down) (number : ℕ) → after_take m d number ≡ Some m' → (k : ℕ) (es fs : List KeptRec) → SameSums es fs → SameSums (gives plan m k es) (gives plan m' k fs)
+pub take-gives : (plan : Shape) (m m' : Moment) (d : Down) (number : ℕ) → after_take m d number ≡ Some m' → (k : ℕ) (es fs : List KeptRec) → IsReordered es fs → IsReordered (gives plan m k es) (gives plan m' k fs)
 take-gives plan m m' d number h k es fs same =
     let a = bind_some (lane_at m d) _ m' h in
     let lane = a.0 in
     let b = bind_some (take_from number lane.conts) _ m' a.2 in
     let at = lane_at-parts m d lane a.1 in
     let is = with_lane-is (with_held (m.held ++ work b.0 ∷ []) m) d at.0 (record lane { conts = b.0.1 }) m' at.1 b.2 in
-    subst (λ x. SameSums (gives plan m k es) (gives plan x k fs)) is (
+    subst (λ x. IsReordered (gives plan m k es) (gives plan x k fs)) is (
     lane-gives plan m d at.0 lane (record lane { conts = b.0.1 }) (m.held ++ work b.0 ∷ []) at.1 at.2 (mark lane b.0 b.1) k es fs []
     (λ f. sym (sum_by-held_push f (undelivered k) m.held (work b.0) ∙ omega arith))
     (moved lane b.0 b.1)

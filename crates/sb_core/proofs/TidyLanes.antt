@@ -17,7 +17,7 @@ use Rattle.sb_core.specs.Lanes.{fresh, in_epoch, take_from, finish_in, with_firs
 use Rattle.sb_core.specs.Choices.{pulled}
 use Rattle.sb_core.specs.LaneOrder.{cont_at}
 use Rattle.sb_core.specs.Soundness.{out_of, numbers_of, AreNumbered}
-use Rattle.sb_core.proofs.Lists.{SameSums-pulled}
+use Rattle.sb_core.proofs.Lists.{IsReordered-pulled}
 use Rattle.sb_core.proofs.LaneLaws.{DifferInBundles}
 use Rattle.sb_core.proofs.HeldLists.{count_snoc}
 
@@ -134,7 +134,7 @@ taken-sums number n (c ∷ cs) q h = by_case (list_any (λ b. eqb b.number numbe
         let same : ◌≡◌ {A = Bundle × List Cont} (b.0.0, record c { waiting = b.0.1; out = c.out ++ number ∷ [] } ∷ cs) q = same_Some _ _ b.2 in
         let is : b.0.0.number ≡ number = eqb-true b.0.0.number number (pulled-passes (λ b. eqb b.number number) c.waiting b.0 b.1) in
         let w : count_by (λ (b : Bundle). eqb b.number n) c.waiting ≡ cond (eqb number n) 1 0 + count_by (λ (b : Bundle). eqb b.number n) b.0.1 =
-        SameSums-pulled (λ b. eqb b.number number) c.waiting b.0 b.1 (λ b. cond (eqb b.number n) 1 0) ∙ sum_by-cons (λ b. cond (eqb b.number n) 1 0) b.0.0 b.0.1 ∙ ap (λ z. cond (eqb z n) 1 0 + count_by (λ (b : Bundle). eqb b.number n) b.0.1) is in
+        IsReordered-pulled (λ b. eqb b.number number) c.waiting b.0 b.1 (λ b. cond (eqb b.number n) 1 0) ∙ sum_by-cons (λ b. cond (eqb b.number n) 1 0) b.0.0 b.0.1 ∙ ap (λ z. cond (eqb z n) 1 0 + count_by (λ (b : Bundle). eqb b.number n) b.0.1) is in
         let o : count_by (λ x. eqb x n) (c.out ++ number ∷ []) ≡ count_by (λ x. eqb x n) c.out + cond (eqb number n) 1 0 = count_snoc (λ x. eqb x n) c.out number in
         let taken : Cont = record c { waiting = b.0.1; out = c.out ++ number ∷ [] } in
         let s1 : sum_by (numbers_of n) (taken ∷ cs) ≡ (count_by (λ (b : Bundle). eqb b.number n) b.0.1 + count_by (λ x. eqb x n) (c.out ++ number ∷ [])) + sum_by (numbers_of n) cs = sum_by-cons (numbers_of n) taken cs in

@@ -11,7 +11,8 @@ use Rattle.sb_core.specs.declared.moment.Node.{Node}
 use Rattle.sb_core.specs.declared.held.Held.{Held}
 use Rattle.sb_core.specs.declared.held.Held.TheVariants.{Work, Close}
 use Rattle.sb_core.specs.declared.moment.Moment.{Moment}
-use Rattle.sb_record.specs.Records.{SameRecords, at_least}
+use Rattle.sb_record.specs.Records.{at_least}
+use Rattle.sb_record.specs.Reorderings.{IsReordered}
 use Rattle.sb_pipeline.specs.Operators.{Operator, grouped, operator_at}
 use Rattle.sb_pardo.specs.Outputs.{outputs_of}
 use Rattle.sb_pipeline.specs.Elements.{on_lane, all_records}
@@ -65,4 +66,4 @@ IsAdmissible plan m coming = (s : Stream) (d : Down) → source plan s ≡ Some 
 
 -- whatever comes, the rows of the whole run are those of the plan over what was fed and what comes, each equally often
 abbrev pub IsExact : Shape → Moment → (Stream → List Record) → Type 0
-IsExact plan m fed = (coming : Stream → List Record) → IsAdmissible plan m coming → SameRecords (final plan m coming) (output_of plan (λ s. fed s ++ coming s))
+IsExact plan m fed = (coming : Stream → List Record) → IsAdmissible plan m coming → IsReordered (final plan m coming) (output_of plan (λ s. fed s ++ coming s))

@@ -97,9 +97,7 @@ fn still_open(
 {
     let mut left = Vec::new(alloc);
     for element in kept {
-        if is_open(windows, element.rec.time, mark) {
-            left.push(*element)?;
-        }
+        push_if(is_open(windows, element.rec.time, mark), element, &mut left)?;
     }
     Ok(left)
 }
@@ -130,7 +128,11 @@ fn push_if(passes: bool, element: &KeptRec, left: &mut Vec<KeptRec>) -> Result<(
     ensures { OnOk result (left.new.items ≡ left.old.items ++ (if passes then element.now ∷ [] else [])) }
 {
     if passes {
-        left.push(*element)?;
+        let rec = Record { ..element.rec };
+        left.push(KeptRec {
+            lane: element.lane,
+            rec,
+        })?;
     }
     Ok(())
 }

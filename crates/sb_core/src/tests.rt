@@ -10,7 +10,7 @@ use sb_bundle::Cutter;
 use sb_join::Combine;
 use sb_pardo::{Change, Op};
 use sb_pipeline::{Down, Kind, Plan, Step, sum_plan};
-use sb_record::{END_MARK, Item, Record, Sequence, Stream, read_line};
+use sb_record::{END_MARK, Item, Key, Keys, Record, Sequence, Stream, read_line};
 use sb_slow::slow_rows;
 use sb_window::{BadWindow, Windows};
 use std::alloc::{AllocError, Global};
@@ -22,7 +22,7 @@ fn arrive(alloc: Global, stream: Stream, list: &[(u64, u64, i64)]) -> Result<Eve
     for (time, key, value) in list {
         records.push(Record {
             time: *time,
-            key: *key,
+            key: Key::Number(*key),
             value: *value,
         })?;
     }
@@ -92,7 +92,9 @@ fn text_of(alloc: Global, rows: &[Record]) -> Result<String, Fail> {
         if !text.is_empty() {
             text.push_str(" ")?;
         }
-        write!(text, "{},{},{}", row.time, row.key, row.value)?;
+        if let Key::Number(key) = row.key {
+            write!(text, "{},{key},{}", row.time, row.value)?;
+        }
     }
     Ok(text)
 }
@@ -191,12 +193,19 @@ fn events_whose_condition_fails_are_refused(rt: HostRuntime) -> Result<(), Fail>
 }
 
 /// The items of lines, with a space between each two.
-fn items_of(alloc: Global, lines: &str) -> Result<Vec<Item>, Fail>
-    ensures { IfOk result (λ items. All IsItemInRange items.items) }
+fn items_of(alloc: Global, keys: Keys, lines: &str) -> Result<Vec<Item>, Fail>
+    ensures { IfOk result (λ items. All (IsItemInRange keys) items.items) }
 {
     let mut items = Vec::new(alloc);
+    // By this the prover is told of the types that an item holds.
+    let _held = Record {
+        time: 0,
+        key: Key::Number(0),
+        value: 0,
+    };
     for line in lines.split_whitespace() {
-        items.push(read_line(line.as_bytes())?)?;
+        let item = read_line(line.as_bytes(), keys)?;
+        items.push(item)?;
     }
     Ok(items)
 }
@@ -215,7 +224,7 @@ fn feed_of(
     for item in items {
         match item {
             Item::Rec(of, record) if *of == stream && record.time >= cutter.floor() => {
-                if let Some(bundle) = cutter.push(*record)? {
+                if let Some(bundle) = cutter.push(Record { ..*record })? {
                     let records = bundle.records;
                     feed.push(Event::Arrive { stream, records })?;
                 }
@@ -338,7 +347,7 @@ fn check_driven(
     rows: &str,
 ) -> Result<(), Fail> {
     let alloc = rt.alloc();
-    let items = items_of(alloc, lines)?;
+    let items = items_of(alloc, plan.keys(), lines)?;
     let slow = slow_rows(alloc, plan, &items, END_MARK)?;
     assert_eq!(rt; text_of(alloc, &slow)?.as_str(), rows, "{lines}");
     for size in [1u32, 2, 1024] {

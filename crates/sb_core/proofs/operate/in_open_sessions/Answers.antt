@@ -19,15 +19,15 @@ loop-place-preserved c =
     let i = c.loop-place.place in
     let kept = c.args.kept.now in
     let l : List Record = all_records kept in
-    let d : KeptRec = record { lane = 0; rec = record { time = 0; key = 0; value = pos 0 } } in
-    let e : KeptRec = get_or kept i d in
+    let e : KeptRec = c.index-kept-place.result in
     let within : i < length l = omega (arith, length-map kept (λ (e : KeptRec). e.rec), c.loop-place-test.true) in
     let same : c.deref.result.now ≡ l = c.deref.ensures.value ∙ c.in_ok-records.ensures in
-    let here : get_or l i d.rec ≡ e.rec = get_or-map (λ (e : KeptRec). e.rec) kept i d d.rec c.loop-place-test.true in
+    let here : get_or l i e.rec ≡ e.rec = get_or-map (λ (e : KeptRec). e.rec) kept i e e.rec c.loop-place-test.true ∙ ap (λ (e : KeptRec). e.rec) (sym c.index-kept-place.is) in
     let ends : c.in_ok-ends.ends.items ≡ map (session_end c.args.gap l) l = c.in_ok-ends.ensures ∙ ap (λ (m : List Record). map (session_end c.args.gap m) m) same in
     let end : c.index.result.now ≡ session_end c.args.gap l e.rec =
-    c.index.ensures ∙ ap (λ m. get_or m i c.index.result.now) ends ∙ get_or-map (session_end c.args.gap l) l i d.rec c.index.result.now within ∙ ap (session_end c.args.gap l) here in
+    c.index.ensures ∙ ap (λ m. get_or m i c.index.result.now) ends ∙ get_or-map (session_end c.args.gap l) l i e.rec c.index.result.now within ∙ ap (session_end c.args.gap l) here in
     c.in_ok-push_if.ensures
     ∙ (λ z. c.loop-place.invariant z ++ cond (ltb c.args.mark (end z)) (e ∷ []) [])
     ∙ sym (filter-append (λ (e : KeptRec). is_session_open c.args.gap c.args.mark l e.rec) (take i kept) (e ∷ []))
-    ∙ ap (filter (λ (e : KeptRec). is_session_open c.args.gap c.args.mark l e.rec)) (sym (take_more kept i d c.loop-place-test.true))
+    ∙ ap (λ x. filter (λ (e : KeptRec). is_session_open c.args.gap c.args.mark l e.rec) (take i kept ++ x ∷ [])) c.index-kept-place.is
+    ∙ ap (filter (λ (e : KeptRec). is_session_open c.args.gap c.args.mark l e.rec)) (sym (take_more kept i e c.loop-place-test.true))

@@ -1,18 +1,20 @@
-use Rattle.std.proofs.Common.{◌≤◌, All, List, subst, sym}
-use Rattle.std.proofs.lemmas.List.Elements.{All-from_recursion, recursion_from_All}
+use Rattle.std.proofs.Common.{◌≤◌, All, List}
+use Rattle.std.proofs.lemmas.List.Elements.{All-from_recursion, All-same, recursion_from_All}
 use Rattle.sb_record.specs.declared.item.Item.{Item}
 use Rattle.sb_record.specs.declared.item.Stream.{Stream}
 use Rattle.sb_record.specs.declared.item.Stream.TheVariants.{A, B}
 use Rattle.sb_record.specs.declared.item.TheConstants.{MAX_TIME}
+use Rattle.sb_record.specs.declared.key.Keys.{Keys}
 use Rattle.sb_record.specs.Lines.{IsItemInRange}
 use Rattle.sb_record.specs.Streams.{records_of}
 use Rattle.sb_record.proofs.InputLemmas.{records-in_range}
 use Rattle.sb_core.proofs.tests.check_driven.Goals as goal
 
-in_time : (items : List Item) → All IsItemInRange items → (s : Stream) → All (λ r. r.time ≤ MAX_TIME) (records_of s items)
-in_time items in_range s = All-from_recursion (λ r. r.time ≤ MAX_TIME) (records_of s items) (records-in_range s items (recursion_from_All IsItemInRange items in_range))
+in_time : (keys : Keys) (items : List Item) → All (IsItemInRange keys) items → (s : Stream) → All (λ r. r.time ≤ MAX_TIME) (records_of s items)
+in_time keys items in_range s = All-from_recursion (λ r. r.time ≤ MAX_TIME) (records_of s items) (records-in_range keys s items (recursion_from_All (IsItemInRange keys) items in_range))
 
 pub slow_rows-requires : goal.slow_rows-requires
 slow_rows-requires g c =
-    let in_range : All IsItemInRange c.deref.result.now = subst (λ (items : List Item). All IsItemInRange items) (sym c.deref.ensures.value) c.in_ok-items.ensures in
-    record { times = (in_time c.deref.result.now in_range A, in_time c.deref.result.now in_range B) }
+    let keys = c.keys.result in
+    let in_range : All (IsItemInRange keys) c.deref.result.now = All-same (IsItemInRange keys) _ _ c.deref.ensures.value c.in_ok-items.ensures in
+    record { times = (in_time keys c.deref.result.now in_range A, in_time keys c.deref.result.now in_range B) }

@@ -3,4 +3,4 @@ use Rattle.sb_record.specs.Lines.{IsItemInRange}
 use Rattle.sb_core.proofs.tests.items_of.Given as goal
 
 abbrev pub invariant-loop-line : goal.invariant-loop-line
-invariant-loop-line l = All IsItemInRange l.items.items
+invariant-loop-line l = All (IsItemInRange l.keys) l.items.items
