@@ -3,6 +3,7 @@ use Rattle.std.proofs.Common.{◌≡◌, ◌+◌, ◌∙◌, ℕ, List, Result, 
 use Rattle.std.specs.Prelude.{◌⊎◌, bytes_eq, Bool, true, false, cond}
 use Rattle.std.proofs.lemmas.Bool.{cases_Bool}
 use Rattle.toml.specs.Data.{Data, Items, item, Members, as_str, as_table}
+use Rattle.sb_record.specs.declared.key.Keys.{Keys}
 use Rattle.sb_outside.specs.Folders.{Files, without}
 use Rattle.sb_pardo.specs.TableFiles.{or_fault, then_test}
 use Rattle.sb_pipeline.specs.declared.transform.Kind.{Kind}
@@ -54,39 +55,40 @@ module _ (files : Files) (name : List ℕ) where
     | inr differs ↦ inl (rw differs h)
   ]
 
-  lookup-fewer : (table : Members) (k : Kind) → lookup_at files table ≡ Ok k → SameOrNoFile (lookup_at (without name files) table) (Ok k)
+  lookup-fewer : (keys : Keys) (table : Members) (k : Kind) → lookup_at files keys table ≡ Ok k → SameOrNoFile (lookup_at (without name files) keys table) (Ok k)
   unfolding lookup_at
-  lookup-fewer table k = then-fewer (by_text (word_at file_name key.Table table)) _ _ k (λ other. file-fewer (λ bytes. by_text (lookup_in bytes)) other k)
+  lookup-fewer keys table k = then-fewer (by_text (word_at file_name key.Table table)) _ _ k (λ other. file-fewer (λ bytes. by_text (lookup_in keys bytes)) other k)
 
-  transform-fewer : (of : KindName) (table : Members) (k : Kind) → transform_at files of table ≡ Ok k → SameOrNoFile (transform_at (without name files) of table) (Ok k)
+  transform-fewer : (keys : Keys) (of : KindName) (table : Members) (k : Kind) → transform_at files keys of table ≡ Ok k → SameOrNoFile (transform_at (without name files) keys of table) (Ok k)
   unfolding transform_at
-  transform-fewer kind.Filter table k h = inl h
-  transform-fewer kind.Map table k h = inl h
-  transform-fewer kind.Expand table k h = inl h
-  transform-fewer kind.Lookup table k h = lookup-fewer table k h
-  transform-fewer kind.Count table k h = inl h
-  transform-fewer kind.Sum table k h = inl h
-  transform-fewer kind.Min table k h = inl h
-  transform-fewer kind.Max table k h = inl h
-  transform-fewer kind.Distinct table k h = inl h
-  transform-fewer kind.Top table k h = inl h
-  transform-fewer kind.Session table k h = inl h
-  transform-fewer kind.Join table k h = inl h
+  transform-fewer keys kind.Filter table k h = inl h
+  transform-fewer keys kind.Map table k h = inl h
+  transform-fewer keys kind.Expand table k h = inl h
+  transform-fewer keys kind.Lookup table k h = lookup-fewer keys table k h
+  transform-fewer keys kind.Count table k h = inl h
+  transform-fewer keys kind.Sum table k h = inl h
+  transform-fewer keys kind.Min table k h = inl h
+  transform-fewer keys kind.Max table k h = inl h
+  transform-fewer keys kind.Distinct table k h = inl h
+  transform-fewer keys kind.Top table k h = inl h
+  transform-fewer keys kind.Session table k h = inl h
+  transform-fewer keys kind.Join table k h = inl h
 
-  entry-fewer : (parts : List Part) (table : Members) (entry : Entry) → entry_at files parts table ≡ Ok entry → SameOrNoFile (entry_at (without name files) parts table) (Ok entry)
+  entry-fewer : (keys : Keys) (parts : List Part) (table : Members) (entry : Entry) → entry_at files keys parts table ≡ Ok entry
+      → SameOrNoFile (entry_at (without name files) keys parts table) (Ok entry)
   unfolding entry_at
-  entry-fewer parts table entry =
+  entry-fewer keys parts table entry =
       then-fewer (by_text (name_at parts table)) _ _ entry (λ own.
       then-fewer (by_text (kind_at table)) _ _ entry (λ of.
       if-fewer (all_keys (is_key_of of) table) (Fails cause.UnknownField) _ _ entry (
       then-fewer (by_text (typed_at as_str key.From table)) _ _ entry (λ left.
-      fewer-then (transform_at files of table) (transform_at (without name files) of table) _ entry (transform-fewer of table)))))
+      fewer-then (transform_at files keys of table) (transform_at (without name files) keys of table) _ entry (transform-fewer keys of table)))))
 
   element-fewer : (wiring more : Wiring) (value : Data) → element_wired files wiring value ≡ Ok more → SameOrNoFile (element_wired (without name files) wiring value) (Ok more)
   unfolding element_wired
   element-fewer wiring more value =
       then-fewer (by_text (or_fault (cause.WrongType key.Transform) (as_table value))) _ _ more (λ table.
-      fewer-then (entry_at files wiring.parts table) (entry_at (without name files) wiring.parts table) _ more (entry-fewer wiring.parts table))
+      fewer-then (entry_at files wiring.keys wiring.parts table) (entry_at (without name files) wiring.keys wiring.parts table) _ more (entry-fewer wiring.keys wiring.parts table))
 
   -- one element more, which passes with the file
   pub wired-fewer : (place : ℕ) (old new : Wiring) (value : Data) (rest : Items) → element_wired files old value ≡ Ok new

@@ -3,7 +3,7 @@ use Rattle.std.proofs.Common.{◌≡◌, ◌∙◌, ℕ, List, Option, Some, Err
 use Rattle.toml.specs.Data.{Data, Items, item}
 use Rattle.sb_outside.specs.Folders.{Files, Load, without}
 use Rattle.sb_plan.specs.Answers.{IsWantedIn}
-use Rattle.sb_plan.specs.PlanFiles.{element_wired, unwired, wired_from}
+use Rattle.sb_plan.specs.PlanFiles.{element_wired, wired_from}
 use Rattle.sb_plan.specs.declared.wiring.Wiring.{Wiring}
 use Rattle.sb_plan.proofs.Absent.{SameOrNoFile, wired-absent}
 use Rattle.sb_plan.specs.Wants.{BlamesLoad}
@@ -18,16 +18,16 @@ blames-part part whole wider before now stop.Folder blamed = (blamed.0, wider bl
 blames-part part whole wider before now stop.Memory same = same
 
 -- the load that an element wants, whose turn it is, all of them want
-pub blames-element : (told before_told : Option Files) (place : ℕ) (wiring : Wiring) (value : Data) (rest from all : Items) (start before now : List Load) (s : PlanStop)
+pub blames-element : (told before_told : Option Files) (place : ℕ) (first wiring : Wiring) (value : Data) (rest from all : Items) (start before now : List Load) (s : PlanStop)
     → before_told ≡ told → before ≡ start → from ≡ item value rest
-    → ((files : Files) (name : List ℕ) → told ≡ Some files → SameOrNoFile (wired_from (without name files) 1 unwired all) (wired_from (without name files) place wiring from))
+    → ((files : Files) (name : List ℕ) → told ≡ Some files → SameOrNoFile (wired_from (without name files) 1 first all) (wired_from (without name files) place wiring from))
     → BlamesLoad {A = Wiring} (IsWantedIn before_told (λ files. element_wired files wiring value)) before now (Err s)
-    → BlamesLoad {A = Wiring} (IsWantedIn told (λ files. wired_from files 1 unwired all)) start now (Err s)
-blames-element told before_told place wiring value rest from all start before now s same_files unlisted at fewer blamed =
-    subst (λ list. BlamesLoad {A = Wiring} (IsWantedIn told (λ files. wired_from files 1 unwired all)) list now (Err s)) unlisted
-    (blames-part (IsWantedIn before_told (λ files. element_wired files wiring value)) (IsWantedIn told (λ files. wired_from files 1 unwired all)) wider before now s blamed)
+    → BlamesLoad {A = Wiring} (IsWantedIn told (λ files. wired_from files 1 first all)) start now (Err s)
+blames-element told before_told place first wiring value rest from all start before now s same_files unlisted at fewer blamed =
+    subst (λ list. BlamesLoad {A = Wiring} (IsWantedIn told (λ files. wired_from files 1 first all)) list now (Err s)) unlisted
+    (blames-part (IsWantedIn before_told (λ files. element_wired files wiring value)) (IsWantedIn told (λ files. wired_from files 1 first all)) wider before now s blamed)
   where
-    wider : (load : Load) → IsWantedIn before_told (λ files. element_wired files wiring value) load → IsWantedIn told (λ files. wired_from files 1 unwired all) load
+    wider : (load : Load) → IsWantedIn before_told (λ files. element_wired files wiring value) load → IsWantedIn told (λ files. wired_from files 1 first all) load
     wider load wanted = (
       wanted.0,
       λ files known. elim (fewer files load.name known) [

@@ -25,7 +25,7 @@ pub takes_refused : (files : Files) (place : ℕ) (old : Wiring) (value : Data) 
 unfolding wired_from
 takes_refused files place old value rest cause h = rw h refl
 
-pub element_wired-entry : (files : Files) (wiring : Wiring) (value : Data) (table : Members) (entry : Entry) → as_table value ≡ Some table → entry_at files wiring.parts table ≡ Ok entry
+pub element_wired-entry : (files : Files) (wiring : Wiring) (value : Data) (table : Members) (entry : Entry) → as_table value ≡ Some table → entry_at files wiring.keys wiring.parts table ≡ Ok entry
     → element_wired files wiring value ≡ by_text (connected entry wiring)
 unfolding element_wired
 element_wired-entry files wiring value table entry is h = rw is (rw h refl)

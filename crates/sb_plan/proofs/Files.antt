@@ -4,6 +4,7 @@ use Rattle.std.specs.Prelude.{nat_lt, ◌⊎◌}
 use Rattle.std.proofs.lemmas.Bool.{cases_Bool, ltb-false, lt-ltb, ltb-true}
 use Rattle.std.proofs.lemmas.List.{length-take-le, take_all}
 use Rattle.toml.specs.Data.{Members, as_str}
+use Rattle.sb_record.specs.declared.key.Keys.{Keys}
 use Rattle.sb_outside.specs.Folders.{Files}
 use Rattle.sb_plan.specs.declared.fault.PlanKey.TheVariants as key
 use Rattle.sb_plan.specs.declared.TheConstants.{MAX_TABLE_BYTES}
@@ -20,16 +21,16 @@ cut most bytes = elim (cases_Bool (nat_lt most (length bytes))) [
   | inr short ↦ inl (take_all (most + 1) bytes (omega (arith, ltb-false most (length bytes) short)))
 ]
 
-lookup-cut : (bytes : List ℕ) → lookup_in (take (MAX_TABLE_BYTES + 1) bytes) ≡ lookup_in bytes
+lookup-cut : (keys : Keys) (bytes : List ℕ) → lookup_in keys (take (MAX_TABLE_BYTES + 1) bytes) ≡ lookup_in keys bytes
 unfolding lookup_in
-lookup-cut bytes = elim (cut MAX_TABLE_BYTES bytes) [
-  | inl all ↦ ap lookup_in all
+lookup-cut keys bytes = elim (cut MAX_TABLE_BYTES bytes) [
+  | inl all ↦ ap (lookup_in keys) all
   | inr long ↦ rw long.0 (rw long.1 refl)
 ]
 
 -- the look-up in the file that was read
-pub lookup-read : (files : Files) (table : Members) (name bytes read : List ℕ) → typed_at as_str key.Table table ≡ Ok name → 1 ≤ length name → files name ≡ Some bytes
-    → read ≡ take (MAX_TABLE_BYTES + 1) bytes → lookup_at files table ≡ by_text (lookup_in read)
+pub lookup-read : (files : Files) (keys : Keys) (table : Members) (name bytes read : List ℕ) → typed_at as_str key.Table table ≡ Ok name → 1 ≤ length name → files name ≡ Some bytes
+    → read ≡ take (MAX_TABLE_BYTES + 1) bytes → lookup_at files keys table ≡ by_text (lookup_in keys read)
 unfolding lookup_at word_at
-lookup-read files table [] bytes read typed some found cut_off = absurd (omega arith)
-lookup-read files table (c ∷ cs) bytes read typed some found cut_off = rw typed (rw found (ap by_text (sym (ap lookup_in cut_off ∙ lookup-cut bytes))))
+lookup-read files keys table [] bytes read typed some found cut_off = absurd (omega arith)
+lookup-read files keys table (c ∷ cs) bytes read typed some found cut_off = rw typed (rw found (ap by_text (sym (ap (lookup_in keys) cut_off ∙ lookup-cut keys bytes))))

@@ -1,13 +1,19 @@
 -- What a table says of its transform may be in a plan.
-use Rattle.std.proofs.Common.{◌≡◌, ◌≤◌, ◌+◌, ℕ, ℤ, pos, negsuc, Bool, true, false, cond, List, [], ◌∷◌, length, Option, Some, None, IfOk, Result, Ok, Err, refl, sym, ap, subst, arith, rules}
+use Rattle.std.proofs.Common.{◌≡◌, ◌≤◌, ◌+◌, ℕ, ℤ, pos, negsuc, Bool, true, false, cond, List, [], ◌∷◌, length, Option, Some, None, IfOk, Result, Ok, Err, refl, sym, subst, arith, rules}
 use Rattle.std.specs.Prelude.{codes, bytes_eq, is_some, ◌&&◌, ◌||◌, ◌==◌, ◌%◌, ◌/◌, not, nat_lt, nat_le}
 use Rattle.std.specs.FinMap.{FinMap, empty, get, insert}
-use Rattle.std.specs.Ordering.{nat_cmp}
 use Rattle.std.proofs.lemmas.Bool.{and_parts, leb-true}
 use Rattle.std.proofs.lemmas.Option.{cond_some}
 use Rattle.std.proofs.NetLemmas.Options.{map_some}
 use Rattle.toml.specs.Data.{Members, get_member, as_integer, as_str}
-use Rattle.sb_record.specs.declared.item.TheConstants.{MAX_KEY}
+use Rattle.sb_record.specs.declared.key.TheConstants.{MAX_KEY}
+use Rattle.sb_record.specs.declared.key.Key.{Key}
+use Rattle.sb_record.specs.declared.key.Key.TheVariants.{Number, Word}
+use Rattle.sb_record.specs.declared.key.Keys.{Keys}
+use Rattle.sb_record.specs.declared.key.Keys.TheVariants.{Numbers, Words}
+use Rattle.sb_record.specs.Keys.{IsKey, key_cmp}
+use Rattle.sb_record.specs.Reading.{whole_number}
+use Rattle.sb_record.specs.Words.{is_word}
 use Rattle.sb_record.proofs.Numbers.{whole_number_exact}
 use Rattle.sb_outside.specs.Folders.{Files}
 use Rattle.sb_window.specs.declared.windows.TheConstants.{MAX_SIZE, MAX_WINDOWS_OF_A_TIME}
@@ -26,7 +32,7 @@ use Rattle.sb_pardo.specs.TableFiles.{then_test, or_fault, table_of, table_from,
 use Rattle.sb_pardo.specs.declared.table_file.TheConstants.{MAX_ROWS}
 use Rattle.sb_pardo.specs.declared.table_file.TableFault.{TableFault}
 use Rattle.sb_pardo.specs.declared.table_file.RowFault.{RowFault}
-use Rattle.sb_pardo.specs.declared.table_file.RowFault.TheVariants.{TooMany, Width, Key, Image, Repeated}
+use Rattle.sb_pardo.specs.declared.table_file.RowFault.TheVariants as row_fault
 use Rattle.sb_pardo.specs.Validity.{IsValidChange}
 use Rattle.sb_pardo.specs.Tables.{HasKeyImages}
 use Rattle.sb_aggregate.specs.Aggregates as aggregate
@@ -71,10 +77,10 @@ numbers low high k table n h =
     let p = passed (typed_at as_integer k table) _ n h in
     between low high p.0 n (found _ (number_between low high p.0) n p.2)
 
-pub filter-valid : (table : Members) (t : Kind) → filter_at table ≡ Ok t → IsOfKind kind.Filter t
+pub filter-valid : (keys : Keys) (table : Members) (t : Kind) → filter_at keys table ≡ Ok t → IsOfKind kind.Filter t
 unfolding filter_at
-filter-valid table t h =
-    let field = passed (word_at field_named key.Field table) _ t h in
+filter-valid keys table t h =
+    let field = passed (word_at (field_named keys) key.Field table) _ t h in
     let test = passed (word_at test_named key.Test table) _ t field.2 in
     let number = passed (typed_at as_integer key.Number table) _ t test.2 in
     let same : Do (Filter field.0 test.0 number.0) ≡ t = cc in
@@ -88,10 +94,10 @@ change-valid change_name.ValueAdd z c h = let same : change.ValueAdd z ≡ c = c
 change-valid change_name.ValueMul z c h = let same : change.ValueMul z ≡ c = cc in subst IsValidChange same tt
 change-valid change_name.ValueSet z c h = let same : change.ValueSet z ≡ c = cc in subst IsValidChange same tt
 
-pub map-valid : (table : Members) (t : Kind) → map_at table ≡ Ok t → IsOfKind kind.Map t
+pub map-valid : (keys : Keys) (table : Members) (t : Kind) → map_at keys table ≡ Ok t → IsOfKind kind.Map t
 unfolding map_at
-map-valid table t h =
-    let name = passed (word_at change_named key.Change table) _ t h in
+map-valid keys table t h =
+    let name = passed (word_at (change_named keys) key.Change table) _ t h in
     let number = passed (typed_at as_integer key.Number table) _ t name.2 in
     let by = passed (or_fault (OutOfRange key.Number) (change_by name.0 number.0)) _ t number.2 in
     let same : Do (Map by.0) ≡ t = cc in
@@ -193,66 +199,73 @@ join-valid table t h =
     let same : Join combine.0 (fixed size.0) ≡ t = cc in
     subst (IsOfKind kind.Join) same ((fixed-valid size.0 range.0 range.1, refl), refl)
 
+-- what a field spells is a key
+spelled-key : (keys : Keys) (field : List ℕ) (k : Key) → key_of keys field ≡ Some k → IsKey k
+spelled-key Numbers field k h =
+    map_some (λ n. Number n) (whole_number MAX_KEY field) k h (λ n spelled same. subst IsKey same ((whole_number_exact MAX_KEY field n (omega arith)).0 spelled).0)
+spelled-key Words field k h =
+    let fits = cond_some (is_word field) (Word field) k h in
+    subst IsKey fits.1 fits.0
+
 -- the images of a table are keys
 passed_row : {A B : Type 0} (n : ℕ) (r : Result A RowFault) (f : A → Result B TableFault) (b : B) → at_row n r f ≡ Ok b → (a : A) × (r ≡ Ok a) × (f a ≡ Ok b)
 passed_row n (Ok a) f b h = (a, refl, h)
 passed_row n (Err e) f b h = cc
 
-image-valid : (seen : FinMap nat_cmp ℕ) (row : Fields) (e : ℕ × ℕ) → entry_of seen row ≡ Ok e → e.1 ≤ MAX_KEY
+image-valid : (keys : Keys) (seen : FinMap key_cmp Key) (row : Fields) (e : Key × Key) → entry_of keys seen row ≡ Ok e → IsKey e.1
 unfolding entry_of
-image-valid seen row e h =
-    let columns = passed (or_fault Width (columns_of row)) _ e h in
-    let key = passed (or_fault Key (key_of columns.0.0)) _ e columns.2 in
-    let image = passed (or_fault Image (key_of columns.0.1)) _ e key.2 in
-    let low : image.0 ≤ MAX_KEY = ((whole_number_exact MAX_KEY columns.0.1 image.0 (omega arith)).0 (found _ (key_of columns.0.1) image.0 image.1)).0 in
-    let new = passed_unless (is_some (get seen key.0)) Repeated (Ok (key.0, image.0)) e image.2 in
+image-valid keys seen row e h =
+    let columns = passed (or_fault row_fault.Width (columns_of row)) _ e h in
+    let key = passed (or_fault row_fault.Key (key_of keys columns.0.0)) _ e columns.2 in
+    let image = passed (or_fault row_fault.Image (key_of keys columns.0.1)) _ e key.2 in
+    let new = passed_unless (is_some (get seen key.0)) row_fault.Repeated (Ok (key.0, image.0)) e image.2 in
     let same : (key.0, image.0) ≡ e = let is_ok = new.1 in cc in
-    omega (arith, low, ap (λ p. p.1) same)
+    subst (λ p. IsKey p.1) same (spelled-key keys columns.0.1 image.0 (found _ (key_of keys columns.0.1) image.0 image.1))
 
-table-valid : (n : ℕ) (seen table : FinMap nat_cmp ℕ) (rows : List Fields) → HasKeyImages seen → table_from n seen rows ≡ Ok table → HasKeyImages table
+table-valid : (keys : Keys) (n : ℕ) (seen table : FinMap key_cmp Key) (rows : List Fields) → HasKeyImages seen → table_from keys n seen rows ≡ Ok table → HasKeyImages table
 unfolding table_from
-table-valid n seen table [] images h = let same : seen ≡ table = cc in subst HasKeyImages same images
-table-valid n seen table (row ∷ rows) images h =
-    let first = passed_row n (cond (nat_lt MAX_ROWS n) (Err TooMany) (entry_of seen row)) _ table h in
-    let entry = passed_unless (nat_lt MAX_ROWS n) TooMany (entry_of seen row) first.0 first.1 in
-    table-valid (n + 1) (insert seen first.0.0 first.0.1) table rows (images_with seen first.0.0 first.0.1 images (image-valid seen row first.0 entry.1)) first.2
+table-valid keys n seen table [] images h = let same : seen ≡ table = cc in subst HasKeyImages same images
+table-valid keys n seen table (row ∷ rows) images h =
+    let first = passed_row n (cond (nat_lt MAX_ROWS n) (Err row_fault.TooMany) (entry_of keys seen row)) _ table h in
+    let entry = passed_unless (nat_lt MAX_ROWS n) row_fault.TooMany (entry_of keys seen row) first.0 first.1 in
+    table-valid keys (n + 1) (insert seen first.0.0 first.0.1) table rows (images_with seen first.0.0 first.0.1 images (image-valid keys seen row first.0 entry.1)) first.2
 
-pub lookup-valid : (bytes : List ℕ) (t : Kind) → lookup_in bytes ≡ Ok t → IsOfKind kind.Lookup t
+pub lookup-valid : (keys : Keys) (bytes : List ℕ) (t : Kind) → lookup_in keys bytes ≡ Ok t → IsOfKind kind.Lookup t
 unfolding lookup_in
-lookup-valid bytes t h =
+lookup-valid keys bytes t h =
     let short = passed_unless (nat_lt MAX_TABLE_BYTES (length bytes)) TableTooLong _ t h in
-    let table = passed (in_place_of (λ fault. TableRow fault) (table_of bytes)) _ t short.1 in
+    let table = passed (in_place_of (λ fault. TableRow fault) (table_of keys bytes)) _ t short.1 in
     let same : Do (Lookup table.0) ≡ t = cc in
-    subst (IsOfKind kind.Lookup) same (table-valid 1 empty table.0 (rows_of bytes) no_images (in_place (λ fault. TableRow fault) (table_of bytes) table.0 table.1), refl)
+    subst (IsOfKind kind.Lookup) same (table-valid keys 1 empty table.0 (rows_of bytes) no_images (in_place (λ fault. TableRow fault) (table_of keys bytes) table.0 table.1), refl)
 
-lookup_file-valid : (files : Files) (table : Members) (t : Kind) → lookup_at files table ≡ Ok t → IsOfKind kind.Lookup t
+lookup_file-valid : (files : Files) (keys : Keys) (table : Members) (t : Kind) → lookup_at files keys table ≡ Ok t → IsOfKind kind.Lookup t
 unfolding lookup_at
-lookup_file-valid files table t h =
+lookup_file-valid files keys table t h =
     let name = passed_text (word_at file_name key.Table table) _ t h in
-    let file = is_there (λ bytes. by_text (lookup_in bytes)) (files name.0) t name.2 in
-    lookup-valid file.0 t (of_text (lookup_in file.0) t file.1)
+    let file = is_there (λ bytes. by_text (lookup_in keys bytes)) (files name.0) t name.2 in
+    lookup-valid keys file.0 t (of_text (lookup_in keys file.0) t file.1)
 
 -- the transform of a kind
-pub transform-valid : (files : Files) (name : KindName) (table : Members) (t : Kind) → transform_at files name table ≡ Ok t → IsOfKind name t
+pub transform-valid : (files : Files) (keys : Keys) (name : KindName) (table : Members) (t : Kind) → transform_at files keys name table ≡ Ok t → IsOfKind name t
 unfolding transform_at
-transform-valid files kind.Filter table t h = filter-valid table t (of_text (filter_at table) t h)
-transform-valid files kind.Map table t h = map-valid table t (of_text (map_at table) t h)
-transform-valid files kind.Expand table t h = expand-valid table t (of_text (expand_at table) t h)
-transform-valid files kind.Lookup table t h = lookup_file-valid files table t h
-transform-valid files kind.Count table t h = group-valid Count kind.Count table t tt refl (of_text (group_at Count table) t h)
-transform-valid files kind.Sum table t h = group-valid Sum kind.Sum table t tt refl (of_text (group_at Sum table) t h)
-transform-valid files kind.Min table t h = group-valid Min kind.Min table t tt refl (of_text (group_at Min table) t h)
-transform-valid files kind.Max table t h = group-valid Max kind.Max table t tt refl (of_text (group_at Max table) t h)
-transform-valid files kind.Distinct table t h = group-valid Distinct kind.Distinct table t tt refl (of_text (group_at Distinct table) t h)
-transform-valid files kind.Top table t h = top-valid table t (of_text (top_at table) t h)
-transform-valid files kind.Session table t h = session-valid table t (of_text (session_at table) t h)
-transform-valid files kind.Join table t h = join-valid table t (of_text (join_at table) t h)
+transform-valid files keys kind.Filter table t h = filter-valid keys table t (of_text (filter_at keys table) t h)
+transform-valid files keys kind.Map table t h = map-valid keys table t (of_text (map_at keys table) t h)
+transform-valid files keys kind.Expand table t h = expand-valid table t (of_text (expand_at table) t h)
+transform-valid files keys kind.Lookup table t h = lookup_file-valid files keys table t h
+transform-valid files keys kind.Count table t h = group-valid Count kind.Count table t tt refl (of_text (group_at Count table) t h)
+transform-valid files keys kind.Sum table t h = group-valid Sum kind.Sum table t tt refl (of_text (group_at Sum table) t h)
+transform-valid files keys kind.Min table t h = group-valid Min kind.Min table t tt refl (of_text (group_at Min table) t h)
+transform-valid files keys kind.Max table t h = group-valid Max kind.Max table t tt refl (of_text (group_at Max table) t h)
+transform-valid files keys kind.Distinct table t h = group-valid Distinct kind.Distinct table t tt refl (of_text (group_at Distinct table) t h)
+transform-valid files keys kind.Top table t h = top-valid table t (of_text (top_at table) t h)
+transform-valid files keys kind.Session table t h = session-valid table t (of_text (session_at table) t h)
+transform-valid files keys kind.Join table t h = join-valid table t (of_text (join_at table) t h)
 
 -- the same of answers that may want memory
 pub expanded-valid : (table : Members) (r : Result Kind Stop) → AnswersTests r (by_text (expand_at table)) → IfOk r (IsOfKind kind.Expand)
 expanded-valid table (Ok t) h = expand-valid table t (of_text (expand_at table) t h)
 expanded-valid table (Err s) h = tt
 
-pub looked_up-valid : (bytes : List ℕ) (r : Result Kind Stop) → AnswersTests r (by_text (lookup_in bytes)) → IfOk r (IsOfKind kind.Lookup)
-looked_up-valid bytes (Ok t) h = lookup-valid bytes t (of_text (lookup_in bytes) t h)
-looked_up-valid bytes (Err s) h = tt
+pub looked_up-valid : (keys : Keys) (bytes : List ℕ) (r : Result Kind Stop) → AnswersTests r (by_text (lookup_in keys bytes)) → IfOk r (IsOfKind kind.Lookup)
+looked_up-valid keys bytes (Ok t) h = lookup-valid keys bytes t (of_text (lookup_in keys bytes) t h)
+looked_up-valid keys bytes (Err s) h = tt

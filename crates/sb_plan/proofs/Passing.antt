@@ -5,6 +5,10 @@ use Rattle.std.specs.List.{list_any}
 use Rattle.std.proofs.lemmas.Bool.{ltb-false}
 use Rattle.std.proofs.lemmas.Bool.Decides.{nat_tests}
 use Rattle.toml.specs.Data.{Items, no_items, item, Members, as_array, as_str, as_table}
+use Rattle.sb_record.specs.declared.intake.LatePolicy.{LatePolicy}
+use Rattle.sb_record.specs.declared.intake.LatePolicy.TheVariants.{Refuse}
+use Rattle.sb_record.specs.declared.key.Keys.{Keys}
+use Rattle.sb_record.specs.declared.key.Keys.TheVariants.{Numbers}
 use Rattle.sb_outside.specs.Folders.{Files}
 use Rattle.sb_pardo.specs.TableFiles.{or_fault}
 use Rattle.sb_pipeline.specs.declared.transform.TheConstants.{MAX_TRANSFORMS}
@@ -22,7 +26,8 @@ use Rattle.sb_plan.specs.declared.words.KindName.TheVariants as kind
 use Rattle.sb_plan.specs.declared.TheConstants.{MAX_PLAN_BYTES}
 use Rattle.sb_plan.specs.Failures.{Failure, by_text}
 use Rattle.sb_plan.specs.Failures.Failure.{Fails, NoFile}
-use Rattle.sb_plan.specs.Keys.{typed_at}
+use Rattle.sb_plan.specs.Keys.{typed_at, word_or}
+use Rattle.sb_plan.specs.Words.{keys_named, late_named}
 use Rattle.sb_plan.specs.Kinds.{transform_at}
 use Rattle.sb_plan.specs.Entries.{all_keys, entry_at, is_key_of, kind_at, name_at, right_at}
 use Rattle.sb_plan.specs.Wiring.{connected}
@@ -58,16 +63,16 @@ right-valid kind.Distinct table right h = let same : None ≡ right = cc in ap i
 right-valid kind.Top table right h = let same : None ≡ right = cc in ap is_some (sym same)
 right-valid kind.Session table right h = let same : None ≡ right = cc in ap is_some (sym same)
 
-entry-valid : (files : Files) (parts : List Part) (table : Members) (entry : Entry) → entry_at files parts table ≡ Ok entry → IsValidEntry entry
+entry-valid : (files : Files) (keys : Keys) (parts : List Part) (table : Members) (entry : Entry) → entry_at files keys parts table ≡ Ok entry → IsValidEntry entry
 unfolding entry_at
-entry-valid files parts table entry h =
+entry-valid files keys parts table entry h =
     let name = passed_text (name_at parts table) _ entry h in
     let kind_name = passed_text (kind_at table) _ entry name.2 in
     let known = passed_if (all_keys (is_key_of kind_name.0) table) (Fails cause.UnknownField) _ entry kind_name.2 in
     let left = passed_text (typed_at as_str key.From table) _ entry known.1 in
-    let transform = passed (transform_at files kind_name.0 table) _ entry left.2 in
+    let transform = passed (transform_at files keys kind_name.0 table) _ entry left.2 in
     let right = passed_text (right_at kind_name.0 table) _ entry transform.2 in
-    let of_kind : IsOfKind kind_name.0 transform.0 = transform-valid files kind_name.0 table transform.0 transform.1 in
+    let of_kind : IsOfKind kind_name.0 transform.0 = transform-valid files keys kind_name.0 table transform.0 transform.1 in
     let same : record { name = name.0; kind = transform.0; left = left.0; right = right.0 } ≡ entry = cc in
     subst IsValidEntry same (of_kind.0, right-valid kind_name.0 table right.0 right.1 ∙ sym of_kind.1)
 
@@ -80,13 +85,13 @@ wired_sound files place w u no_items is h =
 wired_sound files place w u (item value rest) is h =
     let more = passed_place place (element_wired files w value) _ u h in
     let table = passed_text (or_fault (cause.WrongType key.Transform) (as_table value)) _ more.0 more.1 in
-    let entry = passed (entry_at files w.parts table.0) _ more.0 table.2 in
-    let one = connected_sound entry.0 w more.0 (of_text (connected entry.0 w) more.0 entry.2) (entry-valid files w.parts table.0 entry.0 entry.1) is in
+    let entry = passed (entry_at files w.keys w.parts table.0) _ more.0 table.2 in
+    let one = connected_sound entry.0 w more.0 (of_text (connected entry.0 w) more.0 entry.2) (entry-valid files w.keys w.parts table.0 entry.0 entry.1) is in
     let all = wired_sound files (place + 1) more.0 u rest one.0 more.2 in
     (all.0, omega (arith, all.1, one.1))
 
-unwired_sound : IsSound unwired
-unwired_sound = record {
+unwired_sound : (late : LatePolicy) (keys : Keys) → IsSound (unwired late keys)
+unwired_sound late keys = record {
   kinds = λ k p at. cc;
   joins = omega arith;
   downs = λ k p d at goes_to. cc;
@@ -97,13 +102,13 @@ unwired_sound = record {
 }
 
 -- the plan of the elements
-elements_plan : (files : Files) (items : Items) (plan : Shape) → transforms_of files items ≡ Ok plan → IsPlan plan
+elements_plan : (files : Files) (late : LatePolicy) (keys : Keys) (items : Items) (plan : Shape) → transforms_of files late keys items ≡ Ok plan → IsPlan plan
 unfolding transforms_of finished
-elements_plan files items plan h =
+elements_plan files late keys items plan h =
     let some = passed_unless (item_count items == 0) (Fails (fault_at 0 (cause.OutOfRange key.Transform))) _ plan h in
     let most = passed_unless (nat_lt MAX_TRANSFORMS (item_count items)) (Fails (fault_at 0 cause.TooMany)) _ plan some.1 in
-    let wired = passed (wired_from files 1 unwired items) _ plan most.1 in
-    let sound = wired_sound files 1 unwired wired.0 items unwired_sound wired.1 in
+    let wired = passed (wired_from files 1 (unwired late keys) items) _ plan most.1 in
+    let sound = wired_sound files 1 (unwired late keys) wired.0 items (unwired_sound late keys) wired.1 in
     let one : 1 ≤ item_count items = let e = some.0 in grind (arith, nat_tests) in
     let twelve : item_count items ≤ MAX_TRANSFORMS = ltb-false MAX_TRANSFORMS (item_count items) most.0 in
     by_used wired.0 sound.0 (omega (arith, sound.1, one)) (omega (arith, sound.1, twelve)) (first_unused wired.0.parts) refl (of_text (finished wired.0) plan wired.2)
@@ -122,5 +127,7 @@ text_plan files text plan h =
     let short = passed_unless (nat_lt MAX_PLAN_BYTES (length text)) (Fails (fault_at 0 cause.TooLong)) _ plan h in
     let document = passed_place 0 (by_text (or_fault cause.NotToml (document_of text))) _ plan short.1 in
     let known = passed_if (all_keys is_document_key document.0) (Fails (fault_at 0 cause.UnknownField)) _ plan document.2 in
-    let items = passed_place 0 (by_text (typed_at as_array key.Transform document.0)) _ plan known.1 in
-    elements_plan files items.0 plan items.2
+    let late = passed_place 0 (by_text (word_or Refuse late_named key.Late document.0)) _ plan known.1 in
+    let keys = passed_place 0 (by_text (word_or Numbers keys_named key.Keys document.0)) _ plan late.2 in
+    let items = passed_place 0 (by_text (typed_at as_array key.Transform document.0)) _ plan keys.2 in
+    elements_plan files late.0 keys.0 items.0 plan items.2

@@ -2,6 +2,7 @@
 use Rattle.std.specs.Prelude.{codes, bytes_eq, ℕ, nat_le, ◌==◌, Bool, true, false, not, ◌&&◌, ◌||◌, if◌then◌else◌, List, [], ◌∷◌, length, Option, Some, None, Result, Ok, Err}
 use Rattle.std.specs.List.{list_all, list_any}
 use Rattle.toml.specs.Data.{Members, no_members, member, as_str}
+use Rattle.sb_record.specs.declared.key.Keys.{Keys}
 use Rattle.sb_outside.specs.Folders.{Files}
 use Rattle.sb_pardo.specs.TableFiles.{then_test, or_fault}
 use Rattle.sb_plan.specs.declared.entry.Entry.{Entry}
@@ -15,7 +16,7 @@ use Rattle.sb_plan.specs.declared.words.KindName.TheVariants as kind
 use Rattle.sb_plan.specs.declared.TheConstants.{MAX_NAME_BYTES}
 use Rattle.sb_plan.specs.Failures.{Failure, by_text}
 use Rattle.sb_plan.specs.Failures.Failure.{Fails}
-use Rattle.sb_plan.specs.Keys.{key_text, typed_at, word_at}
+use Rattle.sb_plan.specs.Keys.{is_one_of, typed_at, word_at}
 use Rattle.sb_plan.specs.Words.{kind_named}
 use Rattle.sb_plan.specs.Kinds.{transform_at}
 
@@ -70,7 +71,7 @@ own_keys kind.Join = key.Size ∷ key.Give ∷ key.With ∷ []
 
 -- whether a table of this kind may have the key
 abbrev pub is_key_of : KindName → List ℕ → Bool
-is_key_of name text = list_any (λ k. bytes_eq text (key_text k)) (key.Name ∷ key.Kind ∷ key.From ∷ []) || list_any (λ k. bytes_eq text (key_text k)) (own_keys name)
+is_key_of name text = is_one_of (key.Name ∷ key.Kind ∷ key.From ∷ []) text || is_one_of (own_keys name) text
 
 -- whether all keys of a table pass
 abbrev pub all_keys : (List ℕ → Bool) → Members → Bool
@@ -82,14 +83,14 @@ unfoldable pub right_at : KindName → Members → Result (Option (List ℕ)) Pl
 right_at kind.Join table = then_test (typed_at as_str key.With table) (λ input. Ok (Some input))
 right_at _ table = Ok None
 
--- all that the table says by itself, if the transforms before it are these
-unfoldable pub entry_at : Files → List Part → Members → Result Entry (Failure PlanCause)
-entry_at files parts table =
+-- all that the table says by itself, if keys and the transforms before it are these
+unfoldable pub entry_at : Files → Keys → List Part → Members → Result Entry (Failure PlanCause)
+entry_at files keys parts table =
     then_test (by_text (name_at parts table)) (λ name.
     then_test (by_text (kind_at table)) (λ kind_name.
     if all_keys (is_key_of kind_name) table
     then then_test (by_text (typed_at as_str key.From table)) (λ left.
-    then_test (transform_at files kind_name table) (λ transform.
+    then_test (transform_at files keys kind_name table) (λ transform.
     then_test (by_text (right_at kind_name table)) (λ right.
     Ok (record { name = name; kind = transform; left = left; right = right }))))
     else Err (Fails UnknownField)))

@@ -2,6 +2,7 @@
 use Rattle.std.specs.Prelude.{nat_lt, nat_le, ◌&&◌, if◌then◌else◌, option_and_then, ℕ, ℤ, ◌∷◌, [], List, length, Option, Some, None, is_some, Result, Ok, Err}
 use Rattle.toml.specs.Data.{Data, Items, no_items, item, Members, get_member, as_array, as_integer}
 use Rattle.sb_outside.specs.Folders.{Files}
+use Rattle.sb_record.specs.declared.key.Keys.{Keys}
 use Rattle.sb_window.specs.declared.windows.TheConstants.{MAX_SIZE}
 use Rattle.sb_window.specs.Spacing.{Spacing, fixed}
 use Rattle.sb_window.specs.Windows.{spacing_of}
@@ -25,17 +26,17 @@ use Rattle.sb_plan.specs.Keys.{key_text, typed_at, word_at, number_at}
 use Rattle.sb_plan.specs.Words.{field_named, test_named, change_named, change_by, give_named, combine_named}
 
 -- a filter: `field`, `test`, `number`
-unfoldable pub filter_at : Members → Result Kind PlanCause
-filter_at table =
-    then_test (word_at field_named key.Field table) (λ field.
+unfoldable pub filter_at : Keys → Members → Result Kind PlanCause
+filter_at keys table =
+    then_test (word_at (field_named keys) key.Field table) (λ field.
     then_test (word_at test_named key.Test table) (λ test.
     then_test (typed_at as_integer key.Number table) (λ number.
     Ok (Do (Filter field test number)))))
 
 -- a map: `change`, `number`
-unfoldable pub map_at : Members → Result Kind PlanCause
-map_at table =
-    then_test (word_at change_named key.Change table) (λ name.
+unfoldable pub map_at : Keys → Members → Result Kind PlanCause
+map_at keys table =
+    then_test (word_at (change_named keys) key.Change table) (λ name.
     then_test (typed_at as_integer key.Number table) (λ number.
     then_test (or_fault (OutOfRange key.Number) (change_by name number)) (λ change.
     Ok (Do (Map change)))))
@@ -57,13 +58,16 @@ as_integers value = option_and_then integers_of (as_array value)
 unfoldable pub expand_at : Members → Result Kind PlanCause
 expand_at table =
     then_test (typed_at as_integers key.Addends table) (λ addends.
-    if nat_le 1 (length addends) && nat_le (length addends) MAX_ADDENDS then Ok (Do (Expand addends)) else Err (OutOfRange key.Addends))
+    if nat_le 1 (length addends) && nat_le (length addends) MAX_ADDENDS
+    then Ok (Do (Expand addends))
+    else Err (OutOfRange key.Addends))
 
 -- the windows of this size at `every`, which may be left out and is then the size
 unfoldable pub windows_every : ℕ → Members → Result Spacing PlanCause
 windows_every size table =
     if is_some (get_member (key_text key.Every) table)
-    then then_test (number_at 1 MAX_SIZE key.Every table) (λ every. in_place_of (λ _. OutOfRange key.Every) (spacing_of size every))
+    then then_test (number_at 1 MAX_SIZE key.Every table) (λ every.
+    in_place_of (λ _. OutOfRange key.Every) (spacing_of size every))
     else Ok (fixed size)
 
 -- windows: `size`, `every`
@@ -101,28 +105,28 @@ file_name [] = None
 file_name (byte ∷ bytes) = Some (byte ∷ bytes)
 
 -- the transform that looks keys up in the table of a text
-unfoldable pub lookup_in : List ℕ → Result Kind PlanCause
-lookup_in bytes =
+unfoldable pub lookup_in : Keys → List ℕ → Result Kind PlanCause
+lookup_in keys bytes =
     if nat_lt MAX_TABLE_BYTES (length bytes) then Err TableTooLong
-    else then_test (in_place_of (λ fault. TableRow fault) (table_of bytes)) (λ table. Ok (Do (Lookup table)))
+    else then_test (in_place_of (λ fault. TableRow fault) (table_of keys bytes)) (λ table. Ok (Do (Lookup table)))
 
 -- a look-up: `table`, a file of the folder
-unfoldable pub lookup_at : Files → Members → Result Kind (Failure PlanCause)
-lookup_at files table =
+unfoldable pub lookup_at : Files → Keys → Members → Result Kind (Failure PlanCause)
+lookup_at files keys table =
     then_test (by_text (word_at file_name key.Table table)) (λ name.
-    in_file (λ bytes. by_text (lookup_in bytes)) (files name))
+    in_file (λ bytes. by_text (lookup_in keys bytes)) (files name))
 
--- the transform of a kind
-unfoldable pub transform_at : Files → KindName → Members → Result Kind (Failure PlanCause)
-transform_at files kind.Filter table = by_text (filter_at table)
-transform_at files kind.Map table = by_text (map_at table)
-transform_at files kind.Expand table = by_text (expand_at table)
-transform_at files kind.Lookup table = lookup_at files table
-transform_at files kind.Count table = by_text (group_at Count table)
-transform_at files kind.Sum table = by_text (group_at Sum table)
-transform_at files kind.Min table = by_text (group_at Min table)
-transform_at files kind.Max table = by_text (group_at Max table)
-transform_at files kind.Distinct table = by_text (group_at Distinct table)
-transform_at files kind.Top table = by_text (top_at table)
-transform_at files kind.Session table = by_text (session_at table)
-transform_at files kind.Join table = by_text (join_at table)
+-- the transform of a kind, where keys are these
+unfoldable pub transform_at : Files → Keys → KindName → Members → Result Kind (Failure PlanCause)
+transform_at files keys kind.Filter table = by_text (filter_at keys table)
+transform_at files keys kind.Map table = by_text (map_at keys table)
+transform_at files keys kind.Expand table = by_text (expand_at table)
+transform_at files keys kind.Lookup table = lookup_at files keys table
+transform_at files keys kind.Count table = by_text (group_at Count table)
+transform_at files keys kind.Sum table = by_text (group_at Sum table)
+transform_at files keys kind.Min table = by_text (group_at Min table)
+transform_at files keys kind.Max table = by_text (group_at Max table)
+transform_at files keys kind.Distinct table = by_text (group_at Distinct table)
+transform_at files keys kind.Top table = by_text (top_at table)
+transform_at files keys kind.Session table = by_text (session_at table)
+transform_at files keys kind.Join table = by_text (join_at table)

@@ -1,9 +1,13 @@
 -- The plan that a text describes, or the first test that it fails, or that a file of it is not there.
-use Rattle.std.specs.Prelude.{◌≡◌, ⊤, bytes_eq, ℕ, ◌+◌, ◌-◌, ◌==◌, nat_lt, take, Bool, if◌then◌else◌, List, [], map, length, Option, Some, None, is_none, unwrap_or, Result, Ok, Err}
+use Rattle.std.specs.Prelude.{◌≡◌, ⊤, ℕ, ◌+◌, ◌-◌, ◌==◌, nat_lt, take, Bool, if◌then◌else◌, List, [], ◌∷◌, map, length, Option, Some, None, is_none, unwrap_or, Result, Ok, Err}
 use Rattle.std.specs.List.{list_any, position}
 use Rattle.std.specs.Str.{is_utf8}
 use Rattle.toml.specs.Data.{Data, Items, no_items, item, Members, as_array, as_table}
 use Rattle.toml.specs.Parse.{parse_document}
+use Rattle.sb_record.specs.declared.intake.LatePolicy.{LatePolicy}
+use Rattle.sb_record.specs.declared.intake.LatePolicy.TheVariants.{Refuse}
+use Rattle.sb_record.specs.declared.key.Keys.{Keys}
+use Rattle.sb_record.specs.declared.key.Keys.TheVariants.{Numbers}
 use Rattle.sb_outside.specs.Folders.{Files}
 use Rattle.sb_pardo.specs.TableFiles.{then_test, or_fault}
 use Rattle.sb_pipeline.specs.declared.transform.Down.{Down}
@@ -22,7 +26,8 @@ use Rattle.sb_plan.specs.declared.wiring.Part.{Part}
 use Rattle.sb_plan.specs.declared.wiring.Wiring.{Wiring}
 use Rattle.sb_plan.specs.Failures.{Failure, by_text}
 use Rattle.sb_plan.specs.Failures.Failure.{Fails, NoFile}
-use Rattle.sb_plan.specs.Keys.{key_text, typed_at}
+use Rattle.sb_plan.specs.Keys.{is_one_of, typed_at, word_or}
+use Rattle.sb_plan.specs.Words.{keys_named, late_named}
 use Rattle.sb_plan.specs.Entries.{all_keys, entry_at}
 use Rattle.sb_plan.specs.Wiring.{connected}
 
@@ -35,7 +40,8 @@ abbrev pub fault_at : ℕ → PlanCause → PlanFault
 fault_at place cause = record { at = place; what = cause }
 
 -- the next tests, if those at this place passed
-abbrev pub at_place : {A B : Type 0} → ℕ → Result A (Failure PlanCause) → (A → Result B (Failure PlanFault)) → Result B (Failure PlanFault)
+abbrev pub at_place : {A B : Type 0}
+    → ℕ → Result A (Failure PlanCause) → (A → Result B (Failure PlanFault)) → Result B (Failure PlanFault)
 at_place place (Ok x) next = next x
 at_place place (Err (Fails cause)) next = Err (Fails (fault_at place cause))
 at_place place (Err NoFile) next = Err NoFile
@@ -44,17 +50,18 @@ at_place place (Err NoFile) next = Err NoFile
 unfoldable pub element_wired : Files → Wiring → Data → Result Wiring (Failure PlanCause)
 element_wired files wiring value =
     then_test (by_text (or_fault (WrongType key.Transform) (as_table value))) (λ table.
-    then_test (entry_at files wiring.parts table) (λ entry.
+    then_test (entry_at files wiring.keys wiring.parts table) (λ entry.
     by_text (connected entry wiring)))
 
 -- the elements from this place on, after the earlier ones
 unfoldable pub wired_from : Files → ℕ → Wiring → Items → Result Wiring (Failure PlanFault)
 wired_from files place wiring no_items = Ok wiring
-wired_from files place wiring (item value rest) = at_place place (element_wired files wiring value) (λ more. wired_from files (place + 1) more rest)
+wired_from files place wiring (item value rest) =
+    at_place place (element_wired files wiring value) (λ more. wired_from files (place + 1) more rest)
 
--- no transforms
-abbrev pub unwired : Wiring
-unwired = record { parts = []; source_a = None; source_b = None }
+-- no transforms yet, in a plan with this policy on late records and with these keys
+abbrev pub unwired : LatePolicy → Keys → Wiring
+unwired late keys = record { parts = []; source_a = None; source_b = None; late = late; keys = keys }
 
 -- the first transform that goes nowhere, of all but the last
 abbrev pub first_unused : List Part → Option ℕ
@@ -71,11 +78,14 @@ shape_of wiring =
       steps = map (step_of (record { node = length wiring.parts; lane = 0 })) wiring.parts;
       source_a = wiring.source_a;
       source_b = wiring.source_b;
+      late = wiring.late;
+      keys = wiring.keys;
     }
 
 -- there is an aggregation or a join
 abbrev pub windowed : Wiring → Result Shape PlanFault
-windowed wiring = if list_any (λ part. has_windows part.kind) wiring.parts then Ok (shape_of wiring) else Err (fault_at 0 NoWindow)
+windowed wiring =
+    if list_any (λ part. has_windows part.kind) wiring.parts then Ok (shape_of wiring) else Err (fault_at 0 NoWindow)
 
 -- each transform but the last goes somewhere, and what is left to test passes
 abbrev pub used_by : Option ℕ → Wiring → Result Shape PlanFault
@@ -92,15 +102,15 @@ item_count no_items = 0
 item_count (item value rest) = item_count rest + 1
 
 -- 1 to 12 elements, and then the tests of each, and of the whole
-unfoldable pub transforms_of : Files → Items → Result Shape (Failure PlanFault)
-transforms_of files items =
+unfoldable pub transforms_of : Files → LatePolicy → Keys → Items → Result Shape (Failure PlanFault)
+transforms_of files late keys items =
     if item_count items == 0 then Err (Fails (fault_at 0 (OutOfRange key.Transform)))
     else if nat_lt MAX_TRANSFORMS (item_count items) then Err (Fails (fault_at 0 TooMany))
-    else then_test (wired_from files 1 unwired items) (λ wiring. by_text (finished wiring))
+    else then_test (wired_from files 1 (unwired late keys) items) (λ wiring. by_text (finished wiring))
 
--- the one key of a document
+-- the keys of a document
 abbrev pub is_document_key : List ℕ → Bool
-is_document_key text = bytes_eq text (key_text key.Transform)
+is_document_key text = is_one_of (key.Transform ∷ key.Late ∷ key.Keys ∷ []) text
 
 -- the plan of a text, for a folder of these files; or the first test that it fails, or that a file is not there
 unfoldable pub plan_of : Files → List ℕ → Result Shape (Failure PlanFault)
@@ -108,7 +118,9 @@ plan_of files text =
     if nat_lt MAX_PLAN_BYTES (length text) then Err (Fails (fault_at 0 TooLong))
     else at_place 0 (by_text (or_fault NotToml (document_of text))) (λ document.
     if all_keys is_document_key document
-    then at_place 0 (by_text (typed_at as_array key.Transform document)) (transforms_of files)
+    then at_place 0 (by_text (word_or Refuse late_named key.Late document)) (λ late.
+    at_place 0 (by_text (word_or Numbers keys_named key.Keys document)) (λ keys.
+    at_place 0 (by_text (typed_at as_array key.Transform document)) (transforms_of files late keys)))
     else Err (Fails (fault_at 0 UnknownField)))
 
 -- the fault is the first one of the text; nothing is said if a load failed or memory ran out

@@ -29,8 +29,10 @@ part_sent k input place (part ∷ parts) =
 -- the input, a stream or a transform, goes to the place
 unfoldable pub input_sent : PlanKey → List ℕ → Down → Wiring → Result Wiring PlanCause
 input_sent k input place wiring =
-    if bytes_eq input (codes "a") then then_test (sent_once k place wiring.source_a) (λ source. Ok (record wiring { source_a = source }))
-    else if bytes_eq input (codes "b") then then_test (sent_once k place wiring.source_b) (λ source. Ok (record wiring { source_b = source }))
+    if bytes_eq input (codes "a")
+    then then_test (sent_once k place wiring.source_a) (λ source. Ok (record wiring { source_a = source }))
+    else if bytes_eq input (codes "b")
+    then then_test (sent_once k place wiring.source_b) (λ source. Ok (record wiring { source_b = source }))
     else then_test (part_sent k input place wiring.parts) (λ parts. Ok (record wiring { parts = parts }))
 
 -- the right input goes to the place, if there is one
@@ -50,7 +52,8 @@ is_second_join transform parts = is_join transform && list_any (λ part. is_join
 
 -- the transform is added, and goes nowhere yet
 abbrev pub with_part : Entry → Wiring → Wiring
-with_part entry wiring = record wiring { parts = wiring.parts ++ record { name = entry.name; kind = entry.kind; down = None } ∷ [] }
+with_part entry wiring =
+    record wiring { parts = wiring.parts ++ record { name = entry.name; kind = entry.kind; down = None } ∷ [] }
 
 -- one transform more, with its inputs: there is no second join, and each input is there and goes nowhere else
 unfoldable pub connected : Entry → Wiring → Result Wiring PlanCause

@@ -1,7 +1,11 @@
 -- The words of plan files, and what they stand for.
-use Rattle.std.specs.Prelude.{codes, bytes_eq, ℕ, ℤ, if◌then◌else◌, List, Option, Some, None}
+use Rattle.std.specs.Prelude.{codes, bytes_eq, ℕ, ℤ, Bool, true, false, ◌&&◌, if◌then◌else◌, List, Option, Some, None}
 use Rattle.std.specs.Option.{option_map}
-use Rattle.sb_record.specs.declared.item.TheConstants.{MAX_KEY}
+use Rattle.sb_record.specs.declared.key.TheConstants.{MAX_KEY}
+use Rattle.sb_record.specs.declared.key.Keys.{Keys}
+use Rattle.sb_record.specs.declared.key.Keys.TheVariants.{Numbers, Words}
+use Rattle.sb_record.specs.declared.intake.LatePolicy.{LatePolicy}
+use Rattle.sb_record.specs.declared.intake.LatePolicy.TheVariants as late
 use Rattle.sb_pardo.specs.declared.operation.Field.{Field}
 use Rattle.sb_pardo.specs.declared.operation.Field.TheVariants as field
 use Rattle.sb_pardo.specs.declared.operation.Test.{Test}
@@ -17,6 +21,25 @@ use Rattle.sb_plan.specs.declared.words.KindName.TheVariants as kind
 use Rattle.sb_plan.specs.declared.words.ChangeName.{ChangeName}
 use Rattle.sb_plan.specs.declared.words.ChangeName.TheVariants as change_name
 use Rattle.sb_plan.specs.Keys.{number_between}
+
+-- what becomes of late records
+unfoldable pub late_named : List ℕ → Option LatePolicy
+late_named text =
+    if bytes_eq text (codes "refuse") then Some late.Refuse
+    else if bytes_eq text (codes "drop") then Some late.Drop
+    else None
+
+-- what keys are
+unfoldable pub keys_named : List ℕ → Option Keys
+keys_named text =
+    if bytes_eq text (codes "numbers") then Some Numbers
+    else if bytes_eq text (codes "words") then Some Words
+    else None
+
+-- whether keys are numbers
+abbrev pub are_numbers : Keys → Bool
+are_numbers Numbers = true
+are_numbers Words = false
 
 -- the kinds of transforms
 unfoldable pub kind_named : List ℕ → Option KindName
@@ -35,11 +58,11 @@ kind_named text =
     else if bytes_eq text (codes "join") then Some kind.Join
     else None
 
--- the fields of a record
-unfoldable pub field_named : List ℕ → Option Field
-field_named text =
+-- the fields of a record that a filter tests: the key only if it is a number
+unfoldable pub field_named : Keys → List ℕ → Option Field
+field_named keys text =
     if bytes_eq text (codes "time") then Some field.Time
-    else if bytes_eq text (codes "key") then Some field.Key
+    else if bytes_eq text (codes "key") && are_numbers keys then Some field.Key
     else if bytes_eq text (codes "value") then Some field.Value
     else None
 
@@ -53,12 +76,12 @@ test_named text =
     else if bytes_eq text (codes "more") then Some test.More
     else None
 
--- the changes of a field, without their number
-unfoldable pub change_named : List ℕ → Option ChangeName
-change_named text =
-    if bytes_eq text (codes "key_mod") then Some change_name.KeyMod
-    else if bytes_eq text (codes "key_div") then Some change_name.KeyDiv
-    else if bytes_eq text (codes "key_set") then Some change_name.KeySet
+-- the changes of a field, without their number: of the key only if it is a number
+unfoldable pub change_named : Keys → List ℕ → Option ChangeName
+change_named keys text =
+    if bytes_eq text (codes "key_mod") && are_numbers keys then Some change_name.KeyMod
+    else if bytes_eq text (codes "key_div") && are_numbers keys then Some change_name.KeyDiv
+    else if bytes_eq text (codes "key_set") && are_numbers keys then Some change_name.KeySet
     else if bytes_eq text (codes "value_add") then Some change_name.ValueAdd
     else if bytes_eq text (codes "value_mul") then Some change_name.ValueMul
     else if bytes_eq text (codes "value_set") then Some change_name.ValueSet

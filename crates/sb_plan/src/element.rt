@@ -65,7 +65,7 @@ fn wire_element<F: Folder>(
     let Some(table) = value.as_table() else {
         return Err(Stop::Cause(PlanCause::WrongType(PlanKey::Transform)));
     };
-    match entry_at(alloc, table, wiring.parts.as_slice(), folder) {
+    match entry_at(alloc, wiring.keys, table, wiring.parts.as_slice(), folder) {
         Ok(entry) => connect(entry, wiring),
         Err(stop) => Err(stop),
     }

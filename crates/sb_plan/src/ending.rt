@@ -38,10 +38,11 @@ pub(crate) fn finish(alloc: Global, wiring: Wiring) -> Result<Plan, PlanStop>
         node: parts.len() as u32,
         lane: 0,
     };
-    match steps_of(alloc, sink, wiring.parts.into_vec()) {
-        Ok(steps) => Ok(Plan::new(steps, wiring.source_a, wiring.source_b).unwrap()),
-        Err(NoMemory) => Err(PlanStop::Memory),
-    }
+    let Ok(steps) = steps_of(alloc, sink, wiring.parts.into_vec()) else {
+        return Err(PlanStop::Memory);
+    };
+    let plan = Plan::new(steps, wiring.source_a, wiring.source_b).unwrap();
+    Ok(plan.with_late(wiring.late).with_keys(wiring.keys))
 }
 
 /// The first transform that goes nowhere, of all but the last.

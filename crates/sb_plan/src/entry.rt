@@ -1,18 +1,17 @@
 //! One table of a plan file.
 
-ghost use Rattle.std.specs.Prelude.{◌≡◌, ◌≢◌, Some, IfOk, is_some, string_bytes, bytes_eq};
-ghost use Rattle.std.specs.List.{list_all, list_any};
+ghost use Rattle.std.specs.Prelude.{◌≡◌, ◌≢◌, Some, IfOk, is_some, string_bytes};
+ghost use Rattle.std.specs.List.{list_all};
 ghost use Rattle.std.specs.BTreeMap.{keys};
 ghost use Rattle.toml.specs.View.{table_view};
 ghost use Rattle.sb_outside.specs.Folders.{Files};
 ghost use Rattle.sb_plan.specs.Answers.{AnswersTests, BlamesInTests, IsWantedIn};
 ghost use Rattle.sb_plan.specs.Failures.{by_text};
-ghost use Rattle.sb_plan.specs.Keys.{key_text};
 ghost use Rattle.sb_plan.specs.Entries as entries;
 ghost use Rattle.sb_plan.specs.Soundness.{IsValidEntry, names_join};
 
 use crate::fault::{PlanCause, PlanKey};
-use crate::keys::text_at;
+use crate::keys::{is_one_of, text_at};
 use crate::kinds::transform_at;
 use crate::name::{Name, name_at};
 use crate::stop::Stop;
@@ -20,7 +19,7 @@ use crate::wiring::Part;
 use crate::words::{KindName, kind_named};
 use sb_outside::Folder;
 use sb_pipeline::Kind;
-use sb_record::NoMemory;
+use sb_record::{Keys, NoMemory};
 use std::alloc::Global;
 use toml::Table;
 
@@ -34,20 +33,21 @@ pub(crate) struct Entry {
     pub right: Option<Name>,
 }
 
-/// The entry of a table, if the transforms before it are these.
+/// The entry of a table, if keys and the transforms before it are these.
 #[tactic(auto, unfolding(crate::specs::Entries::entry_at))]
 pub(crate) fn entry_at<F: Folder>(
     alloc: Global,
+    keys: Keys,
     table: &Table,
     parts: &[Part],
     folder: &mut F,
 ) -> Result<Entry, Stop>
     ensures exact { (files : Files) → F.files folder.old ≡ Some files
-        → AnswersTests result (entries.entry_at files parts.now (table_view table.now)) }
+        → AnswersTests result (entries.entry_at files keys parts.now (table_view table.now)) }
     ensures valid { IfOk result IsValidEntry }
     ensures same { F.files folder.new ≡ F.files folder.old }
     ensures blames { BlamesInTests
-        (IsWantedIn (F.files folder.old) (λ files. entries.entry_at files parts.now (table_view table.now)))
+        (IsWantedIn (F.files folder.old) (λ files. entries.entry_at files keys parts.now (table_view table.now)))
         (F.failed folder.old) (F.failed folder.new) result }
 {
     let name = name_at(table, parts)?;
@@ -56,7 +56,7 @@ pub(crate) fn entry_at<F: Folder>(
         return Err(Stop::Cause(PlanCause::UnknownField));
     }
     let left = text_at(table, PlanKey::From)?;
-    let kind = transform_at(alloc, kind_name, table, folder)?;
+    let kind = transform_at(alloc, keys, kind_name, table, folder)?;
     let right = match right_at(alloc, table, kind_name) {
         Ok(right) => right,
         Err(stop) => return Err(stop),
@@ -113,12 +113,6 @@ fn is_key_of(kind: KindName, text: &str) -> bool
 {
     is_one_of(text, &[PlanKey::Name, PlanKey::Kind, PlanKey::From])
         || is_one_of(text, own_keys(kind))
-}
-
-fn is_one_of(text: &str, keys: &[PlanKey]) -> bool
-    ensures { result ≡ list_any (λ k. bytes_eq text.now (key_text k)) keys.now }
-{
-    keys.iter().any(|key| text == key.text())
 }
 
 /// The keys of a kind.

@@ -9,6 +9,8 @@ use sb_pardo::TableFault;
 #[derive(Clone, Copy, Debug, PartialEq, Eq, Drop)]
 pub enum PlanKey {
     Transform,
+    Late,
+    Keys,
     Name,
     Kind,
     From,
@@ -34,6 +36,8 @@ impl PlanKey {
     {
         match self {
             PlanKey::Transform => "transform",
+            PlanKey::Late => "late",
+            PlanKey::Keys => "keys",
             PlanKey::Name => "name",
             PlanKey::Kind => "kind",
             PlanKey::From => "from",

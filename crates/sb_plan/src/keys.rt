@@ -4,11 +4,18 @@ ghost use Rattle.std.specs.Prelude.{◌≡◌, ◌≤◌, IfOk, MatchResult, Ok,
 ghost use Rattle.std.specs.Option.{option_map};
 ghost use Rattle.toml.specs.Data.{as_array, as_integer, as_str, get_member};
 ghost use Rattle.toml.specs.View.{array_view, table_view, view};
-ghost use Rattle.sb_plan.specs.Keys.{key_text, number_at, number_between, typed_at};
+ghost use Rattle.sb_plan.specs.Keys.{is_one_of, key_text, number_at, number_between, typed_at};
 
 use crate::fault::{PlanCause, PlanKey};
 use toml::value::Array;
 use toml::{Table, Value};
+
+/// Whether the text is one of these keys.
+pub(crate) fn is_one_of(text: &str, keys: &[PlanKey]) -> bool
+    ensures { result ≡ is_one_of keys.now text.now }
+{
+    keys.iter().any(|key| text == key.text())
+}
 
 /// The value at a key, if the table has it.
 pub(crate) fn value_at<'a>(table: &'a Table, key: PlanKey) -> Option<&'a Value>

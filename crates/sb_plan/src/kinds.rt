@@ -23,15 +23,16 @@ use sb_join::Combine;
 use sb_outside::Folder;
 use sb_pardo::{Field, Op, Test};
 use sb_pipeline::{Kind, MAX_GAP};
+use sb_record::Keys;
 use sb_window::{MAX_SIZE, Windows};
 use std::alloc::Global;
 use toml::Table;
 
 #[tactic(auto, unfolding(crate::specs::Keys::word_at))]
-fn field_at(table: &Table) -> Result<Field, PlanCause>
-    ensures { result ≡ word_at word.field_named PlanKey.Field (table_view table.now) }
+fn field_at(keys: Keys, table: &Table) -> Result<Field, PlanCause>
+    ensures { result ≡ word_at (word.field_named keys) PlanKey.Field (table_view table.now) }
 {
-    field_named(text_at(table, PlanKey::Field)?).ok_or(PlanCause::OutOfRange(PlanKey::Field))
+    field_named(keys, text_at(table, PlanKey::Field)?).ok_or(PlanCause::OutOfRange(PlanKey::Field))
 }
 
 #[tactic(auto, unfolding(crate::specs::Keys::word_at))]
@@ -42,10 +43,12 @@ fn test_at(table: &Table) -> Result<Test, PlanCause>
 }
 
 #[tactic(auto, unfolding(crate::specs::Keys::word_at))]
-fn change_at(table: &Table) -> Result<ChangeName, PlanCause>
-    ensures { result ≡ word_at word.change_named PlanKey.Change (table_view table.now) }
+fn change_at(keys: Keys, table: &Table) -> Result<ChangeName, PlanCause>
+    ensures { result ≡ word_at (word.change_named keys) PlanKey.Change (table_view table.now) }
 {
-    change_named(text_at(table, PlanKey::Change)?).ok_or(PlanCause::OutOfRange(PlanKey::Change))
+    change_named(keys, text_at(table, PlanKey::Change)?).ok_or(PlanCause::OutOfRange(
+        PlanKey::Change,
+    ))
 }
 
 #[tactic(auto, unfolding(crate::specs::Keys::word_at))]
@@ -56,20 +59,20 @@ fn combine_at(table: &Table) -> Result<Combine, PlanCause>
 }
 
 #[tactic(auto, unfolding(crate::specs::Kinds::filter_at))]
-fn filter_at(table: &Table) -> Result<Kind, PlanCause>
-    ensures { result ≡ kinds.filter_at (table_view table.now) }
+fn filter_at(keys: Keys, table: &Table) -> Result<Kind, PlanCause>
+    ensures { result ≡ kinds.filter_at keys (table_view table.now) }
 {
-    let field = field_at(table)?;
+    let field = field_at(keys, table)?;
     let test = test_at(table)?;
     let number = integer_at(table, PlanKey::Number)?;
     Ok(Kind::Do(Op::Filter(field, test, number)))
 }
 
 #[tactic(auto, unfolding(crate::specs::Kinds::map_at))]
-fn map_at(table: &Table) -> Result<Kind, PlanCause>
-    ensures { result ≡ kinds.map_at (table_view table.now) }
+fn map_at(keys: Keys, table: &Table) -> Result<Kind, PlanCause>
+    ensures { result ≡ kinds.map_at keys (table_view table.now) }
 {
-    let name = change_at(table)?;
+    let name = change_at(keys, table)?;
     let number = integer_at(table, PlanKey::Number)?;
     match change_by(name, number) {
         Some(change) => Ok(Kind::Do(Op::Map(change))),
@@ -144,27 +147,28 @@ fn join_at(table: &Table) -> Result<Kind, PlanCause>
     Ok(Kind::Join(combine, Windows::new(size, size).unwrap()))
 }
 
-/// The transform of a kind.
+/// The transform of a kind, where keys are these.
 #[tactic(auto, unfolding(crate::specs::Kinds::transform_at))]
 pub(crate) fn transform_at<F: Folder>(
     alloc: Global,
+    keys: Keys,
     kind: KindName,
     table: &Table,
     folder: &mut F,
 ) -> Result<Kind, Stop>
     ensures exact { (files : Files) → F.files folder.old ≡ Some files
-        → AnswersTests result (kinds.transform_at files kind (table_view table.now)) }
+        → AnswersTests result (kinds.transform_at files keys kind (table_view table.now)) }
     ensures valid { IfOk result (IsOfKind kind) }
     ensures same { F.files folder.new ≡ F.files folder.old }
     ensures blames { BlamesInTests
-        (IsWantedIn (F.files folder.old) (λ files. kinds.transform_at files kind (table_view table.now)))
+        (IsWantedIn (F.files folder.old) (λ files. kinds.transform_at files keys kind (table_view table.now)))
         (F.failed folder.old) (F.failed folder.new) result }
 {
     match kind {
-        KindName::Filter => Ok(filter_at(table)?),
-        KindName::Map => Ok(map_at(table)?),
+        KindName::Filter => Ok(filter_at(keys, table)?),
+        KindName::Map => Ok(map_at(keys, table)?),
         KindName::Expand => expand_at(alloc, table),
-        KindName::Lookup => lookup_at(alloc, table, folder),
+        KindName::Lookup => lookup_at(alloc, keys, table, folder),
         KindName::Count => Ok(group_at(table, Agg::Count)?),
         KindName::Sum => Ok(group_at(table, Agg::Sum)?),
         KindName::Min => Ok(group_at(table, Agg::Min)?),

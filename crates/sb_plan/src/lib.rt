@@ -1,8 +1,10 @@
 //! Plan files: the plan that a text describes, or the first test that it fails.
 //!
-//! A plan file is a TOML document whose one key, `transform`, is an array of 1 to 12 tables, one for each transform in its
-//! order. [`plan_of`] reads it and answers the first test that fails: those of the document, then those of each table in
-//! its order, then those of the whole. The tests, in this order, are the definitions in specs/.
+//! A plan file is a TOML document. Its `transform` is an array of 1 to 12 tables, one for each transform in its order.
+//! Its `late` and `keys`, which may be left out, say what becomes of late records and what keys are.
+//!
+//! [`plan_of`] reads it and answers the first test that fails: those of the document, then those of each table in its
+//! order, then those of the whole. The tests, in this order, are the definitions in specs/.
 #![tactic(auto)]
 
 mod addends;
@@ -17,6 +19,9 @@ mod name;
 mod plan_text;
 #[cfg(test)]
 mod session_tests;
+mod settings;
+#[cfg(test)]
+mod settings_tests;
 mod stop;
 mod table;
 #[cfg(test)]

@@ -1,6 +1,6 @@
 //! The text of a plan file.
 
-ghost use Rattle.std.specs.Prelude.{◌≡◌, ◌≤◌, ℕ, [], length, bytes_eq, string_bytes, Some, None, Err, IfOk};
+ghost use Rattle.std.specs.Prelude.{◌≡◌, ◌≤◌, ℕ, [], length, string_bytes, Some, None, Err, IfOk};
 ghost use Rattle.std.specs.List.{list_all};
 ghost use Rattle.std.specs.BTreeMap.{keys};
 ghost use Rattle.toml.specs.View.{array_view, table_view};
@@ -16,11 +16,12 @@ use crate::MAX_PLAN_BYTES;
 use crate::element::take_element;
 use crate::ending::finish;
 use crate::fault::{PlanCause, PlanFault, PlanKey, PlanStop};
-use crate::keys::array_at;
+use crate::keys::{array_at, is_one_of};
+use crate::settings::{keys_at, late_at};
 use crate::wiring::Wiring;
 use sb_outside::Folder;
 use sb_pipeline::{MAX_TRANSFORMS, Plan};
-use sb_record::Sequence;
+use sb_record::{Keys, LatePolicy, Sequence};
 use std::alloc::Global;
 use toml::Table;
 use toml::value::Array;
@@ -55,10 +56,10 @@ pub fn plan_of<F: Folder>(alloc: Global, text: &[u8], folder: &mut F) -> Result<
     if !has_document_keys(&document) {
         return Err(at_document(PlanCause::UnknownField));
     }
-    match array_at(&document, PlanKey::Transform) {
-        Ok(elements) => transforms_of(alloc, elements, folder),
-        Err(cause) => Err(at_document(cause)),
-    }
+    let late = late_at(&document).map_err(at_document)?;
+    let keys = keys_at(&document).map_err(at_document)?;
+    let elements = array_at(&document, PlanKey::Transform).map_err(at_document)?;
+    transforms_of(alloc, late, keys, elements, folder)
 }
 
 fn at_document(what: PlanCause) -> PlanStop
@@ -91,7 +92,7 @@ fn document_of(alloc: Global, text: &[u8]) -> Result<Table, DocumentStop>
     }
 }
 
-/// Whether a document has no other key than that of the transforms.
+/// Whether a document has no other keys than those of documents.
 fn has_document_keys(document: &Table) -> bool
     ensures { result ≡ all_keys spec.is_document_key (table_view document.now) }
 {
@@ -101,23 +102,29 @@ fn has_document_keys(document: &Table) -> bool
 fn are_document_keys(document: &Table) -> bool
     ensures { result ≡ list_all (λ k. spec.is_document_key (string_bytes k)) (keys document.now) }
 {
-    document
-        .keys()
-        .all(|key| key.as_str() == PlanKey::Transform.text())
+    document.keys().all(|key| is_document_key(key.as_str()))
+}
+
+fn is_document_key(text: &str) -> bool
+    ensures { result ≡ spec.is_document_key text.now }
+{
+    is_one_of(text, &[PlanKey::Transform, PlanKey::Late, PlanKey::Keys])
 }
 
 /// The plan of the elements of the array of transforms.
 #[tactic(auto, unfolding(crate::specs::PlanFiles::transforms_of), using(crate::proofs::Elements::item_count_view))]
 fn transforms_of<F: Folder>(
     alloc: Global,
+    late: LatePolicy,
+    keys: Keys,
     elements: &Array,
     folder: &mut F,
 ) -> Result<Plan, PlanStop>
     ensures exact { (files : Files) → F.files folder.old ≡ Some files
-        → AnswersPlan result (spec.transforms_of files (array_view elements.now)) }
+        → AnswersPlan result (spec.transforms_of files late keys (array_view elements.now)) }
     ensures same { F.files folder.new ≡ F.files folder.old }
     ensures cause { BlamesLoad
-        (IsWantedIn (F.files folder.old) (λ files. spec.transforms_of files (array_view elements.now)))
+        (IsWantedIn (F.files folder.old) (λ files. spec.transforms_of files late keys (array_view elements.now)))
         (F.failed folder.old) (F.failed folder.new) result }
 {
     if elements.is_empty() {
@@ -126,7 +133,7 @@ fn transforms_of<F: Folder>(
     if elements.len() > MAX_TRANSFORMS {
         return Err(at_document(PlanCause::TooMany));
     }
-    match wire_elements(alloc, elements, folder) {
+    match wire_elements(alloc, late, keys, elements, folder) {
         Ok(wiring) => finish(alloc, wiring),
         Err(stop) => Err(stop),
     }
@@ -135,22 +142,27 @@ fn transforms_of<F: Folder>(
 /// The wiring of the elements.
 fn wire_elements<F: Folder>(
     alloc: Global,
+    late: LatePolicy,
+    keys: Keys,
     elements: &Array,
     folder: &mut F,
 ) -> Result<Wiring, PlanStop>
     requires { length elements.now.items ≤ MAX_TRANSFORMS }
     ensures exact { (files : Files) → F.files folder.old ≡ Some files
-        → AnswersPlan result (spec.wired_from files 1 spec.unwired (array_view elements.now)) }
+        → AnswersPlan result (spec.wired_from files 1 (spec.unwired late keys) (array_view elements.now)) }
     ensures sound { IfOk result (λ wiring. IsSound wiring × (length wiring.parts ≡ length elements.now.items)) }
     ensures same { F.files folder.new ≡ F.files folder.old }
     ensures cause { BlamesLoad
-        (IsWantedIn (F.files folder.old) (λ files. spec.wired_from files 1 spec.unwired (array_view elements.now)))
+        (IsWantedIn (F.files folder.old)
+        (λ files. spec.wired_from files 1 (spec.unwired late keys) (array_view elements.now)))
         (F.failed folder.old) (F.failed folder.new) result }
 {
     let mut wiring = Wiring {
         parts: Sequence::new(Vec::new(alloc)),
         source_a: None,
         source_b: None,
+        late,
+        keys,
     };
     let mut place = 0u32;
     for value in elements {

@@ -16,22 +16,24 @@ use crate::words::KindName;
 use sb_outside::{Folder, FolderFault};
 use sb_pardo::{Op, Table as Images, TableStop};
 use sb_pipeline::Kind;
+use sb_record::Keys;
 use std::alloc::Global;
 use toml::Table;
 
-/// The look-up of a table's `table`, which names a file of the folder.
+/// The look-up of a table's `table`, which names a file of the folder, where keys are these.
 #[tactic(auto, unfolding(crate::specs::Kinds::lookup_at, crate::specs::Keys::word_at))]
 pub(crate) fn lookup_at<F: Folder>(
     alloc: Global,
+    keys: Keys,
     table: &Table,
     folder: &mut F,
 ) -> Result<Kind, Stop>
     ensures exact { (files : Files) → F.files folder.old ≡ Some files
-        → AnswersTests result (kinds.lookup_at files (table_view table.now)) }
+        → AnswersTests result (kinds.lookup_at files keys (table_view table.now)) }
     ensures valid { IfOk result (IsOfKind KindName.Lookup) }
     ensures same { F.files folder.new ≡ F.files folder.old }
     ensures blames { BlamesInTests
-        (IsWantedIn (F.files folder.old) (λ files. kinds.lookup_at files (table_view table.now)))
+        (IsWantedIn (F.files folder.old) (λ files. kinds.lookup_at files keys (table_view table.now)))
         (F.failed folder.old) (F.failed folder.new) result }
 {
     let name = text_at(table, PlanKey::Table)?;
@@ -39,7 +41,7 @@ pub(crate) fn lookup_at<F: Folder>(
         return Err(Stop::Cause(PlanCause::OutOfRange(PlanKey::Table)));
     }
     let bytes = load(alloc, name, folder)?;
-    lookup_in(alloc, &bytes)
+    lookup_in(alloc, keys, &bytes)
 }
 
 /// The bytes of the named file, or so many that it is seen to be too long.
@@ -62,14 +64,14 @@ fn load<F: Folder>(alloc: Global, name: &str, folder: &mut F) -> Result<Vec<u8>,
 
 /// The look-up in the table of a text.
 #[tactic(auto, unfolding(crate::specs::Kinds::lookup_in))]
-fn lookup_in(alloc: Global, bytes: &[u8]) -> Result<Kind, Stop>
-    ensures exact { AnswersTests result (by_text (kinds.lookup_in bytes.now)) }
+fn lookup_in(alloc: Global, keys: Keys, bytes: &[u8]) -> Result<Kind, Stop>
+    ensures exact { AnswersTests result (by_text (kinds.lookup_in keys bytes.now)) }
     ensures cause { result ≢ Err Stop.Folder }
 {
     if bytes.len() > MAX_TABLE_BYTES {
         return Err(Stop::Cause(PlanCause::TableTooLong));
     }
-    match Images::read(alloc, bytes) {
+    match Images::read(alloc, bytes, keys) {
         Ok(images) => Ok(Kind::Do(Op::Lookup(images))),
         Err(TableStop::Fault(fault)) => Err(Stop::Cause(PlanCause::TableRow(fault))),
         Err(TableStop::Memory) => Err(Stop::Memory),

@@ -6,7 +6,7 @@ use sb_join::Combine;
 use sb_outside::MemFolder;
 use sb_pardo::{Change, Field, Op, RowFault, TableFault, Test};
 use sb_pipeline::{Down, Kind, Plan};
-use sb_record::Stream;
+use sb_record::{Key, Stream};
 use sb_window::Windows;
 use std::alloc::{AllocError, Global};
 use std::collections::BTreeMap;
@@ -689,7 +689,7 @@ fn kinds_and_their_keys(rt: HostRuntime) -> Result<(), AllocError> {
     let Kind::Do(Op::Lookup(images)) = plan.kind(3) else {
         panic!(rt; "no look-up");
     };
-    assert_eq!(rt; images.image(103), Some(9));
+    assert_eq!(rt; images.image(&Key::Number(103)), Some(Key::Number(9)));
     let Kind::Group(top, sliding) = plan.kind(4) else {
         panic!(rt; "no top");
     };

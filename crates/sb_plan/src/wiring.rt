@@ -13,7 +13,7 @@ use crate::fault::{PlanCause, PlanKey};
 use crate::name::Name;
 use crate::stop::Stop;
 use sb_pipeline::{Down, Kind, MAX_TRANSFORMS};
-use sb_record::Sequence;
+use sb_record::{Keys, LatePolicy, Sequence};
 
 /// A transform of the file, and where what it gives goes, once a later transform takes it.
 #[derive(Drop)]
@@ -23,12 +23,14 @@ pub(crate) struct Part {
     pub down: Option<Down>,
 }
 
-/// The transforms so far, and where the streams go.
+/// The plan so far: its transforms, where the streams go, and what the document says of late records and of keys.
 #[derive(Drop)]
 pub(crate) struct Wiring {
     pub parts: Sequence<Part>,
     pub source_a: Option<Down>,
     pub source_b: Option<Down>,
+    pub late: LatePolicy,
+    pub keys: Keys,
 }
 
 /// Connects one transform more with its inputs.

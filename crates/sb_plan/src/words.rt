@@ -7,7 +7,7 @@ use crate::keys::number_between;
 use sb_aggregate::Agg;
 use sb_join::Combine;
 use sb_pardo::{Change, Field, Test};
-use sb_record::MAX_KEY;
+use sb_record::{Keys, LatePolicy, MAX_KEY};
 
 /// A kind of transform, without what its keys say.
 #[derive(Clone, Copy, Debug, PartialEq, Eq)]
@@ -37,6 +37,37 @@ pub(crate) enum ChangeName {
     ValueSet,
 }
 
+#[tactic(auto, unfolding(crate::specs::Words::late_named))]
+pub(crate) fn late_named(text: &str) -> Option<LatePolicy>
+    ensures { result ≡ word.late_named text.now }
+{
+    match text {
+        "refuse" => Some(LatePolicy::Refuse),
+        "drop" => Some(LatePolicy::Drop),
+        _ => None,
+    }
+}
+
+#[tactic(auto, unfolding(crate::specs::Words::keys_named))]
+pub(crate) fn keys_named(text: &str) -> Option<Keys>
+    ensures { result ≡ word.keys_named text.now }
+{
+    match text {
+        "numbers" => Some(Keys::Numbers),
+        "words" => Some(Keys::Words),
+        _ => None,
+    }
+}
+
+fn are_numbers(keys: Keys) -> bool
+    ensures { result ≡ word.are_numbers keys }
+{
+    match keys {
+        Keys::Numbers => true,
+        Keys::Words => false,
+    }
+}
+
 #[tactic(auto, unfolding(crate::specs::Words::kind_named))]
 pub(crate) fn kind_named(text: &str) -> Option<KindName>
     ensures { result ≡ word.kind_named text.now }
@@ -59,12 +90,12 @@ pub(crate) fn kind_named(text: &str) -> Option<KindName>
 }
 
 #[tactic(auto, unfolding(crate::specs::Words::field_named))]
-pub(crate) fn field_named(text: &str) -> Option<Field>
-    ensures { result ≡ word.field_named text.now }
+pub(crate) fn field_named(keys: Keys, text: &str) -> Option<Field>
+    ensures { result ≡ word.field_named keys text.now }
 {
     match text {
         "time" => Some(Field::Time),
-        "key" => Some(Field::Key),
+        "key" if are_numbers(keys) => Some(Field::Key),
         "value" => Some(Field::Value),
         _ => None,
     }
@@ -85,13 +116,13 @@ pub(crate) fn test_named(text: &str) -> Option<Test>
 }
 
 #[tactic(auto, unfolding(crate::specs::Words::change_named))]
-pub(crate) fn change_named(text: &str) -> Option<ChangeName>
-    ensures { result ≡ word.change_named text.now }
+pub(crate) fn change_named(keys: Keys, text: &str) -> Option<ChangeName>
+    ensures { result ≡ word.change_named keys text.now }
 {
     match text {
-        "key_mod" => Some(ChangeName::KeyMod),
-        "key_div" => Some(ChangeName::KeyDiv),
-        "key_set" => Some(ChangeName::KeySet),
+        "key_mod" if are_numbers(keys) => Some(ChangeName::KeyMod),
+        "key_div" if are_numbers(keys) => Some(ChangeName::KeyDiv),
+        "key_set" if are_numbers(keys) => Some(ChangeName::KeySet),
         "value_add" => Some(ChangeName::ValueAdd),
         "value_mul" => Some(ChangeName::ValueMul),
         "value_set" => Some(ChangeName::ValueSet),

@@ -10,10 +10,10 @@ pub returns-in-Expand-clause-valid : goal.returns-in-Expand-clause-valid
 returns-in-Expand-clause-valid g c = subst (λ name. IfOk c.expand_at.result (IsOfKind name)) (sym c.in-Expand.is) (expanded-valid (table_view c.args.table.now) c.expand_at.result c.expand_at.ensures.exact)
 
 pub returns-in_ok-filter_at-in-Filter-clause-valid : goal.returns-in_ok-filter_at-in-Filter-clause-valid
-returns-in_ok-filter_at-in-Filter-clause-valid g c = subst (λ name. IsOfKind name c.in_ok-filter_at-in-Filter.field-0) (sym c.in-Filter.is) (filter-valid (table_view c.args.table.now) c.in_ok-filter_at-in-Filter.field-0 (sym c.in_ok-filter_at-in-Filter.ensures))
+returns-in_ok-filter_at-in-Filter-clause-valid g c = subst (λ name. IsOfKind name c.in_ok-filter_at-in-Filter.field-0) (sym c.in-Filter.is) (filter-valid c.args.keys (table_view c.args.table.now) c.in_ok-filter_at-in-Filter.field-0 (sym c.in_ok-filter_at-in-Filter.ensures))
 
 pub returns-in_ok-map_at-in-Map-clause-valid : goal.returns-in_ok-map_at-in-Map-clause-valid
-returns-in_ok-map_at-in-Map-clause-valid g c = subst (λ name. IsOfKind name c.in_ok-map_at-in-Map.field-0) (sym c.in-Map.is) (map-valid (table_view c.args.table.now) c.in_ok-map_at-in-Map.field-0 (sym c.in_ok-map_at-in-Map.ensures))
+returns-in_ok-map_at-in-Map-clause-valid g c = subst (λ name. IsOfKind name c.in_ok-map_at-in-Map.field-0) (sym c.in-Map.is) (map-valid c.args.keys (table_view c.args.table.now) c.in_ok-map_at-in-Map.field-0 (sym c.in_ok-map_at-in-Map.ensures))
 
 pub returns-in_ok-group_at-in-Count-clause-valid : goal.returns-in_ok-group_at-in-Count-clause-valid
 returns-in_ok-group_at-in-Count-clause-valid g c = subst (λ name. IsOfKind name c.in_ok-group_at-in-Count.field-0) (sym c.in-Count.is) (group-valid Count kind.Count (table_view c.args.table.now) c.in_ok-group_at-in-Count.field-0 tt refl (sym c.in_ok-group_at-in-Count.ensures))

@@ -11,8 +11,8 @@ returns-clause-exact g c = λ files told.
     let name = c.in_ok-name.name.now in
     let some : 1 ≤ length name = search rules in
     subst (λ wanted. AnswersTests c.lookup_in.result wanted)
-    (sym (lookup-read files (table_view c.args.table.now) name read.0 c.deref.result.now c.in_ok-name.ensures some read.1 (c.deref.ensures.value ∙ read.2)))
+    (sym (lookup-read files c.args.keys (table_view c.args.table.now) name read.0 c.deref.result.now c.in_ok-name.ensures some read.1 (c.deref.ensures.value ∙ read.2)))
     c.lookup_in.ensures.exact
 
 pub returns-clause-valid : goal.returns-clause-valid
-returns-clause-valid g c = looked_up-valid c.deref.result.now c.lookup_in.result c.lookup_in.ensures.exact
+returns-clause-valid g c = looked_up-valid c.args.keys c.deref.result.now c.lookup_in.result c.lookup_in.ensures.exact
