@@ -1,27 +1,47 @@
 -- What was written, by how a run ended, and why a run in which nothing fails is done.
-use Rattle.std.proofs.Common.{inl, inr, ◌≡◌, ℕ, List, [], ◌∷◌, ◌++◌, length, Option, refl, sym, ap, subst, ◌∙◌, arith, length-append}
+use Rattle.std.proofs.Common.{inl, inr, ◌≡◌, ℕ, List, [], ◌∷◌, ◌++◌, length, Option, refl, sym, ap, subst, ◌∙◌, arith, append-nil, length-append}
 use Rattle.std.proofs.KnownBytes.{Appends-nil}
+use Rattle.sb_record.specs.declared.item.Dropped.{Dropped}
 use Rattle.sb_record.specs.declared.item.Item.{Item}
 use Rattle.sb_record.specs.declared.item.Record.{Record}
 use Rattle.sb_record.specs.declared.intake.Stop.{Stop}
 use Rattle.sb_record.specs.Records.{sorted, before}
 use Rattle.sb_record.specs.Rows.{text_of}
-use Rattle.sb_record.specs.Streams.{low_watermark}
+use Rattle.sb_record.specs.Streams.{dropped_of, low_watermark}
 use Rattle.sb_pipeline.specs.Shapes.{Shape, streams_of}
 use Rattle.sb_pipeline.specs.Results.{output_of}
 use Rattle.sb_outside.specs.Folders.{Files, Load}
-use Rattle.sb_outside.specs.Sinks.{AppendsPrefix}
+use Rattle.sb_cli.specs.declared.ending.Ending.{Ending}
 use Rattle.sb_cli.specs.declared.status.Status.{Status}
 use Rattle.sb_cli.specs.declared.status.Status.TheVariants.{Done, Words, Plan, Line, Input, Output, Folder, Memory}
 use Rattle.sb_cli.specs.Words.{Asked}
 use Rattle.sb_cli.specs.Words.Asked.{Sum, Run, Slow}
 use Rattle.sb_cli.specs.Pipelines.{IsPlanFor, TellsPlan, streams_in}
-use Rattle.sb_cli.specs.Answers.{due_mark, due_rows, WrotePrefix, HasNoPlan, IsAnswer, IsAnswerOf}
+use Rattle.sb_cli.specs.Given.{Given, items_of, stop_at}
+use Rattle.sb_cli.specs.Answers.{due_mark, due_rows, ending_of, HasWritten, ListsDropped, WrotePrefix, HasNoPlan, IsAnswer, IsAnswerOf}
 use Rattle.sb_cli.specs.Faults.{BlamesFile, Faults, HasCause, IsDoneOrMemory, NothingFails}
 
 -- nothing is a prefix of any rows
 pub nothing_written : (taken : Option (List ℕ)) (rows : List Record) → WrotePrefix taken taken rows
 nothing_written taken rows = record { prefix = []; rest = text_of rows; whole = refl; appends = Appends-nil taken }
+
+-- where there is no memory behind some reading, nothing was written, and nothing is listed
+pub memory_answer : (plan : Shape) (left left' taken : Option (List ℕ)) (ending : Ending) → Given left left' → ending.status ≡ Memory → ending.dropped ≡ [] → IsAnswerOf plan left left' taken taken ending
+memory_answer plan left left' taken ending given is none =
+    subst (IsAnswerOf plan left left' taken taken) (λ i. ending_of (sym is i) (sym none i))
+    (record { given = given; written = nothing_written taken (due_rows plan (stop_at plan given) (items_of plan given)); lists = (dropped_of (items_of plan given), refl) })
+
+-- all late records are listed, whatever became of the rows
+pub all_listed : (plan : Shape) (stop : Stop) (items : List Item) (taken taken' : Option (List ℕ)) (dropped : List Dropped) (status : Status)
+    → HasWritten plan stop items taken taken' status → dropped ≡ dropped_of items → ListsDropped items dropped status
+all_listed plan stop items taken taken' dropped Done written is = is
+all_listed plan stop items taken taken' dropped (Line refusal) written is = is
+all_listed plan stop items taken taken' dropped Input written is = is
+all_listed plan stop items taken taken' dropped Output written is = ([], sym is ∙ sym (append-nil dropped))
+all_listed plan stop items taken taken' dropped Memory written is = ([], sym is ∙ sym (append-nil dropped))
+all_listed plan stop items taken taken' dropped Words written is = absurd written
+all_listed plan stop items taken taken' dropped (Plan fault) written is = absurd written
+all_listed plan stop items taken taken' dropped Folder written is = absurd written
 
 -- the rows below the watermark are those that are due
 pub rows_are_due : (plan : Shape) (below low : ℕ) (stop : Stop) (items items' : List Item) (rows : List Record) → rows ≡ sorted (before below (output_of plan (streams_in items')))
@@ -30,16 +50,16 @@ rows_are_due plan below low stop items items' rows are same at is_low =
     are ∙ (λ i. sorted (before ((at ∙ ap (due_mark stop) is_low) i) (output_of plan (streams_in (same i)))))
 
 -- a run for a plan in which nothing fails is done
-complete_for : (plan : Shape) (left left' taken taken' : Option (List ℕ)) (before now : Faults) (status : Status)
-    → IsAnswerOf plan left left' taken taken' status → HasCause before now status → NothingFails plan left left' before now → IsDoneOrMemory status
-complete_for plan left left' taken taken' before now Done is cause fine = inl refl
-complete_for plan left left' taken taken' before now Words is cause fine = absurd is.1
-complete_for plan left left' taken taken' before now (Plan fault) is cause fine = absurd is.1
-complete_for plan left left' taken taken' before now (Line refusal) is cause fine = absurd (fine.no_refusal is.0 refusal is.1.0)
-complete_for plan left left' taken taken' before now Input is cause fine = absurd (fine.no_read_failed cause)
-complete_for plan left left' taken taken' before now Output is cause fine = absurd (fine.no_write_failed cause)
-complete_for plan left left' taken taken' before now Folder is cause fine = absurd is.1
-complete_for plan left left' taken taken' before now Memory is cause fine = inr refl
+complete_for : (plan : Shape) (left left' taken taken' : Option (List ℕ)) (before now : Faults) (status : Status) (given : Given left left')
+    → HasWritten plan (stop_at plan given) (items_of plan given) taken taken' status → HasCause before now status → NothingFails plan left left' before now → IsDoneOrMemory status
+complete_for plan left left' taken taken' before now Done given is cause fine = inl refl
+complete_for plan left left' taken taken' before now Words given is cause fine = absurd is
+complete_for plan left left' taken taken' before now (Plan fault) given is cause fine = absurd is
+complete_for plan left left' taken taken' before now (Line refusal) given is cause fine = absurd (fine.no_refusal given refusal is.0)
+complete_for plan left left' taken taken' before now Input given is cause fine = absurd (fine.no_read_failed cause)
+complete_for plan left left' taken taken' before now Output given is cause fine = absurd (fine.no_write_failed cause)
+complete_for plan left left' taken taken' before now Folder given is cause fine = absurd is
+complete_for plan left left' taken taken' before now Memory given is cause fine = inr refl
 
 -- the plan that is answered for is the one that the folder's files give
 one_plan : (folder : Option Files) (wanted : Asked) (plan told : Shape) → IsPlanFor folder wanted plan → TellsPlan folder wanted told → plan ≡ told
@@ -67,11 +87,12 @@ not_blamed folder wanted before now (load, is, more) same = no_longer before loa
     no_longer : (loads : List Load) (load : Load) → loads ++ load ∷ [] ≡ loads → ⊥
     no_longer loads load e = omega (arith, ap length e, length-append loads (load ∷ []))
 
-pub is_complete : (folder : Option Files) (wanted : Asked) (plan : Shape) (left left' taken taken' : Option (List ℕ)) (before now : Faults) (status : Status)
-    → IsAnswer folder wanted left left' taken taken' status → HasCause before now status → (status ≡ Folder → BlamesFile folder wanted before.loads now.loads)
-    → TellsPlan folder wanted plan → NothingFails plan left left' before now → IsDoneOrMemory status
-is_complete folder wanted plan left left' taken taken' before now status (inl none) cause blames tells fine =
-    plan_is_had folder wanted plan status none.0 tells (λ is. not_blamed folder wanted before.loads now.loads (blames is) fine.no_load_failed)
-is_complete folder wanted plan left left' taken taken' before now status (inr found) cause blames tells fine =
+pub is_complete : (folder : Option Files) (wanted : Asked) (plan : Shape) (left left' taken taken' : Option (List ℕ)) (before now : Faults) (ending : Ending)
+    → IsAnswer folder wanted left left' taken taken' ending → HasCause before now ending.status → (ending.status ≡ Folder → BlamesFile folder wanted before.loads now.loads)
+    → TellsPlan folder wanted plan → NothingFails plan left left' before now → IsDoneOrMemory ending.status
+is_complete folder wanted plan left left' taken taken' before now ending (inl none) cause blames tells fine =
+    plan_is_had folder wanted plan ending.status none.no_plan tells (λ is. not_blamed folder wanted before.loads now.loads (blames is) fine.no_load_failed)
+is_complete folder wanted plan left left' taken taken' before now ending (inr found) cause blames tells fine =
     let same : found.0 ≡ plan = one_plan folder wanted found.0 plan found.1 tells in
-    complete_for plan left left' taken taken' before now status (subst (λ p. IsAnswerOf p left left' taken taken' status) same found.2) cause fine
+    let is = subst (λ p. IsAnswerOf p left left' taken taken' ending) same found.2 in
+    complete_for plan left left' taken taken' before now ending.status is.given is.written cause fine

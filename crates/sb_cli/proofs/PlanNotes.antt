@@ -7,6 +7,8 @@ use Rattle.sb_plan.specs.Keys.{key_text}
 pub key_text-short : (k : PlanKey) → length (key_text k) ≤ 9
 unfolding key_text
 key_text-short key.Transform = omega arith
+key_text-short key.Late = omega arith
+key_text-short key.Keys = omega arith
 key_text-short key.Name = omega arith
 key_text-short key.Kind = omega arith
 key_text-short key.From = omega arith

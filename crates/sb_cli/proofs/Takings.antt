@@ -2,9 +2,8 @@
 use Rattle.std.proofs.Common.{◌≡◌, ℕ, ◌+◌, ◌<◌, ◌≤◌, Bool, List, [], ◌∷◌, ◌++◌, Option, Some, None, Ok, Err, refl, sym, ap, ◌∙◌, arith, append_assoc}
 use Rattle.std.specs.Io.KnownBytes.{Consumes}
 use Rattle.sb_record.specs.declared.item.Item.{Item}
-use Rattle.sb_record.specs.declared.item.Item.TheVariants.{Rec, Mark, Skip}
+use Rattle.sb_record.specs.declared.item.Item.TheVariants.{Rec, Mark, Skip, Late}
 use Rattle.sb_record.specs.declared.item.Stream.TheVariants.{A, B}
-use Rattle.sb_record.specs.declared.item.Streams.{Streams}
 use Rattle.sb_record.specs.declared.intake.Refusal.{Refusal}
 use Rattle.sb_record.specs.declared.intake.TheConstants.{MAX_LINES}
 use Rattle.sb_record.specs.declared.intake.Stop.{Stop}
@@ -15,19 +14,30 @@ use Rattle.sb_record.specs.Inputs.{Accepted, progress_of, accepted, accepted_if,
 use Rattle.sb_record.specs.Streams.{low_watermark}
 use Rattle.sb_record.proofs.InputLemmas.{progress-more}
 use Rattle.sb_outside.specs.Lines.{lines}
+use Rattle.sb_pipeline.specs.Shapes.{Shape, streams_of}
 use Rattle.sb_outside.specs.Readings.{Held, MayCome, reading, rest_of_lines}
 use Rattle.std.proofs.KnownBytes.{Consumes-trans}
 use Rattle.sb_cli.specs.Given.{Given, items_of}
 use Rattle.sb_cli.specs.Reads.{IsGoing, IsInputOf, StopsAt, StopsReading, TakesItem}
 
+-- what a plan accepts of lines, from the first on and after some items, and what these items have said
+abbrev starting : Shape → List (List ℕ) → Accepted
+starting plan lines = accepted (streams_of plan) plan.late plan.keys lines
+
+abbrev following : Shape → List Item → List (List ℕ) → Accepted
+following plan items lines = accepted_after (streams_of plan) plan.late plan.keys items lines
+
+abbrev said_by : Shape → List Item → Progress
+said_by plan items = progress_of (streams_of plan) plan.late plan.keys items
+
 -- the lines so far gave these items, and those that the reader has still to give are tested after them
-pub record Taking (streams : Streams) (left left' : Option (List ℕ)) (held : Held) (p : Progress) (items : List Item) (faults faults' : ℕ) : Type 0 where
+pub record Taking (plan : Shape) (left left' : Option (List ℕ)) (held : Held) (p : Progress) (items : List Item) (faults faults' : ℕ) : Type 0 where
   pub bytes : List ℕ
   pub given : Consumes left left' bytes
   pub going : IsGoing held.halt left'
   pub accepts : (ended : Bool) (later : List ℕ) → MayCome held.halt ended later
-      → accepted streams (lines ended (bytes ++ later)) ≡ accepted_after streams items (rest_of_lines held.halt held.at_hand ended later)
-  pub progress : p ≡ progress_of streams items
+      → starting plan (lines ended (bytes ++ later)) ≡ following plan items (rest_of_lines held.halt held.at_hand ended later)
+  pub progress : p ≡ said_by plan items
   pub room : p.lines ≤ MAX_LINES
   pub no_fault : faults' ≡ faults
 
@@ -36,44 +46,45 @@ after-lines (Rec s r) p = refl
 after-lines (Mark A t) p = refl
 after-lines (Mark B t) p = refl
 after-lines Skip p = refl
+after-lines (Late n t m) p = refl
 
 -- the lines behind an accepted one are tested after its item too
-accepted-more : (streams : Streams) (items : List Item) (line : List ℕ) (rest : List (List ℕ)) (i : Item) → tested (progress_of streams items) line ≡ Ok i
-    → accepted_after streams items (line ∷ rest) ≡ accepted_after streams (items ++ i ∷ []) rest
-accepted-more streams items line rest i ok = ap (λ r. accepted_if r items (λ more. accepted_after streams more rest)) ok
+accepted-more : (plan : Shape) (items : List Item) (line : List ℕ) (rest : List (List ℕ)) (i : Item) → tested (said_by plan items) line ≡ Ok i
+    → following plan items (line ∷ rest) ≡ following plan (items ++ i ∷ []) rest
+accepted-more plan items line rest i ok = ap (λ r. accepted_if r items (λ more. following plan more rest)) ok
 
-accepted-stops : (streams : Streams) (items : List Item) (line : List ℕ) (rest : List (List ℕ)) (refusal : Refusal) → tested (progress_of streams items) line ≡ Err refusal
-    → accepted_after streams items (line ∷ rest) ≡ record { items = items; refused = Some refusal }
-accepted-stops streams items line rest refusal bad = ap (λ r. accepted_if r items (λ more. accepted_after streams more rest)) bad
+accepted-stops : (plan : Shape) (items : List Item) (line : List ℕ) (rest : List (List ℕ)) (refusal : Refusal) → tested (said_by plan items) line ≡ Err refusal
+    → following plan items (line ∷ rest) ≡ record { items = items; refused = Some refusal }
+accepted-stops plan items line rest refusal bad = ap (λ r. accepted_if r items (λ more. following plan more rest)) bad
 
 module _ {S : Type 0} (left_of : S → Option (List ℕ)) where
   -- one item more
-  pub taking-more : (streams : Streams) (left : Option (List ℕ)) (source source' : S) (held held' : Held) (p p' : Progress) (items : List Item) (i : Item) (faults faults' faults2 : ℕ)
-      → Taking streams left (left_of source) held p items faults faults'
+  pub taking-more : (plan : Shape) (left : Option (List ℕ)) (source source' : S) (held held' : Held) (p p' : Progress) (items : List Item) (i : Item) (faults faults' faults2 : ℕ)
+      → Taking plan left (left_of source) held p items faults faults'
       → TakesItem left_of (reading source held) (reading source' held') p p' i → faults2 ≡ faults' → p.lines < MAX_LINES
-      → Taking streams left (left_of source') held' p' (items ++ i ∷ []) faults faults2
-  taking-more streams left source source' held held' p p' items i faults faults' faults2 t takes same room =
+      → Taking plan left (left_of source') held' p' (items ++ i ∷ []) faults faults2
+  taking-more plan left source source' held held' p p' items i faults faults' faults2 t takes same room =
       record {
         bytes = t.bytes ++ takes.more;
         given = Consumes-trans left (left_of source) (left_of source') t.bytes takes.more t.given takes.given;
         going = takes.going;
         accepts = λ ended later may.
             let (before, first) = takes.first ended later may in
-            ap (λ l. accepted streams (lines ended l)) (append_assoc t.bytes takes.more later)
+            ap (λ l. starting plan (lines ended l)) (append_assoc t.bytes takes.more later)
             ∙ t.accepts ended (takes.more ++ later) before
-            ∙ ap (accepted_after streams items) first
-            ∙ accepted-more streams items takes.line (rest_of_lines held'.halt held'.at_hand ended later) i (ap (λ q. tested q takes.line) (sym t.progress) ∙ takes.tests);
-        progress = takes.progress ∙ ap (after i) t.progress ∙ sym (progress-more streams items i);
+            ∙ ap (following plan items) first
+            ∙ accepted-more plan items takes.line (rest_of_lines held'.halt held'.at_hand ended later) i (ap (λ q. tested q takes.line) (sym t.progress) ∙ takes.tests);
+        progress = takes.progress ∙ ap (after i) t.progress ∙ sym (progress-more (streams_of plan) plan.late plan.keys items i);
         room = let one = ap (λ (q : Progress). q.lines) takes.progress ∙ after-lines i p in omega (arith, one, room);
         no_fault = same ∙ t.no_fault;
       }
 
   -- reading stops
-  pub taking-stops : (streams : Streams) (left : Option (List ℕ)) (source source' : S) (held held' : Held) (p p' : Progress) (items : List Item) (mark : ℕ) (stop : Stop) (faults faults' : ℕ)
-      → Taking streams left (left_of source) held p items faults faults'
+  pub taking-stops : (plan : Shape) (left : Option (List ℕ)) (source source' : S) (held held' : Held) (p p' : Progress) (items : List Item) (mark : ℕ) (stop : Stop) (faults faults' : ℕ)
+      → Taking plan left (left_of source) held p items faults faults'
       → StopsReading left_of (reading source held) (reading source' held') p p' stop → mark ≡ low p'
-      → (given : Given left (left_of source')) × IsInputOf streams given (record { items = items; low = mark; stop = stop })
-  taking-stops streams left source source' held held' p p' items mark stop faults faults' t stops is_low = (given, input)
+      → (given : Given left (left_of source')) × IsInputOf plan given (record { items = items; low = mark; stop = stop })
+  taking-stops plan left source source' held held' p p' items mark stop faults faults' t stops is_low = (given, input)
     where
       given : Given left (left_of source')
       given = record {
@@ -85,28 +96,28 @@ module _ {S : Type 0} (left_of : S → Option (List ℕ)) where
 
       -- what is accepted, by why reading stops
       by_why : (stop : Stop) (ls : List (List ℕ)) → StopsAt p stops.ended ls stop
-          → (a : Accepted) × (accepted_after streams items ls ≡ a) × (a.items ≡ items) × (stop_of stops.ended a.refused ≡ stop)
+          → (a : Accepted) × (following plan items ls ≡ a) × (a.items ≡ items) × (stop_of stops.ended a.refused ≡ stop)
       by_why (Refused refusal) ls (line, rest, are, bad) = (
         record { items = items; refused = Some refusal },
-        ap (accepted_after streams items) are ∙ accepted-stops streams items line rest refusal (ap (λ q. tested q line) (sym t.progress) ∙ bad),
+        ap (following plan items) are ∙ accepted-stops plan items line rest refusal (ap (λ q. tested q line) (sym t.progress) ∙ bad),
         refl,
         refl,
       )
-      by_why End ls (none, e) = (record { items = items; refused = None }, ap (accepted_after streams items) none, refl, ap (λ b. stop_of b None) e)
-      by_why Fault ls (none, e) = (record { items = items; refused = None }, ap (accepted_after streams items) none, refl, ap (λ b. stop_of b None) e)
+      by_why End ls (none, e) = (record { items = items; refused = None }, ap (following plan items) none, refl, ap (λ b. stop_of b None) e)
+      by_why Fault ls (none, e) = (record { items = items; refused = None }, ap (following plan items) none, refl, ap (λ b. stop_of b None) e)
 
-      why : (a : Accepted) × (accepted_after streams items (rest_of_lines held.halt held.at_hand stops.ended stops.more) ≡ a) × (a.items ≡ items) × (stop_of stops.ended a.refused ≡ stop)
+      why : (a : Accepted) × (following plan items (rest_of_lines held.halt held.at_hand stops.ended stops.more) ≡ a) × (a.items ≡ items) × (stop_of stops.ended a.refused ≡ stop)
       why = by_why stop (rest_of_lines held.halt held.at_hand stops.ended stops.more) stops.why
 
-      are : accepted streams (lines stops.ended (t.bytes ++ stops.more)) ≡ why.0
+      are : starting plan (lines stops.ended (t.bytes ++ stops.more)) ≡ why.0
       are = t.accepts stops.ended stops.more stops.may ∙ why.1
 
-      same_items : items ≡ items_of streams given
+      same_items : items ≡ items_of plan given
       same_items = sym (ap (λ (a : Accepted). a.items) are ∙ why.2)
 
-      input : IsInputOf streams given (record { items = items; low = mark; stop = stop })
+      input : IsInputOf plan given (record { items = items; low = mark; stop = stop })
       input = record {
         items = same_items;
-        low = is_low ∙ ap low (stops.progress ∙ t.progress) ∙ ap (low_watermark streams) same_items;
+        low = is_low ∙ ap low (stops.progress ∙ t.progress) ∙ ap (low_watermark (streams_of plan)) same_items;
         stop = sym (ap (λ (a : Accepted). stop_of stops.ended a.refused) are ∙ why.3);
       }

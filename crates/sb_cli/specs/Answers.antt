@@ -1,22 +1,27 @@
 -- The answer to an input.
-use Rattle.std.specs.Prelude.{◌≡◌, ◌⊎◌, ℕ, List, Option, ⊤}
+use Rattle.std.specs.Prelude.{◌≡◌, ◌⊎◌, ℕ, List, [], ◌++◌, Option, ⊤}
 use Rattle.std.specs.Io.KnownBytes.{Appends}
 use Rattle.sb_record.specs.declared.intake.Stop.{Stop}
 use Rattle.sb_record.specs.declared.intake.Stop.TheVariants.{End, Refused, Fault}
-use Rattle.sb_record.specs.declared.intake.Refusal.{Refusal}
+use Rattle.sb_record.specs.declared.item.Dropped.{Dropped}
 use Rattle.sb_record.specs.declared.item.Item.{Item}
 use Rattle.sb_record.specs.declared.item.TheConstants.{END_MARK}
 use Rattle.sb_record.specs.declared.item.Record.{Record}
 use Rattle.sb_record.specs.Rows.{text_of}
-use Rattle.sb_record.specs.Streams.{low_watermark}
+use Rattle.sb_record.specs.Streams.{dropped_of, low_watermark}
 use Rattle.sb_pipeline.specs.Shapes.{Shape, streams_of}
 use Rattle.sb_outside.specs.Sinks.{AppendsPrefix}
+use Rattle.sb_cli.specs.declared.ending.Ending.{Ending}
 use Rattle.sb_cli.specs.declared.status.Status.{Status}
 use Rattle.sb_cli.specs.declared.status.Status.TheVariants.{Done, Words, Plan, Line, Input, Output, Folder, Memory}
 use Rattle.sb_cli.specs.Given.{Given, items_of, stop_at}
 use Rattle.sb_outside.specs.Folders.{Files}
 use Rattle.sb_cli.specs.Words.{Asked}
 use Rattle.sb_cli.specs.Pipelines.{IsPlanFor, IsFaultFor, AsksForFile, rows_below}
+
+-- a run that ended so, and lists these late records
+abbrev pub ending_of : Status → List Dropped → Ending
+ending_of status dropped = record { status = status; dropped = dropped }
 
 -- the watermark below which rows are due where reading stopped: above all of them at the end, else the low watermark
 abbrev pub due_mark : Stop → ℕ → ℕ
@@ -47,10 +52,26 @@ HasWritten plan stop items taken taken' Words = ⊥
 HasWritten plan stop items taken taken' (Plan fault) = ⊥
 HasWritten plan stop items taken taken' Folder = ⊥
 
--- the answer to what the source gave, for a plan
-abbrev pub IsAnswerOf : Shape → Option (List ℕ) → Option (List ℕ) → Option (List ℕ) → Option (List ℕ) → Status → Type 0
-IsAnswerOf plan left left' taken taken' status =
-    (given : Given left left') × HasWritten plan (stop_at (streams_of plan) given) (items_of (streams_of plan) given) taken taken' status
+-- these are the first of the late records that were dropped
+abbrev pub AreFirstDropped : List Dropped → List Item → Type 0
+AreFirstDropped dropped items = (rest : List Dropped) × (dropped_of items ≡ dropped ++ rest)
+
+-- the late records that are listed, by how the run ended: all that were dropped if writing went well, else the first
+abbrev pub ListsDropped : List Item → List Dropped → Status → Type 0
+ListsDropped items dropped Done = dropped ≡ dropped_of items
+ListsDropped items dropped (Line refusal) = dropped ≡ dropped_of items
+ListsDropped items dropped Input = dropped ≡ dropped_of items
+ListsDropped items dropped Output = AreFirstDropped dropped items
+ListsDropped items dropped Memory = AreFirstDropped dropped items
+ListsDropped items dropped Words = ⊥
+ListsDropped items dropped (Plan fault) = ⊥
+ListsDropped items dropped Folder = ⊥
+
+-- the answer to what the source gave, for a plan: what was written, and the late records that are listed
+pub record IsAnswerOf (plan : Shape) (left left' taken taken' : Option (List ℕ)) (ending : Ending) : Type 0 where
+  pub given : Given left left'
+  pub written : HasWritten plan (stop_at plan given) (items_of plan given) taken taken' ending.status
+  pub lists : ListsDropped (items_of plan given) ending.dropped ending.status
 
 -- why there is no plan
 abbrev pub HasNoPlan : Option Files → Asked → Status → Type 0
@@ -63,11 +84,20 @@ HasNoPlan folder wanted (Line refusal) = ⊥
 HasNoPlan folder wanted Input = ⊥
 HasNoPlan folder wanted Output = ⊥
 
--- the answer to what is asked for: there is no plan, and nothing was read or written, or it is the answer for the plan
-abbrev pub IsAnswer : Option Files → Asked → Option (List ℕ) → Option (List ℕ) → Option (List ℕ) → Option (List ℕ) → Status → Type 0
-IsAnswer folder wanted left left' taken taken' status =
-    (HasNoPlan folder wanted status × (left' ≡ left) × (taken' ≡ taken))
-    ⊎ ((plan : Shape) × IsPlanFor folder wanted plan × IsAnswerOf plan left left' taken taken' status)
+-- there is no plan, and nothing was read, written or dropped
+pub record IsAnswerOfNoPlan
+    (folder : Option Files) (wanted : Asked) (left left' taken taken' : Option (List ℕ)) (ending : Ending) : Type 0 where
+  pub no_plan : HasNoPlan folder wanted ending.status
+  pub unread : left' ≡ left
+  pub unwritten : taken' ≡ taken
+  pub undropped : ending.dropped ≡ []
+
+-- the answer to what is asked for: there is no plan, or it is the answer for the plan
+abbrev pub IsAnswer
+    : Option Files → Asked → Option (List ℕ) → Option (List ℕ) → Option (List ℕ) → Option (List ℕ) → Ending → Type 0
+IsAnswer folder wanted left left' taken taken' ending =
+    IsAnswerOfNoPlan folder wanted left left' taken taken' ending
+    ⊎ ((plan : Shape) × IsPlanFor folder wanted plan × IsAnswerOf plan left left' taken taken' ending)
 
 -- a status at which the input was not read
 abbrev pub IsUnread : Status → Type 0

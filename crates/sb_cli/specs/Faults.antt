@@ -5,7 +5,7 @@ use Rattle.sb_record.specs.declared.intake.Stop.TheVariants.{Refused}
 use Rattle.sb_outside.specs.Folders.{Files, Load, without}
 use Rattle.sb_outside.specs.Sinks.{SinkState}
 use Rattle.sb_outside.specs.Sources.{Rose}
-use Rattle.sb_pipeline.specs.Shapes.{Shape, streams_of}
+use Rattle.sb_pipeline.specs.Shapes.{Shape}
 use Rattle.sb_plan.specs.Failures.Failure.{NoFile}
 use Rattle.sb_plan.specs.PlanFiles.{plan_of}
 use Rattle.sb_plan.specs.declared.TheConstants.{MAX_PLAN_BYTES, MAX_TABLE_BYTES}
@@ -78,7 +78,7 @@ IsDoneOrMemory status = (status ≡ Done) ⊎ (status ≡ Memory)
 
 -- no line of what the source gave is refused, and nothing failed
 pub record NothingFails (plan : Shape) (left left' : Option (List ℕ)) (before now : Faults) : Type 0 where
-  pub no_refusal : (given : Given left left') (refusal : Refusal) → stop_at (streams_of plan) given ≡ Refused refusal → ⊥
+  pub no_refusal : (given : Given left left') (refusal : Refusal) → stop_at plan given ≡ Refused refusal → ⊥
   pub no_read_failed : Rose before.reads now.reads → ⊥
   pub no_write_failed : Rose before.writes now.writes → ⊥
   pub no_load_failed : now.loads ≡ before.loads

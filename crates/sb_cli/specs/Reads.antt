@@ -2,7 +2,6 @@
 use Rattle.std.specs.Prelude.{◌≡◌, ℕ, Bool, true, false, List, [], ◌∷◌, ◌++◌, Option, Some, None, Result, Ok, Err, ⊤}
 use Rattle.std.specs.Io.KnownBytes.{Consumes, IsAtEnd}
 use Rattle.sb_record.specs.declared.item.Item.{Item}
-use Rattle.sb_record.specs.declared.item.Streams.{Streams}
 use Rattle.sb_record.specs.declared.intake.Stop.{Stop}
 use Rattle.sb_record.specs.declared.intake.Stop.TheVariants.{End, Refused, Fault}
 use Rattle.sb_record.specs.Progress.{Progress}
@@ -13,18 +12,20 @@ use Rattle.sb_outside.specs.declared.lines.Halt.{Halt}
 use Rattle.sb_outside.specs.declared.lines.Halt.TheVariants as halt
 use Rattle.sb_outside.specs.Readings.{Reading, MayCome, rest_of_lines}
 use Rattle.sb_cli.specs.declared.input.Input.{Input}
+use Rattle.sb_pipeline.specs.Shapes.{Shape, streams_of}
 use Rattle.sb_cli.specs.Given.{Given, items_of, stop_at}
 
 -- the items that were accepted, their low watermark, and where reading stopped
-pub record IsInputOf {left left' : Option (List ℕ)} (streams : Streams) (given : Given left left') (input : Input) : Type 0 where
-  pub items : input.items ≡ items_of streams given
-  pub low : input.low ≡ low_watermark streams (items_of streams given)
-  pub stop : input.stop ≡ stop_at streams given
+pub record IsInputOf
+    {left left' : Option (List ℕ)} (plan : Shape) (given : Given left left') (input : Input) : Type 0 where
+  pub items : input.items ≡ items_of plan given
+  pub low : input.low ≡ low_watermark (streams_of plan) (items_of plan given)
+  pub stop : input.stop ≡ stop_at plan given
 
 -- all of an input up to where reading stops, or some of it where memory was wanting
-abbrev pub ReadsAll : {E : Type 0} → Streams → Option (List ℕ) → Option (List ℕ) → Result Input E → Type 0
-ReadsAll streams left left' (Ok input) = (given : Given left left') × IsInputOf streams given input
-ReadsAll streams left left' (Err e) = Given left left'
+abbrev pub ReadsAll : {E : Type 0} → Shape → Option (List ℕ) → Option (List ℕ) → Result Input E → Type 0
+ReadsAll plan left left' (Ok input) = (given : Given left left') × IsInputOf plan given input
+ReadsAll plan left left' (Err e) = Given left left'
 
 -- a reader that goes on, or stands where its source has ended
 abbrev pub IsGoing : Option Halt → Option (List ℕ) → Type 0

@@ -1,5 +1,6 @@
 -- What each status is for a caller of the program, and for its user.
-use Rattle.std.specs.Prelude.{ℕ, ◌==◌, if◌then◌else◌, List, [], ◌∷◌, ◌++◌, decimal, codes}
+use Rattle.std.specs.Prelude.{ℕ, ◌==◌, if◌then◌else◌, List, [], ◌∷◌, ◌++◌, flat_map, decimal, codes}
+use Rattle.sb_record.specs.declared.item.Dropped.{Dropped}
 use Rattle.sb_record.specs.declared.intake.Refusal.{Refusal}
 use Rattle.sb_record.specs.declared.intake.Refusal.TheVariants.{TooMany, TooLong, Malformed, WrongStream, Late, Back}
 use Rattle.sb_record.specs.declared.intake.Stop.{Stop}
@@ -92,3 +93,11 @@ note_text Input = codes "input failed" ++ 10 ∷ []
 note_text Output = codes "output failed" ++ 10 ∷ []
 note_text Folder = codes "file failed" ++ 10 ∷ []
 note_text Memory = codes "out of memory" ++ 10 ∷ []
+
+-- what a user is told of a late record that was dropped, as a line
+abbrev pub dropped_text : Dropped → List ℕ
+dropped_text d = with_times (at_line d.line ++ codes "dropped") d.time d.mark ++ 10 ∷ []
+
+-- what a user is told: of each late record that was dropped, in order, and then of how the run ended
+abbrev pub notes_text : List Dropped → Status → List ℕ
+notes_text dropped status = flat_map dropped_text dropped ++ note_text status

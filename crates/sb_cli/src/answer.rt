@@ -17,7 +17,8 @@ ghost use Rattle.sb_cli.specs.Pipelines.{plan_in};
 ghost use Rattle.sb_cli.specs.Words.{IsSize};
 ghost use Rattle.sb_cli.specs.Words.Asked.{Run};
 
-use crate::input::{Input, read_input};
+use crate::ending::Ending;
+use crate::input::{Input, dropped_in, read_input};
 use crate::output::write_rows;
 use crate::status::Status;
 use sb_outside::{Folder, FolderFault, Sink, SinkFault, Source};
@@ -48,21 +49,21 @@ pub(crate) fn answer_sum<S: Source, K: Sink>(
     size: u64,
     source: &mut S,
     out: &mut K,
-) -> Status
+) -> Ending
     requires { IsSize size }
     ensures answer { IsAnswerOf (sum_shape size) (S.left source.old) (S.left source.new)
         (K.taken out.old) (K.taken out.new) result }
-    ensures read { IsRead result }
+    ensures read { IsRead result.status }
     ensures cause { (loads : List Load) → HasCause
         (faults_of (S.faults source.old) (K.sink_state out.old) loads)
-        (faults_of (S.faults source.new) (K.sink_state out.new) loads) result }
+        (faults_of (S.faults source.new) (K.sink_state out.new) loads) result.status }
     ensures no_fault_hidden { (loads : List Load) → HidesNoFault
         (faults_of (S.faults source.old) (K.sink_state out.old) loads)
-        (faults_of (S.faults source.new) (K.sink_state out.new) loads) result }
+        (faults_of (S.faults source.new) (K.sink_state out.new) loads) result.status }
 {
     match sum_plan(alloc, size) {
         Ok(plan) => answer_plan(alloc, &plan, source, out),
-        Err(NoMemory) => Status::Memory,
+        Err(NoMemory) => Ending::of(alloc, Status::Memory),
     }
 }
 
@@ -73,25 +74,25 @@ pub(crate) fn answer_file<S: Source, K: Sink, F: Folder>(
     source: &mut S,
     out: &mut K,
     folder: &mut F,
-) -> Status
+) -> Ending
     ensures answer { IsAnswer (F.files folder.old) (Run name.now) (S.left source.old) (S.left source.new)
         (K.taken out.old) (K.taken out.new) result }
-    ensures unread { IsUnread result → (source.new ≡ source.old) × (out.new ≡ out.old) }
+    ensures unread { IsUnread result.status → (source.new ≡ source.old) × (out.new ≡ out.old) }
     ensures same { F.files folder.new ≡ F.files folder.old }
     ensures cause { HasCause
         (faults_of (S.faults source.old) (K.sink_state out.old) (F.failed folder.old))
-        (faults_of (S.faults source.new) (K.sink_state out.new) (F.failed folder.new)) result }
-    ensures blames { result ≡ Status.Folder
+        (faults_of (S.faults source.new) (K.sink_state out.new) (F.failed folder.new)) result.status }
+    ensures blames { result.status ≡ Status.Folder
         → BlamesFile (F.files folder.old) (Run name.now) (F.failed folder.old) (F.failed folder.new) }
     ensures no_fault_hidden { HidesNoFault
         (faults_of (S.faults source.old) (K.sink_state out.old) (F.failed folder.old))
-        (faults_of (S.faults source.new) (K.sink_state out.new) (F.failed folder.new)) result }
+        (faults_of (S.faults source.new) (K.sink_state out.new) (F.failed folder.new)) result.status }
 {
     match load_plan(alloc, name, folder) {
         Ok(plan) => answer_plan(alloc, &plan, source, out),
-        Err(PlanStop::Fault(fault)) => Status::Plan(fault),
-        Err(PlanStop::Folder) => Status::Folder,
-        Err(PlanStop::Memory) => Status::Memory,
+        Err(PlanStop::Fault(fault)) => Ending::of(alloc, Status::Plan(fault)),
+        Err(PlanStop::Folder) => Ending::of(alloc, Status::Folder),
+        Err(PlanStop::Memory) => Ending::of(alloc, Status::Memory),
     }
 }
 
@@ -101,21 +102,27 @@ fn answer_plan<S: Source, K: Sink>(
     plan: &Plan,
     source: &mut S,
     out: &mut K,
-) -> Status
+) -> Ending
     ensures answer { IsAnswerOf plan.now (S.left source.old) (S.left source.new)
         (K.taken out.old) (K.taken out.new) result }
     ensures plan { IsPlan plan.now }
-    ensures read { IsRead result }
+    ensures read { IsRead result.status }
     ensures cause { (loads : List Load) → HasCause
         (faults_of (S.faults source.old) (K.sink_state out.old) loads)
-        (faults_of (S.faults source.new) (K.sink_state out.new) loads) result }
+        (faults_of (S.faults source.new) (K.sink_state out.new) loads) result.status }
     ensures no_fault_hidden { (loads : List Load) → HidesNoFault
         (faults_of (S.faults source.old) (K.sink_state out.old) loads)
-        (faults_of (S.faults source.new) (K.sink_state out.new) loads) result }
+        (faults_of (S.faults source.new) (K.sink_state out.new) loads) result.status }
 {
-    match read_input(alloc, plan.streams(), source) {
-        Ok(input) => write_due(alloc, plan, &input, out),
-        Err(NoMemory) => Status::Memory,
+    let Ok(input) = read_input(alloc, plan, source) else {
+        return Ending::of(alloc, Status::Memory);
+    };
+    match dropped_in(alloc, input.items.as_slice()) {
+        Ok(dropped) => Ending {
+            status: write_due(alloc, plan, &input, out),
+            dropped,
+        },
+        Err(NoMemory) => Ending::of(alloc, Status::Memory),
     }
 }
 
@@ -131,7 +138,7 @@ fn due_mark(input: &Input) -> u64
 
 /// Writes the rows that are due where reading stopped.
 fn write_due<K: Sink>(alloc: Global, plan: &Plan, input: &Input, out: &mut K) -> Status
-    requires range { AllByRecursion IsItemInRange input.now.items }
+    requires range { AllByRecursion (IsItemInRange plan.now.keys) input.now.items }
     requires low { input.now.low ≡ low_watermark (streams_of plan.now) input.now.items }
     ensures written { HasWritten plan.now input.now.stop input.now.items (K.taken out.old) (K.taken out.new) result }
     ensures cause { result ≡ Status.Output → Rose (K.sink_state out.old).faults (K.sink_state out.new).faults }

@@ -1,24 +1,29 @@
 //! The one call that the program makes.
 
-ghost use Rattle.std.specs.Prelude.{◌≡◌, ℕ};
+ghost use Rattle.std.specs.Prelude.{◌≡◌, ℕ, List, []};
+ghost use Rattle.sb_record.specs.declared.item.Dropped.{Dropped};
+ghost use Rattle.sb_outside.specs.Sinks.{SinkCause, WritesAll};
 ghost use Rattle.sb_pipeline.specs.Shapes.{Shape};
-ghost use Rattle.sb_cli.specs.Answers.{IsAnswer, IsUnread};
+ghost use Rattle.sb_cli.specs.Answers.{IsAnswer, IsUnread, ending_of};
 ghost use Rattle.sb_cli.specs.Faults.{BlamesFile, HasCause, HidesNoFault, IsDoneOrMemory, NothingFails, faults_of};
 ghost use Rattle.sb_cli.specs.Notes.{HasNoted};
 ghost use Rattle.sb_cli.specs.Pipelines.{TellsPlan};
-ghost use Rattle.sb_cli.specs.Statuses.{note_text};
+ghost use Rattle.sb_cli.specs.Statuses.{note_text, notes_text};
 ghost use Rattle.sb_cli.specs.Words.{Asked, IsCommand, IsNoCommand, texts};
 ghost use Rattle.sb_cli.specs.Words.Asked.{Sum};
 
 use crate::answer::{answer_file, answer_sum};
+use crate::ending::Ending;
 use crate::note::note_of;
+use crate::output::write_dropped;
 use crate::status::Status;
 use crate::words::{Request, read_words};
-use sb_outside::{Folder, Sink, Source, write_all_of};
+use sb_outside::{Folder, Sink, SinkFault, Source, write_all_of};
 use std::alloc::Global;
 
 /// Does what the words of a command line ask for: reads a plan and its tables from `folder` and records and watermarks
-/// from `input`, and writes rows to `out` and at most one line to `notes`.
+/// from `input`, and writes rows to `out`, and to `notes` a line for each late record that the plan drops, and at most
+/// one more.
 ///
 /// What is said of bytes holds of sources and sinks whose bytes are known, and what is said of files of a folder whose
 /// files are known. The words come first, then the plan, then the input: if the words are no command, or the plan is
@@ -33,13 +38,18 @@ pub fn streambox<S: Source, K: Sink, N: Sink, F: Folder>(
     notes: &mut N,
     folder: &mut F,
 ) -> Status
-    // What was written, by how the run ended, over the items that were accepted.
-    ensures answer { (wanted : Asked) → IsCommand wanted (texts words.now)
-        → IsAnswer (F.files folder.old) wanted (S.left input.old) (S.left input.new)
-        (K.taken out.old) (K.taken out.new) result }
+    // What was written and what the user was told, by how the run ended, over the items that were accepted.
+    ensures answer { (wanted : Asked) → IsCommand wanted (texts words.now) → (dropped : List Dropped)
+        × IsAnswer (F.files folder.old) wanted (S.left input.old) (S.left input.new)
+        (K.taken out.old) (K.taken out.new) (ending_of result dropped)
+        × HasNoted (N.taken notes.old) (N.taken notes.new)
+        (N.sink_state notes.old) (N.sink_state notes.new) (notes_text dropped result) }
 
     // Words that are no command.
     ensures no_command { IsNoCommand (texts words.now) → result ≡ Status.Words }
+    ensures told { IsNoCommand (texts words.now)
+        → HasNoted (N.taken notes.old) (N.taken notes.new)
+        (N.sink_state notes.old) (N.sink_state notes.new) (note_text Status.Words) }
     ensures untouched { IsNoCommand (texts words.now)
         → (input.new ≡ input.old) × (out.new ≡ out.old) × (folder.new ≡ folder.old) }
 
@@ -67,14 +77,10 @@ pub fn streambox<S: Source, K: Sink, N: Sink, F: Folder>(
         (faults_of (S.faults input.old) (K.sink_state out.old) (F.failed folder.old))
         (faults_of (S.faults input.new) (K.sink_state out.new) (F.failed folder.new))
         → IsDoneOrMemory result }
-
-    // What the user is told.
-    ensures notes { HasNoted (N.taken notes.old) (N.taken notes.new)
-        (N.sink_state notes.old) (N.sink_state notes.new) (note_text result) }
 {
-    let status = respond(alloc, words, input, out, folder);
-    tell(notes, status);
-    status
+    let ending = respond(alloc, words, input, out, folder);
+    tell(notes, &ending);
+    ending.status
 }
 
 /// Does what the words ask for.
@@ -84,37 +90,48 @@ fn respond<S: Source, K: Sink, F: Folder>(
     input: &mut S,
     out: &mut K,
     folder: &mut F,
-) -> Status
+) -> Ending
     ensures answer { (wanted : Asked) → IsCommand wanted (texts words.now)
         → IsAnswer (F.files folder.old) wanted (S.left input.old) (S.left input.new)
         (K.taken out.old) (K.taken out.new) result }
     ensures no_command { IsNoCommand (texts words.now)
-        → (result ≡ Status.Words) × (input.new ≡ input.old) × (out.new ≡ out.old) × (folder.new ≡ folder.old) }
-    ensures unread { IsUnread result → (input.new ≡ input.old) × (out.new ≡ out.old) }
+        → (result.status ≡ Status.Words) × (result.dropped ≡ [])
+        × (input.new ≡ input.old) × (out.new ≡ out.old) × (folder.new ≡ folder.old) }
+    ensures unread { IsUnread result.status → (input.new ≡ input.old) × (out.new ≡ out.old) }
     ensures same { F.files folder.new ≡ F.files folder.old }
     ensures sum_loads_nothing { (size : ℕ) → IsCommand (Sum size) (texts words.now) → folder.new ≡ folder.old }
     ensures cause { HasCause
         (faults_of (S.faults input.old) (K.sink_state out.old) (F.failed folder.old))
-        (faults_of (S.faults input.new) (K.sink_state out.new) (F.failed folder.new)) result }
-    ensures blames { (wanted : Asked) → IsCommand wanted (texts words.now) → result ≡ Status.Folder
+        (faults_of (S.faults input.new) (K.sink_state out.new) (F.failed folder.new)) result.status }
+    ensures blames { (wanted : Asked) → IsCommand wanted (texts words.now) → result.status ≡ Status.Folder
         → BlamesFile (F.files folder.old) wanted (F.failed folder.old) (F.failed folder.new) }
     ensures no_fault_hidden { HidesNoFault
         (faults_of (S.faults input.old) (K.sink_state out.old) (F.failed folder.old))
-        (faults_of (S.faults input.new) (K.sink_state out.new) (F.failed folder.new)) result }
+        (faults_of (S.faults input.new) (K.sink_state out.new) (F.failed folder.new)) result.status }
 {
     match read_words(words) {
         Some(Request::Sum(size)) => answer_sum(alloc, size, input, out),
         Some(Request::Run(name) | Request::Slow(name)) => {
             answer_file(alloc, name, input, out, folder)
         }
-        None => Status::Words,
+        None => Ending::of(alloc, Status::Words),
     }
 }
 
-/// Tells the user how the run ended, as far as the notes take it.
-fn tell<N: Sink>(notes: &mut N, status: Status)
+/// Tells the user what was dropped and how the run ended, as far as the notes take it.
+fn tell<N: Sink>(notes: &mut N, ending: &Ending)
     ensures { HasNoted (N.taken notes.old) (N.taken notes.new)
-        (N.sink_state notes.old) (N.sink_state notes.new) (note_text status) }
+        (N.sink_state notes.old) (N.sink_state notes.new) (notes_text ending.now.dropped ending.now.status) }
 {
-    let _ = write_all_of(notes, note_of(status).as_slice());
+    let _ = write_notes(notes, ending);
+}
+
+/// Writes a line for each late record that was dropped, and one for how the run ended.
+fn write_notes<N: Sink>(notes: &mut N, ending: &Ending) -> Result<(), SinkFault>
+    ensures bytes { WritesAll (N.taken notes.old) (N.taken notes.new)
+        (notes_text ending.now.dropped ending.now.status) result }
+    ensures cause { SinkCause (N.sink_state notes.old) (N.sink_state notes.new) result }
+{
+    write_dropped(notes, ending.dropped.as_slice())?;
+    write_all_of(notes, note_of(ending.status).as_slice())
 }

@@ -1,11 +1,14 @@
 //! Reading an input: the items of its lines, up to where reading stops.
 
 ghost use Rattle.std.specs.Prelude.{◌≡◌, ◌≤◌, ◌<◌, ◌+◌, IfOk, IfErr, OnOk};
+ghost use Rattle.sb_record.specs.Streams.{dropped_of};
 ghost use Rattle.sb_outside.specs.Readings.{reading};
+ghost use Rattle.sb_pipeline.specs.Plans.{IsPlan};
 ghost use Rattle.sb_cli.specs.Reads.{ReadsAll, IsGoing, TakesNext, FaultCause};
 
 use sb_outside::{LineBuffer, Source, Step};
-use sb_record::{Intake, Item, MAX_LINES, NoMemory, Sequence, Stop, Streams};
+use sb_pipeline::Plan;
+use sb_record::{Dropped, Intake, Item, MAX_LINES, NoMemory, Sequence, Stop};
 use std::alloc::Global;
 
 /// What was read of an input.
@@ -43,17 +46,18 @@ fn next_item<S: Source>(
     }
 }
 
-/// The items of an input, up to where reading stops.
+/// The items of an input, up to where reading stops, by the plan's rules for lines.
 pub(crate) fn read_input<S: Source>(
     alloc: Global,
-    streams: Streams,
+    plan: &Plan,
     source: &mut S,
 ) -> Result<Input, NoMemory>
-    ensures reads { ReadsAll streams (S.left source.old) (S.left source.new) result }
+    ensures reads { ReadsAll plan.now (S.left source.old) (S.left source.new) result }
     ensures cause { IfOk result (λ input. FaultCause (S.faults source.old) (S.faults source.new) input.stop) }
+    ensures plan { IsPlan plan.now }
 {
     let mut lines = LineBuffer::new();
-    let mut intake = Intake::new(streams, 0);
+    let mut intake = Intake::new(plan.streams(), 0, plan.late(), plan.keys());
     let mut items = Vec::new(alloc);
     'items: loop {
         match next_item(source, &mut lines, &mut intake) {
@@ -71,4 +75,19 @@ pub(crate) fn read_input<S: Source>(
             }
         }
     }
+}
+
+/// The late records that were dropped, in order.
+pub(crate) fn dropped_in(alloc: Global, items: &[Item]) -> Result<Sequence<Dropped>, NoMemory>
+    ensures { IfOk result (λ dropped. dropped ≡ dropped_of items.now) }
+{
+    let mut dropped = Vec::new(alloc);
+    for item in items {
+        if let Item::Late { line, time, mark } = *item {
+            dropped
+                .push(Dropped { line, time, mark })
+                .map_err(|_| NoMemory)?;
+        }
+    }
+    Ok(Sequence::new(dropped))
 }

@@ -6,6 +6,7 @@
 
 mod answer;
 mod command;
+mod ending;
 mod input;
 mod note;
 mod output;
@@ -13,6 +14,8 @@ mod output;
 mod plan_tests;
 #[cfg(test)]
 mod session_tests;
+#[cfg(test)]
+mod settings_tests;
 mod status;
 #[cfg(test)]
 mod tests;

@@ -7,7 +7,7 @@ ghost use Rattle.sb_cli.specs.Statuses as spec;
 use crate::status::Status;
 use sb_pardo::{RowFault, TableFault};
 use sb_plan::{PlanCause, PlanFault, PlanKey};
-use sb_record::{Refusal, TextBuf};
+use sb_record::{Dropped, Refusal, TextBuf};
 
 /// The text of a note: it takes no memory.
 pub(crate) type Note = TextBuf<128>;
@@ -173,6 +173,17 @@ pub(crate) fn note_of(status: Status) -> Note
         Status::Memory => note.push(b"out of memory"),
         _ => {}
     }
+    note.push(b"\n");
+    note
+}
+
+/// The line that a user is told of a late record that was dropped.
+pub(crate) fn dropped_note(dropped: &Dropped) -> Note
+    ensures { result ≡ spec.dropped_text dropped.now }
+{
+    let mut note = at_line(dropped.line);
+    note.push(b"dropped");
+    push_times(&mut note, dropped.time, dropped.mark);
     note.push(b"\n");
     note
 }

@@ -1,23 +1,28 @@
-//! Writing rows: many at a time.
+//! Writing rows, and what is told of dropped records: many at a time.
 
-ghost use Rattle.std.specs.Prelude.{◌≡◌, ◌<◌, ◌≤◌, ◌+◌, All, OnOk, length};
+ghost use Rattle.std.specs.Prelude.{◌≡◌, ◌<◌, ◌≤◌, ◌+◌, All, OnOk, flat_map, length};
 ghost use Rattle.sb_record.specs.Rows.{text_of};
 ghost use Rattle.sb_outside.specs.Sinks.{SinkCause, WritesAll};
 ghost use Rattle.sb_cli.specs.Batches.{Moves};
+ghost use Rattle.sb_cli.specs.Statuses.{dropped_text};
 
+use crate::note::dropped_note;
 use sb_outside::{Sink, SinkFault, write_all_of};
-use sb_record::{END_MARK, Record, TextBuf, row_bytes};
+use sb_record::{Dropped, END_MARK, Record, TextBuf, row_bytes};
 
-/// How many bytes of rows are gathered before they are written.
+/// How many bytes of text are gathered before they are written.
 const BATCH: usize = 8192;
 
-/// Writes what is gathered, if another row may not fit.
+/// The most bytes of a row or a line of notes.
+const MAX_TEXT: usize = 128;
+
+/// Writes what is gathered, if another text may not fit.
 fn make_room<K: Sink>(out: &mut K, batch: &mut TextBuf<BATCH>) -> Result<(), SinkFault>
     ensures moves { Moves (K.taken out.old) (K.taken out.new) batch.old batch.new result }
-    ensures room { OnOk result (length batch.new + 64 ≤ BATCH) }
+    ensures room { OnOk result (length batch.new + MAX_TEXT ≤ BATCH) }
     ensures cause { SinkCause (K.sink_state out.old) (K.sink_state out.new) result }
 {
-    if batch.len() + 64 <= BATCH {
+    if batch.len() + MAX_TEXT <= BATCH {
         return Ok(());
     }
     write_all_of(out, batch.as_slice())?;
@@ -50,4 +55,17 @@ pub(crate) fn write_rows<K: Sink>(out: &mut K, rows: &[Record]) -> Result<(), Si
         Ok(()) => out.finish(),
         Err(fault) => Err(fault),
     }
+}
+
+/// Writes the lines of late records that were dropped, and takes no memory for it.
+pub(crate) fn write_dropped<N: Sink>(notes: &mut N, dropped: &[Dropped]) -> Result<(), SinkFault>
+    ensures bytes { WritesAll (N.taken notes.old) (N.taken notes.new) (flat_map dropped_text dropped.now) result }
+    ensures cause { SinkCause (N.sink_state notes.old) (N.sink_state notes.new) result }
+{
+    let mut batch = TextBuf::<BATCH>::new();
+    'dropped: for late in dropped {
+        make_room(notes, &mut batch)?;
+        batch.push(dropped_note(late).as_slice());
+    }
+    write_all_of(notes, batch.as_slice())
 }

@@ -59,6 +59,35 @@ pub(crate) fn run(
     })
 }
 
+/// Runs a plan, with a table in its folder, over a text by both commands, and compares rows, status and notes.
+pub(crate) fn check_plan(
+    rt: &(impl AllocGlobal + std::process::Abort),
+    plan: &str,
+    table: &str,
+    lines: &str,
+    rows: &str,
+    code: u8,
+    notes: &str,
+) -> Result<(), Fail> {
+    let alloc = rt.alloc();
+    for command in ["run", "slow"] {
+        let mut folder = folder_of(alloc, plan.as_bytes(), table.as_bytes(), &[])?;
+        let ran = run(alloc, command, "p.toml", &mut folder, lines.as_bytes())?;
+        assert_eq!(rt;
+            ran.notes.as_slice(),
+            notes.as_bytes(),
+            "{command}: {plan} over {lines}"
+        );
+        assert_eq!(rt; ran.status.code(), code, "{command}: {plan} over {lines}");
+        assert_eq!(rt;
+            ran.rows.as_slice(),
+            rows.as_bytes(),
+            "{command}: {plan} over {lines}"
+        );
+    }
+    Ok(())
+}
+
 const VIEWS: &str =
     "[[transform]]\nname = \"views\"\nkind = \"filter\"\nfrom = \"a\"\nfield = \"value\"\ntest = \"equal\"\nnumber = 1\n\n[[transform]]\nname = \"campaign\"\nkind = \"lookup\"\nfrom = \"views\"\ntable = \"ads.csv\"\n\n[[transform]]\nname = \"per_campaign\"\nkind = \"count\"\nfrom = \"campaign\"\nsize = 10000\n";
 
@@ -192,19 +221,8 @@ const CASES: [Case; 17] = [
 
 #[test]
 fn plans_give_their_rows(rt: HostRuntime) -> Result<(), Fail> {
-    let alloc = rt.alloc();
     for (plan, lines, rows, code, note) in &CASES {
-        for command in ["run", "slow"] {
-            let mut folder = folder_of(alloc, plan.as_bytes(), ADS.as_bytes(), &[])?;
-            let ran = run(alloc, command, "p.toml", &mut folder, lines.as_bytes())?;
-            assert_eq!(rt;
-                ran.notes.as_slice(),
-                note.as_bytes(),
-                "{plan} over {lines}"
-            );
-            assert_eq!(rt; ran.status.code(), *code, "{plan} over {lines}");
-            assert_eq!(rt; ran.rows.as_slice(), rows.as_bytes(), "{plan} over {lines}");
-        }
+        check_plan(&rt, plan, ADS, lines, rows, *code, note)?;
     }
     Ok(())
 }

@@ -1,36 +1,8 @@
 //! Whole runs of plans with sessions: rows that are worked by hand, and plans that are refused.
 
-use crate::plan_tests::{folder_of, run};
+use crate::plan_tests::check_plan;
 use std::alloc::Global;
 use std::test::Fail;
-
-/// Runs a plan over a text by both commands, and compares the rows, the status and the note.
-fn check_plan(
-    rt: &(impl AllocGlobal + std::process::Abort),
-    plan: &str,
-    lines: &str,
-    rows: &str,
-    code: u8,
-    note: &str,
-) -> Result<(), Fail> {
-    let alloc = rt.alloc();
-    for command in ["run", "slow"] {
-        let mut folder = folder_of(alloc, plan.as_bytes(), b"", &[])?;
-        let ran = run(alloc, command, "p.toml", &mut folder, lines.as_bytes())?;
-        assert_eq!(rt;
-            ran.notes.as_slice(),
-            note.as_bytes(),
-            "{command}: {plan} over {lines}"
-        );
-        assert_eq!(rt; ran.status.code(), code, "{command}: {plan} over {lines}");
-        assert_eq!(rt;
-            ran.rows.as_slice(),
-            rows.as_bytes(),
-            "{command}: {plan} over {lines}"
-        );
-    }
-    Ok(())
-}
 
 /// The plan of one transform of stream a that gives sessions, with these keys.
 fn session_with(alloc: Global, keys: &str) -> Result<String, Fail> {
@@ -89,7 +61,7 @@ const SUMS: [(&str, &str, u8, &str); 12] = [
 fn sums_of_sessions(rt: HostRuntime) -> Result<(), Fail> {
     let plan = session_with(rt.alloc(), "gap = 5\ngive = \"sum\"")?;
     for (lines, rows, code, note) in &SUMS {
-        check_plan(&rt, &plan, lines, rows, *code, note)?;
+        check_plan(&rt, &plan, "", lines, rows, *code, note)?;
     }
     Ok(())
 }
@@ -112,7 +84,7 @@ fn what_sessions_give(rt: HostRuntime) -> Result<(), Fail> {
         let keys = format!(in alloc; "gap = 5\ngive = \"{give}\"")?;
         let plan = session_with(alloc, &keys)?;
         let rows = format!(in alloc; "13,1,{first}\n18,1,{second}\n")?;
-        check_plan(&rt, &plan, lines, &rows, 0, "")?;
+        check_plan(&rt, &plan, "", lines, &rows, 0, "")?;
     }
     Ok(())
 }
@@ -141,7 +113,7 @@ fn gaps_of_sessions(rt: HostRuntime) -> Result<(), Fail> {
     for (gap, lines, rows) in &GAPS {
         let keys = format!(in alloc; "gap = {gap}\ngive = \"sum\"")?;
         let plan = session_with(alloc, &keys)?;
-        check_plan(&rt, &plan, lines, rows, 0, "")?;
+        check_plan(&rt, &plan, "", lines, rows, 0, "")?;
     }
     Ok(())
 }
@@ -159,6 +131,7 @@ fn sessions_and_sums_in_one_plan(rt: HostRuntime) -> Result<(), Fail> {
     check_plan(
         &rt,
         SESSIONS_OF_SUMS,
+        "",
         "r,a,3,1,5\nr,a,7,1,2\nr,a,12,1,4\nr,a,41,1,1\n",
         "34,1,11\n64,1,1\n",
         0,
@@ -169,6 +142,7 @@ fn sessions_and_sums_in_one_plan(rt: HostRuntime) -> Result<(), Fail> {
     check_plan(
         &rt,
         SUM_OF_SESSIONS,
+        "",
         "r,a,1,1,10\nr,a,5,1,1\nr,a,10,1,2\nr,a,30,1,7\n",
         "20,1,13\n40,1,7\n",
         0,
@@ -216,7 +190,7 @@ const REFUSED: [(&str, &str); 10] = [
 fn refused_sessions_are_named_before_the_input_is_read(rt: HostRuntime) -> Result<(), Fail> {
     for (keys, note) in &REFUSED {
         let plan = session_with(rt.alloc(), keys)?;
-        check_plan(&rt, &plan, "x\n", "", 2, note)?;
+        check_plan(&rt, &plan, "", "x\n", "", 2, note)?;
     }
     Ok(())
 }

@@ -7,6 +7,7 @@ use Rattle.sb_record.specs.declared.item.Item.{Item}
 use Rattle.sb_record.specs.declared.item.Stream.{Stream}
 use Rattle.sb_record.specs.declared.item.Stream.TheVariants.{A}
 use Rattle.sb_record.specs.declared.item.TheConstants.{END_MARK, MAX_TIME}
+use Rattle.sb_record.specs.declared.key.Keys.TheVariants.{Numbers}
 use Rattle.sb_record.specs.Lines.{IsItemInRange}
 use Rattle.sb_record.specs.Records.{before, sorted}
 use Rattle.sb_record.specs.Streams.{records_of}
@@ -21,7 +22,7 @@ use Rattle.sb_pardo.specs.Outputs.{outputs_of}
 use Rattle.sb_pipeline.specs.declared.transform.Step.{Step}
 use Rattle.sb_pipeline.specs.Plans.{IsPlace, IsPlan, IsValidKind}
 use Rattle.sb_pipeline.specs.Results.{all_rows}
-use Rattle.sb_pipeline.specs.Shapes.{feeds}
+use Rattle.sb_pipeline.specs.Shapes.{feeds, shape_of}
 use Rattle.sb_pipeline.proofs.Elements.{all_records-on_lane}
 use Rattle.uses.specs.LargeSums.{large_sums_steps, large_sums_plan, large_sums}
 
@@ -64,9 +65,9 @@ are_windows : (size : ℕ) → 1 ≤ size → size ≤ MAX_SIZE → AreWindows (
 are_windows size some most = search rules
 
 pub steps_are_plan : (least : ℤ) (size : ℕ) (steps : List Step) → 1 ≤ size → size ≤ MAX_SIZE → steps ≡ large_sums_steps least size
-    → IsPlan (record { steps = steps; source_a = Some (record { node = 0; lane = 0 }); source_b = None })
+    → IsPlan (shape_of steps (Some (record { node = 0; lane = 0 })) None)
 steps_are_plan least size steps some most are =
-    subst (λ (l : List Step). IsPlan (record { steps = l; source_a = Some (record { node = 0; lane = 0 }); source_b = None })) (sym are) (is_plan least size (are_windows size some most))
+    subst (λ (l : List Step). IsPlan (shape_of l (Some (record { node = 0; lane = 0 })) None)) (sym are) (is_plan least size (are_windows size some most))
 
 -- what a filter gives is a list with some elements left out
 passed : {X : Type 0} (test : X → Bool) (xs : List X) → flat_map (λ x. cond (test x) (x ∷ []) []) xs ≡ filter test xs
@@ -83,5 +84,5 @@ rows_are_sums least size items =
     ∙ ap (sum_rows (fixed size)) (all_records-on_lane 0 _ ∙ ap kept (all_records-on_lane 0 (records_of A items)) ∙ passed _ (records_of A items)))
 
 -- records of items in range are in time
-pub in_time : (s : Stream) (items : List Item) → All IsItemInRange items → All (λ r. r.time ≤ MAX_TIME) (records_of s items)
-in_time s items range = All-from_recursion (λ r. r.time ≤ MAX_TIME) (records_of s items) (records-in_range s items (recursion_from_All IsItemInRange items range))
+pub in_time : (s : Stream) (items : List Item) → All (IsItemInRange Numbers) items → All (λ r. r.time ≤ MAX_TIME) (records_of s items)
+in_time s items range = All-from_recursion (λ r. r.time ≤ MAX_TIME) (records_of s items) (records-in_range Numbers s items (recursion_from_All (IsItemInRange Numbers) items range))

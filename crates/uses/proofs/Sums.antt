@@ -3,18 +3,19 @@ use Rattle.std.proofs.Common.{inl, inr, ◌≡◌, ℕ, Bool, true, false, List,
 use Rattle.std.specs.Io.KnownBytes.{Consumes, IsAtEnd}
 use Rattle.sb_record.specs.declared.intake.Refusal.{Refusal}
 use Rattle.sb_record.specs.declared.intake.Stop.TheVariants.{End}
-use Rattle.sb_record.specs.Inputs.{accepted, stop_of}
+use Rattle.sb_record.specs.Inputs.{stop_of}
+use Rattle.sb_record.specs.declared.item.Dropped.{Dropped}
 use Rattle.sb_record.specs.Rows.{text_of}
 use Rattle.sb_outside.specs.Folders.{Files}
 use Rattle.sb_outside.specs.Lines.{lines}
-use Rattle.sb_pipeline.specs.Shapes.{streams_of, sum_shape}
-use Rattle.sb_cli.specs.Answers.{IsAnswer, IsAnswerOf, due_rows}
+use Rattle.sb_pipeline.specs.Shapes.{sum_shape}
+use Rattle.sb_cli.specs.Answers.{IsAnswer, IsAnswerOf, due_rows, ending_of}
 use Rattle.sb_cli.specs.Given.{items_of}
 use Rattle.sb_cli.specs.Pipelines.{all_rows}
 use Rattle.sb_cli.specs.Words.Asked.{Sum}
 use Rattle.sb_cli.specs.declared.status.Status.{Status}
 use Rattle.sb_cli.specs.declared.status.Status.TheVariants.{Done}
-use Rattle.uses.specs.Sums.{sums_of}
+use Rattle.uses.specs.Sums.{accepted_by, sums_of}
 
 -- reading stops as at the end only where the input has ended
 ended_at_end : (ended : Bool) (refused : Option Refusal) → stop_of ended refused ≡ End → ended ≡ true
@@ -28,23 +29,25 @@ all_given None text bytes given end = absurd given
 all_given (Some rest) text bytes given end = sym (given ∙ ap (λ l. bytes ++ l) end ∙ append-nil bytes)
 
 -- a sink that was empty has the text of the sums where the run is done
-sums_at_done : (size : ℕ) (text : List ℕ) (folder : Option Files) (left' : Option (List ℕ)) (taken' : List ℕ) → IsAnswer folder (Sum size) (Some text) left' (Some []) (Some taken') Done
-    → taken' ≡ text_of (sums_of size text)
-sums_at_done size text folder left' taken' (inl none) = absurd none.0
-sums_at_done size text folder left' taken' (inr found) =
-    let answer : IsAnswerOf (sum_shape size) (Some text) left' (Some []) (Some taken') Done = subst (λ plan. IsAnswerOf plan (Some text) left' (Some []) (Some taken') Done) found.1 found.2 in
-    let streams = streams_of (sum_shape size) in
-    let given = answer.0 in
-    let at_end : given.ended ≡ true = ended_at_end given.ended (accepted streams (lines given.ended given.bytes)).refused answer.1.0 in
+sums_at_done : (size : ℕ) (text : List ℕ) (folder : Option Files) (left' : Option (List ℕ)) (taken' : List ℕ) (dropped : List Dropped)
+    → IsAnswer folder (Sum size) (Some text) left' (Some []) (Some taken') (ending_of Done dropped) → taken' ≡ text_of (sums_of size text)
+sums_at_done size text folder left' taken' dropped (inl none) = absurd none.no_plan
+sums_at_done size text folder left' taken' dropped (inr found) =
+    let plan = sum_shape size in
+    let answer : IsAnswerOf plan (Some text) left' (Some []) (Some taken') (ending_of Done dropped) =
+    subst (λ p. IsAnswerOf p (Some text) left' (Some []) (Some taken') (ending_of Done dropped)) found.1 found.2 in
+    let given = answer.given in
+    let at_end : given.ended ≡ true = ended_at_end given.ended (accepted_by plan (lines given.ended given.bytes)).refused answer.written.0 in
     let all : given.bytes ≡ text = all_given left' text given.bytes given.were_left (given.at_end at_end) in
-    answer.1.1
-    ∙ ap (λ stop. text_of (due_rows (sum_shape size) stop (items_of streams given))) answer.1.0
-    ∙ ap (λ ended. text_of (all_rows (sum_shape size) (accepted streams (lines ended given.bytes)).items)) at_end
+    answer.written.1
+    ∙ ap (λ stop. text_of (due_rows plan stop (items_of plan given))) answer.written.0
+    ∙ ap (λ ended. text_of (all_rows plan (accepted_by plan (lines ended given.bytes)).items)) at_end
     ∙ ap (λ bytes. text_of (sums_of size bytes)) all
 
-pub sums_written : (size : ℕ) (text : List ℕ) (folder : Option Files) (left left' : Option (List ℕ)) (taken taken' : List ℕ) (status : Status) → IsAnswer folder (Sum size) left left' (Some taken) (Some taken') status
+pub sums_written : (size : ℕ) (text : List ℕ) (folder : Option Files) (left left' : Option (List ℕ)) (taken taken' : List ℕ) (status : Status) (dropped : List Dropped)
+    → IsAnswer folder (Sum size) left left' (Some taken) (Some taken') (ending_of status dropped)
     → left ≡ Some text → taken ≡ [] → status ≡ Done → taken' ≡ text_of (sums_of size text)
-sums_written size text folder left left' taken taken' status is told empty done =
-    let at_done = subst (λ s. IsAnswer folder (Sum size) left left' (Some taken) (Some taken') s) done is in
-    let from_empty = subst (λ t. IsAnswer folder (Sum size) left left' (Some t) (Some taken') Done) empty at_done in
-    sums_at_done size text folder left' taken' (subst (λ l. IsAnswer folder (Sum size) l left' (Some []) (Some taken') Done) told from_empty)
+sums_written size text folder left left' taken taken' status dropped is told empty done =
+    let at_done = subst (λ s. IsAnswer folder (Sum size) left left' (Some taken) (Some taken') (ending_of s dropped)) done is in
+    let from_empty = subst (λ t. IsAnswer folder (Sum size) left left' (Some t) (Some taken') (ending_of Done dropped)) empty at_done in
+    sums_at_done size text folder left' taken' dropped (subst (λ l. IsAnswer folder (Sum size) l left' (Some []) (Some taken') (ending_of Done dropped)) told from_empty)

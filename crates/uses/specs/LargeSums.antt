@@ -15,7 +15,7 @@ use Rattle.sb_pardo.specs.declared.operation.Op.TheVariants.{Filter}
 use Rattle.sb_aggregate.specs.declared.aggregate.Agg.TheVariants.{Sum}
 use Rattle.sb_pipeline.specs.declared.transform.Kind.TheVariants.{Do, Group}
 use Rattle.sb_pipeline.specs.declared.transform.Step.{Step}
-use Rattle.sb_pipeline.specs.Shapes.{Shape}
+use Rattle.sb_pipeline.specs.Shapes.{Shape, shape_of}
 
 -- a filter of values of at least this, and a sum of what it gives over fixed windows of this size
 abbrev pub large_sums_steps : ℤ → ℕ → List Step
@@ -23,14 +23,10 @@ large_sums_steps least size =
     record { kind = Do (Filter Value AtLeast least); down = record { node = 1; lane = 0 } }
     ∷ record { kind = Group Sum (fixed size); down = record { node = 2; lane = 0 } } ∷ []
 
--- stream a goes to the filter, and stream b is not used
+-- stream a goes to the filter, and stream b is not used; keys are numbers, and late records are refused
 abbrev pub large_sums_plan : ℤ → ℕ → Shape
 large_sums_plan least size =
-    record {
-      steps = large_sums_steps least size;
-      source_a = Some (record { node = 0; lane = 0 });
-      source_b = None;
-    }
+    shape_of (large_sums_steps least size) (Some (record { node = 0; lane = 0 })) None
 
 -- the records with a value of at least this
 abbrev pub large_values : ℤ → List Record → List Record

@@ -1,17 +1,21 @@
 -- The sums of a whole text, and an answer that gives them.
 use Rattle.std.specs.Prelude.{◌≡◌, ℕ, true, List}
 use Rattle.sb_record.specs.declared.item.Record.{Record}
-use Rattle.sb_record.specs.Inputs.{accepted}
+use Rattle.sb_record.specs.Inputs.{Accepted, accepted}
 use Rattle.sb_record.specs.Rows.{text_of}
 use Rattle.sb_outside.specs.Lines.{lines}
-use Rattle.sb_pipeline.specs.Shapes.{streams_of, sum_shape}
+use Rattle.sb_pipeline.specs.Shapes.{Shape, streams_of, sum_shape}
 use Rattle.sb_cli.specs.Pipelines.{all_rows}
 use Rattle.sb_cli.specs.declared.status.Status.TheVariants.{Done}
 use Rattle.uses.specs.declared.in_memory.Answer.{Answer}
 
+-- what a plan accepts of lines
+abbrev pub accepted_by : Shape → List (List ℕ) → Accepted
+accepted_by plan lines = accepted (streams_of plan) plan.late plan.keys lines
+
 -- the rows of all windows of this size, over the accepted lines of the text
 abbrev pub sums_of : ℕ → List ℕ → List Record
-sums_of size text = all_rows (sum_shape size) (accepted (streams_of (sum_shape size)) (lines true text)).items
+sums_of size text = all_rows (sum_shape size) (accepted_by (sum_shape size) (lines true text)).items
 
 -- if the run is done, its rows are the text of the sums
 abbrev pub GivesSums : ℕ → List ℕ → Answer → Type 0

@@ -5,6 +5,7 @@
 
 ghost use Rattle.std.specs.Prelude.{◌≡◌, ◌≤◌, All, IfOk};
 ghost use Rattle.sb_record.specs.Lines.{IsItemInRange};
+ghost use Rattle.sb_record.specs.declared.key.Keys.TheVariants.{Numbers};
 ghost use Rattle.sb_record.specs.Streams.{records_of};
 ghost use Rattle.sb_pipeline.specs.Results.{all_rows};
 ghost use Rattle.uses.specs.LargeSums as spec;
@@ -55,7 +56,7 @@ pub fn large_sums(
 ) -> Result<Vec<Record>, NoMemory>
     requires some_size { 1 ≤ size }
     requires most_size { size ≤ MAX_SIZE }
-    requires range { All IsItemInRange items.now }
+    requires range { All (IsItemInRange Numbers) items.now }
     ensures rows { IfOk result (λ rows.
         rows.items ≡ all_rows (spec.large_sums_plan least size) (λ s. records_of s items.now)) }
     ensures sums { IfOk result (λ rows. rows.items ≡ spec.large_sums least size items.now) }

@@ -6,10 +6,11 @@
 
 ghost use Rattle.std.specs.Prelude.{◌≤◌};
 ghost use Rattle.sb_record.specs.Lines.{IsItemInRange};
+ghost use Rattle.sb_record.specs.declared.key.Keys.TheVariants.{Numbers};
 
 use anyhow::Context;
 use in_memory::Answer;
-use sb_record::{Item, MAX_KEY, MAX_TIME, Record, Stream};
+use sb_record::{Item, Key, MAX_KEY, MAX_TIME, Record, Stream};
 use std::alloc::{AllocError, Global};
 use std::str;
 
@@ -17,12 +18,13 @@ mod end_to_end;
 mod in_memory;
 mod large_sums;
 
-/// A record of a stream.
-fn event(stream: Stream, time: u64, key: u64, value: i64) -> Item
+/// A record of a stream, whose key is a number.
+fn event(stream: Stream, time: u64, number: u64, value: i64) -> Item
     requires time { time ≤ MAX_TIME }
-    requires key { key ≤ MAX_KEY }
-    ensures { IsItemInRange result }
+    requires key { number ≤ MAX_KEY }
+    ensures { IsItemInRange Numbers result }
 {
+    let key = Key::Number(number);
     Item::Rec(stream, Record { time, key, value })
 }
 
@@ -49,7 +51,9 @@ fn print_large_sums(rt: &impl Print, alloc: Global) -> anyhow::Result<()> {
         .context("out of memory")?;
     println!(rt; "large sums")?;
     for row in &rows {
-        println!(rt; "{},{},{}", row.time.saturating_add(1), row.key, row.value)?;
+        if let Key::Number(key) = row.key {
+            println!(rt; "{},{key},{}", row.time.saturating_add(1), row.value)?;
+        }
     }
     Ok(())
 }

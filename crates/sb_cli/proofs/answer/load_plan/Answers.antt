@@ -1,4 +1,4 @@
-use Rattle.std.proofs.Common.{◌+◌, ◌++◌, refl, take, ap, subst, ◌∙◌}
+use Rattle.std.proofs.Common.{◌+◌, ◌++◌, take, ap, subst, ◌∙◌}
 use Rattle.sb_plan.specs.declared.TheConstants.{MAX_PLAN_BYTES}
 use Rattle.sb_plan.specs.Wants.{BlamesLoad, IsWantedBy}
 use Rattle.sb_cli.specs.Faults.{IsWantedFor, plan_load}

@@ -8,7 +8,7 @@ use Rattle.sb_cli.proofs.answer.write_due.Goals as goal
 pub slow_rows-requires : goal.slow_rows-requires
 slow_rows-requires g c =
     let input = c.args.input.now in
-    rw c.as_slice.ensures (record { times = (All-from_recursion _ _ (records-in_range A input.items c.requires.range), All-from_recursion _ _ (records-in_range B input.items c.requires.range)) })
+    rw c.as_slice.ensures (record { times = (All-from_recursion _ _ (records-in_range c.args.plan.now.keys A input.items c.requires.range), All-from_recursion _ _ (records-in_range c.args.plan.now.keys B input.items c.requires.range)) })
 
 pub returns-in-Err-Failed-clause-written : goal.returns-in-Err-Failed-clause-written
 returns-in-Err-Failed-clause-written g c =

@@ -4,8 +4,8 @@ use Rattle.sb_cli.proofs.command.streambox.Goals as goal
 
 pub returns-clause-complete : goal.returns-clause-complete
 returns-clause-complete g c = λ wanted plan is tells fine.
-    is_complete (g.F.Folder.files c.args.folder.now) wanted plan (g.S.Source.left c.args.input.now) (g.S.Source.left c.respond-status.new.input)
-    (g.K.Sink.taken c.args.out.now) (g.K.Sink.taken c.respond-status.new.out)
+    is_complete (g.F.Folder.files c.args.folder.now) wanted plan (g.S.Source.left c.args.input.now) (g.S.Source.left c.respond-ending.new.input)
+    (g.K.Sink.taken c.args.out.now) (g.K.Sink.taken c.respond-ending.new.out)
     (faults_of (g.S.Source.faults c.args.input.now) (g.K.Sink.sink_state c.args.out.now) (g.F.Folder.failed c.args.folder.now))
-    (faults_of (g.S.Source.faults c.respond-status.new.input) (g.K.Sink.sink_state c.respond-status.new.out) (g.F.Folder.failed c.respond-status.new.folder))
-    c.respond-status.result (c.respond-status.ensures.answer wanted is) c.respond-status.ensures.cause (c.respond-status.ensures.blames wanted is) tells fine
+    (faults_of (g.S.Source.faults c.respond-ending.new.input) (g.K.Sink.sink_state c.respond-ending.new.out) (g.F.Folder.failed c.respond-ending.new.folder))
+    c.respond-ending.result (c.respond-ending.ensures.answer wanted is) c.respond-ending.ensures.cause (c.respond-ending.ensures.blames wanted is) tells fine

@@ -18,12 +18,12 @@ pub items-preserved : goal.items-preserved
 items-preserved g c =
     let pushed : c.push.new.self.items ≡ c.items.items.items ++ c.in-Ok.item ∷ [] = search rules in
     rw pushed (
-    taking-more g.S.Source.left c.args.streams (g.S.Source.left c.args.source.now) c.items.source c.next_item.new.source c.items.lines c.next_item.new.lines c.items.intake c.next_item.new.intake c.items.items.items c.in-Ok.item
+    taking-more g.S.Source.left c.args.plan.now (g.S.Source.left c.args.source.now) c.items.source c.next_item.new.source c.items.lines c.next_item.new.lines c.items.intake c.next_item.new.intake c.items.items.items c.in-Ok.item
     (g.S.Source.faults c.args.source.now) (g.S.Source.faults c.items.source) (g.S.Source.faults c.next_item.new.source)
     c.items.invariant c.in-Ok.ensures.takes c.in-Ok.ensures.same c.in-Ok.ensures.room)
 
 pub returns-in-Err-clause-reads : goal.returns-in-Err-clause-reads
 returns-in-Err-clause-reads g c =
-    rw c.new.ensures (
-    taking-stops g.S.Source.left c.args.streams (g.S.Source.left c.args.source.now) c.items.source c.next_item.new.source c.items.lines c.next_item.new.lines c.items.intake c.next_item.new.intake c.items.items.items c.low.result c.in-Err.stop
+    rw (c.new.ensures) (
+    taking-stops g.S.Source.left c.args.plan.now (g.S.Source.left c.args.source.now) c.items.source c.next_item.new.source c.items.lines c.next_item.new.lines c.items.intake c.next_item.new.intake c.items.items.items c.low.result c.in-Err.stop
     (g.S.Source.faults c.args.source.now) (g.S.Source.faults c.items.source) c.items.invariant c.in-Err.ensures.takes c.low.ensures)

@@ -1,5 +1,6 @@
+use Rattle.sb_record.specs.Rows.{row_text}
 use Rattle.sb_cli.proofs.Printing.{Printing}
 use Rattle.sb_cli.proofs.output.write_text.Given as goal
 
 abbrev pub invariant-rows : goal.invariant-rows
-invariant-rows g l = Printing (g.K.Sink.taken l.initial.out) (g.K.Sink.taken l.out) l.batch l.rows l.row-index (g.K.Sink.sink_state l.initial.out) (g.K.Sink.sink_state l.out)
+invariant-rows g l = Printing row_text (g.K.Sink.taken l.initial.out) (g.K.Sink.taken l.out) l.batch l.rows l.row-index (g.K.Sink.sink_state l.initial.out) (g.K.Sink.sink_state l.out)

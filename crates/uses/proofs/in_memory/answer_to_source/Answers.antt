@@ -8,5 +8,5 @@ pub returns : goal.returns
 returns g c = λ size text is told done.
     let answer = c.streambox-status.ensures.answer (Sum size) is in
     let written = sums_written size text (Some (file_named c.new-folder.result.files)) (g.S.Source.left c.args.input.now) (g.S.Source.left c.streambox-status.new.input)
-    c.new-out.result.taken c.streambox-status.new.out.taken c.streambox-status.result answer told (ap (λ m. m.taken) c.new-out.ensures) done in
+    c.new-out.result.taken c.streambox-status.new.out.taken c.streambox-status.result answer.0 answer.1 told (ap (λ m. m.taken) c.new-out.ensures) done in
     c.in_ok-rows.ensures.items ∙ c.taken.ensures ∙ written
