@@ -9,7 +9,7 @@ BEGIN {
   if (unknown != "") stop("-f knows no " unknown)
 }
 
-!/^[0-9]+,[0-9]+,-?[0-9]+$/ { stop("line " NR " is no row: " $0) }
+!is_row() { stop("line " NR " is no row: " $0) }
 
 NR == 1 { first = last = some_end = $1 + 0 }
 $1 + 0 < first { first = $1 + 0 }

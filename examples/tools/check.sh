@@ -314,8 +314,8 @@ CASE
 r,b,10,0,1
 w,b,10
 r,b,10,0,1
-records: line 3: its time 9 is below the watermark 10: take a greater delay, or -L
-records: line 3: its time 9 is below the watermark 10: take a greater delay, or -L
+records: line 3: its time 9 is below the watermark 10: take a greater delay, -L or -D
+records: line 3: its time 9 is below the watermark 10: take a greater delay, -L or -D
 CASE
   try 0 records -t 1 -l 60 <<'CASE'
 59
@@ -403,6 +403,92 @@ line 3: malformed
 ---
 1970-01-01T00:00:10Z,1,7
 rows: line 2 is no row: line 3: malformed
+CASE
+}
+
+check_keys_of_words() {
+  try 0 records -t 1 -D 5 <<'CASE'
+10
+3
+---
+r,a,10,0,1
+w,a,5
+r,a,3,0,1
+CASE
+  try 0 records -t 1 -k 2 -w <<'CASE'
+3,/index.html
+4,abcdefghijklmnopqrstuvwx
+---
+r,a,3,/index.html,1
+r,a,4,abcdefghijklmnopqrstuvwx,1
+CASE
+  for text in '' 'a b' 'a"b' abcdefghijklmnopqrstuvwxy 'caf\303\251'; do
+    text=$(printf "$text")
+    try 2 records -t 1 -k 2 -w <<CASE
+3,$text
+---
+records: line 1: no word: "$text" is not 1 to 24 characters of ASCII without blanks, commas and quotes
+records: line 1: no word: "$text" is not 1 to 24 characters of ASCII without blanks, commas and quotes
+CASE
+  done
+  try 0 rows -n -w 10 <<'CASE'
+10,/index.html,7
+20,9,-1
+---
+0,/index.html,7
+10,9,-1
+CASE
+  try 2 rows -n <<'CASE'
+10,a b,7
+---
+rows: line 1 is no row: 10,a b,7
+CASE
+  try 0 chart -n <<'CASE'
+10,ant,1
+20,ant,2
+---
+ant  ▄█  2
+     0    20
+CASE
+  try 0 why -w <<'CASE'
+r,a,3,cat,5
+r,a,4,9,1
+---
+nothing is wrong with its lines
+CASE
+  try 3 why -w <<'CASE'
+r,a,3,a b,5
+---
+line 1: its key has a blank: write _ for it
+  | r,a,3,a b,5
+CASE
+  try 3 why -w <<'CASE'
+r,a,3,abcdefghijklmnopqrstuvwxy,5
+---
+line 1: its key has 25 characters: a word has at most 24; `records -d` numbers longer ones
+  | r,a,3,abcdefghijklmnopqrstuvwxy,5
+CASE
+  try 0 why -l <<'CASE'
+w,a,10
+r,a,9,1,1
+---
+nothing is wrong with its lines
+CASE
+  echo 'line 2: dropped, time 9, watermark 10' > note
+  try 0 why -l -n note <<'CASE'
+w,a,10
+r,a,9,1,1
+---
+late records were left out, as the plan says, and the run went on
+CASE
+  echo 'line 3: watermark goes back, time 9, watermark 10' >> note
+  try 3 why -l -n note <<'CASE'
+w,a,10
+r,a,9,1,1
+w,a,9
+---
+line 3: this watermark goes back: its time 9 is below the watermark 10 of line 1: leave it out
+  | w,a,9
 CASE
 }
 
@@ -504,7 +590,7 @@ file failed#the plan or a table can't be read: tables are looked for in the fold
 input failed#the input can't be read: is it a folder?
 output failed#the rows can't be written: the disk is full, or who reads them has ended, as head does
 out of memory#there was no memory for so many lines: take a part of them
-plan: unknown field#each transform of a plan begins with [[transform]], and nothing else stands at its top
+plan: unknown field#each transform of a plan begins with [[transform]], and above the first stand at most late and keys
 plan: transform 1: every: out of range#docs/PLANS.md has this note under "What can be wrong"
 NOTES
 }
@@ -599,6 +685,7 @@ for AWK in "${awks[@]}" awk; do
   check_watermarks
   check_bad_lines
   check_why
+  check_keys_of_words
   check_notes
   check_chart
   check_usage

@@ -12,7 +12,7 @@ function explain_note(note) {
   if (note ~ /^out of memory/)
     return "there was no memory for so many lines: take a part of them"
   if (note ~ /^plan: unknown field/)
-    return "each transform of a plan begins with [[transform]], and nothing else stands at its top"
+    return "each transform of a plan begins with [[transform]], and above the first stand at most late and keys"
   if (note ~ /^plan: /)
     return "docs/PLANS.md has this note under \"What can be wrong\""
   return "this is no note of streambox: " note

@@ -33,7 +33,7 @@ function problem_of_line(   field, count, problem) {
   if (/^r/ && count != 5) return "a record has 5 fields, r,STREAM,TIME,KEY,VALUE: this has " count
   if (field[2] !~ /^[ab]$/) return "its stream is \"" field[2] "\": a stream is a or b"
   problem = problem_of_number("time", field[3], MOST_TIME)
-  if (/^r/ && problem == "") problem = problem_of_number("key", field[4], MOST_KEY)
+  if (/^r/ && problem == "") problem = problem_of_key(field[4])
   if (/^r/ && problem == "") problem = problem_of_value(field[5])
   if (problem == "") problem = problem_of_stream(field[2])
   return problem != "" ? problem : problem_of_order(field[1], field[2], field[3])
@@ -57,6 +57,18 @@ function problem_of_number(name, text, most,   its) {
   return its "is above " most
 }
 
+# Of a key, which is a word if the plan says so.
+function problem_of_key(text) {
+  if (!as_words) return problem_of_number("key", text, MOST_KEY)
+  if (is_word(text)) return ""
+  if (text == "") return "its key is empty: a word has 1 to 24 characters"
+  if (length(text) > 24)
+    return "its key has " length(text) " characters: a word has at most 24; `records -d` numbers longer ones"
+  if (text ~ /"/) return "its key has a double quote: leave it out"
+  if (text ~ /[ \t]/) return "its key has a blank: write _ for it"
+  return "its key has a character that is not ASCII: `records -d` gives numbers to such words"
+}
+
 function problem_of_value(text,   digits) {
   if (is_value(text)) return ""
   digits = text
@@ -74,6 +86,7 @@ function problem_of_stream(stream) {
 
 function problem_of_order(kind, stream, time,   known) {
   if (!(stream in mark) || time + 0 >= mark[stream] + 0) return ""
+  if (kind == "r" && drops_late) return ""
   known = " is below the watermark " mark[stream] " of line " place_of_mark[stream]
   if (kind == "w") return "this watermark goes back: its time " time known ": leave it out"
   return "this record is late: its time " time known ": take a greater delay (`records -l`), or no watermarks"

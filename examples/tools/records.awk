@@ -24,9 +24,9 @@ names && !are_found { for (i = 1; i <= columns; i++) place_of[column[i]] = i; fi
   key = key_in(joined(key_places))
   of_value = value ~ /^=/ ? substr(value, 2) : value == "" ? 1 : value_in(joined(value_places))
   if (problem != "") { if (skip_bad) { bad++; next } stop("records: line " NR ": " problem) }
-  if (delay != "" && time + 0 < mark) {
-    if (skip_late) { late++; next }
-    stop("records: line " NR ": its time " time " is below the watermark " watermark ": take a greater delay, or -L")
+  if (delay != "" && time + 0 < mark && late != "keep") {
+    if (late == "skip") { skipped++; next }
+    stop("records: line " NR ": its time " time " is below the watermark " watermark ": take a greater delay, -L or -D")
   }
   if (dictionary != "") key = number_by(key, dictionary)
   print "r," stream "," time "," key "," of_value
@@ -38,7 +38,7 @@ names && !are_found { for (i = 1; i <= columns; i++) place_of[column[i]] = i; fi
 
 END {
   if (bad) say("records: left out as no record: " bad)
-  if (late) say("records: left out as late: " late)
+  if (skipped) say("records: left out as late: " skipped)
   exit stopped
 }
 
@@ -93,6 +93,11 @@ function time_in(text,   time) {
 
 function key_in(text) {
   if (key_places == "") return 0
+  if (as_words) {
+    if (!is_word(text))
+      refuse("no word: \"" text "\" is not 1 to 24 characters of ASCII without blanks, commas and quotes")
+    return text
+  }
   if (dictionary == "" && !is_number(text, "1000000000000000000"))
     refuse("no key: \"" text "\" is no whole number from 0 to 10^18; -d numbers words")
   return text

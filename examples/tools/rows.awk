@@ -9,7 +9,7 @@ BEGIN {
   if (format == "") format = unit == 1000 ? "%FT%T.%fZ" : "%FT%TZ"
 }
 
-!/^[0-9]+,[0-9]+,-?[0-9]+$/ { stop("line " NR " is no row: " $0) }
+!is_row() { stop("line " NR " is no row: " $0) }
 
 {
   time = $1 - size - offset

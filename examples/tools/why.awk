@@ -2,6 +2,12 @@
 
 BEGIN {
   note = ENVIRON["note"]
+  while (note ~ /\n./) sub(/^[^\n]*\n/, "", note)
+  if (note ~ /^line [0-9]+: dropped, /) {
+    print "late records were left out, as the plan says, and the run went on"
+    is_told = 1
+    exit
+  }
   if (note != "" && note !~ /^line [0-9]+: /) { print explain_note(note); code = 2; exit }
   split(note, word, /[ :]+/)
   wanted = word[2] + 0 # the line of the note, or 0
@@ -16,6 +22,7 @@ wanted { tell_other_input(); exit }
 { keep_mark() }
 
 END {
+  if (is_told) exit
   if (!code && wanted) tell_other_input()
   if (!code) print "nothing is wrong with its lines"
   exit code

@@ -1,3 +1,15 @@
+# Words as keys, in an input and in rows, and the dictionary that numbers them.
+
+# Whether a text can be a key of a plan of words.
+function is_word(text) {
+  return text ~ /^[!-~]+$/ && text !~ /[,"]/ && length(text) <= 24
+}
+
+# Whether the line, split at commas, is a row.
+function is_row() {
+  return NF == 3 && $1 ~ /^[0-9]+$/ && is_word($2) && $3 ~ /^-?[0-9]+$/
+}
+
 # A dictionary: a file of lines `number,word`. `records` writes it, and gives the line
 # of a word to the file before it prints a record with its number. So whoever meets a number finds its line there.
 
