@@ -2,7 +2,7 @@
 # Runs what the examples and docs/PLANS.md print, and compares rows, notes and exit codes. It takes ../streambox, or the
 # program that STREAMBOX names by an absolute path: STREAMBOX=/usr/local/bin/streambox ./check.sh
 #
-# Of the guide it tries, by `run` and by `slow`, each plan that stands with an input and rows, and each fault of the
+# Of the guide it tries, by `run` and by `slow`, each plan that stands with an input, rows and, if it has any, notes, and each fault of the
 # tables `| What is wrong | Plan | Answer |`. Three faults have no plan there, since it would be too long: these are
 # made here. Each folder of runs/ is a run: its words (args), its input, its rows, its note and its exit code. Not tried
 # are the exit codes 7 and 70, and what the guide says in sentences. The last line counts what was as expected.
@@ -17,13 +17,13 @@ case $program in /*) ;; *) echo "STREAMBOX is no absolute path: $program" && exi
 scratch=$(mktemp -d)
 trap 'rm -rf "$scratch"' EXIT
 
-# gives ROWS WORD..: the program, by these words, ends with 0 and no note, and its rows are those of the file.
+# gives ROWS NOTES WORD..: the program, by these words, ends with 0, and its rows and notes are those of the files.
 gives() {
-  local rows=$1 status=0
-  shift
+  local rows=$1 notes=$2 status=0
+  shift 2
   "$program" "$@" > "$scratch/rows" 2> "$scratch/note" || status=$?
   [ "$status" = 0 ] || fail "$*: exit code $status, $(cat "$scratch/note")"
-  [ ! -s "$scratch/note" ] || fail "$*: says $(cat "$scratch/note")"
+  cmp "$scratch/note" "$notes" || fail "$*: says $(cat "$scratch/note")"
   cmp "$scratch/rows" "$rows" || fail "$*: other rows than $rows"
 }
 
@@ -96,12 +96,17 @@ check_devices() {
   echo "$devices devices that fail: as expected"
 }
 
+# The file, or an empty one if it is not there: most runs have no notes.
+or_empty() {
+  if [ -e "$1" ]; then echo "$1"; else echo /dev/null; fi
+}
+
 check_folders() {
   local plan command
   folders=0
   for plan in */plan.toml; do
     for command in run slow; do
-      (cd "${plan%/*}" && gives rows.txt "$command" plan.toml < input.txt)
+      (cd "${plan%/*}" && gives rows.txt "$(or_empty notes.txt)" "$command" plan.toml < input.txt)
     done
     folders=$((folders + 1))
   done
@@ -145,12 +150,12 @@ blocks() {
 check_plans() {
   local plan command
   plans=0
-  awk '/^```(toml|input|rows)$/ { kind = substr($0, 4); if (kind == "toml") count++; next }
+  awk '/^```(toml|input|rows|notes)$/ { kind = substr($0, 4); if (kind == "toml") count++; next }
     /^```/ { kind = "" }
     kind != "" { print > (count "." kind) }' "$guide"
   for plan in [0-9]*.toml; do
     for command in run slow; do
-      gives "${plan%.toml}.rows" "$command" "$plan" < "${plan%.toml}.input"
+      gives "${plan%.toml}.rows" "$(or_empty "${plan%.toml}.notes")" "$command" "$plan" < "${plan%.toml}.input"
     done
     plans=$((plans + 1))
   done
@@ -166,10 +171,12 @@ check_faults() {
     gsub(/^ *`?|`? *$/, "", plan); gsub(/^ `|` $/, "", answer)
     print plan; print answer }' "$guide" > faults
   while IFS= read -r text && IFS= read -r answer; do
+    # Lines stand in backquotes each.
+    text=${text//'` `'/$'\n'}
     if [ -z "$text" ]; then
       write_long "$answer"
     elif [[ $answer == *"table row"* ]]; then
-      echo "${text//'` `'/$'\n'}" > table.csv
+      printf '%s\n' "$text" > table.csv
       plan_with_table
     else
       printf '%s\n' "$text" > plan.toml
@@ -214,7 +221,7 @@ spaces() { head -c "$1" /dev/zero | tr '\0' ' '; }
 lines_of_nothing() { head -c "$1" /dev/zero | tr '\0' '\n'; }
 
 # The first time, ../streambox proves and builds the program.
-gives first.rows sum 10 < first.txt
+gives first.rows /dev/null sum 10 < first.txt
 check_folders
 check_runs
 check_devices
