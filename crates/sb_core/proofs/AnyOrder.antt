@@ -28,7 +28,7 @@ use Rattle.sb_pipeline.specs.Operators.{operator_at}
 use Rattle.sb_record.specs.Reading.{◌>>=◌}
 use Rattle.sb_core.specs.Moments.{with_held, node_at}
 use Rattle.sb_core.specs.Exactness.{waiting_from, working, undelivered, rest, gives, IsExact}
-use Rattle.sb_pipeline.specs.declared.transform.KeptRec.{KeptRec}
+use Rattle.sb_record.specs.declared.element.KeptRec.{KeptRec}
 use Rattle.sb_core.specs.Holdings.{IsHeld, is_unpassed, IsCloseOf}
 use Rattle.sb_core.specs.Soundness.{IsOpenBelow, IsSound}
 use Rattle.sb_core.specs.Laws.{NewAtTheHead, IdleByItsLanes, takes_up, HeldInAnyOrder, EventsAtTheHead, concerns, changed, delivered_now, passed_now, fed_after}

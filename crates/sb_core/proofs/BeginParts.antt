@@ -8,7 +8,7 @@ use Rattle.std.proofs.lemmas.Bool.{eq-eqb, ne_eqb}
 use Rattle.std.proofs.lemmas.List.Elements.{All-from_recursion}
 use Rattle.sb_record.specs.declared.item.TheConstants.{END_MARK}
 use Rattle.sb_record.proofs.Elements.{every}
-use Rattle.sb_pipeline.specs.declared.transform.KeptRec.{KeptRec}
+use Rattle.sb_record.specs.declared.element.KeptRec.{KeptRec}
 use Rattle.sb_pipeline.specs.declared.transform.Step.{Step}
 use Rattle.sb_pipeline.specs.Operators.{Operator, operator_at, lanes_of}
 use Rattle.sb_pipeline.specs.Operators.Operator.{ParDo, Windowed, Sink}

@@ -7,7 +7,7 @@ use Rattle.std.proofs.lemmas.Option.{slice_get_cases}
 use Rattle.std.proofs.lemmas.List.Sums.{sum_by-append}
 use Rattle.std.proofs.lemmas.List.Filters.{sum_by-filter_both}
 use Rattle.sb_record.specs.declared.item.Record.{Record}
-use Rattle.sb_pipeline.specs.declared.transform.KeptRec.{KeptRec}
+use Rattle.sb_record.specs.declared.element.KeptRec.{KeptRec}
 use Rattle.sb_pipeline.specs.declared.transform.Kind.{Kind}
 use Rattle.sb_pipeline.specs.declared.transform.Kind.TheVariants.{Do, Group, Session, Join}
 use Rattle.sb_core.specs.declared.moment.Node.{Node}
@@ -21,7 +21,7 @@ use Rattle.sb_core.specs.declared.moment.CoreLane.{CoreLane}
 use Rattle.sb_record.specs.Records.{sorted, before, at_least, record_cmp}
 use Rattle.sb_pipeline.specs.Operators.{Operator, WindowOperator, operator_of, operator_at, grouped}
 use Rattle.sb_pardo.specs.Outputs.{outputs_of}
-use Rattle.sb_pipeline.specs.Elements.{on_lane, all_records}
+use Rattle.sb_record.specs.Elements.{on_lane, all_records}
 use Rattle.sb_pipeline.specs.Operators.Operator.{ParDo, Windowed, Sink}
 use Rattle.sb_core.specs.Marks.{closed}
 use Rattle.sb_core.specs.Closings.{is_sink, kept_at, rows_at, collected, still_open}

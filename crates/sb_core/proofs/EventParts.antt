@@ -9,7 +9,7 @@ use Rattle.sb_record.specs.declared.item.Record.{Record}
 use Rattle.sb_record.specs.declared.item.Stream.{Stream}
 use Rattle.sb_record.specs.Reading.{◌>>=◌}
 use Rattle.sb_pipeline.specs.declared.transform.Down.{Down}
-use Rattle.sb_pipeline.specs.Elements.{on_lane}
+use Rattle.sb_record.specs.Elements.{on_lane}
 use Rattle.sb_pipeline.specs.Shapes.{Shape, source}
 use Rattle.sb_pipeline.specs.Operators.{operator_at}
 use Rattle.sb_core.specs.declared.moment.CoreLane.{CoreLane}

@@ -3,7 +3,7 @@ use Rattle.std.proofs.Common.{◌≡◌, ℕ, ◌≤◌, Bool, true, false, cond
 use Rattle.std.specs.Prelude.{◌||◌}
 use Rattle.std.specs.List.{remove, slice_get}
 use Rattle.sb_record.specs.declared.item.Record.{Record}
-use Rattle.sb_pipeline.specs.Elements.{on_lane}
+use Rattle.sb_record.specs.Elements.{on_lane}
 use Rattle.sb_pipeline.specs.Operators.{operator_at}
 use Rattle.sb_pipeline.specs.Shapes.{Shape}
 use Rattle.sb_core.specs.declared.moment.CoreLane.{CoreLane}

@@ -6,7 +6,7 @@ use Rattle.std.proofs.lemmas.Bool.{eq-eqb, ne_eqb, cases_eq}
 use Rattle.std.proofs.lemmas.List.Sums.{sum_by-append}
 use Rattle.std.proofs.lemmas.List.Concat.{flat_map-append}
 use Rattle.sb_record.specs.declared.item.Record.{Record}
-use Rattle.sb_pipeline.specs.declared.transform.KeptRec.{KeptRec}
+use Rattle.sb_record.specs.declared.element.KeptRec.{KeptRec}
 use Rattle.sb_pardo.specs.declared.operation.Op.{Op}
 use Rattle.sb_core.specs.declared.moment.Node.{Node}
 use Rattle.sb_core.specs.declared.held.Held.{Held}
@@ -18,7 +18,7 @@ use Rattle.sb_core.specs.declared.moment.CoreLane.{CoreLane}
 use Rattle.sb_record.specs.Records.{at_least}
 use Rattle.sb_pipeline.specs.Operators.{Operator, operator_at, grouped}
 use Rattle.sb_pardo.specs.Outputs.{outputs_of}
-use Rattle.sb_pipeline.specs.Elements.{on_lane, all_records}
+use Rattle.sb_record.specs.Elements.{on_lane, all_records}
 use Rattle.sb_pipeline.specs.Operators.Operator.{ParDo, Windowed, Sink}
 use Rattle.sb_core.specs.Marks.{closed, first_is_closing, last_of_first}
 use Rattle.sb_core.specs.Choices.{is_empty}

@@ -13,7 +13,7 @@ use Rattle.std.proofs.lemmas.Option.{get_or_from_slice_get, same_Some, slice_get
 use Rattle.std.specs.Ordering
 use Rattle.std.proofs.lemmas.List.{length-replicate, get_or-replicate, get_or_past}
 use Rattle.sb_record.specs.declared.item.Record.{Record}
-use Rattle.sb_pipeline.specs.declared.transform.KeptRec.{KeptRec}
+use Rattle.sb_record.specs.declared.element.KeptRec.{KeptRec}
 use Rattle.sb_pipeline.specs.declared.transform.Down.{Down}
 use Rattle.sb_pipeline.specs.declared.transform.Step.{Step}
 use Rattle.sb_core.specs.declared.moment.Node.{Node}
@@ -23,7 +23,7 @@ use Rattle.sb_pipeline.specs.Shapes.{Shape}
 use Rattle.sb_record.specs.Records.{record_cmp, at_least}
 use Rattle.sb_pipeline.specs.Operators.{Operator, operator_of, operator_at, lanes_of, grouped, output}
 use Rattle.sb_pardo.specs.Outputs.{outputs_of}
-use Rattle.sb_pipeline.specs.Elements.{all_records}
+use Rattle.sb_record.specs.Elements.{all_records}
 use Rattle.sb_pipeline.specs.Flow.{arriving, from_streams}
 use Rattle.sb_pipeline.specs.Plans.{IsPlace, IsPlan}
 use Rattle.sb_pipeline.specs.Operators.Operator.{ParDo, Windowed, Sink}

@@ -21,12 +21,12 @@ use Rattle.sb_join.specs.declared.join.Combine.{Combine}
 use Rattle.sb_join.specs.Joins.{join_rows}
 use Rattle.sb_join.proofs.Pairs.{join_rows-same, join_rows-reordered, joins-before}
 use Rattle.sb_join.proofs.Times.{join_rows-times}
-use Rattle.sb_pipeline.specs.declared.transform.KeptRec.{KeptRec}
+use Rattle.sb_record.specs.declared.element.KeptRec.{KeptRec}
 use Rattle.sb_pipeline.specs.declared.transform.TheConstants.{MAX_GAP}
-use Rattle.sb_pipeline.specs.Elements.{on_lane, of_lane, all_records}
+use Rattle.sb_record.specs.Elements.{on_lane, of_lane, all_records}
 use Rattle.sb_pipeline.specs.Operators.{WindowOperator, grouped}
 use Rattle.sb_pipeline.specs.Operators.WindowOperator.{Aggregated, Sessions, Joined}
-use Rattle.sb_pipeline.proofs.Elements.{All-all_records, All-of_lane}
+use Rattle.sb_record.proofs.OnLanes.{All-all_records, All-of_lane}
 use Rattle.sb_core.specs.Closings.{still_open}
 use Rattle.sb_core.proofs.Lists.{filter_swap}
 use Rattle.sb_core.proofs.WindowOperators.{AreFrom, IsGrouping}

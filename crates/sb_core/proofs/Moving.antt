@@ -6,7 +6,7 @@ use Rattle.std.proofs.lemmas.Bool.{eq-eqb, ne_eqb, cases_eq, lt-ltb, le-ltb, cas
 use Rattle.std.proofs.lemmas.List.Sums.{sum_by-append, sum_by-take-drop}
 use Rattle.std.proofs.lemmas.List.Concat.{flat_map-append}
 use Rattle.sb_record.specs.declared.item.Record.{Record}
-use Rattle.sb_pipeline.specs.declared.transform.KeptRec.{KeptRec}
+use Rattle.sb_record.specs.declared.element.KeptRec.{KeptRec}
 use Rattle.sb_pardo.specs.declared.operation.Op.{Op}
 use Rattle.sb_core.specs.declared.moment.Node.{Node}
 use Rattle.sb_core.specs.declared.held.Held.{Held}
@@ -17,7 +17,7 @@ use Rattle.sb_core.specs.declared.moment.Moment.{Moment}
 use Rattle.sb_core.specs.declared.moment.CoreLane.{CoreLane}
 use Rattle.sb_pipeline.specs.Operators.{operator_at}
 use Rattle.sb_pardo.specs.Outputs.{outputs_of}
-use Rattle.sb_pipeline.specs.Elements.{on_lane, all_records}
+use Rattle.sb_record.specs.Elements.{on_lane, all_records}
 use Rattle.sb_pipeline.specs.Operators.Operator.{ParDo}
 use Rattle.sb_core.specs.Closings.{is_sink}
 use Rattle.sb_core.specs.Moments.{set_lane, set_node, with_held, node_at}

@@ -9,9 +9,9 @@ use Rattle.sb_record.proofs.Elements.{every, All-passed}
 use Rattle.sb_record.proofs.Sorting.{All-in_order}
 use Rattle.sb_record.specs.declared.item.Record.{Record}
 use Rattle.sb_record.specs.Records.{record_cmp, before}
-use Rattle.sb_pipeline.specs.declared.transform.KeptRec.{KeptRec}
+use Rattle.sb_record.specs.declared.element.KeptRec.{KeptRec}
 use Rattle.sb_pipeline.specs.Shapes.{Shape, source}
-use Rattle.sb_pipeline.specs.Elements.{all_records}
+use Rattle.sb_record.specs.Elements.{all_records}
 use Rattle.sb_pipeline.specs.Operators.{Operator, operator_at}
 use Rattle.sb_pipeline.specs.Operators.Operator.{ParDo, Windowed, Sink}
 use Rattle.sb_core.specs.declared.moment.Moment.{Moment}

@@ -22,7 +22,7 @@ use Rattle.sb_core.specs.declared.held.Held.TheVariants.{Work, Close}
 use Rattle.sb_core.specs.declared.moment.Moment.{Moment}
 use Rattle.sb_core.specs.declared.event.Event.TheVariants.{Arrive, Seal, Take, Deliver, Finish, Begin, Pass, End}
 use Rattle.sb_pipeline.specs.Operators.{operator_at}
-use Rattle.sb_pipeline.specs.Elements.{on_lane}
+use Rattle.sb_record.specs.Elements.{on_lane}
 use Rattle.sb_record.specs.Reading.{◌>>=◌}
 use Rattle.sb_core.specs.Choices.{only_if}
 use Rattle.sb_core.specs.Moments.{with_held, set_node, set_lane, lane_at, with_lane}

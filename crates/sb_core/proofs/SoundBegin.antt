@@ -12,7 +12,7 @@ use Rattle.std.proofs.lemmas.Bool.{cases_eq, ltb-true, ltb-false, not-true}
 use Rattle.std.proofs.lemmas.List.Sums.{sum_by-cons}
 use Rattle.std.proofs.lemmas.List.Folds.{list_any-append}
 use Rattle.std.proofs.lemmas.Option.{slice_get_within, same_Some}
-use Rattle.sb_pipeline.specs.declared.transform.KeptRec.{KeptRec}
+use Rattle.sb_record.specs.declared.element.KeptRec.{KeptRec}
 use Rattle.sb_core.specs.declared.moment.Cont.{Cont}
 use Rattle.sb_core.specs.declared.moment.CoreLane.{CoreLane}
 use Rattle.sb_pipeline.specs.declared.transform.Down.{Down}
@@ -26,10 +26,10 @@ use Rattle.sb_core.specs.declared.held.Held.TheVariants.{Work, Close}
 use Rattle.sb_record.specs.Orders.{IsAscending}
 use Rattle.sb_record.specs.Records.{record_cmp, before, at_least}
 use Rattle.sb_pipeline.specs.Operators.{Operator, grouped, operator_at, WindowOperator}
-use Rattle.sb_pipeline.specs.Elements.{all_records}
+use Rattle.sb_record.specs.Elements.{all_records}
 use Rattle.sb_pipeline.specs.Plans.{IsPlan}
 use Rattle.sb_pipeline.specs.Operators.Operator.{ParDo, Windowed, Sink}
-use Rattle.sb_pipeline.proofs.Elements.{All-all_records}
+use Rattle.sb_record.proofs.OnLanes.{All-all_records}
 use Rattle.sb_record.specs.Reading.{◌>>=◌}
 use Rattle.sb_core.specs.Marks.{before_closing, first_is_closing, last_of_first, closed}
 use Rattle.sb_core.specs.Moments.{is_close, is_work, lane_at, node_at}

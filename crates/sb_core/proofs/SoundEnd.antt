@@ -24,9 +24,9 @@ use Rattle.sb_core.specs.declared.moment.Moment.{Moment}
 use Rattle.sb_core.specs.declared.held.Held.{Held}
 use Rattle.sb_core.specs.declared.held.Held.TheVariants.{Work, Close}
 use Rattle.sb_pipeline.specs.Operators.{Operator, operator_at}
-use Rattle.sb_pipeline.specs.Elements.{on_lane}
+use Rattle.sb_record.specs.Elements.{on_lane}
 use Rattle.sb_pipeline.specs.Plans.{IsPlan}
-use Rattle.sb_pipeline.proofs.Elements.{All-on_lane}
+use Rattle.sb_record.proofs.OnLanes.{All-on_lane}
 use Rattle.sb_pipeline.specs.Operators.Operator.{ParDo, Windowed, Sink}
 use Rattle.sb_record.specs.Reading.{◌>>=◌}
 use Rattle.sb_core.specs.Marks.{before_closing, begun, closed, last_of_first, first_is_closing}

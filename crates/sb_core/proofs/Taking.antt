@@ -3,7 +3,7 @@ use Rattle.sb_record.proofs.Numbers.{bind_some}
 use Rattle.std.proofs.Common.{◌≡◌, ℕ, ◌+◌, Bool, true, false, cond, eqb, List, [], ◌∷◌, ◌++◌, Some, Option, sym, refl, ap, subst, ◌∙◌, arith}
 use Rattle.std.specs.List.{flat_map, sum_by, list_any}
 use Rattle.std.proofs.lemmas.Option.{same_Some}
-use Rattle.sb_pipeline.specs.declared.transform.KeptRec.{KeptRec}
+use Rattle.sb_record.specs.declared.element.KeptRec.{KeptRec}
 use Rattle.sb_core.specs.declared.held.Held.{Held}
 use Rattle.sb_core.specs.declared.held.Held.TheVariants.{Work}
 use Rattle.sb_pipeline.specs.declared.transform.Down.{Down}

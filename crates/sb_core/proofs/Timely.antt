@@ -6,7 +6,7 @@ use Rattle.std.proofs.lemmas.List.Sums.{sum_by-append, sum_by-cons}
 use Rattle.std.proofs.lemmas.List.Elements.{recursion_from_All}
 use Rattle.std.proofs.lemmas.List.Concat.{flat_map-append}
 use Rattle.sb_record.specs.declared.item.Record.{Record}
-use Rattle.sb_pipeline.specs.declared.transform.KeptRec.{KeptRec}
+use Rattle.sb_record.specs.declared.element.KeptRec.{KeptRec}
 use Rattle.sb_record.specs.declared.item.Stream.{Stream}
 use Rattle.sb_record.specs.declared.item.Stream.TheVariants.{A, B}
 use Rattle.sb_pardo.specs.declared.operation.Op.{Op}
@@ -19,7 +19,7 @@ use Rattle.sb_core.specs.declared.moment.CoreLane.{CoreLane}
 use Rattle.sb_record.specs.Records.{at_least}
 use Rattle.sb_pipeline.specs.Operators.{Operator, operator_of, operator_at, grouped}
 use Rattle.sb_pardo.specs.Outputs.{outputs_of}
-use Rattle.sb_pipeline.specs.Elements.{on_lane, all_records}
+use Rattle.sb_record.specs.Elements.{on_lane, all_records}
 use Rattle.sb_pipeline.specs.Flow.{arriving, from_stream, from_streams}
 use Rattle.sb_pipeline.specs.Operators.Operator.{ParDo, Windowed, Sink}
 use Rattle.sb_pipeline.specs.declared.transform.Kind.{Kind}

@@ -11,7 +11,7 @@ use Rattle.sb_record.proofs.Elements.{every, All-join, All-passed, filter_of_fil
 use Rattle.sb_record.proofs.Sorting.{IsReordered-in_order}
 use Rattle.sb_window.specs.declared.windows.TheConstants.{MAX_SIZE}
 use Rattle.sb_record.specs.Reorderings.{IsReordered}
-use Rattle.sb_pipeline.specs.declared.transform.KeptRec.{KeptRec}
+use Rattle.sb_record.specs.declared.element.KeptRec.{KeptRec}
 use Rattle.sb_pipeline.specs.Operators.{WindowOperator, grouped, reach}
 use Rattle.sb_core.specs.Closings.{is_open}
 use Rattle.sb_core.proofs.Lists.{filter_swap}

@@ -7,7 +7,7 @@ use Rattle.sb_record.specs.Records.{record_cmp, before, at_least}
 use Rattle.sb_record.proofs.Elements.{every, All-passed}
 use Rattle.sb_record.proofs.Sorting.{All-in_order}
 use Rattle.sb_window.specs.declared.windows.TheConstants.{MAX_SIZE}
-use Rattle.sb_pipeline.specs.declared.transform.KeptRec.{KeptRec}
+use Rattle.sb_record.specs.declared.element.KeptRec.{KeptRec}
 use Rattle.sb_pipeline.specs.Shapes.{Shape}
 use Rattle.sb_pipeline.specs.Operators.{Operator, WindowOperator, grouped}
 use Rattle.sb_pipeline.specs.Operators.Operator.{ParDo, Windowed, Sink}

@@ -6,8 +6,8 @@ use Rattle.sb_record.specs.Records.{sorted, before, at_least}
 use Rattle.sb_window.specs.Windows.{window_ends}
 use Rattle.sb_pardo.specs.Outputs.{outputs_of}
 use Rattle.sb_aggregate.specs.Sessions.{is_session_open}
-use Rattle.sb_pipeline.specs.declared.transform.KeptRec.{KeptRec}
-use Rattle.sb_pipeline.specs.Elements.{all_records}
+use Rattle.sb_record.specs.declared.element.KeptRec.{KeptRec}
+use Rattle.sb_record.specs.Elements.{all_records}
 use Rattle.sb_pipeline.specs.Operators.{Operator, WindowOperator, grouped}
 use Rattle.sb_pipeline.specs.Operators.Operator.{ParDo, Windowed, Sink}
 use Rattle.sb_pipeline.specs.Operators.WindowOperator.{Aggregated, Sessions, Joined}

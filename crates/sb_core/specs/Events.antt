@@ -7,7 +7,7 @@ use Rattle.sb_record.specs.declared.item.TheConstants.{MAX_TIME, END_MARK}
 use Rattle.sb_record.specs.Reading.{◌>>=◌}
 use Rattle.sb_pipeline.specs.declared.transform.Down.{Down}
 use Rattle.sb_pipeline.specs.Shapes.{Shape, source}
-use Rattle.sb_pipeline.specs.Elements.{on_lane}
+use Rattle.sb_record.specs.Elements.{on_lane}
 use Rattle.sb_pipeline.specs.Operators.{operator_at}
 use Rattle.sb_core.specs.declared.moment.Moment.{Moment}
 use Rattle.sb_core.specs.declared.held.Held.{Held}

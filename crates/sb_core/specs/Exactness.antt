@@ -2,7 +2,7 @@
 use Rattle.std.specs.Prelude.{◌≡◌, ℕ, ◌+◌, ◌≤◌, ◌==◌, not, ◌&&◌, if◌then◌else◌, List, [], ◌∷◌, ◌++◌, All, Some, slice_get}
 use Rattle.std.specs.List.{flat_map}
 use Rattle.sb_record.specs.declared.item.Record.{Record}
-use Rattle.sb_pipeline.specs.declared.transform.KeptRec.{KeptRec}
+use Rattle.sb_record.specs.declared.element.KeptRec.{KeptRec}
 use Rattle.sb_record.specs.declared.item.Stream.{Stream}
 use Rattle.sb_pipeline.specs.declared.transform.Down.{Down}
 use Rattle.sb_pipeline.specs.Shapes.{Shape, source}
@@ -15,7 +15,7 @@ use Rattle.sb_record.specs.Records.{at_least}
 use Rattle.sb_record.specs.Reorderings.{IsReordered}
 use Rattle.sb_pipeline.specs.Operators.{Operator, grouped, operator_at}
 use Rattle.sb_pardo.specs.Outputs.{outputs_of}
-use Rattle.sb_pipeline.specs.Elements.{on_lane, all_records}
+use Rattle.sb_record.specs.Elements.{on_lane, all_records}
 use Rattle.sb_pipeline.specs.Flow.{flow}
 use Rattle.sb_pipeline.specs.Results.{output_of}
 use Rattle.sb_pipeline.specs.Operators.Operator.{ParDo, Windowed, Sink}

@@ -11,7 +11,7 @@ use Rattle.sb_core.specs.declared.event.Event.{Event}
 use Rattle.sb_core.specs.declared.event.Event.TheVariants.{Arrive, Seal, Take, Deliver, Finish, Begin, Pass, End}
 use Rattle.sb_pipeline.specs.Plans.{IsPlan}
 use Rattle.sb_pipeline.specs.Operators.{operator_at}
-use Rattle.sb_pipeline.specs.Elements.{on_lane}
+use Rattle.sb_record.specs.Elements.{on_lane}
 use Rattle.sb_record.specs.Reading.{◌>>=◌}
 use Rattle.sb_core.specs.Choices.{only_if, is_empty, pulled}
 use Rattle.sb_core.specs.Lanes.{next_epoch, next_floor, with_arrival, with_seal, take_from, finish_in, closable, with_first_closing}

@@ -7,7 +7,7 @@ use Rattle.sb_record.specs.Orders.{IsAscending}
 use Rattle.sb_record.specs.Records.{record_cmp}
 use Rattle.sb_bundle.specs.declared.bundle.TheConstants.{MAX_BUNDLE}
 use Rattle.sb_pipeline.specs.declared.transform.Down.{Down}
-use Rattle.sb_pipeline.specs.declared.transform.KeptRec.{KeptRec}
+use Rattle.sb_record.specs.declared.element.KeptRec.{KeptRec}
 use Rattle.sb_pipeline.specs.declared.transform.Step.{Step}
 use Rattle.sb_pipeline.specs.Shapes.{Shape, source}
 use Rattle.sb_pipeline.specs.Operators.{Operator, operator_at, lanes_of}

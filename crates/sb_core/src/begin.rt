@@ -15,8 +15,8 @@ use crate::machine::StepStop;
 use crate::marks::{begun_in, closed, closed_with};
 use crate::moment::Moment;
 use crate::operate::{collected, kept_at, rows_at};
-use sb_pipeline::{KeptRec, Plan};
-use sb_record::{Record, Sequence};
+use sb_pipeline::Plan;
+use sb_record::{KeptRec, Record, Sequence};
 use std::alloc::Global;
 
 /// What a closing is to change.

@@ -2,8 +2,7 @@
 
 use crate::held::Held;
 use sb_bundle::Bundle;
-use sb_pipeline::KeptRec;
-use sb_record::{Record, Sequence};
+use sb_record::{KeptRec, Record, Sequence};
 
 /// The container of an epoch in a lane: its bundles, and its watermark once it has come.
 #[derive(Drop)]

@@ -1,4 +1,3 @@
-pub mod Elements
 pub mod Steps
 pub mod Times
 pub mod Feeding

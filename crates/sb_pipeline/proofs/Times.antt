@@ -17,17 +17,17 @@ use Rattle.sb_aggregate.proofs.SessionRows.{session_rows-times}
 use Rattle.sb_aggregate.proofs.Times.{aggregate_rows-times}
 use Rattle.sb_join.proofs.Times.{join_rows-times}
 use Rattle.sb_pipeline.specs.declared.transform.Down.{Down}
-use Rattle.sb_pipeline.specs.declared.transform.KeptRec.{KeptRec}
+use Rattle.sb_record.specs.declared.element.KeptRec.{KeptRec}
 use Rattle.sb_pipeline.specs.declared.transform.Kind.{Kind}
 use Rattle.sb_pipeline.specs.declared.transform.Kind.TheVariants.{Do, Group, Join, Session}
 use Rattle.sb_pipeline.specs.declared.transform.Step.{Step}
-use Rattle.sb_pipeline.specs.Elements.{on_lane, all_records, of_lane}
+use Rattle.sb_record.specs.Elements.{on_lane, all_records, of_lane}
 use Rattle.sb_pipeline.specs.Operators.{operator_of, operator_at, output}
 use Rattle.sb_pipeline.specs.Shapes.{Shape}
 use Rattle.sb_pipeline.specs.Plans.{IsPlan, IsValidKind}
 use Rattle.sb_pipeline.specs.Flow.{Sent, arriving, from_stream, from_streams, from_step, sent_from}
 use Rattle.sb_pipeline.specs.Results.{output_at, output_of, all_rows}
-use Rattle.sb_pipeline.proofs.Elements.{All-on_lane, All-all_records, All-of_lane}
+use Rattle.sb_record.proofs.OnLanes.{All-on_lane, All-all_records, All-of_lane}
 use Rattle.sb_pipeline.proofs.Steps.{kind-at}
 
 -- the latest time of what arrives at a node

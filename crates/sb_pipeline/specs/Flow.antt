@@ -4,9 +4,9 @@ use Rattle.sb_record.specs.declared.item.Record.{Record}
 use Rattle.sb_record.specs.declared.item.Stream.{Stream}
 use Rattle.sb_record.specs.declared.item.Stream.TheVariants.{A, B}
 use Rattle.sb_pipeline.specs.declared.transform.Down.{Down}
-use Rattle.sb_pipeline.specs.declared.transform.KeptRec.{KeptRec}
+use Rattle.sb_record.specs.declared.element.KeptRec.{KeptRec}
 use Rattle.sb_pipeline.specs.declared.transform.Step.{Step}
-use Rattle.sb_pipeline.specs.Elements.{on_lane}
+use Rattle.sb_record.specs.Elements.{on_lane}
 use Rattle.sb_pipeline.specs.Shapes.{Shape}
 
 -- a list on its way to a lane of a node

@@ -1,4 +1,3 @@
-pub mod Elements
 pub mod Operators
 pub mod Shapes
 pub mod Plans

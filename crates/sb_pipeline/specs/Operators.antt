@@ -9,11 +9,11 @@ use Rattle.sb_aggregate.specs.Aggregates.{aggregate_rows}
 use Rattle.sb_aggregate.specs.Sessions.{session_rows}
 use Rattle.sb_join.specs.declared.join.Combine.{Combine}
 use Rattle.sb_join.specs.Joins.{join_rows}
-use Rattle.sb_pipeline.specs.declared.transform.KeptRec.{KeptRec}
+use Rattle.sb_record.specs.declared.element.KeptRec.{KeptRec}
 use Rattle.sb_pipeline.specs.declared.transform.Kind.{Kind}
 use Rattle.sb_pipeline.specs.declared.transform.Kind.TheVariants.{Do, Group, Session, Join}
 use Rattle.sb_pipeline.specs.declared.transform.Step.{Step}
-use Rattle.sb_pipeline.specs.Elements.{all_records, of_lane}
+use Rattle.sb_record.specs.Elements.{all_records, of_lane}
 
 -- the transforms that gather records by window or session
 pub data WindowOperator : Type 0 where

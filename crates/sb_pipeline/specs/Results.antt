@@ -4,7 +4,7 @@ use Rattle.sb_record.specs.declared.item.Record.{Record}
 use Rattle.sb_record.specs.declared.item.Stream.{Stream}
 use Rattle.sb_record.specs.declared.item.TheConstants.{END_MARK}
 use Rattle.sb_record.specs.Records.{before, sorted}
-use Rattle.sb_pipeline.specs.declared.transform.KeptRec.{KeptRec}
+use Rattle.sb_record.specs.declared.element.KeptRec.{KeptRec}
 use Rattle.sb_pipeline.specs.Flow.{flow}
 use Rattle.sb_pipeline.specs.Operators.{operator_at, output}
 use Rattle.sb_pipeline.specs.Shapes.{Shape}

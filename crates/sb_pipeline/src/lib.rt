@@ -14,4 +14,4 @@ mod transform;
 mod validity;
 
 pub use plan::{Plan, sum_plan};
-pub use transform::{Down, KeptRec, Kind, MAX_GAP, MAX_TRANSFORMS, Step};
+pub use transform::{Down, Kind, MAX_GAP, MAX_TRANSFORMS, Step};

@@ -6,7 +6,6 @@ ghost use Rattle.sb_pipeline.specs.Plans.{is_join, has_windows};
 use sb_aggregate::Agg;
 use sb_join::Combine;
 use sb_pardo::Op;
-use sb_record::Record;
 use sb_window::Windows;
 
 /// The greatest gap of sessions, in the unit of the times of records.
@@ -14,13 +13,6 @@ pub const MAX_GAP: u64 = 1_000_000_000_000;
 
 /// How many transforms a plan may have.
 pub const MAX_TRANSFORMS: usize = 12;
-
-/// A record on a lane of a node.
-#[derive(Clone, Copy, Debug, PartialEq, Eq)]
-pub struct KeptRec {
-    pub lane: u32,
-    pub rec: Record,
-}
 
 /// What a transform does.
 #[derive(Drop)]

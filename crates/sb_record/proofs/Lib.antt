@@ -10,3 +10,4 @@ pub mod Distinct
 pub mod Sorting
 pub mod Earlier
 pub mod InputLemmas
+pub mod OnLanes

@@ -11,4 +11,6 @@ pub mod Progress
 pub mod Intake
 pub mod Inputs
 pub mod Rows
+pub mod Elements
+pub mod Trails
 pub mod Laws

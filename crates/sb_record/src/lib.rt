@@ -6,6 +6,7 @@
 //! [`laws`] has the limits as numbers, and what every other crate rests on. Nothing in this crate allocates memory.
 #![tactic(auto)]
 
+mod element;
 mod intake;
 mod item;
 mod key;
@@ -17,7 +18,9 @@ mod sequence;
 #[cfg(test)]
 mod tests;
 mod text;
+mod trail;
 
+pub use element::KeptRec;
 pub use intake::{Intake, LatePolicy, MAX_LINE_LENGTH, MAX_LINES, Refusal, Stop};
 pub use item::{Dropped, END_MARK, Item, MAX_TIME, NoMemory, Record, Stream, Streams};
 pub use key::{Key, Keys, MAX_KEY, MAX_WORD_LENGTH, Word};
@@ -26,3 +29,4 @@ pub use number::read_number;
 pub use row::{MAX_ROW_LENGTH, RowBuf, row_bytes};
 pub use sequence::Sequence;
 pub use text::TextBuf;
+pub use trail::Trail;

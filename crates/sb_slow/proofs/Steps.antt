@@ -12,9 +12,9 @@ use Rattle.sb_record.specs.declared.item.Stream.TheVariants.{A, B}
 use Rattle.sb_record.specs.declared.item.TheConstants.{MAX_TIME, END_MARK}
 use Rattle.sb_record.proofs.Elements.{every}
 use Rattle.sb_pipeline.specs.declared.transform.Down.{Down}
-use Rattle.sb_pipeline.specs.declared.transform.KeptRec.{KeptRec}
+use Rattle.sb_record.specs.declared.element.KeptRec.{KeptRec}
 use Rattle.sb_pipeline.specs.declared.transform.Step.{Step}
-use Rattle.sb_pipeline.specs.Elements.{all_records}
+use Rattle.sb_record.specs.Elements.{all_records}
 use Rattle.sb_pipeline.specs.Flow.{Sent, arriving, from_streams, sent_from}
 use Rattle.sb_pipeline.specs.Operators.{operator_at, output}
 use Rattle.sb_pipeline.specs.Plans.{IsPlan}

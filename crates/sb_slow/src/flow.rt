@@ -2,7 +2,7 @@
 
 ghost use Rattle.std.specs.Prelude.{◌≡◌, ◌+◌, ◌≤◌, ◌<◌, ◌++◌, [], ◌∷◌, ℕ, All, length, take, vec_len, vec_capacity, IsOk, OnOk, OnErr, IfOk};
 ghost use Rattle.sb_record.specs.Streams as streams_spec;
-ghost use Rattle.sb_pipeline.specs.Elements.{on_lane};
+ghost use Rattle.sb_record.specs.Elements.{on_lane};
 ghost use Rattle.sb_pipeline.specs.Flow as flow;
 ghost use Rattle.sb_pipeline.specs.Results as results;
 ghost use Rattle.sb_pipeline.specs.Shapes.{source};
@@ -10,8 +10,8 @@ ghost use Rattle.sb_pipeline.specs.Shapes.{source};
 use crate::gather::records_of;
 use crate::operate::{all_records, output};
 use crate::rows::sort_below;
-use sb_pipeline::{Down, KeptRec, Plan};
-use sb_record::{END_MARK, Item, MAX_TIME, NoMemory, Record, Sequence, Stream};
+use sb_pipeline::{Down, Plan};
+use sb_record::{END_MARK, Item, KeptRec, MAX_TIME, NoMemory, Record, Sequence, Stream};
 use std::alloc::Global;
 use std::marker::Model;
 

@@ -4,4 +4,5 @@ pub mod Windows
 pub mod Aggregations
 pub mod Gatherings
 pub mod Reorderings
+pub mod Groupings
 pub mod Laws

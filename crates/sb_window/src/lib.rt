@@ -3,14 +3,17 @@
 //! A window is named by its end. [`Windows`] says how long windows are and how far apart, [`Windows::ends`] gives the
 //! ends of the windows of a time, and a [`KeyedWindow`] is a window of one key: what an aggregation gathers values by.
 //! What an aggregation gives is defined on lists alone, and [`laws`] states what every way of working it out rests on.
+//! A [`Grouping`] is such a way that keeps partial results: the trait has the laws that the engine asks of it.
 //! Nothing in this crate takes memory.
 #![tactic(auto)]
 
 mod ends;
+mod grouping;
 mod keyed_window;
 pub mod laws;
 mod windows;
 
 pub use ends::Ends;
+pub use grouping::Grouping;
 pub use keyed_window::KeyedWindow;
 pub use windows::{BadWindow, MAX_SIZE, MAX_WINDOWS_OF_A_TIME, Windows};

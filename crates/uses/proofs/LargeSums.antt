@@ -23,7 +23,7 @@ use Rattle.sb_pipeline.specs.declared.transform.Step.{Step}
 use Rattle.sb_pipeline.specs.Plans.{IsPlace, IsPlan, IsValidKind}
 use Rattle.sb_pipeline.specs.Results.{all_rows}
 use Rattle.sb_pipeline.specs.Shapes.{feeds, shape_of}
-use Rattle.sb_pipeline.proofs.Elements.{all_records-on_lane}
+use Rattle.sb_record.proofs.OnLanes.{all_records-on_lane}
 use Rattle.uses.specs.LargeSums.{large_sums_steps, large_sums_plan, large_sums}
 
 -- each transform sends to a later node

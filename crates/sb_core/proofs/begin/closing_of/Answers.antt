@@ -2,7 +2,7 @@ use Rattle.std.proofs.Common.{◌≡◌, ◌<◌, ◌≤◌, List, Some, true, l
 use Rattle.std.specs.Prelude.{All, sum_by}
 use Rattle.std.specs.List.{slice_get, list_any}
 use Rattle.sb_record.specs.declared.item.TheConstants.{END_MARK}
-use Rattle.sb_pipeline.specs.declared.transform.KeptRec.{KeptRec}
+use Rattle.sb_record.specs.declared.element.KeptRec.{KeptRec}
 use Rattle.sb_pipeline.specs.Operators.{operator_at}
 use Rattle.sb_core.specs.declared.moment.CoreLane.{CoreLane}
 use Rattle.sb_core.specs.declared.held.Held.{Held}

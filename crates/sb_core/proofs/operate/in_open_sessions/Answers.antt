@@ -4,9 +4,9 @@ use Rattle.std.proofs.lemmas.List.Elements.{All-from_recursion, All-same, recurs
 use Rattle.sb_record.specs.declared.item.Record.{Record}
 use Rattle.sb_record.specs.declared.item.TheConstants.{END_MARK}
 use Rattle.sb_aggregate.specs.Sessions.{session_end, is_session_open}
-use Rattle.sb_pipeline.specs.declared.transform.KeptRec.{KeptRec}
-use Rattle.sb_pipeline.specs.Elements.{all_records}
-use Rattle.sb_pipeline.proofs.Elements.{All-all_records}
+use Rattle.sb_record.specs.declared.element.KeptRec.{KeptRec}
+use Rattle.sb_record.specs.Elements.{all_records}
+use Rattle.sb_record.proofs.OnLanes.{All-all_records}
 use Rattle.sb_core.proofs.operate.in_open_sessions.Goals as goal
 
 pub session_ends-requires-clause-times : goal.session_ends-requires-clause-times

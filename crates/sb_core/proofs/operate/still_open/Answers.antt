@@ -2,7 +2,7 @@ use Rattle.std.proofs.Common.{nat_lt, cond, [], ◌∷◌, ◌++◌, filter, tak
 use Rattle.std.specs.List.{list_any}
 use Rattle.std.proofs.lemmas.List.{take_more}
 use Rattle.std.proofs.lemmas.List.Elements.{filter-append}
-use Rattle.sb_pipeline.specs.declared.transform.KeptRec.{KeptRec}
+use Rattle.sb_record.specs.declared.element.KeptRec.{KeptRec}
 use Rattle.sb_window.specs.Windows.{window_ends}
 use Rattle.sb_core.proofs.operate.still_open.Goals as goal
 

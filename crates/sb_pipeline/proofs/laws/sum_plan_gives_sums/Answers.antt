@@ -3,7 +3,7 @@ use Rattle.sb_record.specs.Records.{before, sorted}
 use Rattle.sb_record.specs.declared.item.Stream.TheVariants.{A}
 use Rattle.sb_window.specs.Spacing.{fixed}
 use Rattle.sb_window.specs.Aggregations.{sum_rows}
-use Rattle.sb_pipeline.proofs.Elements.{all_records-on_lane}
+use Rattle.sb_record.proofs.OnLanes.{all_records-on_lane}
 use Rattle.sb_pipeline.proofs.laws.sum_plan_gives_sums.Goals as goal
 
 pub returns-clause-sums : goal.returns-clause-sums

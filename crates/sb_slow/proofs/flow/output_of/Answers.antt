@@ -6,8 +6,8 @@ use Rattle.sb_record.specs.declared.item.Record.{Record}
 use Rattle.sb_record.specs.declared.item.TheConstants.{END_MARK}
 use Rattle.sb_record.specs.declared.item.Stream.{Stream}
 use Rattle.sb_record.specs.Streams.{records_of}
-use Rattle.sb_pipeline.specs.declared.transform.KeptRec.{KeptRec}
-use Rattle.sb_pipeline.specs.Elements.{all_records}
+use Rattle.sb_record.specs.declared.element.KeptRec.{KeptRec}
+use Rattle.sb_record.specs.Elements.{all_records}
 use Rattle.sb_pipeline.specs.Flow.{Sent, arriving, from_streams, sent_from}
 use Rattle.sb_pipeline.specs.Operators.{output}
 use Rattle.sb_pipeline.specs.Results.{output_at, output_of}

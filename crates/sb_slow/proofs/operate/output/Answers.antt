@@ -2,9 +2,9 @@ use Rattle.std.proofs.Common.{◌<◌, ◌∙◌}
 use Rattle.std.proofs.lemmas.List.Elements.{All-from_recursion, All-same, recursion_from_All}
 use Rattle.sb_record.specs.declared.item.Record.{Record}
 use Rattle.sb_record.specs.declared.item.TheConstants.{END_MARK}
-use Rattle.sb_pipeline.specs.declared.transform.KeptRec.{KeptRec}
-use Rattle.sb_pipeline.specs.Elements.{all_records, of_lane}
-use Rattle.sb_pipeline.proofs.Elements.{All-all_records, All-of_lane}
+use Rattle.sb_record.specs.declared.element.KeptRec.{KeptRec}
+use Rattle.sb_record.specs.Elements.{all_records, of_lane}
+use Rattle.sb_record.proofs.OnLanes.{All-all_records, All-of_lane}
 use Rattle.sb_slow.proofs.operate.output.Goals as goal
 
 pub aggregates-requires : goal.aggregates-requires

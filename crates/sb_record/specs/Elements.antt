@@ -1,7 +1,7 @@
 -- Elements: records on the lanes of a node.
 use Rattle.std.specs.Prelude.{ℕ, List, ◌==◌, filter, map}
 use Rattle.sb_record.specs.declared.item.Record.{Record}
-use Rattle.sb_pipeline.specs.declared.transform.KeptRec.{KeptRec}
+use Rattle.sb_record.specs.declared.element.KeptRec.{KeptRec}
 
 -- the records, on this lane
 abbrev pub on_lane : ℕ → List Record → List KeptRec

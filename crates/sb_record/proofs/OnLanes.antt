@@ -4,8 +4,8 @@ use Rattle.std.specs.List.{filter, AllByRecursion}
 use Rattle.std.specs.Prelude.{◌==◌}
 use Rattle.sb_record.specs.declared.item.Record.{Record}
 use Rattle.sb_record.proofs.Elements.{All-passed}
-use Rattle.sb_pipeline.specs.declared.transform.KeptRec.{KeptRec}
-use Rattle.sb_pipeline.specs.Elements.{on_lane, all_records, of_lane}
+use Rattle.sb_record.specs.declared.element.KeptRec.{KeptRec}
+use Rattle.sb_record.specs.Elements.{on_lane, all_records, of_lane}
 
 pub all_records-on_lane : (lane : ℕ) (records : List Record) → all_records (on_lane lane records ++ []) ≡ records
 all_records-on_lane lane [] = refl
