@@ -11,5 +11,7 @@
 
 mod aggregate;
 pub mod laws;
+mod partial;
+mod partials;
 
 pub use aggregate::{Agg, MAX_TOP, aggregated};

@@ -1,5 +1,6 @@
 -- The different elements of a list.
-use Rattle.std.proofs.Common.{◌≡◌, ◌<◌, Bool, true, List, [], ◌∷◌, length, sym, refl, ◌∙◌, arith}
+use Rattle.std.proofs.Common.{◌≡◌, ◌<◌, Bool, true, List, [], ◌∷◌, ◌++◌, length, sym, refl, ap, ◌∙◌, arith}
+use Rattle.std.specs.Prelude.{◌||◌}
 use Rattle.std.specs.List.{list_any, dedup, Contains}
 use Rattle.std.specs.List.Sorted.{IsSorted}
 use Rattle.std.specs.Ordering.{eq_by_cmp}
@@ -7,7 +8,7 @@ use Rattle.std.specs.Cmp.{IsTotalOrder, eq_by_cmp_equiv}
 use Rattle.std.specs.declared.cmp.Ordering.{Ordering}
 use Rattle.std.specs.declared.cmp.Ordering.TheVariants.{Less, Equal, Greater}
 use Rattle.std.proofs.lemmas.Bool.Decides.{same_from_decides}
-use Rattle.std.proofs.lemmas.List.Folds.{Any-from_list_any, list_any-from_Any}
+use Rattle.std.proofs.lemmas.List.Folds.{list_any-append, Any-from_list_any, list_any-from_Any}
 use Rattle.std.proofs.lemmas.List.Kept.{IsStrictlySortedBy-dedup, Contains-dedup, Contains-from_dedup}
 use Rattle.std.proofs.lemmas.Map.Lookups.{CmpEqualImpliesEq, btree_set_from_contains}
 use Rattle.std.proofs.lemmas.Map.Views.{tells_apart}
@@ -50,3 +51,9 @@ module _ {X : Type 0} {R : X → X → Ordering} (o : IsTotalOrder R) (exact : C
       (λ i. dedup (λ x y. ties x y i) ws)
       ∙ btree_set_from_contains o (record { keys = dedup (eq_by_cmp R) ws }) (record { keys = distinct R vs }) (IsStrictlySortedBy-dedup o (λ x y. refl) ws up) (distinct-sorted o vs)
       (λ q. any_dedup (eq_by_cmp R q) ws ∙ any_reordered (eq_by_cmp R q) ws vs h ∙ sym (any_distinct o exact q vs)) exact
+
+  -- it is enough to keep the different elements
+  pub distinct-kept : (vs ws : List X) → distinct R (distinct R vs ++ ws) ≡ distinct R (vs ++ ws)
+  distinct-kept vs ws =
+      btree_set_from_contains o (record { keys = distinct R (distinct R vs ++ ws) }) (record { keys = distinct R (vs ++ ws) }) (distinct-sorted o (distinct R vs ++ ws)) (distinct-sorted o (vs ++ ws))
+      (λ q. any_distinct o exact q (distinct R vs ++ ws) ∙ list_any-append (eq_by_cmp R q) (distinct R vs) ws ∙ ap (λ b. b || list_any (eq_by_cmp R q) ws) (any_distinct o exact q vs) ∙ sym (list_any-append (eq_by_cmp R q) vs ws) ∙ sym (any_distinct o exact q (vs ++ ws))) exact
