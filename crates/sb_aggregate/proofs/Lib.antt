@@ -5,3 +5,5 @@ pub mod SessionEnds
 pub mod SessionLaws
 pub mod SessionRows
 pub mod PartialValues
+pub mod Ends
+pub mod Absorbing

@@ -1,5 +1,5 @@
 -- The partial value of values is made of those of their parts.
-use Rattle.std.proofs.Common.{◌≡◌, ⊥, ℕ, ℤ, ◌+◌, ◌%◌, ◌^◌, List, [], ◌∷◌, ◌++◌, length, take, sym, refl, ap, ◌∙◌, arith, w64, length-append}
+use Rattle.std.proofs.Common.{◌≡◌, ℕ, ℤ, ◌+◌, ◌%◌, ◌^◌, List, [], ◌∷◌, ◌++◌, length, take, sym, refl, ap, ◌∙◌, arith, w64, length-append}
 use Rattle.std.specs.Prelude.{sum_by}
 use Rattle.std.specs.Int.{cast_signed, cast_unsigned, int_wrapping_add}
 use Rattle.std.specs.Ordering.{int_cmp}

@@ -9,7 +9,7 @@ use Rattle.sb_record.specs.Elements.{all_records}
 use Rattle.sb_record.specs.Records.{at_least}
 use Rattle.sb_record.specs.Reorderings.{IsReordered}
 use Rattle.sb_window.specs.declared.keyed_window.KeyedWindow.{KeyedWindow}
-use Rattle.sb_window.specs.Spacing.{Spacing, AreWindows}
+use Rattle.sb_window.specs.Spacing.{Spacing}
 use Rattle.sb_window.specs.Windows.{keyed_window_cmp}
 use Rattle.sb_aggregate.specs.declared.aggregate.Agg.{Agg}
 use Rattle.sb_aggregate.specs.Aggregates.{aggregate_rows}
@@ -44,12 +44,10 @@ IsMadeOf p es = IsReordered p.records (all_records es)
 
 -- the map has the partial values of the records, whose times are below the mark of the end
 pub record HasPartials (agg : Agg) (windows : Spacing) (records : List Record) (m : PartialValues) : Type 0 where
-  pub are : AreWindows windows
   pub in_time : AllByRecursion (λ r. r.time < END_MARK) records
   pub at : (q : KeyedWindow) → get keyed_window_cmp m q ≡ partial_at agg windows records q
 
 -- the map has those of the windows whose rows are from a mark on
 pub record HasPartialsFrom (mark : ℕ) (agg : Agg) (windows : Spacing) (records : List Record) (m : PartialValues) : Type 0 where
-  pub are : AreWindows windows
   pub in_time : AllByRecursion (λ r. r.time < END_MARK) records
   pub at : (q : KeyedWindow) → get keyed_window_cmp m q ≡ partial_from agg windows mark records q

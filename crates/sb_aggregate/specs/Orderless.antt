@@ -1,5 +1,5 @@
 -- What is made of values is the same in every order. It stands here because the law of order of the grouping cites it.
-use Rattle.std.proofs.Common.{◌≡◌, false, ℤ, ◌%◌, ◌^◌, List, [], ◌∷◌, length, take, get_or, All, Contains, sym, refl, ap, ◌∙◌, arith, w64}
+use Rattle.std.proofs.Common.{◌≡◌, false, ℤ, ◌%◌, ◌^◌, List, [], ◌∷◌, ◌++◌, length, take, get_or, All, Contains, sym, refl, ap, ◌∙◌, arith, w64}
 use Rattle.std.specs.Prelude.{sum_by}
 use Rattle.std.specs.Int.{cast_signed, cast_unsigned}
 use Rattle.std.specs.Ordering.{int_cmp, flip_args, is_lt, is_gt, ordering_reverse}
@@ -7,7 +7,13 @@ use Rattle.std.specs.Cmp.{IsTotalOrder, int_cmp_total}
 use Rattle.std.proofs.lemmas.Cmp.{back_total}
 use Rattle.std.proofs.lemmas.List.Recursion.{is_sum_by}
 use Rattle.std.proofs.lemmas.Map.Lookups.{CmpEqualImpliesEq, exact_signed}
+use Rattle.sb_record.specs.declared.element.KeptRec.{KeptRec}
+use Rattle.sb_record.specs.Elements.{all_records}
 use Rattle.sb_record.specs.Orders.{in_order}
+use Rattle.sb_record.specs.Records.{at_least}
+use Rattle.sb_record.specs.Reorderings.{IsReordered}
+use Rattle.sb_record.proofs.Sums.{IsReordered-append, IsReordered-map}
+use Rattle.sb_aggregate.specs.Groups.{Absorbed, given}
 use Rattle.std.specs.declared.cmp.Ordering.TheVariants.{Less, Equal, Greater}
 use Rattle.sb_window.proofs.Rows.{rows_by-order}
 use Rattle.sb_aggregate.specs.declared.aggregate.Agg.TheVariants.{Count, Sum, Min, Max, Distinct, Top}
@@ -46,3 +52,10 @@ aggregates-orderless (Top k) vs ws h = ap (take k) (in_order-reordered greatest_
 
 pub aggregate_rows-orderless : AggregateRowsDoNotDependOnOrder
 aggregate_rows-orderless agg windows l m h = rows_by-order (aggregate_values agg) windows (aggregates-orderless agg) l m h
+
+-- what an aggregate gives does not depend on the order of what comes
+pub given-orderless : (g : Absorbed) (l m : List KeptRec) → IsReordered l m → IsReordered (given g l) (given g m)
+given-orderless g l m h f =
+    ap (λ rows. sum_by f (at_least g.closed rows))
+    (aggregate_rows-orderless g.agg g.windows (g.records ++ all_records l) (g.records ++ all_records m)
+    (IsReordered-append g.records g.records (all_records l) (all_records m) (λ f. refl) (IsReordered-map (λ (e : KeptRec). e.rec) l m h)))

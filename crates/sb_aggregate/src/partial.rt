@@ -1,6 +1,7 @@
 //! Partial values: what is kept of the values of a keyed window until it closes.
 
 ghost use Rattle.std.specs.Prelude.{◌≡◌, ◌∷◌, ◌++◌, [], ◌%◌, ◌^◌, length, IfOk, OnOk};
+ghost use Rattle.std.specs.BTreeSet.{IsOrdered};
 ghost use Rattle.std.specs.Ordering.{int_cmp};
 ghost use Rattle.sb_record.specs.Orders.{distinct};
 ghost use Rattle.sb_aggregate.specs.Aggregates.{IsValid};
@@ -188,6 +189,7 @@ fn with_values(alloc: Global, agg: Agg, held: Held, more: Held) -> Result<Held, 
 
 // The values of two sets.
 fn with_all(values: BTreeSet<i64>, more: BTreeSet<i64>) -> Result<BTreeSet<i64>, NoMemory>
+    requires { IsOrdered int_cmp values }
     ensures { IfOk result (λ all. all.keys ≡ distinct int_cmp (values.keys ++ more.keys)) }
 {
     let mut all = values;
@@ -204,8 +206,8 @@ fn made_of(alloc: Global, agg: Agg, values: Vec<i64>) -> Result<Held, NoMemory>
     match agg.joining() {
         Agg::Distinct => {
             let mut set = BTreeSet::new(alloc);
-            for value in values {
-                set.insert(value)?;
+            for value in &values {
+                set.insert(*value)?;
             }
             Ok(Held::Different(set))
         }

@@ -1,6 +1,6 @@
 //! Maps of partial values, one for each keyed window.
 
-ghost use Rattle.std.specs.Prelude.{◌≡◌, Some, if◌then◌else◌, OnOk, IfOk};
+ghost use Rattle.std.specs.Prelude.{◌≡◌, ◌-◌, ◌^◌, ◌<◌, Some, None, if◌then◌else◌, nat_lt, OnOk, IfOk};
 ghost use Rattle.std.specs.BTreeMap.{IsOrdered, get, is_at};
 ghost use Rattle.sb_record.specs.Records.{sorted};
 ghost use Rattle.sb_window.specs.declared.keyed_window.KeyedWindow.{KeyedWindow as Window};
@@ -10,11 +10,10 @@ ghost use Rattle.sb_aggregate.specs.Partials.{final_values, join_values};
 
 use crate::aggregate::Agg;
 use crate::partial::Partial;
-use sb_record::{NoMemory, Record};
+use sb_record::{Key, NoMemory, Record};
 use sb_window::KeyedWindow;
 use std::alloc::Global;
 use std::collections::BTreeMap;
-use std::collections::btree_map::Entry;
 
 /// A partial value for each of some keyed windows.
 pub(crate) type Partials = BTreeMap<KeyedWindow, Partial>;
@@ -32,12 +31,12 @@ pub(crate) fn join_at(
         then joined (join_values agg) (get keyed_window_cmp partials.old window) (Some partial)
         else get keyed_window_cmp partials.old q)) }
 {
-    match partials.entry(window)? {
-        Entry::Vacant(entry) => {
-            entry.insert(partial);
+    match partials.get_mut(&window) {
+        Some(kept) => kept.join(alloc, agg, partial),
+        None => {
+            partials.insert(window, partial)?;
             Ok(())
         }
-        Entry::Occupied(entry) => entry.into_mut().join(alloc, agg, partial),
     }
 }
 
@@ -59,6 +58,21 @@ pub(crate) fn join_all(
         join_at(alloc, agg, into, window, partial)?;
     }
     Ok(())
+}
+
+/// Takes off the partial values of the keyed windows that end after the mark.
+pub(crate) fn split_at(partials: &mut Partials, mark: u64) -> Result<Partials, NoMemory>
+    requires { mark < 2 ^ 64 - 1 }
+    ensures closed { OnOk result ((q : Window) → get keyed_window_cmp partials.new q
+        ≡ (if nat_lt mark q.end then None else get keyed_window_cmp partials.old q)) }
+    ensures opened { IfOk result (λ later. (q : Window) → get keyed_window_cmp later q
+        ≡ (if nat_lt mark q.end then get keyed_window_cmp partials.old q else None)) }
+{
+    let open = partials.split_off(&KeyedWindow {
+        end: mark + 1,
+        key: Key::Number(0),
+    })?;
+    Ok(open)
 }
 
 /// The rows of partial values, in order.
