@@ -1,8 +1,9 @@
 pub mod Sums
-pub mod Firsts
-pub mod Distinct
 pub mod Orderless
 pub mod Times
 pub mod SessionEnds
 pub mod SessionLaws
 pub mod SessionRows
+pub mod PartialValues
+pub mod Ends
+pub mod Absorbing

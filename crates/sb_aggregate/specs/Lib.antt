@@ -1,3 +1,7 @@
 pub mod Aggregates
 pub mod Sessions
 pub mod Laws
+pub mod Orderless
+pub mod Partials
+pub mod Held
+pub mod Groups

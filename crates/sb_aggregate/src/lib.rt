@@ -10,6 +10,14 @@
 #![tactic(auto)]
 
 mod aggregate;
+mod grouping;
 pub mod laws;
+mod part;
+mod partial;
+mod partials;
+#[cfg(test)]
+mod tests;
 
 pub use aggregate::{Agg, MAX_TOP, aggregated};
+pub use grouping::Aggregate;
+pub use part::{AggPart, part_of};

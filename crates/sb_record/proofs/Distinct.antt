@@ -43,7 +43,7 @@ module _ {X : Type 0} {R : X → X → Ordering} (o : IsTotalOrder R) where
   distinct-sorted (x ∷ xs) = put_once-sorted x (distinct R xs) (distinct-sorted xs)
 
   module _ (exact : CmpEqualImpliesEq R) where
-    any_put_once : (q x : X) (ys : List X) → list_any (eq_by_cmp R q) (put_once R x ys) ≡ (eq_by_cmp R q x || list_any (eq_by_cmp R q) ys)
+    pub any_put_once : (q x : X) (ys : List X) → list_any (eq_by_cmp R q) (put_once R x ys) ≡ (eq_by_cmp R q x || list_any (eq_by_cmp R q) ys)
     any_put_once q x [] = refl
     any_put_once q x (y ∷ ys) =
         elim (R x y) as (λ r. R x y ≡ r → list_any (eq_by_cmp R q) (by_ordering r (x ∷ y ∷ ys) (y ∷ ys) (y ∷ put_once R x ys)) ≡ (eq_by_cmp R q x || (eq_by_cmp R q y || list_any (eq_by_cmp R q) ys))) [

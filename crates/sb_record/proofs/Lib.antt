@@ -8,6 +8,8 @@ pub mod Grammar
 pub mod Sums
 pub mod Distinct
 pub mod Sorting
+pub mod Firsts
+pub mod Different
 pub mod Earlier
 pub mod InputLemmas
 pub mod OnLanes

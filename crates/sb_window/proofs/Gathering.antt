@@ -4,20 +4,22 @@ use Rattle.std.specs.Prelude.{◌||◌, ◌&&◌}
 use Rattle.std.specs.List.{filter, flat_map, list_any, AllByRecursion}
 use Rattle.std.specs.Option.{is_some}
 use Rattle.std.specs.Map.{keys_of}
+use Rattle.std.specs.Ordering.{eq_by_cmp}
 use Rattle.std.specs.BTreeMap.{BTreeMap, IsOrdered, get, is_at}
 use Rattle.std.proofs.lemmas.Bool.{eqb-true, ne_eqb}
 use Rattle.std.proofs.lemmas.List.{map-append}
 use Rattle.std.proofs.lemmas.List.Elements.{filter-append, recursion_from_All, All-from_recursion}
 use Rattle.std.proofs.lemmas.List.Folds.{list_any-append, list_any_none, flat_map-map}
+use Rattle.std.proofs.lemmas.List.Kept.{IsStrictlySortedBy-filter}
 use Rattle.std.proofs.lemmas.Option.{cond_some}
-use Rattle.std.proofs.lemmas.Map.Views.{All-found, tells_apart}
+use Rattle.std.proofs.lemmas.Map.Views.{All-found, tells_apart, any-filter_same}
 use Rattle.std.proofs.lemmas.Map.Made.{is_some-lookup}
 use Rattle.std.proofs.lemmas.Map.Lookups.{btree_set_from_contains}
 use Rattle.sb_record.specs.declared.item.Record.{Record}
 use Rattle.sb_record.specs.declared.key.Key.{Key}
 use Rattle.sb_record.specs.Keys.{same_key}
 use Rattle.sb_record.proofs.KeyOrder.{exact_keys}
-use Rattle.sb_record.proofs.Elements.{every}
+use Rattle.sb_record.proofs.Elements.{every, filter_all}
 use Rattle.sb_record.proofs.Sums.{any_filtered, none_pass}
 use Rattle.sb_record.proofs.Distinct.{distinct-sorted}
 use Rattle.sb_window.specs.declared.keyed_window.KeyedWindow.{KeyedWindow}
@@ -113,11 +115,11 @@ made_at-more {V} join v key e es rising now later step q =
     by_case false false c d = refl
 
 -- ---- the entries of a map
--- a map that has a value just at the keyed windows that have records has an entry for each of these, in order
-pub entries-keyed_windows : {V : Type 0} (windows : Spacing) (l : List Record) (f : KeyedWindow → V) (m : BTreeMap KeyedWindow V) → IsOrdered keyed_window_cmp m
-    → ((q : KeyedWindow) → get keyed_window_cmp m q ≡ cond (list_any (is_in windows q) l) (Some (f q)) None)
-    → m.entries ≡ map (λ q. (q, f q)) (keyed_windows windows l)
-entries-keyed_windows {V} windows l f m ordered at =
+-- a map that has a value just at the keyed windows that pass and have records has an entry for each of these, in order
+pub entries-passing : {V : Type 0} (windows : Spacing) (p : KeyedWindow → Bool) (l : List Record) (f : KeyedWindow → V) (m : BTreeMap KeyedWindow V) → IsOrdered keyed_window_cmp m
+    → ((q : KeyedWindow) → get keyed_window_cmp m q ≡ cond (p q && list_any (is_in windows q) l) (Some (f q)) None)
+    → m.entries ≡ map (λ q. (q, f q)) (filter p (keyed_windows windows l))
+entries-passing {V} windows p l f m ordered at =
     sym (each m.entries (recursion_from_All (λ (e : KeyedWindow × V). get keyed_window_cmp m e.0 ≡ Some e.1) m.entries (All-found keyed_windows_total m ordered)))
     ∙ ap (map (λ q. (q, f q))) (sym same_keys)
   where
@@ -125,15 +127,26 @@ entries-keyed_windows {V} windows l f m ordered at =
     is_some-cond true v = refl
     is_some-cond false v = refl
 
-    same_keys : keyed_windows windows l ≡ keys_of m.entries
-    same_keys = btree_set_from_contains keyed_windows_total (record { keys = keyed_windows windows l }) (record { keys = keys_of m.entries })
-        (distinct-sorted keyed_windows_total (flat_map (windows_of windows) l)) ordered
-        (λ q. any_keyed_windows windows q l ∙ sym (is_some-cond (list_any (is_in windows q) l) (f q)) ∙ ap is_some (sym (at q)) ∙ is_some-lookup (is_at (keyed_window_cmp q)) m.entries)
+    among : (q : KeyedWindow) → list_any (eq_by_cmp keyed_window_cmp q) (filter p (keyed_windows windows l)) ≡ (p q && list_any (is_in windows q) l)
+    among q =
+        any-filter_same (eq_by_cmp keyed_window_cmp q) p (p q) (λ x same. ap p (sym (tells_apart exact_keyed_windows q x same))) (keyed_windows windows l)
+        ∙ ap (λ b. p q && b) (any_keyed_windows windows q l)
+
+    same_keys : filter p (keyed_windows windows l) ≡ keys_of m.entries
+    same_keys = btree_set_from_contains keyed_windows_total (record { keys = filter p (keyed_windows windows l) }) (record { keys = keys_of m.entries })
+        (IsStrictlySortedBy-filter keyed_window_cmp p (keyed_windows windows l) (distinct-sorted keyed_windows_total (flat_map (windows_of windows) l))) ordered
+        (λ q. among q ∙ sym (is_some-cond (p q && list_any (is_in windows q) l) (f q)) ∙ ap is_some (sym (at q)) ∙ is_some-lookup (is_at (keyed_window_cmp q)) m.entries)
         exact_keyed_windows
 
     each : (es : List (KeyedWindow × V)) → AllByRecursion (λ (e : KeyedWindow × V). get keyed_window_cmp m e.0 ≡ Some e.1) es → map (λ q. (q, f q)) (keys_of es) ≡ es
     each [] all = refl
-    each (e ∷ es) all = λ i. (e.0, (cond_some (list_any (is_in windows e.0) l) (f e.0) e.1 (sym (at e.0) ∙ all.0)).1 i) ∷ each es all.1 i
+    each (e ∷ es) all = λ i. (e.0, (cond_some (p e.0 && list_any (is_in windows e.0) l) (f e.0) e.1 (sym (at e.0) ∙ all.0)).1 i) ∷ each es all.1 i
+
+-- the same, where all pass
+pub entries-keyed_windows : {V : Type 0} (windows : Spacing) (l : List Record) (f : KeyedWindow → V) (m : BTreeMap KeyedWindow V) → IsOrdered keyed_window_cmp m
+    → ((q : KeyedWindow) → get keyed_window_cmp m q ≡ cond (list_any (is_in windows q) l) (Some (f q)) None)
+    → m.entries ≡ map (λ q. (q, f q)) (keyed_windows windows l)
+entries-keyed_windows windows l f m ordered at = entries-passing windows (λ _. true) l f m ordered at ∙ ap (map (λ q. (q, f q))) (filter_all (keyed_windows windows l))
 
 -- the rows of a map that gathers the values of records are the rows over the records
 pub rows_of_entries-gathered : {V : Type 0} (made : List ℤ → V) (values : V → List ℤ) (windows : Spacing) (l : List Record) (m : BTreeMap KeyedWindow V) → IsOrdered keyed_window_cmp m

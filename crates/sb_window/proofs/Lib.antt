@@ -1,3 +1,5 @@
 pub mod Multiples
 pub mod Rows
 pub mod Gathering
+pub mod Joining
+pub mod Closing

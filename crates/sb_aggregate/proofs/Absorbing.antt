@@ -1,0 +1,89 @@
+-- What an aggregate gives once a part is absorbed, and once windows are closed.
+use Rattle.std.proofs.Common.{◌≡◌, ℕ, ◌≤◌, ◌<◌, Bool, true, false, cond, List, [], ◌∷◌, ◌++◌, append-nil, append_assoc, subst, sym, refl, ap, ◌∙◌, arith}
+use Rattle.std.specs.Prelude.{◌||◌, nat_lt, sum_by, min, ◌+◌, None}
+use Rattle.std.specs.List.{flat_map, list_any, AllByRecursion}
+use Rattle.std.specs.BTreeMap.{BTreeMap, IsOrdered, get}
+use Rattle.std.proofs.lemmas.Bool.{le-ltb, ltb-false}
+use Rattle.std.proofs.lemmas.List.{map-append}
+use Rattle.sb_record.specs.declared.element.KeptRec.{KeptRec}
+use Rattle.sb_record.specs.declared.item.Record.{Record}
+use Rattle.sb_record.specs.declared.item.TheConstants.{END_MARK}
+use Rattle.sb_record.specs.Elements.{all_records}
+use Rattle.sb_record.specs.Records.{sorted, at_least}
+use Rattle.sb_record.specs.Reorderings.{IsReordered}
+use Rattle.sb_record.proofs.Elements.{All-join}
+use Rattle.sb_record.proofs.OnLanes.{All-all_records}
+use Rattle.sb_record.proofs.Sums.{IsReordered-append, any_reordered}
+use Rattle.sb_window.specs.declared.keyed_window.KeyedWindow.{KeyedWindow}
+use Rattle.sb_window.specs.Spacing.{Spacing}
+use Rattle.sb_window.specs.Windows.{keyed_window_cmp}
+use Rattle.sb_window.specs.Gatherings.{joined, rows_of_entries}
+use Rattle.sb_window.specs.Groupings.{IsFrom, Closes}
+use Rattle.sb_window.specs.Aggregations.{rows_by}
+use Rattle.sb_window.proofs.Closing.{is_between, rows_of_entries-when, closes-between}
+use Rattle.sb_window.proofs.Rows.{when}
+use Rattle.sb_aggregate.specs.declared.aggregate.Agg.{Agg}
+use Rattle.sb_aggregate.specs.Aggregates.{aggregate_values, aggregate_rows}
+use Rattle.sb_aggregate.specs.Partials.{PartialValues, partial_values, join_values, final_values, partial_from, partial_at}
+use Rattle.sb_aggregate.specs.Groups.{HasPartials, HasPartialsFrom}
+use Rattle.sb_aggregate.specs.Orderless.{aggregate_rows-orderless}
+use Rattle.sb_aggregate.proofs.PartialValues.{final-partial}
+use Rattle.sb_aggregate.proofs.Ends.{partial_from-append, partials-closed, partials-open}
+
+-- one list more after others
+pub flat-more : (ls : List (List Record)) (l : List Record) → flat_map (λ l. l) (ls ++ l ∷ []) ≡ flat_map (λ l. l) ls ++ l
+flat-more [] l = append-nil l
+flat-more (k ∷ ls) l = ap (λ m. k ++ m) (flat-more ls l) ∙ sym (append_assoc k (flat_map (λ l. l) ls) l)
+
+-- where no time of elements is below a mark, none of the records is that they hold in another order
+pub late-reordered : (mark : ℕ) (l m : List Record) → IsReordered l m → AllByRecursion (λ r. mark ≤ r.time) m → AllByRecursion (λ r. mark ≤ r.time) l
+late-reordered mark l m same late = from_none l (any_reordered (λ r. nat_lt r.time mark) l m same ∙ to_none m late)
+  where
+    to_none : (l : List Record) → AllByRecursion (λ r. mark ≤ r.time) l → list_any (λ r. nat_lt r.time mark) l ≡ false
+    to_none [] late = refl
+    to_none (r ∷ l) late = (λ i. le-ltb r.time mark late.0 i || to_none l late.1 i)
+
+    from_none : (l : List Record) → list_any (λ r. nat_lt r.time mark) l ≡ false → AllByRecursion (λ r. mark ≤ r.time) l
+    from_none [] none = tt
+    from_none (r ∷ l) none = by_case (nat_lt r.time mark) refl none (from_none l)
+      where
+        by_case : (b : Bool) → nat_lt r.time mark ≡ b → (b || list_any (λ r. nat_lt r.time mark) l) ≡ false → (list_any (λ r. nat_lt r.time mark) l ≡ false → AllByRecursion (λ r. mark ≤ r.time) l) → AllByRecursion (λ r. mark ≤ r.time) (r ∷ l)
+        by_case true e h rest = cc
+        by_case false e h rest = (ltb-false r.time mark e, rest h)
+
+-- ---- absorbing
+pub partials-absorbed : (agg : Agg) (windows : Spacing) (mark : ℕ) (absorbed records : List Record) (m more joined_map : PartialValues) → HasPartialsFrom mark agg windows absorbed m → HasPartials agg windows records more
+    → AllByRecursion (λ r. mark ≤ r.time) records
+    → ((q : KeyedWindow) → get keyed_window_cmp joined_map q ≡ joined (join_values agg) (get keyed_window_cmp m q) (get keyed_window_cmp more q)) → HasPartialsFrom mark agg windows (absorbed ++ records) joined_map
+partials-absorbed agg windows mark absorbed records m more joined_map has has_more late join = record {
+  in_time = All-join (λ r. r.time < END_MARK) absorbed records has.in_time has_more.in_time;
+  at = λ q. join q ∙ (λ i. joined (join_values agg) (has.at q i) (has_more.at q i)) ∙ partial_from-append agg windows mark absorbed records late q;
+}
+
+pub rows-absorbed : (agg : Agg) (windows : Spacing) (mark : ℕ) (absorbed records : List Record) (es l : List KeptRec) → IsReordered records (all_records es)
+    → at_least mark (aggregate_rows agg windows ((absorbed ++ records) ++ all_records l)) ≡ at_least mark (aggregate_rows agg windows (absorbed ++ all_records (es ++ l)))
+rows-absorbed agg windows mark absorbed records es l same = ap (at_least mark) (aggregate_rows-orderless agg windows ((absorbed ++ records) ++ all_records l) (absorbed ++ all_records (es ++ l)) alike)
+  where
+    alike : IsReordered ((absorbed ++ records) ++ all_records l) (absorbed ++ all_records (es ++ l))
+    alike f =
+        ap (sum_by f) (append_assoc absorbed records (all_records l))
+        ∙ IsReordered-append absorbed absorbed (records ++ all_records l) (all_records es ++ all_records l) (λ f. refl) (IsReordered-append records (all_records es) (all_records l) (all_records l) same (λ f. refl)) f
+        ∙ ap (λ rs. sum_by f (absorbed ++ rs)) (sym (map-append (λ (e : KeptRec). e.rec) es l))
+
+-- ---- closing
+module _ (agg : Agg) (windows : Spacing) (closed mark : ℕ) (within : closed ≤ mark) (absorbed : List Record) (m : PartialValues) (has : HasPartialsFrom closed agg windows absorbed m) where
+  pub partials-left : (n : PartialValues) → ((q : KeyedWindow) → get keyed_window_cmp n q ≡ cond (nat_lt (min mark (END_MARK + windows.size)) q.end) (get keyed_window_cmp m q) None) → HasPartialsFrom mark agg windows absorbed n
+  partials-left n at = record {
+    in_time = has.in_time;
+    at = λ q. at q ∙ ap (λ o. cond (nat_lt (min mark (END_MARK + windows.size)) q.end) o None) (has.at q) ∙ partials-open agg windows closed mark within absorbed has.in_time q;
+  }
+
+  pub closes-with : (n : PartialValues) (rows : List Record) → IsOrdered keyed_window_cmp n → ((q : KeyedWindow) → get keyed_window_cmp n q ≡ cond (nat_lt (min mark (END_MARK + windows.size)) q.end) None (get keyed_window_cmp m q))
+      → rows ≡ sorted (rows_of_entries (final_values agg) n.entries)
+      → Closes mark (λ l. at_least closed (aggregate_rows agg windows (absorbed ++ all_records l))) rows (λ l. at_least mark (aggregate_rows agg windows (absorbed ++ all_records l)))
+  closes-with n rows ordered at are =
+      closes-between (aggregate_values agg) windows closed mark within absorbed rows
+      (are ∙ ap sorted (
+      rows_of_entries-when (partial_values agg) (final_values agg) windows (is_between closed mark) absorbed n ordered
+      (λ q. at q ∙ ap (λ o. cond (nat_lt (min mark (END_MARK + windows.size)) q.end) None o) (has.at q) ∙ partials-closed agg windows closed mark within absorbed has.in_time q)
+      ∙ (λ i. when (is_between closed mark) (rows_by (λ vs. final-partial agg vs i) windows absorbed))))

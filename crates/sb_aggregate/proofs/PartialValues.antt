@@ -1,0 +1,90 @@
+-- The partial value of values is made of those of their parts.
+use Rattle.std.proofs.Common.{◌≡◌, ℕ, ℤ, ◌+◌, ◌%◌, ◌^◌, List, [], ◌∷◌, ◌++◌, length, take, sym, refl, ap, ◌∙◌, arith, w64, length-append}
+use Rattle.std.specs.Prelude.{sum_by}
+use Rattle.std.specs.Int.{cast_signed, cast_unsigned, int_wrapping_add}
+use Rattle.std.specs.Ordering.{int_cmp}
+use Rattle.std.specs.Cmp.{int_cmp_total}
+use Rattle.std.proofs.Math.Nat.{mod-add-mod, add-mod}
+use Rattle.std.proofs.lemmas.Int.{of_z-to_z}
+use Rattle.std.proofs.lemmas.List.Sums.{sum_by-append, sum_by-cons}
+use Rattle.std.proofs.lemmas.Map.Lookups.{exact_signed}
+use Rattle.sb_record.proofs.Sums.{IsReordered-swap}
+use Rattle.sb_record.proofs.Firsts.{firsts-kept}
+use Rattle.sb_record.proofs.Different.{distinct-reordered, distinct-kept}
+use Rattle.sb_window.specs.Reorderings.{IgnoresOrder}
+use Rattle.sb_window.specs.Aggregations.{sum_values}
+use Rattle.sb_aggregate.specs.declared.aggregate.Agg.{Agg}
+use Rattle.sb_aggregate.specs.declared.aggregate.Agg.TheVariants.{Count, Sum, Min, Max, Distinct, Top}
+use Rattle.sb_aggregate.specs.Aggregates.{signed, aggregate_values}
+use Rattle.sb_aggregate.specs.Orderless.{greatest_total, exact_greatest, aggregates-orderless}
+use Rattle.sb_aggregate.specs.Partials.{partial_values, joining, join_values, final_values}
+
+pub partials-orderless : (agg : Agg) → IgnoresOrder (partial_values agg)
+partials-orderless Count vs ws h = aggregates-orderless Count vs ws h
+partials-orderless Sum vs ws h = aggregates-orderless Sum vs ws h
+partials-orderless Min vs ws h = aggregates-orderless Min vs ws h
+partials-orderless Max vs ws h = aggregates-orderless Max vs ws h
+partials-orderless Distinct vs ws h = distinct-reordered int_cmp_total exact_signed vs ws h
+partials-orderless (Top k) vs ws h = aggregates-orderless (Top k) vs ws h
+
+-- ---- sums
+sum-unsigned : (n : ℕ) → cast_unsigned w64 (cast_signed w64 (n % 2 ^ 64)) ≡ n % 2 ^ 64
+sum-unsigned n = of_z-to_z w64 (n % 2 ^ 64) (omega arith)
+
+-- the sum of two values
+pub sum_of_two : (v w : ℤ) → sum_values (v ∷ w ∷ []) ≡ int_wrapping_add w64 v w ∷ []
+sum_of_two v w = ap (λ n. cast_signed w64 (n % 2 ^ 64) ∷ []) (two (sum_by-cons (cast_unsigned w64) v (w ∷ [])) (sum_by-cons (cast_unsigned w64) w []))
+  where
+    two : sum_by (cast_unsigned w64) (v ∷ w ∷ []) ≡ cast_unsigned w64 v + sum_by (cast_unsigned w64) (w ∷ []) → sum_by (cast_unsigned w64) (w ∷ []) ≡ cast_unsigned w64 w + 0 → sum_by (cast_unsigned w64) (v ∷ w ∷ []) ≡ cast_unsigned w64 v + cast_unsigned w64 w
+    two a b = omega (arith, a, b)
+
+sum-kept : (vs ws : List ℤ) → sum_values (sum_values vs ++ ws) ≡ sum_values (vs ++ ws)
+sum-kept vs ws =
+    ap (λ n. cast_signed w64 (n % 2 ^ 64) ∷ []) (sum_by-cons (cast_unsigned w64) (cast_signed w64 (sum_by (cast_unsigned w64) vs % 2 ^ 64)) ws ∙ ap (λ n. n + sum_by (cast_unsigned w64) ws) (sum-unsigned (sum_by (cast_unsigned w64) vs)))
+    ∙ ap (λ n. cast_signed w64 n ∷ []) (mod-add-mod (sum_by (cast_unsigned w64) vs) (2 ^ 64) (sum_by (cast_unsigned w64) ws))
+    ∙ ap (λ n. cast_signed w64 (n % 2 ^ 64) ∷ []) (sym (sum_by-append (cast_unsigned w64) vs ws))
+
+counts-added : (vs ws : List ℤ) → signed (length (vs ++ ws)) ∷ [] ≡ sum_values (signed (length vs) ∷ signed (length ws) ∷ [])
+counts-added vs ws =
+    ap (λ n. cast_signed w64 n ∷ []) (ap (λ n. n % 2 ^ 64) (length-append vs ws) ∙ add-mod (length vs) (length ws) (2 ^ 64) ∙ (λ i. (sym (sum-unsigned (length vs)) i + sym (sum-unsigned (length ws)) i) % 2 ^ 64))
+    ∙ sym (sum_of_two (signed (length vs)) (signed (length ws)))
+
+-- ---- partial values of partial values
+kept : (agg : Agg) → (vs ws : List ℤ) → partial_values (joining agg) (partial_values (joining agg) vs ++ ws) ≡ partial_values (joining agg) (vs ++ ws)
+kept Count vs ws = sum-kept vs ws
+kept Sum vs ws = sum-kept vs ws
+kept Min vs ws = firsts-kept int_cmp_total exact_signed 1 vs ws
+kept Max vs ws = firsts-kept greatest_total exact_greatest 1 vs ws
+kept Distinct vs ws = distinct-kept int_cmp_total exact_signed vs ws
+kept (Top k) vs ws = firsts-kept greatest_total exact_greatest k vs ws
+
+both-kept : (agg : Agg) → (vs ws : List ℤ) → partial_values (joining agg) (vs ++ ws) ≡ partial_values (joining agg) (partial_values (joining agg) vs ++ partial_values (joining agg) ws)
+both-kept agg vs ws =
+    sym (kept agg vs ws)
+    ∙ swapped (partial_values (joining agg) vs) ws
+    ∙ sym (kept agg ws (partial_values (joining agg) vs))
+    ∙ swapped (partial_values (joining agg) ws) (partial_values (joining agg) vs)
+  where
+    swapped : (xs ys : List ℤ) → partial_values (joining agg) (xs ++ ys) ≡ partial_values (joining agg) (ys ++ xs)
+    swapped xs ys = partials-orderless (joining agg) (xs ++ ys) (ys ++ xs) (IsReordered-swap xs ys)
+
+-- the partial value of two lists is made of those of each
+pub partials-joined : (agg : Agg) (vs ws : List ℤ) → partial_values agg (vs ++ ws) ≡ join_values agg (partial_values agg vs) (partial_values agg ws)
+partials-joined Count vs ws = counts-added vs ws
+partials-joined Sum vs ws = both-kept Sum vs ws
+partials-joined Min vs ws = both-kept Min vs ws
+partials-joined Max vs ws = both-kept Max vs ws
+partials-joined Distinct vs ws = both-kept Distinct vs ws
+partials-joined (Top k) vs ws = both-kept (Top k) vs ws
+
+pub join_values-swapped : (agg : Agg) (vs ws : List ℤ) → join_values agg vs ws ≡ join_values agg ws vs
+join_values-swapped agg vs ws = partials-orderless (joining agg) (vs ++ ws) (ws ++ vs) (IsReordered-swap vs ws)
+
+-- what is made of a partial value is what is made of its values
+pub final-partial : (agg : Agg) (vs : List ℤ) → final_values agg (partial_values agg vs) ≡ aggregate_values agg vs
+final-partial Count vs = refl
+final-partial Sum vs = refl
+final-partial Min vs = refl
+final-partial Max vs = refl
+final-partial Distinct vs = refl
+final-partial (Top k) vs = refl

@@ -1,0 +1,8 @@
+use Rattle.std.proofs.lemmas.List.Sorted.{sum_by-IsPermutation}
+use Rattle.sb_record.proofs.Sorting.{records_total, ascending-from_sorted, sorted-unique}
+use Rattle.sb_aggregate.proofs.partials.sort_rows.Goals as goal
+
+pub returns : goal.returns
+returns c =
+    sorted-unique c.sort.new.self.items c.args.rows.now.items (ascending-from_sorted records_total c.sort.new.self.items c.in_ok-sort.ensures.sorted)
+    (λ f. sum_by-IsPermutation f c.args.rows.now.items c.sort.new.self.items c.sort.ensures.permutation)

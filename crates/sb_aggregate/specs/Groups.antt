@@ -1,0 +1,53 @@
+-- What contracts see of a part of an aggregate, and of an aggregate.
+use Rattle.std.specs.Prelude.{◌≡◌, ℕ, ◌<◌, Bool, true, List, ◌++◌}
+use Rattle.std.specs.BTreeMap.{BTreeMap, get}
+use Rattle.std.specs.List.{AllByRecursion}
+use Rattle.sb_record.specs.declared.item.Record.{Record}
+use Rattle.sb_record.specs.declared.item.TheConstants.{END_MARK}
+use Rattle.sb_record.specs.declared.element.KeptRec.{KeptRec}
+use Rattle.sb_record.specs.Elements.{all_records}
+use Rattle.sb_record.specs.Records.{at_least}
+use Rattle.sb_record.specs.Reorderings.{IsReordered}
+use Rattle.sb_window.specs.declared.keyed_window.KeyedWindow.{KeyedWindow}
+use Rattle.sb_window.specs.Spacing.{Spacing}
+use Rattle.sb_window.specs.Windows.{keyed_window_cmp}
+use Rattle.sb_aggregate.specs.declared.aggregate.Agg.{Agg}
+use Rattle.sb_aggregate.specs.Aggregates.{aggregate_rows}
+use Rattle.sb_aggregate.specs.Partials.{PartialValues, partial_at, partial_from}
+
+-- a part: the records that were grouped
+pub record Grouped : Type 0 where
+  pub agg : Agg
+  pub windows : Spacing
+  pub records : List Record
+
+-- an aggregate: the records that were absorbed, the mark of the last closing, and whether memory ran out
+pub record Absorbed : Type 0 where
+  pub agg : Agg
+  pub windows : Spacing
+  pub records : List Record
+  pub closed : ℕ
+  pub spent : Bool
+
+-- what an aggregate gives, from its closed mark on, of what it absorbed and of these elements
+abbrev pub given : Absorbed → List KeptRec → List Record
+given g l = at_least g.closed (aggregate_rows g.agg g.windows (g.records ++ all_records l))
+
+-- the part was made for such an aggregate
+pub record IsLike (g : Absorbed) (p : Grouped) : Type 0 where
+  pub agg : p.agg ≡ g.agg
+  pub windows : p.windows ≡ g.windows
+
+-- the part was made of the records of these elements, in any order
+abbrev pub IsMadeOf : Grouped → List KeptRec → Type 0
+IsMadeOf p es = IsReordered p.records (all_records es)
+
+-- the map has the partial values of the records, whose times are below the mark of the end
+pub record HasPartials (agg : Agg) (windows : Spacing) (records : List Record) (m : PartialValues) : Type 0 where
+  pub in_time : AllByRecursion (λ r. r.time < END_MARK) records
+  pub at : (q : KeyedWindow) → get keyed_window_cmp m q ≡ partial_at agg windows records q
+
+-- the map has those of the windows whose rows are from a mark on
+pub record HasPartialsFrom (mark : ℕ) (agg : Agg) (windows : Spacing) (records : List Record) (m : PartialValues) : Type 0 where
+  pub in_time : AllByRecursion (λ r. r.time < END_MARK) records
+  pub at : (q : KeyedWindow) → get keyed_window_cmp m q ≡ partial_from agg windows mark records q

@@ -1,0 +1,232 @@
+//! Partial values: what is kept of the values of a keyed window until it closes.
+
+ghost use Rattle.std.specs.Prelude.{◌≡◌, ◌∷◌, ◌++◌, [], ◌%◌, ◌^◌, length, IfOk, OnOk};
+ghost use Rattle.std.specs.BTreeSet.{IsOrdered};
+ghost use Rattle.std.specs.Ordering.{int_cmp};
+ghost use Rattle.sb_record.specs.Orders.{distinct};
+ghost use Rattle.sb_aggregate.specs.Aggregates.{IsValid};
+ghost use Rattle.sb_aggregate.specs.Partials.{partial_values, join_values, final_values, joining, rows_of_values};
+ghost use Rattle.sb_aggregate.specs.Held.{held_values};
+
+use crate::aggregate::{Agg, aggregated};
+use sb_record::{NoMemory, Record};
+use sb_window::KeyedWindow;
+use std::alloc::Global;
+use std::collections::BTreeSet;
+use std::marker::Model;
+
+/// The partial value of the values of a keyed window, which contracts see as a list: a count, a sum, the least or the
+/// greatest value alone, or the different values in order, or the greatest values, greatest first.
+#[derive(Drop)]
+pub(crate) struct Partial {
+    held: Held,
+}
+
+// A partial value by its form. A single value takes no memory of its own.
+#[derive(Drop)]
+enum Held {
+    One(i64),
+    Different(BTreeSet<i64>),
+    Several(Vec<i64>),
+}
+
+impl Model for Partial {
+    ghost use Rattle.std.specs.Prelude.{ℤ, List};
+
+    ghost Value = { List ℤ };
+
+    ghost use Rattle.sb_aggregate.specs.Held.{held_values};
+
+    ghost view = { λ p. held_values p.held };
+}
+
+impl Agg {
+    // The aggregation that makes one partial value of two.
+    fn joining(self) -> Agg
+        ensures { result ≡ joining self }
+    {
+        match self {
+            Agg::Count => Agg::Sum,
+            agg => agg,
+        }
+    }
+}
+
+impl Partial {
+    /// The partial value of one value.
+    pub(crate) fn of_one(agg: Agg, value: i64) -> Partial
+        requires { IsValid agg }
+        ensures { result ≡ partial_values agg (value ∷ []) }
+    {
+        let value = match agg {
+            Agg::Count => 1,
+            _ => value,
+        };
+        Partial {
+            held: Held::One(value),
+        }
+    }
+
+    /// Joins another partial value to this one.
+    ///
+    /// # Errors
+    ///
+    /// [`NoMemory`]; both are lost then.
+    pub(crate) fn join(&mut self, alloc: Global, agg: Agg, more: Partial) -> Result<(), NoMemory>
+        ensures { OnOk result (self.new ≡ join_values agg self.old more) }
+    {
+        let held = std::mem::replace(&mut self.held, Held::One(0));
+        self.held = match more.held {
+            Held::One(value) => with_value(alloc, agg, held, value)?,
+            more => with_values(alloc, agg, held, more)?,
+        };
+        Ok(())
+    }
+
+    /// Adds the rows of a keyed window that has this partial value.
+    ///
+    /// # Errors
+    ///
+    /// [`NoMemory`]; some of the rows may have been added.
+    pub(crate) fn push_rows(
+        self,
+        alloc: Global,
+        agg: Agg,
+        window: &KeyedWindow,
+        rows: &mut Vec<Record>,
+    ) -> Result<(), NoMemory>
+        ensures { OnOk result (rows.new.items ≡ rows.old.items ++ rows_of_values window.now (final_values agg self)) }
+    {
+        match (agg, self.held) {
+            (Agg::Distinct, held) => push_row(window, held.len().cast_signed(), rows),
+            (_, Held::One(value)) => push_row(window, value, rows),
+            (_, held) => {
+                for value in held.into_list(alloc)? {
+                    push_row(window, value, rows)?;
+                }
+                Ok(())
+            }
+        }
+    }
+}
+
+impl Held {
+    // How many values there are.
+    fn len(&self) -> u64
+        ensures { result ≡ length (held_values self.now) % 2 ^ 64 }
+    {
+        match self {
+            Held::One(_) => 1,
+            Held::Different(values) => values.len() as u64,
+            Held::Several(values) => values.len() as u64,
+        }
+    }
+
+    fn into_list(self, alloc: Global) -> Result<Vec<i64>, NoMemory>
+        ensures { IfOk result (λ values. values.items ≡ held_values self) }
+    {
+        match self {
+            Held::One(value) => {
+                let mut values = Vec::new(alloc);
+                values.push(value)?;
+                Ok(values)
+            }
+            Held::Different(set) => {
+                let mut values = Vec::new(alloc);
+                for value in set {
+                    values.push(value)?;
+                }
+                Ok(values)
+            }
+            Held::Several(values) => Ok(values),
+        }
+    }
+}
+
+// What is held with the partial value of one value more.
+fn with_value(alloc: Global, agg: Agg, held: Held, value: i64) -> Result<Held, NoMemory>
+    ensures { IfOk result (λ h. held_values h ≡ join_values agg (held_values held) (value ∷ [])) }
+{
+    match (agg, held) {
+        (Agg::Count, Held::One(count)) => Ok(Held::One(count.wrapping_add(value))),
+        (Agg::Sum, Held::One(sum)) => Ok(Held::One(sum.wrapping_add(value))),
+        (Agg::Min, Held::One(least)) => Ok(Held::One(least.min(value))),
+        (Agg::Max, Held::One(greatest)) => Ok(Held::One(greatest.max(value))),
+        (Agg::Distinct, Held::Different(values)) => {
+            let mut values = values;
+            values.insert(value)?;
+            Ok(Held::Different(values))
+        }
+        (agg, held) => {
+            let mut values = held.into_list(alloc)?;
+            values.push(value)?;
+            made_of(alloc, agg, values)
+        }
+    }
+}
+
+// What is held with another partial value.
+fn with_values(alloc: Global, agg: Agg, held: Held, more: Held) -> Result<Held, NoMemory>
+    ensures { IfOk result (λ h. held_values h ≡ join_values agg (held_values held) (held_values more)) }
+{
+    match (agg, held, more) {
+        (Agg::Distinct, Held::Different(values), Held::Different(more)) => {
+            let all = if values.len() < more.len() {
+                with_all(more, values)?
+            } else {
+                with_all(values, more)?
+            };
+            Ok(Held::Different(all))
+        }
+        (agg, held, more) => {
+            let mut values = held.into_list(alloc)?;
+            let mut more = more.into_list(alloc)?;
+            values.append(&mut more)?;
+            made_of(alloc, agg, values)
+        }
+    }
+}
+
+// The values of two sets.
+fn with_all(values: BTreeSet<i64>, more: BTreeSet<i64>) -> Result<BTreeSet<i64>, NoMemory>
+    requires { IsOrdered int_cmp values }
+    ensures { IfOk result (λ all. all.keys ≡ distinct int_cmp (values.keys ++ more.keys)) }
+{
+    let mut all = values;
+    for value in more {
+        all.insert(value)?;
+    }
+    Ok(all)
+}
+
+// What is held of partial values, one after the other.
+fn made_of(alloc: Global, agg: Agg, values: Vec<i64>) -> Result<Held, NoMemory>
+    ensures { IfOk result (λ h. held_values h ≡ partial_values (joining agg) values.items) }
+{
+    match agg.joining() {
+        Agg::Distinct => {
+            let mut set = BTreeSet::new(alloc);
+            for value in &values {
+                set.insert(*value)?;
+            }
+            Ok(Held::Different(set))
+        }
+        agg => {
+            let mut values = values;
+            aggregated(agg, &mut values)?;
+            Ok(Held::Several(values))
+        }
+    }
+}
+
+// Adds a row of a keyed window.
+fn push_row(window: &KeyedWindow, value: i64, rows: &mut Vec<Record>) -> Result<(), NoMemory>
+    ensures { OnOk result (rows.new.items ≡ rows.old.items ++ rows_of_values window.now (value ∷ [])) }
+{
+    rows.push(Record {
+        time: window.end.saturating_sub(1),
+        key: window.key,
+        value,
+    })?;
+    Ok(())
+}
