@@ -1,3 +1,4 @@
 pub mod Multiples
 pub mod Rows
 pub mod Gathering
+pub mod Marks
