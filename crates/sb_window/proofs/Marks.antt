@@ -1,9 +1,9 @@
 -- Records and elements from a mark on, and lists that differ in order alone.
-use Rattle.std.proofs.Common.{◌≡◌, ℕ, ◌+◌, ◌≤◌, ◌<◌, Bool, true, false, not, cond, List, [], ◌∷◌, ◌++◌, sym, refl, ap, ◌∙◌}
+use Rattle.std.proofs.Common.{◌≡◌, ℕ, suc, ◌+◌, ◌≤◌, ◌<◌, Bool, true, false, not, cond, List, [], ◌∷◌, ◌++◌, length, sym, refl, ap, ◌∙◌, arith}
 use Rattle.std.specs.Prelude.{◌||◌, nat_lt}
-use Rattle.std.specs.List.{list_any, AllByRecursion}
+use Rattle.std.specs.List.{list_any, sum_by, AllByRecursion}
 use Rattle.std.proofs.lemmas.Bool.{ltb-false, lt-ltb, le-ltb}
-use Rattle.std.proofs.lemmas.List.Sums.{sum_by-append}
+use Rattle.std.proofs.lemmas.List.Sums.{sum_by-append, sum_by-cons}
 use Rattle.sb_record.specs.declared.element.KeptRec.{KeptRec}
 use Rattle.sb_record.specs.declared.item.Record.{Record}
 use Rattle.sb_record.specs.Records.{before, at_least}
@@ -13,6 +13,13 @@ use Rattle.sb_record.proofs.Sums.{any_reordered}
 
 pub IsReordered-append : {X : Type 0} (l m r s : List X) → IsReordered l m → IsReordered r s → IsReordered (l ++ r) (m ++ s)
 IsReordered-append l m r s h k f = sum_by-append f l r ∙ (λ i. h f i + k f i) ∙ sym (sum_by-append f m s)
+
+pub length-reordered : {X : Type 0} (l m : List X) → IsReordered l m → length l ≡ length m
+length-reordered l m h = counted l ∙ h (λ x. 1) ∙ sym (counted m)
+  where
+    counted : {X : Type 0} (l : List X) → length l ≡ sum_by (λ x. 1) l
+    counted [] = refl
+    counted (x ∷ l) = ap suc (counted l) ∙ omega arith ∙ sym (sum_by-cons (λ x. 1) x l)
 
 -- ---- all that is reordered passes where all did
 any-none : {X : Type 0} (p : X → Bool) (l : List X) → AllByRecursion (λ x. p x ≡ false) l → list_any p l ≡ false
@@ -47,6 +54,10 @@ before-none mark (r ∷ l) all = ap (λ b. cond b (r ∷ before mark l) (before 
 pub at_least-all : (mark : ℕ) (l : List Record) → AllByRecursion (λ r. mark ≤ r.time) l → at_least mark l ≡ l
 at_least-all mark [] all = refl
 at_least-all mark (r ∷ l) all = ap (λ b. cond (not b) (r ∷ at_least mark l) (at_least mark l)) (le-ltb r.time mark all.0) ∙ ap (λ l. r ∷ l) (at_least-all mark l all.1)
+
+pub at_least-none : (mark : ℕ) (l : List Record) → AllByRecursion (λ r. r.time < mark) l → at_least mark l ≡ []
+at_least-none mark [] all = refl
+at_least-none mark (r ∷ l) all = ap (λ b. cond (not b) (r ∷ at_least mark l) (at_least mark l)) (lt-ltb r.time mark all.0) ∙ at_least-none mark l all.1
 
 pub All-at_least : (mark : ℕ) (l : List Record) → AllByRecursion (λ r. mark ≤ r.time) (at_least mark l)
 All-at_least mark [] = tt
