@@ -3,3 +3,4 @@ pub mod Rows
 pub mod Gathering
 pub mod Joining
 pub mod Closing
+pub mod Marks
