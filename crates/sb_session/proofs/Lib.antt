@@ -1,0 +1,5 @@
+pub mod KeyedTimes
+pub mod Maps
+pub mod Closing
+pub mod Going
+pub mod Rows
