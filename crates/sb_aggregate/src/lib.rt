@@ -11,5 +11,7 @@
 
 mod aggregate;
 pub mod laws;
+mod session;
 
 pub use aggregate::{Agg, MAX_TOP, aggregated};
+pub use session::MAX_GAP;

@@ -26,26 +26,11 @@ use Rattle.sb_window.specs.Windows.{keyed_window_cmp}
 use Rattle.sb_window.proofs.Rows.{exact_keyed_windows, same_keyed_window}
 use Rattle.sb_aggregate.specs.Sessions.{end_from, times_from, session_end, session_of, is_in_session, is_session_open, values_in_session}
 use Rattle.sb_aggregate.proofs.SessionEnds.{IsEndOf, has_time, is_same_key, end-is, end-low, end-unique, end-cut}
-use Rattle.sb_aggregate.proofs.SessionLaws.{end-after}
+use Rattle.sb_aggregate.proofs.SessionLaws.{end-after, end-rises, or_cases, or_left, or_right, any-filter}
 use Rattle.sb_session.specs.Kept.{is_below, keeps, Takes}
 
-end-rises : (gap : ℕ) (key : Key) (l : List Record) (t u : ℕ) → t ≤ u → end_from gap t (times_from key t l) ≤ end_from gap u (times_from key u l)
-end-rises gap key l t u le =
-    end-low (has_time key l) (has_time key l) gap u t (end_from gap u (times_from key u l)) (end_from gap t (times_from key t l)) (end-is gap key u l) (end-is gap key t l)
-    (let k : u + gap ≤ end_from gap u (times_from key u l) = end-after gap key l u in omega (arith, le, k)) (λ _ _ _ h. h)
-
-or_cases : (a b : Bool) (P : Type 0) → (a ≡ true → P) → (b ≡ true → P) → (a || b) ≡ true → P
-or_cases true b P f g h = f refl
-or_cases false b P f g h = g h
-
-or_left : (a b : Bool) → a ≡ true → (a || b) ≡ true
-or_left a b h = ap (λ c. c || b) h
-
-or_right : (a b : Bool) → b ≡ true → (a || b) ≡ true
-or_right true b h = refl
-or_right false b h = h
-
-same_bool : (a b : Bool) → (a ≡ true → b ≡ true) → (b ≡ true → a ≡ true) → a ≡ b
+-- truths that follow from one another
+pub same_bool : (a b : Bool) → (a ≡ true → b ≡ true) → (b ≡ true → a ≡ true) → a ≡ b
 same_bool true true f g = refl
 same_bool true false f g = let k : false ≡ true = f refl in cc
 same_bool false true f g = let k : false ≡ true = g refl in cc
@@ -176,14 +161,6 @@ module _ (gap mark : ℕ) (l : List Record) (some : 1 ≤ gap) (q : KeyedWindow)
 abbrev pub IsPending : ℕ → ℕ → List Record → List KeyedWindow → Type 0
 IsPending gap mark l due =
     (r : Record) → has_time r.key l r.time ≡ true → session_end gap l r ≤ mark → (list_any (eq_by_cmp keyed_window_cmp (session_of gap l r)) due ≡ true) ⊎ AllByRecursion (λ p. keyed_window_cmp (session_of gap l r) p ≡ Less) due
-
-any-filter : {X : Type 0} (p o : X → Bool) (l : List X) → list_any p (filter o l) ≡ true → list_any p l ≡ true
-any-filter p o [] h = h
-any-filter {X} p o (x ∷ l) h = by_case (o x) (any-filter p o l) h
-  where
-    by_case : (b : Bool) → (list_any p (filter o l) ≡ true → list_any p l ≡ true) → list_any p (cond b (x ∷ filter o l) (filter o l)) ≡ true → (p x || list_any p l) ≡ true
-    by_case true ih h = or_cases (p x) (list_any p (filter o l)) ((p x || list_any p l) ≡ true) (or_left (p x) (list_any p l)) (λ k. or_right (p x) (list_any p l) (ih k)) h
-    by_case false ih h = or_right (p x) (list_any p l) (ih h)
 
 -- so in the silence before a candidate's end all times of the list are still there
 pub silence-whole : (gap mark : ℕ) (l : List Record) (q : KeyedWindow) (rest : List KeyedWindow) → IsPending gap mark l (q ∷ rest) → (u : ℕ) → q.end < u + gap

@@ -3,3 +3,4 @@ pub mod Maps
 pub mod Closing
 pub mod Going
 pub mod Rows
+pub mod Giving

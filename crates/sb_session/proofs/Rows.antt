@@ -26,14 +26,8 @@ use Rattle.sb_aggregate.proofs.SessionRows.{any_sessions}
 use Rattle.sb_aggregate.proofs.SessionLaws.{end-after}
 use Rattle.sb_aggregate.proofs.SessionEnds.{has_time}
 use Rattle.sb_session.specs.Kept.{rows_of, AreDue}
-use Rattle.sb_session.proofs.Closing.{all-have}
+use Rattle.sb_session.proofs.Closing.{all-have, same_bool}
 use Rattle.sb_session.proofs.Going.{rows_in}
-
-same_bool : (a b : Bool) → (a ≡ true → b ≡ true) → (b ≡ true → a ≡ true) → a ≡ b
-same_bool true true f g = refl
-same_bool true false f g = let k : false ≡ true = f refl in cc
-same_bool false true f g = let k : false ≡ true = g refl in cc
-same_bool false false f g = refl
 
 module _ (agg : Agg) (gap : ℕ) (l : List Record) where
   is_real : KeyedWindow → Bool

@@ -1,0 +1,25 @@
+-- What a grouping of sessions gives, by the records that it keeps.
+use Rattle.std.specs.Prelude.{ℕ, List, ◌++◌}
+use Rattle.std.proofs.Common.{refl, sym, ap, ◌∙◌}
+use Rattle.std.proofs.lemmas.List.Sums.{sum_by-append}
+use Rattle.std.specs.Prelude.{sum_by, ◌+◌}
+use Rattle.sb_record.specs.declared.element.KeptRec.{KeptRec}
+use Rattle.sb_record.specs.declared.item.Record.{Record}
+use Rattle.sb_record.specs.Elements.{all_records}
+use Rattle.sb_record.specs.Reorderings.{IsReordered}
+use Rattle.sb_record.proofs.Sums.{IsReordered-map}
+use Rattle.sb_aggregate.specs.declared.aggregate.Agg.{Agg}
+use Rattle.sb_aggregate.specs.Sessions.{session_rows}
+use Rattle.sb_aggregate.proofs.SessionRows.{session_rows-orderless}
+
+-- the rows of the sessions of what is kept and of what comes
+abbrev pub gives_of : Agg → ℕ → List Record → List KeptRec → List Record
+gives_of agg gap kept l = session_rows agg gap (kept ++ all_records l)
+
+-- lists that differ in order alone, one behind the other
+pub joined : (a b c d : List Record) → IsReordered a b → IsReordered c d → IsReordered (a ++ c) (b ++ d)
+joined a b c d h k f = sum_by-append f a c ∙ (λ i. h f i + k f i) ∙ sym (sum_by-append f b d)
+
+-- what comes in another order gives the same rows; it stands here because the grouping's law of order cites it
+pub gives-order : (agg : Agg) (gap : ℕ) (kept : List Record) (l m : List KeptRec) → IsReordered l m → IsReordered (gives_of agg gap kept l) (gives_of agg gap kept m)
+gives-order agg gap kept l m h f = ap (sum_by f) (session_rows-orderless agg gap (kept ++ all_records l) (kept ++ all_records m) (joined kept kept (all_records l) (all_records m) (λ f. refl) (IsReordered-map (λ e. e.rec) l m h)))
