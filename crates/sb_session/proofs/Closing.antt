@@ -1,20 +1,18 @@
 -- A closing, candidate by candidate.
-use Rattle.std.proofs.Common.{◌≡◌, ℕ, ℤ, ◌+◌, ◌-◌, ◌<◌, ◌≤◌, Bool, true, false, cond, not, eqb, ltb, List, [], ◌∷◌, ◌++◌, map, length, get_or, Option, Some, None, sym, refl, ap, subst, ◌∙◌, arith, ⊎_elim, inl, inr}
+use Rattle.std.proofs.Common.{◌≡◌, ℕ, ℤ, ◌+◌, ◌-◌, ◌<◌, ◌≤◌, Bool, true, false, cond, not, eqb, ltb, List, [], ◌∷◌, map, get_or, sym, refl, ap, subst, ◌∙◌, arith, ⊎_elim, inl, inr}
 use Rattle.std.specs.Prelude.{◌||◌, ◌&&◌, ◌⊎◌, sum_by}
-use Rattle.std.specs.List.{filter, flat_map, list_any, AllByRecursion}
-use Rattle.std.specs.List.Sorted.{IsStrictlySortedBy}
+use Rattle.std.specs.List.{filter, list_any, AllByRecursion}
 use Rattle.std.specs.Ordering.{eq_by_cmp, nat_cmp, ordering_then}
 use Rattle.std.specs.Cmp.{tied_itself}
 use Rattle.std.specs.declared.cmp.Ordering.{Ordering}
 use Rattle.sb_record.specs.KeyOrder.{key_cmp_total}
 use Rattle.std.specs.declared.cmp.Ordering.TheVariants.{Less, Equal, Greater}
-use Rattle.std.proofs.lemmas.Bool.{lt-ltb, le-ltb, ltb-true, ltb-false, eqb-true, eq-eqb, ne_eqb, cases_lt, and_parts, false_from_ne_true}
+use Rattle.std.proofs.lemmas.Bool.{lt-ltb, ltb-true, eqb-true, eq-eqb, cases_lt, and_parts, false_from_ne_true}
 use Rattle.std.proofs.lemmas.Bool.Decides.{nat_tests}
-use Rattle.std.proofs.lemmas.List.Elements.{recursion_from_All, All-from_recursion}
+use Rattle.std.proofs.lemmas.List.Elements.{recursion_from_All}
 use Rattle.std.proofs.lemmas.List.Folds.{list_any_at}
 use Rattle.std.proofs.lemmas.Map.Views.{tells_apart}
 use Rattle.sb_record.specs.declared.item.Record.{Record}
-use Rattle.sb_record.specs.declared.key.Key.{Key}
 use Rattle.sb_record.specs.Keys.{key_cmp, same_key}
 use Rattle.sb_record.proofs.KeyOrder.{exact_keys}
 use Rattle.sb_record.proofs.Elements.{every, All-any, filter_of_filter}
@@ -25,7 +23,7 @@ use Rattle.sb_window.specs.declared.keyed_window.KeyedWindow.{KeyedWindow}
 use Rattle.sb_window.specs.Windows.{keyed_window_cmp}
 use Rattle.sb_window.proofs.Rows.{exact_keyed_windows, same_keyed_window}
 use Rattle.sb_aggregate.specs.Sessions.{end_from, times_from, session_end, session_of, is_in_session, is_session_open, values_in_session}
-use Rattle.sb_aggregate.proofs.SessionEnds.{IsEndOf, has_time, is_same_key, end-is, end-low, end-unique, end-cut}
+use Rattle.sb_aggregate.proofs.SessionEnds.{has_time, is_same_key, end-is, end-unique, end-cut}
 use Rattle.sb_aggregate.proofs.SessionLaws.{end-after, end-rises, or_cases, or_left, or_right, any-filter}
 use Rattle.sb_session.specs.Kept.{is_below, keeps, Takes}
 

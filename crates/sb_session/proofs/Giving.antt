@@ -1,6 +1,6 @@
 -- What a grouping of sessions gives after an absorb, and after a closing.
-use Rattle.std.proofs.Common.{◌≡◌, ℕ, ◌+◌, ◌-◌, ◌≤◌, ◌<◌, Bool, cond, not, true, List, [], ◌∷◌, ◌++◌, append_assoc, append-nil, map, subst, sym, refl, ap, ◌∙◌, arith}
-use Rattle.std.specs.Prelude.{filter, sum_by, nat_lt, ◌&&◌}
+use Rattle.std.proofs.Common.{◌≡◌, ℕ, ◌+◌, ◌-◌, ◌≤◌, ◌<◌, Bool, cond, not, true, Option, Some, List, [], ◌∷◌, ◌++◌, append_assoc, subst, sym, refl, ap, ◌∙◌, arith}
+use Rattle.std.specs.Prelude.{filter, sum_by, nat_lt}
 use Rattle.std.specs.List.{list_any, AllByRecursion}
 use Rattle.std.proofs.lemmas.Bool.{le-ltb, eqb-true, ltb-true, and_parts}
 use Rattle.std.proofs.lemmas.List.{map-append}
@@ -12,7 +12,7 @@ use Rattle.sb_record.specs.declared.item.Record.{Record}
 use Rattle.sb_record.specs.Elements.{all_records, on_lane}
 use Rattle.sb_record.specs.Keys.{same_key}
 use Rattle.sb_record.specs.Orders.{IsAscending}
-use Rattle.sb_record.specs.Records.{record_cmp, sorted, before, at_least}
+use Rattle.sb_record.specs.Records.{record_cmp, before, at_least}
 use Rattle.sb_record.specs.Reorderings.{IsReordered}
 use Rattle.sb_record.proofs.Earlier.{before-low}
 use Rattle.sb_record.proofs.Elements.{every, All-any, All-flat_map, All-join, All-map, All-passed, All-anything}
@@ -25,7 +25,9 @@ use Rattle.sb_aggregate.specs.declared.aggregate.Agg.{Agg}
 use Rattle.sb_aggregate.specs.Aggregates.{aggregate_values}
 use Rattle.sb_aggregate.specs.Sessions.{session_end, sessions_of, is_in_session, is_session_open, values_in_session, rows_in_session, session_rows}
 use Rattle.sb_aggregate.proofs.SessionRows.{All-sessions, session_rows-orderless, closed_sessions-final, open_sessions-rest, open-fewer, open-more, open-late}
-use Rattle.sb_session.specs.Gives.{gives_of, joined}
+use Rattle.sb_session.specs.Gives.{gives_of, gives_open, joined}
+use Rattle.sb_session.specs.Kept.{kept_of}
+use Rattle.sb_session.specs.declared.open.OpenSessions.{OpenSessions}
 
 -- ---- elements and their records
 records-append : (es fs : List KeptRec) → all_records (es ++ fs) ≡ all_records es ++ all_records fs
@@ -110,3 +112,20 @@ module _ (agg : Agg) (gap mark : ℕ) where
           open_sessions-rest agg gap mark kept (all_records l) some (All-from_recursion (λ r. mark ≤ r.time) (all_records l) (from l late))
           ∙ at_least-all (session_rows agg gap (open_ ++ all_records l)) (rows-open (open_ ++ all_records l) (all-open some kept (all_records l) (from l late)))
           ∙ sym (by_order l)
+
+-- ---- the same of a grouping's open sessions
+pub open-adds : (agg : Agg) (closed : ℕ) (o : Option OpenSessions) (was_open after : OpenSessions) (part : List Record) (es : List KeptRec) → o ≡ Some was_open → after.gap ≡ was_open.gap
+    → IsReordered (kept_of after.times.entries) (kept_of was_open.times.entries ++ part) → es ≡ on_lane 0 part → Adds closed (gives_open agg o) (gives_open agg (Some after)) es
+open-adds agg closed o was_open after part es was gap is stands l late f =
+    ap (λ g. sum_by f (gives_of agg g (kept_of after.times.entries) l)) gap
+    ∙ gives-adds agg was_open.gap closed (kept_of was_open.times.entries) (kept_of after.times.entries) part es is stands l late f
+    ∙ ap (λ (p : Option OpenSessions). sum_by f (gives_open agg p (es ++ l))) (sym was)
+
+pub open-closes : (agg : Agg) (mark : ℕ) (o : Option OpenSessions) (was_open after : OpenSessions) (rows : List Record) → o ≡ Some was_open → after.gap ≡ was_open.gap → 1 ≤ was_open.gap
+    → rows ≡ before mark (session_rows agg was_open.gap (kept_of was_open.times.entries)) → IsAscending record_cmp rows
+    → IsReordered (kept_of after.times.entries) (filter (is_session_open was_open.gap mark (kept_of was_open.times.entries)) (kept_of was_open.times.entries))
+    → Closes mark (gives_open agg o) rows (gives_open agg (Some after))
+open-closes agg mark o was_open after rows was gap some rows_are up left =
+    subst (λ (p : Option OpenSessions). Closes mark (gives_open agg p) rows (gives_open agg (Some after))) (sym was)
+    (subst (λ g. Closes mark (gives_of agg was_open.gap (kept_of was_open.times.entries)) rows (gives_of agg g (kept_of after.times.entries))) (sym gap)
+    (gives-closes agg was_open.gap mark some (kept_of was_open.times.entries) (kept_of after.times.entries) rows rows_are up left))

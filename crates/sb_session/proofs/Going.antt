@@ -1,20 +1,17 @@
 -- The loop of a closing over its candidates.
-use Rattle.std.proofs.Common.{◌≡◌, ℕ, ℤ, ◌+◌, ◌-◌, ◌<◌, ◌≤◌, Bool, true, false, cond, eqb, List, [], ◌∷◌, ◌++◌, map, length, get_or, append_assoc, append-nil, Option, Some, None, sym, refl, ap, subst, ◌∙◌, arith, ⊎_elim, inl, inr}
-use Rattle.std.specs.Prelude.{◌||◌, ◌&&◌, ◌⊎◌, sum_by}
+use Rattle.std.proofs.Common.{◌≡◌, ℕ, ℤ, ◌+◌, ◌-◌, ◌<◌, ◌≤◌, Bool, true, false, eqb, List, [], ◌∷◌, ◌++◌, map, append_assoc, append-nil, Option, Some, sym, refl, ap, subst, ◌∙◌, arith, ⊎_elim, inl}
+use Rattle.std.specs.Prelude.{◌||◌, ◌&&◌, sum_by}
 use Rattle.std.specs.List.{filter, flat_map, list_any, AllByRecursion}
 use Rattle.std.specs.List.Sorted.{IsStrictlySortedBy}
 use Rattle.std.specs.Option.{is_some, IsSome}
 use Rattle.std.specs.BTreeMap.{BTreeMap, get, IsOrdered}
 use Rattle.std.specs.Ordering.{eq_by_cmp}
-use Rattle.std.proofs.lemmas.Bool.{lt-ltb, cases_lt, false_from_ne_true}
+use Rattle.std.proofs.lemmas.Bool.{lt-ltb, cases_lt}
 use Rattle.std.proofs.lemmas.List.Elements.{recursion_from_All}
 use Rattle.std.proofs.lemmas.List.Sums.{sum_by-cons}
 use Rattle.std.proofs.lemmas.Map.Views.{All-found}
-use Rattle.std.proofs.lemmas.Map.Views.{tells_apart}
 use Rattle.sb_record.specs.declared.item.Record.{Record}
-use Rattle.sb_record.specs.declared.key.Key.{Key}
 use Rattle.sb_record.specs.Keys.{same_key}
-use Rattle.sb_record.proofs.KeyOrder.{exact_keys}
 use Rattle.sb_record.proofs.Elements.{every}
 use Rattle.sb_record.proofs.Sums.{any_reordered}
 use Rattle.sb_window.specs.declared.keyed_window.KeyedWindow.{KeyedWindow}
@@ -47,6 +44,10 @@ rows_of-order agg q [] [] h = refl
 rows_of-order agg q [] (w ∷ ws) h = absurd (omega (arith, h (λ _. 1), sum_by-cons (λ (x : ℤ). 1) w ws))
 rows_of-order agg q (v ∷ vs) [] h = absurd (omega (arith, h (λ _. 1), sum_by-cons (λ (x : ℤ). 1) v vs))
 rows_of-order agg q (v ∷ vs) (w ∷ ws) h = ap (map (λ v. record { time = q.end - 1; key = q.key; value = v })) (aggregates-orderless agg (v ∷ vs) (w ∷ ws) h)
+
+-- a step leaves a value at each time
+pub closes-full : (agg : Agg) (gap : ℕ) (times new : BTreeMap KeyedTime (List ℤ)) (q : KeyedWindow) (rows more : List Record) → ClosesOne agg gap times q rows new more → AreFull times → AreFull new
+closes-full agg gap times new q rows more closes full = ⊎_elim (λ on. subst AreFull (sym on.1.0) full) (λ ends. ends.full full) closes
 
 some-true : {X : Type 0} (o : Option X) → IsSome o → is_some o ≡ true
 some-true o h = h

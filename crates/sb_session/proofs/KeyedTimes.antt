@@ -1,5 +1,5 @@
 -- Times of keys are ordered, and those that compare alike are one.
-use Rattle.std.proofs.Common.{◌≡◌, ℕ, Bool, true, false, eqb, sym, refl, ap, ◌∙◌, ◌≤◌, arith}
+use Rattle.std.proofs.Common.{◌≡◌, ℕ, false, eqb, sym, refl, ap, ◌∙◌, ◌≤◌, arith}
 use Rattle.std.specs.Prelude.{◌&&◌}
 use Rattle.std.specs.Ordering.{nat_cmp, eq_by_cmp, is_lt, is_gt, ordering_then, ordering_reverse}
 use Rattle.std.specs.BTreeMap.{is_at}

@@ -4,3 +4,6 @@ pub mod Closing
 pub mod Going
 pub mod Rows
 pub mod Giving
+pub mod Ascending
+pub mod Sets
+pub mod Candidates

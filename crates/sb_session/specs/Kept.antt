@@ -1,5 +1,5 @@
 -- The records that a map of values by key and time stands for.
-use Rattle.std.specs.Prelude.{◌≡◌, ◌<◌, ◌≤◌, ◌+◌, ◌⊎◌, IsSome, None, ◌-◌, ℕ, ℤ, true, ◌==◌, nat_lt, Bool, not, ◌&&◌, ◌||◌, List, [], ◌∷◌, ◌++◌, map, filter, length, Some}
+use Rattle.std.specs.Prelude.{◌≡◌, ◌<◌, ◌≤◌, ◌+◌, ◌⊎◌, IsSome, None, ◌-◌, ℕ, ℤ, true, ◌==◌, nat_lt, Bool, not, All, ◌&&◌, ◌||◌, List, [], ◌∷◌, ◌++◌, map, filter, length, Some, pos}
 use Rattle.std.specs.List.{flat_map, list_any, AllByRecursion}
 use Rattle.std.specs.List.Sorted.{IsStrictlySortedBy}
 use Rattle.sb_aggregate.specs.declared.aggregate.Agg.{Agg}
@@ -94,3 +94,27 @@ pub record Ends (agg : Agg) (gap : ℕ) (old : BTreeMap KeyedTime (List ℤ)) (q
 
 abbrev pub ClosesOne : Agg → ℕ → BTreeMap KeyedTime (List ℤ) → KeyedWindow → List Record → BTreeMap KeyedTime (List ℤ) → List Record → Type 0
 ClosesOne agg gap old q rows new more = (GoesOn gap old q × ((new ≡ old) × (more ≡ rows))) ⊎ Ends agg gap old q rows new more
+
+-- ---- candidates
+-- whether this end of this key is among the candidates
+abbrev pub is_candidate : ℕ → Key → List KeyedWindow → Bool
+is_candidate end key due = list_any (eq_by_cmp keyed_window_cmp (record { end = end; key = key })) due
+
+-- whether the list has a record of this key and time
+abbrev pub has_time : Key → ℕ → List Record → Bool
+has_time key time l = has_record (record { time = time; key = key; value = pos 0 }) l
+
+-- whether the key has a later time, less than the gap after this one
+abbrev pub is_followed : ℕ → List Record → Key → ℕ → Bool
+is_followed gap l key t = list_any (λ r. same_key r.key key && (nat_lt t r.time && nat_lt r.time (t + gap))) l
+
+-- the end that a record makes is a candidate, unless its key has a later time within the gap
+abbrev pub HasCandidates : ℕ → List Record → List KeyedWindow → Type 0
+HasCandidates gap l due =
+    (key : Key) (t : ℕ) → has_time key t l ≡ true → (is_candidate (t + gap) key due || is_followed gap l key t) ≡ true
+
+-- what holds of the kept values and the candidates between two calls
+pub record IsHeld (gap : ℕ) (times : BTreeMap KeyedTime (List ℤ)) (due : List KeyedWindow) : Type 0 where
+  pub full : AreFull times
+  pub candidates : HasCandidates gap (kept_of times.entries) due
+  pub whole : All (λ q. gap ≤ q.end) due

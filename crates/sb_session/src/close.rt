@@ -91,10 +91,11 @@ pub(crate) fn close_due(
 ) -> Result<Vec<Record>, NoMemory>
     requires some { 1 ≤ gap }
     requires fits { All (λ q. gap ≤ q.end) due.items }
-    ensures { IfOk result (λ rows.
+    ensures closed { IfOk result (λ rows.
         (mark : ℕ) → spec.AreDue gap mark (spec.kept_of times.old.entries) due.items → spec.AreFull times.old
         → spec.IsClosed agg gap mark (spec.kept_of times.old.entries) due.items rows.items
         (spec.kept_of times.new.entries)) }
+    ensures full { OnOk result (spec.AreFull times.old → spec.AreFull times.new) }
 {
     let mut rows = Vec::new(alloc);
     for session in due {

@@ -3,4 +3,8 @@
 
 mod close;
 mod keyed_time;
+mod open;
+mod session;
 mod times;
+
+pub use session::Session;

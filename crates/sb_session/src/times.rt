@@ -16,10 +16,7 @@ use std::alloc::Global;
 use std::collections::BTreeMap;
 
 // The first time from this one on at which there are values.
-fn next_from(
-    times: &BTreeMap<KeyedTime, Sequence<i64>>,
-    at: KeyedTime,
-) -> Option<KeyedTime>
+fn next_from(times: &BTreeMap<KeyedTime, Sequence<i64>>, at: KeyedTime) -> Option<KeyedTime>
     ensures some { IfSome result (λ next. IsSome (get keyed_time_cmp times.now next)) }
     ensures from { IfSome result (λ next. is_lt (keyed_time_cmp next at) ≡ false) }
     ensures least { IfSome result (λ next.

@@ -1,8 +1,7 @@
-use Rattle.std.proofs.Common.{rules, ◌≡◌, Bool, true, false, Some, None, refl, sym, ap, ◌∙◌, arith}
+use Rattle.std.proofs.Common.{rules, ◌≡◌, Bool, true, false, refl}
 use Rattle.std.specs.Option.{IsSome}
 use Rattle.std.specs.Ordering.{is_lt}
 use Rattle.std.specs.BTreeMap.{get}
-use Rattle.std.proofs.lemmas.Bool.Decides.{nat_tests}
 use Rattle.sb_session.specs.declared.keyed_time.KeyedTime.{KeyedTime}
 use Rattle.sb_session.specs.Kept.{keyed_time_cmp}
 use Rattle.sb_session.proofs.KeyedTimes.{in-range, not-after}

@@ -1,4 +1,4 @@
-use Rattle.std.proofs.Common.{ℤ, List, ◌++◌, map, filter, not}
+use Rattle.std.proofs.Common.{◌++◌, map, filter, not}
 use Rattle.std.specs.BTreeMap.{btree_map_len}
 use Rattle.sb_record.specs.Reorderings.{IsReordered}
 use Rattle.sb_record.specs.declared.item.Record.{Record}
