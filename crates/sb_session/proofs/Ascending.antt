@@ -19,7 +19,7 @@ use Rattle.sb_window.proofs.Rows.{row}
 use Rattle.sb_aggregate.specs.declared.aggregate.Agg.{Agg}
 use Rattle.sb_aggregate.specs.declared.aggregate.Agg.TheVariants.{Count, Sum, Min, Max, Distinct, Top}
 use Rattle.sb_aggregate.specs.Aggregates.{greatest_first, GivesOne}
-use Rattle.sb_session.specs.Kept.{rows_of}
+use Rattle.sb_session.specs.Closings.{rows_of}
 
 -- a row of a later session is not before one of an earlier session
 row-after : (p q : KeyedWindow) (v w : ℤ) → keyed_window_cmp p q ≡ Less → 1 ≤ p.end → is_lt (record_cmp (row q w) (row p v)) ≡ false

@@ -16,9 +16,9 @@ use Rattle.sb_record.proofs.Sums.{any_reordered}
 use Rattle.sb_window.specs.declared.keyed_window.KeyedWindow.{KeyedWindow}
 use Rattle.sb_window.specs.Windows.{keyed_window_cmp}
 use Rattle.sb_aggregate.specs.Sessions.{end_from, times_from, session_end, is_session_open}
-use Rattle.sb_aggregate.proofs.SessionEnds.{IsEndOf, end-is}
+use Rattle.sb_aggregate.proofs.SessionEnds.{IsEndOf, has_time, end-is}
 use Rattle.sb_aggregate.proofs.SessionLaws.{end-rises, still, or_cases, or_left, or_right, any-filter}
-use Rattle.sb_session.specs.Kept.{has_record, has_time, is_candidate, is_followed, HasCandidates, AreDue}
+use Rattle.sb_session.specs.Candidates.{is_candidate, is_followed, HasCandidates, AreDue}
 use Rattle.sb_session.proofs.Sets.{early-goes}
 use Rattle.sb_session.proofs.Closing.{all-have}
 
@@ -26,19 +26,19 @@ use Rattle.sb_session.proofs.Closing.{all-have}
 abbrev has_it : Key → ℕ → Record → Bool
 has_it key t r = same_key r.key key && eqb r.time t
 
-reordered : (key : Key) (t : ℕ) (l m : List Record) → IsReordered l m → has_time key t l ≡ has_time key t m
+reordered : (key : Key) (t : ℕ) (l m : List Record) → IsReordered l m → has_time key l t ≡ has_time key m t
 reordered key t l m h = any_reordered (has_it key t) l m h
 
 -- the key has a later time, less than the gap after this one
 abbrev IsFollowed : ℕ → List Record → Key → ℕ → Type 0
-IsFollowed gap l key t = (u : ℕ) × (t < u) × (u < t + gap) × (has_time key u l ≡ true)
+IsFollowed gap l key t = (u : ℕ) × (t < u) × (u < t + gap) × (has_time key l u ≡ true)
 
 from-followed : (gap : ℕ) (l : List Record) (key : Key) (t : ℕ) → is_followed gap l key t ≡ true → IsFollowed gap l key t
 from-followed gap l key t h =
-    All-any (λ r. has_time r.key r.time l ≡ true) (IsFollowed gap l key t) (λ r. same_key r.key key && (nat_lt t r.time && nat_lt r.time (t + gap)))
+    All-any (λ r. has_time r.key l r.time ≡ true) (IsFollowed gap l key t) (λ r. same_key r.key key && (nat_lt t r.time && nat_lt r.time (t + gap)))
     (λ r has is. let parts = and_parts (same_key r.key key) _ is in
     let times = and_parts (ltb t r.time) (ltb r.time (t + gap)) parts.1 in
-    (r.time, ltb-true t r.time times.0, ltb-true r.time (t + gap) times.1, ap (λ k. has_time k r.time l) (sym (tells_apart exact_keys r.key key parts.0)) ∙ has)) l (all-have l) h
+    (r.time, ltb-true t r.time times.0, ltb-true r.time (t + gap) times.1, ap (λ k. has_time k l r.time) (sym (tells_apart exact_keys r.key key parts.0)) ∙ has)) l (all-have l) h
 
 to-followed : (gap : ℕ) (l : List Record) (key : Key) (t : ℕ) → IsFollowed gap l key t → is_followed gap l key t ≡ true
 to-followed gap l key t (u, after, near, has) =
@@ -49,7 +49,7 @@ to-followed gap l key t (u, after, near, has) =
     (k, r, within, at, λ i. parts.0 i && (lt-ltb t r.time (omega (arith, time, after)) i && lt-ltb r.time (t + gap) (omega (arith, time, near)) i))
 
 -- a later time is one among more records
-more-followed : (gap : ℕ) (l m : List Record) (key : Key) (t : ℕ) → ((u : ℕ) → t < u → has_time key u l ≡ true → has_time key u m ≡ true) → is_followed gap l key t ≡ true → is_followed gap m key t ≡ true
+more-followed : (gap : ℕ) (l m : List Record) (key : Key) (t : ℕ) → ((u : ℕ) → t < u → has_time key l u ≡ true → has_time key m u ≡ true) → is_followed gap l key t ≡ true → is_followed gap m key t ≡ true
 more-followed gap l m key t among h = let (u, after, near, has) = from-followed gap l key t h in to-followed gap m key t (u, after, near, among u after has)
 
 -- ---- a record comes, and the end that it makes
@@ -57,7 +57,7 @@ pub candidates-add : (gap : ℕ) (kept later : List Record) (r : Record) (due mo
     → ((end : ℕ) (key : Key) → is_candidate end key due ≡ true → is_candidate end key more ≡ true) → is_candidate (r.time + gap) r.key more ≡ true
     → HasCandidates gap kept due → HasCandidates gap later more
 candidates-add gap kept later r due more is stay comes held key t has =
-    or_cases (has_time key t kept) (has_time key t (r ∷ [])) ((is_candidate (t + gap) key more || is_followed gap later key t) ≡ true)
+    or_cases (has_time key kept t) (has_time key (r ∷ []) t) ((is_candidate (t + gap) key more || is_followed gap later key t) ≡ true)
     (λ old. or_cases (is_candidate (t + gap) key due) (is_followed gap kept key t) ((is_candidate (t + gap) key more || is_followed gap later key t) ≡ true)
     (λ among. or_left (is_candidate (t + gap) key more) (is_followed gap later key t) (stay (t + gap) key among))
     (λ followed. or_right (is_candidate (t + gap) key more) (is_followed gap later key t) (more-followed gap kept later key t (λ u _ h. here u h) followed)) (held key t old))
@@ -69,11 +69,11 @@ candidates-add gap kept later r due more is stay comes held key t has =
     or_false true = refl
     or_false false = refl
 
-    split : (u : ℕ) → has_time key u (kept ++ r ∷ []) ≡ (has_time key u kept || has_time key u (r ∷ []))
+    split : (u : ℕ) → has_time key (kept ++ r ∷ []) u ≡ (has_time key kept u || has_time key (r ∷ []) u)
     split u = list_any-append (has_it key u) kept (r ∷ [])
 
-    here : (u : ℕ) → has_time key u kept ≡ true → has_time key u later ≡ true
-    here u h = reordered key u later (kept ++ r ∷ []) is ∙ split u ∙ or_left (has_time key u kept) (has_time key u (r ∷ [])) h
+    here : (u : ℕ) → has_time key kept u ≡ true → has_time key later u ≡ true
+    here u h = reordered key u later (kept ++ r ∷ []) is ∙ split u ∙ or_left (has_time key kept u) (has_time key (r ∷ []) u) h
 
 -- ---- a closing
 -- the end of the session of a time of a key
@@ -81,7 +81,7 @@ abbrev end_at : ℕ → Key → List Record → ℕ → ℕ
 end_at gap key l t = end_from gap t (times_from key t l)
 
 -- what stays is open
-open-stays : (gap mark : ℕ) (l : List Record) (key : Key) (t : ℕ) → has_time key t (filter (is_session_open gap mark l) l) ≡ true → mark < end_at gap key l t
+open-stays : (gap mark : ℕ) (l : List Record) (key : Key) (t : ℕ) → has_time key (filter (is_session_open gap mark l) l) t ≡ true → mark < end_at gap key l t
 open-stays gap mark l key t has =
     All-any (λ r. is_session_open gap mark l r ≡ true) (mark < end_at gap key l t) (has_it key t)
     (λ r open_ is. let parts = and_parts (same_key r.key key) (eqb r.time t) is in
@@ -101,13 +101,13 @@ candidates-close gap mark kept later due left is stay held key t has =
     (λ followed. or_right (is_candidate (t + gap) key left) (is_followed gap later key t) (more-followed gap kept later key t (λ u after h. stays u (omega (arith, after)) h) followed))
     (held key t (any-filter (has_it key t) (is_session_open gap mark kept) kept there_open))
   where
-    there_open : has_time key t (filter (is_session_open gap mark kept) kept) ≡ true
+    there_open : has_time key (filter (is_session_open gap mark kept) kept) t ≡ true
     there_open = sym (reordered key t later (filter (is_session_open gap mark kept) kept) is) ∙ has
 
     open_ : mark < end_at gap key kept t
     open_ = open-stays gap mark kept key t there_open
 
-    stays : (u : ℕ) → t ≤ u → has_time key u kept ≡ true → has_time key u later ≡ true
+    stays : (u : ℕ) → t ≤ u → has_time key kept u ≡ true → has_time key later u ≡ true
     stays u after h =
         reordered key u later (filter (is_session_open gap mark kept) kept) is
         ∙ still gap mark kept [] tt key u (let up : end_at gap key kept t ≤ end_at gap key kept u = end-rises gap key kept t u after in omega (arith, open_, up)) h
@@ -126,10 +126,10 @@ last-time (suc n) has gap t e near is there = ⊎_elim
     (λ last. (t, there, let k : t + gap ≤ e = is.later in omega (arith, last, k)))
     (cases_lt (t + gap) e)
 
-pub candidates-due : (gap : ℕ) (kept : List Record) (due : List KeyedWindow) → HasCandidates gap kept due → (r : Record) → has_record r kept ≡ true → is_candidate (session_end gap kept r) r.key due ≡ true
+pub candidates-due : (gap : ℕ) (kept : List Record) (due : List KeyedWindow) → HasCandidates gap kept due → (r : Record) → has_time r.key kept r.time ≡ true → is_candidate (session_end gap kept r) r.key due ≡ true
 candidates-due gap kept due held r has =
     let e = session_end gap kept r in
-    let (v, there, last) = last-time e (λ u. has_time r.key u kept) gap r.time e (omega arith) (end-is gap r.key r.time kept) has in
+    let (v, there, last) = last-time e (λ u. has_time r.key kept u) gap r.time e (omega arith) (end-is gap r.key r.time kept) has in
     or_cases (is_candidate (v + gap) r.key due) (is_followed gap kept r.key v) (is_candidate e r.key due ≡ true) (λ among. ap (λ end. is_candidate end r.key due) (sym last) ∙ among)
     (λ followed. let (u, after, near, has_u) = from-followed gap kept r.key v followed in let k : true ≡ false = sym has_u ∙ (end-is gap r.key r.time kept).silent u (omega (arith, near, last)) (omega (arith, after, last)) in cc)
     (held r.key v there)

@@ -25,7 +25,11 @@ use Rattle.sb_window.proofs.Rows.{exact_keyed_windows, same_keyed_window}
 use Rattle.sb_aggregate.specs.Sessions.{end_from, times_from, session_end, session_of, is_in_session, is_session_open, values_in_session}
 use Rattle.sb_aggregate.proofs.SessionEnds.{has_time, is_same_key, end-is, end-unique, end-cut}
 use Rattle.sb_aggregate.proofs.SessionLaws.{end-after, end-rises, or_cases, or_left, or_right, any-filter}
-use Rattle.sb_session.specs.Kept.{is_below, keeps, Takes}
+use Rattle.sb_session.specs.Closings.{is_below, Takes}
+
+-- whether a record is still there, where these candidates are left: its session is open at the mark, or among them
+abbrev pub keeps : ℕ → ℕ → List Record → List KeyedWindow → Record → Bool
+keeps gap mark l rest r = is_session_open gap mark l r || list_any (eq_by_cmp keyed_window_cmp (session_of gap l r)) rest
 
 -- truths that follow from one another
 pub same_bool : (a b : Bool) → (a ≡ true → b ≡ true) → (b ≡ true → a ≡ true) → a ≡ b

@@ -22,11 +22,12 @@ use Rattle.sb_aggregate.specs.Sessions.{session_end, session_of, is_in_session, 
 use Rattle.sb_aggregate.proofs.SessionEnds.{has_time}
 use Rattle.sb_aggregate.proofs.Orderless.{aggregates-orderless}
 use Rattle.sb_session.specs.declared.keyed_time.KeyedTime.{KeyedTime}
-use Rattle.sb_session.specs.Kept.{keyed_time_cmp}
+use Rattle.sb_session.specs.Kept.{keyed_time_cmp, kept_of, AreFull}
+use Rattle.sb_session.specs.Candidates.{AreDue}
+use Rattle.sb_session.specs.Closings.{rows_of, IsClosed, ClosesOne, GoesOn, Ends}
 use Rattle.sb_session.proofs.KeyedTimes.{keyed_times_total}
-use Rattle.sb_session.specs.Kept.{kept_of, keeps, rows_of, AreFull, AreDue, IsClosed, ClosesOne, GoesOn, Ends}
 use Rattle.sb_session.proofs.Maps.{kept-has, filter-whole, filter-none}
-use Rattle.sb_session.proofs.Closing.{IsPending, silence-whole, pending-less, goes_on-same, none-goes_on, step-values, step-left, all-have}
+use Rattle.sb_session.proofs.Closing.{keeps, IsPending, silence-whole, pending-less, goes_on-same, none-goes_on, step-values, step-left, all-have}
 
 abbrev pub rows_in : Agg → ℕ → List Record → KeyedWindow → List Record
 rows_in agg gap l q = rows_of agg q (values_in_session gap l q)

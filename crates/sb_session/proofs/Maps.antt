@@ -24,9 +24,9 @@ use Rattle.sb_record.proofs.KeyOrder.{exact_keys}
 use Rattle.std.proofs.lemmas.Map.Views.{tells_apart}
 use Rattle.sb_aggregate.proofs.SessionEnds.{has_time, is_same_key}
 use Rattle.sb_session.specs.declared.keyed_time.KeyedTime.{KeyedTime}
-use Rattle.sb_session.specs.Kept.{keyed_time_cmp, time_of}
+use Rattle.sb_session.specs.Kept.{keyed_time_cmp, time_of, records_at, kept_of, AreFull}
+use Rattle.sb_session.specs.Closings.{is_below}
 use Rattle.sb_session.proofs.KeyedTimes.{exact_keyed_times, keyed_times_total, same_keyed_time}
-use Rattle.sb_session.specs.Kept.{records_at, kept_of, is_below, AreFull}
 
 is_at-same : (q e : KeyedTime) → is_at (keyed_time_cmp q) e ≡ true → q ≡ e
 is_at-same q e h = by_case (keyed_time_cmp q e) refl h

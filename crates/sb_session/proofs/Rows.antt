@@ -23,7 +23,8 @@ use Rattle.sb_aggregate.specs.Sessions.{session_end, session_of, sessions_of, is
 use Rattle.sb_aggregate.proofs.SessionRows.{any_sessions}
 use Rattle.sb_aggregate.proofs.SessionLaws.{end-after}
 use Rattle.sb_aggregate.proofs.SessionEnds.{has_time}
-use Rattle.sb_session.specs.Kept.{rows_of, AreDue}
+use Rattle.sb_session.specs.Candidates.{AreDue}
+use Rattle.sb_session.specs.Closings.{rows_of}
 use Rattle.sb_session.proofs.Closing.{all-have, same_bool}
 use Rattle.sb_session.proofs.Going.{rows_in}
 

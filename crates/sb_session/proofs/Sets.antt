@@ -12,7 +12,7 @@ use Rattle.sb_record.specs.declared.key.Key.{Key}
 use Rattle.sb_record.proofs.Elements.{All-any}
 use Rattle.sb_window.proofs.Rows.{exact_keyed_windows}
 use Rattle.sb_aggregate.proofs.SessionLaws.{or_cases}
-use Rattle.sb_session.specs.Kept.{is_candidate}
+use Rattle.sb_session.specs.Candidates.{is_candidate}
 use Rattle.std.specs.declared.cmp.Ordering.TheVariants.{Less}
 use Rattle.std.proofs.lemmas.List.Elements.{recursion_from_All}
 use Rattle.sb_window.specs.declared.keyed_window.KeyedWindow.{KeyedWindow}

@@ -3,7 +3,9 @@
 ghost use Rattle.std.specs.Prelude.{◌≡◌, ℕ, ◌-◌, map, ◌≤◌, ◌<◌, ◌+◌, ◌++◌, true, false, All, IsSome, None, IfOk, OnOk};
 ghost use Rattle.std.specs.BTreeMap.{IsOrdered, get};
 ghost use Rattle.sb_session.specs.Kept.{keyed_time_cmp};
-ghost use Rattle.sb_session.specs.Kept as spec;
+ghost use Rattle.sb_session.specs.Kept.{kept_of, AreFull};
+ghost use Rattle.sb_session.specs.Candidates.{AreDue};
+ghost use Rattle.sb_session.specs.Closings as spec;
 
 use crate::keyed_time::KeyedTime;
 use crate::times::{first_between, take_below};
@@ -47,7 +49,7 @@ fn push_values(
     rows: &mut Vec<Record>,
 ) -> Result<(), NoMemory>
     ensures { OnOk result (rows.new.items ≡ rows.old.items
-        ++ map (λ v. record { time = session.now.end - 1; key = session.now.key; value = v }) values.now) }
+        ++ map (spec.row_of session.now) values.now) }
 {
     for value in values {
         rows.push(Record {
@@ -92,10 +94,10 @@ pub(crate) fn close_due(
     requires some { 1 ≤ gap }
     requires fits { All (λ q. gap ≤ q.end) due.items }
     ensures closed { IfOk result (λ rows.
-        (mark : ℕ) → spec.AreDue gap mark (spec.kept_of times.old.entries) due.items → spec.AreFull times.old
-        → spec.IsClosed agg gap mark (spec.kept_of times.old.entries) due.items rows.items
-        (spec.kept_of times.new.entries)) }
-    ensures full { OnOk result (spec.AreFull times.old → spec.AreFull times.new) }
+        (mark : ℕ) → AreDue gap mark (kept_of times.old.entries) due.items → AreFull times.old
+        → spec.IsClosed agg gap mark (kept_of times.old.entries) due.items rows.items
+        (kept_of times.new.entries)) }
+    ensures full { OnOk result (AreFull times.old → AreFull times.new) }
 {
     let mut rows = Vec::new(alloc);
     for session in due {

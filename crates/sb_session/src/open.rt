@@ -14,7 +14,8 @@ ghost use Rattle.sb_window.specs.Windows.{keyed_window_cmp};
 ghost use Rattle.sb_aggregate.specs.Aggregates.{GivesOne};
 ghost use Rattle.sb_aggregate.specs.Sessions.{is_session_open, session_rows};
 ghost use Rattle.sb_aggregate.specs.declared.session.TheConstants as session;
-ghost use Rattle.sb_session.specs.Kept as spec;
+ghost use Rattle.sb_session.specs.Candidates.{IsHeld};
+ghost use Rattle.sb_session.specs.Kept.{kept_of};
 
 use crate::close::close_due;
 use crate::keyed_time::KeyedTime;
@@ -32,7 +33,7 @@ pub(crate) struct OpenSessions {
     times: BTreeMap<KeyedTime, Sequence<i64>>,
     due: BTreeSet<KeyedWindow>,
     ghost gap_is: { (1 ≤ gap) × (gap ≤ session.MAX_GAP) },
-    ghost held: { spec.IsHeld gap times due.keys },
+    ghost held: { IsHeld gap times due.keys },
 }
 
 /// What a closing gives: the rows of the sessions that have ended, and the records of the others.
@@ -48,7 +49,7 @@ impl OpenSessions {
         requires some { 1 ≤ gap }
         requires most { gap ≤ MAX_GAP }
         ensures gap { result.gap ≡ gap }
-        ensures none { spec.kept_of result.times.entries ≡ [] }
+        ensures none { kept_of result.times.entries ≡ [] }
     {
         OpenSessions {
             gap,
@@ -62,7 +63,7 @@ impl OpenSessions {
         requires times { All (λ r. r.time < item.END_MARK) part.now }
         ensures gap { IfOk result (λ more. more.gap ≡ self.gap) }
         ensures kept { IfOk result (λ more.
-            IsReordered (spec.kept_of more.times.entries) (spec.kept_of self.times.entries ++ part.now)) }
+            IsReordered (kept_of more.times.entries) (kept_of self.times.entries ++ part.now)) }
     {
         let OpenSessions {
             gap,
@@ -80,11 +81,11 @@ impl OpenSessions {
         requires one { GivesOne agg }
         ensures gap { IfOk result (λ closed. closed.left.gap ≡ self.gap) }
         ensures rows { IfOk result (λ closed.
-            closed.rows.items ≡ before mark (session_rows agg self.gap (spec.kept_of self.times.entries))) }
+            closed.rows.items ≡ before mark (session_rows agg self.gap (kept_of self.times.entries))) }
         ensures in_order { IfOk result (λ closed. IsAscending record_cmp closed.rows.items) }
         ensures left { IfOk result (λ closed.
-            IsReordered (spec.kept_of closed.left.times.entries)
-            (filter (is_session_open self.gap mark (spec.kept_of self.times.entries)) (spec.kept_of self.times.entries))) }
+            IsReordered (kept_of closed.left.times.entries)
+            (filter (is_session_open self.gap mark (kept_of self.times.entries)) (kept_of self.times.entries))) }
     {
         let OpenSessions {
             gap,
@@ -111,8 +112,8 @@ fn add(
     requires gap { gap ≤ MAX_GAP }
     requires time { «record».now.time < END_MARK }
     ensures kept { OnOk result
-        (IsReordered (spec.kept_of times.new.entries) (spec.kept_of times.old.entries ++ «record».now ∷ [])) }
-    ensures held { OnOk result (spec.IsHeld gap times.old due.old.keys → spec.IsHeld gap times.new due.new.keys) }
+        (IsReordered (kept_of times.new.entries) (kept_of times.old.entries ++ «record».now ∷ [])) }
+    ensures held { OnOk result (IsHeld gap times.old due.old.keys → IsHeld gap times.new due.new.keys) }
 {
     add_value(alloc, times, record)?;
     due.insert(KeyedWindow {

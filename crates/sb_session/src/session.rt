@@ -14,6 +14,9 @@ use sb_record::{NoMemory, Record};
 use sb_window::Grouping;
 use std::alloc::Global;
 
+#[cfg(test)]
+mod tests;
+
 /// The grouping of sessions: it keeps the records whose sessions are open. A part is a list of records.
 #[derive(Drop)]
 pub struct Session {

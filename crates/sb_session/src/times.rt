@@ -8,6 +8,7 @@ ghost use Rattle.sb_record.specs.Reorderings.{IsReordered};
 ghost use Rattle.sb_session.specs.declared.keyed_time.KeyedTime.{KeyedTime as Time};
 ghost use Rattle.sb_session.specs.Kept.{keyed_time_cmp};
 ghost use Rattle.sb_session.specs.Kept as spec;
+ghost use Rattle.sb_session.specs.Closings.{Takes};
 
 use crate::keyed_time::KeyedTime;
 use sb_record::{Key, NoMemory, Record, Sequence};
@@ -94,7 +95,7 @@ pub(crate) fn take_below(
     session: &KeyedWindow,
 ) -> Result<Vec<i64>, NoMemory>
     ensures takes { IfOk result (λ values.
-        spec.Takes session.now.key session.now.end (spec.kept_of times.old.entries) (spec.kept_of times.new.entries)
+        Takes session.now.key session.now.end (spec.kept_of times.old.entries) (spec.kept_of times.new.entries)
         values.items) }
     ensures full { OnOk result (spec.AreFull times.old → spec.AreFull times.new) }
 {

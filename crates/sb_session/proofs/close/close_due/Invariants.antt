@@ -1,6 +1,7 @@
 use Rattle.std.proofs.Common.{◌≤◌, ℕ}
 use Rattle.std.specs.List.{AllByRecursion}
-use Rattle.sb_session.specs.Kept.{kept_of, AreDue, AreFull}
+use Rattle.sb_session.specs.Kept.{kept_of, AreFull}
+use Rattle.sb_session.specs.Candidates.{AreDue}
 use Rattle.sb_session.proofs.Going.{IsGoing}
 use Rattle.sb_session.proofs.close.close_due.Given as goal
 

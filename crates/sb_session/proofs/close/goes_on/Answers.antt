@@ -3,7 +3,8 @@ use Rattle.std.specs.Prelude.{IfSome, IsSome}
 use Rattle.std.specs.Option.{is_some}
 use Rattle.std.specs.BTreeMap.{get}
 use Rattle.sb_session.specs.declared.keyed_time.KeyedTime.{KeyedTime}
-use Rattle.sb_session.specs.Kept.{keyed_time_cmp, IsBetween, GoesOn}
+use Rattle.sb_session.specs.Kept.{keyed_time_cmp, IsBetween}
+use Rattle.sb_session.specs.Closings.{GoesOn}
 use Rattle.sb_session.proofs.close.goes_on.Goals as goal
 
 pub returns-clause-yes : goal.returns-clause-yes

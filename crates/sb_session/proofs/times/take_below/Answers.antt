@@ -5,8 +5,8 @@ use Rattle.sb_record.specs.declared.item.Record.{Record}
 use Rattle.sb_record.specs.Reorderings.{IsReordered}
 use Rattle.std.specs.BTreeMap.{get}
 use Rattle.sb_session.specs.declared.keyed_time.KeyedTime.{KeyedTime}
-use Rattle.sb_session.specs.Kept.{keyed_time_cmp}
-use Rattle.sb_session.specs.Kept.{records_at, kept_of, is_below}
+use Rattle.sb_session.specs.Kept.{keyed_time_cmp, records_at, kept_of}
+use Rattle.sb_session.specs.Closings.{is_below}
 use Rattle.sb_session.proofs.Maps.{kept-remove, take-values, take-others, full-remove, none-below, all-left}
 use Rattle.sb_session.proofs.times.take_below.Goals as goal
 

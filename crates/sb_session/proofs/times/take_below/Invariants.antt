@@ -2,7 +2,8 @@ use Rattle.std.proofs.Common.{◌++◌, map, filter, not}
 use Rattle.std.specs.BTreeMap.{btree_map_len}
 use Rattle.sb_record.specs.Reorderings.{IsReordered}
 use Rattle.sb_record.specs.declared.item.Record.{Record}
-use Rattle.sb_session.specs.Kept.{kept_of, is_below, AreFull}
+use Rattle.sb_session.specs.Kept.{kept_of, AreFull}
+use Rattle.sb_session.specs.Closings.{is_below}
 use Rattle.sb_session.proofs.times.take_below.Given as goal
 
 abbrev pub invariant-loop-at : goal.invariant-loop-at

@@ -7,7 +7,9 @@ use Rattle.sb_record.specs.Records.{record_cmp}
 use Rattle.sb_record.proofs.Elements.{every}
 use Rattle.sb_window.specs.declared.keyed_window.KeyedWindow.{KeyedWindow}
 use Rattle.sb_aggregate.specs.Sessions.{values_in_session}
-use Rattle.sb_session.specs.Kept.{kept_of, AreDue, IsClosed}
+use Rattle.sb_session.specs.Kept.{kept_of}
+use Rattle.sb_session.specs.Candidates.{AreDue}
+use Rattle.sb_session.specs.Closings.{IsClosed}
 use Rattle.sb_session.proofs.Ascending.{rows-ascend, one-row}
 use Rattle.sb_session.proofs.Candidates.{are-due, candidates-close}
 use Rattle.sb_session.proofs.Going.{rows_in}

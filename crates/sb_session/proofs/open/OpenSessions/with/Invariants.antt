@@ -1,6 +1,7 @@
 use Rattle.std.proofs.Common.{◌++◌, take}
 use Rattle.sb_record.specs.Reorderings.{IsReordered}
-use Rattle.sb_session.specs.Kept.{kept_of, IsHeld}
+use Rattle.sb_session.specs.Kept.{kept_of}
+use Rattle.sb_session.specs.Candidates.{IsHeld}
 use Rattle.sb_session.proofs.open.OpenSessions.with.Given as goal
 
 abbrev pub invariant-loop-record : goal.invariant-loop-record
