@@ -135,7 +135,11 @@ fn sums_of_sessions(rt: HostRuntime) -> Result<(), Fail> {
             Ask::Close(5, &[]),
             Ask::Close(6, &[(6, 1, 5)]),
         ],
-        &[Ask::Absorb(&[]), Ask::Close(0, &[]), Ask::Close(END_MARK, &[])],
+        &[
+            Ask::Absorb(&[]),
+            Ask::Close(0, &[]),
+            Ask::Close(END_MARK, &[]),
+        ],
     ];
     for asks in cases {
         check(&rt, Session::new(rt.alloc(), Agg::Sum, GAP), asks)?;

@@ -1,4 +1,4 @@
-use Rattle.std.proofs.Common.{◌≡◌, ◌-◌, ◌++◌, map, take}
+use Rattle.std.proofs.Common.{◌≡◌, ◌++◌, map, take}
 use Rattle.sb_session.specs.Closings.{row_of}
 use Rattle.sb_session.proofs.close.push_values.Given as goal
 
