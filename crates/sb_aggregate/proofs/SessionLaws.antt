@@ -20,14 +20,14 @@ use Rattle.sb_aggregate.proofs.SessionEnds.{has_time, end-low, end-is}
 abbrev end_at : ℕ → Key → List Record → ℕ → ℕ
 end_at gap key l t = end_from gap t (times_from key t l)
 
-or_left : (a b : Bool) → a ≡ true → (a || b) ≡ true
+pub or_left : (a b : Bool) → a ≡ true → (a || b) ≡ true
 or_left a b h = ap (λ c. c || b) h
 
-or_right : (a b : Bool) → b ≡ true → (a || b) ≡ true
+pub or_right : (a b : Bool) → b ≡ true → (a || b) ≡ true
 or_right true b h = refl
 or_right false b h = h
 
-or_cases : (a b : Bool) (P : Type 0) → (a ≡ true → P) → (b ≡ true → P) → (a || b) ≡ true → P
+pub or_cases : (a b : Bool) (P : Type 0) → (a ≡ true → P) → (b ≡ true → P) → (a || b) ≡ true → P
 or_cases true b P f g h = f refl
 or_cases false b P f g h = g h
 
@@ -42,7 +42,7 @@ end-more : (gap : ℕ) (key : Key) (l m : List Record) → ((u : ℕ) → has_ti
 end-more gap key l m within t = end-low (has_time key m) (has_time key l) gap t t (end_at gap key m t) (end_at gap key l t) (end-is gap key t m) (end-is gap key t l) (end-after gap key m t) (λ u _ _ h. within u h)
 
 -- that of a later time ends no earlier
-end-rises : (gap : ℕ) (key : Key) (l : List Record) (t u : ℕ) → t ≤ u → end_at gap key l t ≤ end_at gap key l u
+pub end-rises : (gap : ℕ) (key : Key) (l : List Record) (t u : ℕ) → t ≤ u → end_at gap key l t ≤ end_at gap key l u
 end-rises gap key l t u le = end-low (has_time key l) (has_time key l) gap u t (end_at gap key l u) (end_at gap key l t) (end-is gap key u l) (end-is gap key t l) (let k : u + gap ≤ end_at gap key l u = end-after gap key l u in omega (arith, le, k)) (λ _ _ _ h. h)
 
 -- records in another order have the same sessions
@@ -73,7 +73,7 @@ module _ (gap : ℕ) (key : Key) (mark : ℕ) (l es : List Record) (late : AllBy
       (end-with t)
 
 -- ---- what stays open at a mark
-any-filter : {X : Type 0} (p o : X → Bool) (l : List X) → list_any p (filter o l) ≡ true → list_any p l ≡ true
+pub any-filter : {X : Type 0} (p o : X → Bool) (l : List X) → list_any p (filter o l) ≡ true → list_any p l ≡ true
 any-filter p o [] h = h
 any-filter {X} p o (x ∷ l) h = by_case (o x) (any-filter p o l) h
   where
@@ -93,7 +93,7 @@ module _ (gap mark : ℕ) (l es : List Record) (late : AllByRecursion (λ r. mar
         (λ k. has-append key l es u ∙ or_right (has_time key l u) (has_time key es u) k)
         (sym (has-append key open_ es u) ∙ h)
 
-    still : (u : ℕ) → mark < end_at gap key l u → has_time key l u ≡ true → has_time key open_ u ≡ true
+    pub still : (u : ℕ) → mark < end_at gap key l u → has_time key l u ≡ true → has_time key open_ u ≡ true
     still u after h =
         any_filtered (λ r. same_key r.key key && eqb r.time u) open_ l
         (filter_of_filter (λ r. same_key r.key key && eqb r.time u) (is_session_open gap mark l)

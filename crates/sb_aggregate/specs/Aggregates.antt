@@ -15,6 +15,11 @@ abbrev pub IsValid : Agg → Type 0
 IsValid (Top k) = (1 ≤ k) × (k ≤ MAX_TOP)
 IsValid _ = Unit {0}
 
+-- the aggregation gives one value of each window or session
+abbrev pub GivesOne : Agg → Type 0
+GivesOne (Top k) = ⊥
+GivesOne _ = Unit {0}
+
 -- a number of values as a value, which wraps as 64-bit numbers do
 abbrev pub signed : ℕ → ℤ
 signed n = cast_signed w64 (n % 2 ^ 64)

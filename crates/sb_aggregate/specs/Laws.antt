@@ -1,18 +1,20 @@
--- The laws of aggregations and of sessions, and the limit of aggregations as a number.
-use Rattle.std.specs.Prelude.{◌≡◌, ◌≤◌, ◌<◌, ◌+◌, ℕ, List, ◌++◌, All, Contains, filter}
+-- The laws of aggregations and of sessions, and their limits as numbers.
+use Rattle.std.specs.Prelude.{◌≡◌, ◌≤◌, ◌<◌, ◌+◌, ◌^◌, ℕ, List, ◌++◌, All, Contains, filter}
 use Rattle.sb_record.specs.declared.item.Record.{Record}
 use Rattle.sb_record.specs.Records.{before, at_least}
 use Rattle.sb_record.specs.Reorderings.{IsReordered}
 use Rattle.sb_window.specs.Spacing.{Spacing}
 use Rattle.sb_window.specs.Reorderings.{IgnoresOrder}
 use Rattle.sb_aggregate.specs.declared.aggregate.TheConstants.{MAX_TOP}
+use Rattle.sb_aggregate.specs.declared.session.TheConstants.{MAX_GAP}
 use Rattle.sb_aggregate.specs.declared.aggregate.Agg.{Agg}
 use Rattle.sb_aggregate.specs.Aggregates.{aggregate_values, aggregate_rows}
 use Rattle.sb_aggregate.specs.Sessions.{session_end, session_rows, is_session_open}
 
--- the most of the greatest values that an aggregation gives
+-- the most of the greatest values that an aggregation gives, and the greatest gap of sessions
 pub record Limits : Type 0 where
   pub top : MAX_TOP ≡ 16
+  pub gap : MAX_GAP ≡ 10 ^ 12
 
 -- values in another order give the same
 abbrev pub AggregatesDoNotDependOnOrder : Type 0

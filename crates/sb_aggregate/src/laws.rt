@@ -1,9 +1,9 @@
-//! The limit of aggregations as a number, and the laws that every way of working out an aggregation rests on. Each function
-//! has its law for a contract, and does nothing.
+//! The limits of aggregations and of sessions as numbers, and the laws that every way of working out an aggregation
+//! rests on. Each function has its law for a contract, and does nothing.
 
 ghost use Rattle.sb_aggregate.specs.Laws as law;
 
-/// An aggregation gives at most 16 of the greatest values.
+/// An aggregation gives at most 16 of the greatest values, and the gap of sessions is at most 10^12.
 pub fn limits()
     ensures { law.Limits }
 {}

@@ -15,9 +15,11 @@ pub mod laws;
 mod part;
 mod partial;
 mod partials;
+mod session;
 #[cfg(test)]
 mod tests;
 
 pub use aggregate::{Agg, MAX_TOP, aggregated};
 pub use grouping::Aggregate;
 pub use part::{AggPart, part_of};
+pub use session::MAX_GAP;

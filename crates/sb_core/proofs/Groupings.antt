@@ -22,7 +22,7 @@ use Rattle.sb_join.specs.Joins.{join_rows}
 use Rattle.sb_join.proofs.Pairs.{join_rows-same, join_rows-reordered, joins-before}
 use Rattle.sb_join.proofs.Times.{join_rows-times}
 use Rattle.sb_record.specs.declared.element.KeptRec.{KeptRec}
-use Rattle.sb_pipeline.specs.declared.transform.TheConstants.{MAX_GAP}
+use Rattle.sb_aggregate.specs.declared.session.TheConstants.{MAX_GAP}
 use Rattle.sb_record.specs.Elements.{on_lane, of_lane, all_records}
 use Rattle.sb_pipeline.specs.Operators.{WindowOperator, grouped}
 use Rattle.sb_pipeline.specs.Operators.WindowOperator.{Aggregated, Sessions, Joined}

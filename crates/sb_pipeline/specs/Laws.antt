@@ -8,7 +8,8 @@ use Rattle.sb_record.specs.Records.{before, sorted}
 use Rattle.sb_window.specs.declared.windows.TheConstants.{MAX_SIZE}
 use Rattle.sb_window.specs.Spacing.{fixed}
 use Rattle.sb_window.specs.Aggregations.{sum_rows}
-use Rattle.sb_pipeline.specs.declared.transform.TheConstants.{MAX_TRANSFORMS, MAX_GAP}
+use Rattle.sb_aggregate.specs.declared.session.TheConstants.{MAX_GAP}
+use Rattle.sb_pipeline.specs.declared.transform.TheConstants.{MAX_TRANSFORMS}
 use Rattle.sb_pipeline.specs.Plans.{IsPlan}
 use Rattle.sb_pipeline.specs.Results.{all_rows, output_of, rows_below}
 use Rattle.sb_pipeline.specs.Shapes.{Shape, sum_shape}

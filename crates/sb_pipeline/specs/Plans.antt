@@ -3,20 +3,15 @@ use Rattle.std.specs.Prelude.{◌≡◌, ◌≤◌, ◌<◌, ℕ, Bool, true, fa
 use Rattle.sb_window.specs.Spacing.{AreWindows}
 use Rattle.sb_pardo.specs.Validity as pardo
 use Rattle.sb_aggregate.specs.Aggregates as aggregate
-use Rattle.sb_aggregate.specs.declared.aggregate.Agg.{Agg}
-use Rattle.sb_aggregate.specs.declared.aggregate.Agg.TheVariants.{Top}
+use Rattle.sb_aggregate.specs.Aggregates.{GivesOne}
+use Rattle.sb_aggregate.specs.declared.session.TheConstants.{MAX_GAP}
 use Rattle.sb_pipeline.specs.declared.transform.Down.{Down}
 use Rattle.sb_pipeline.specs.declared.transform.Kind.{Kind}
 use Rattle.sb_pipeline.specs.declared.transform.Kind.TheVariants.{Do, Group, Session, Join}
 use Rattle.sb_pipeline.specs.declared.transform.Step.{Step}
-use Rattle.sb_pipeline.specs.declared.transform.TheConstants.{MAX_TRANSFORMS, MAX_GAP}
+use Rattle.sb_pipeline.specs.declared.transform.TheConstants.{MAX_TRANSFORMS}
 use Rattle.sb_pipeline.specs.Operators.{lanes_of, operator_at}
 use Rattle.sb_pipeline.specs.Shapes.{Shape, feeds}
-
--- an aggregate that gives one value of each window or session
-abbrev pub GivesOne : Agg → Type 0
-GivesOne (Top most) = ⊥
-GivesOne _ = Unit {0}
 
 -- what the transform does can be asked for; a join has fixed windows
 abbrev pub IsValidKind : Kind → Type 0

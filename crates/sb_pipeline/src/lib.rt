@@ -14,4 +14,5 @@ mod transform;
 mod validity;
 
 pub use plan::{Plan, sum_plan};
-pub use transform::{Down, Kind, MAX_GAP, MAX_TRANSFORMS, Step};
+pub use sb_aggregate::MAX_GAP;
+pub use transform::{Down, Kind, MAX_TRANSFORMS, Step};

@@ -8,9 +8,6 @@ use sb_join::Combine;
 use sb_pardo::Op;
 use sb_window::Windows;
 
-/// The greatest gap of sessions, in the unit of the times of records.
-pub const MAX_GAP: u64 = 1_000_000_000_000;
-
 /// How many transforms a plan may have.
 pub const MAX_TRANSFORMS: usize = 12;
 

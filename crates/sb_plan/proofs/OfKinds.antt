@@ -39,8 +39,8 @@ use Rattle.sb_aggregate.specs.Aggregates as aggregate
 use Rattle.sb_aggregate.specs.declared.aggregate.Agg.{Agg}
 use Rattle.sb_aggregate.specs.declared.aggregate.Agg.TheVariants.{Count, Sum, Min, Max, Distinct, Top}
 use Rattle.sb_pipeline.specs.declared.transform.Kind.{Kind}
-use Rattle.sb_pipeline.specs.declared.transform.TheConstants.{MAX_GAP}
-use Rattle.sb_pipeline.specs.Plans.{GivesOne}
+use Rattle.sb_aggregate.specs.declared.session.TheConstants.{MAX_GAP}
+use Rattle.sb_aggregate.specs.Aggregates.{GivesOne}
 use Rattle.sb_pipeline.specs.declared.transform.Kind.TheVariants.{Do, Group, Session, Join}
 use Rattle.sb_plan.specs.declared.fault.PlanCause.TheVariants.{OutOfRange, TableRow, TableTooLong}
 use Rattle.sb_plan.specs.declared.fault.PlanKey.{PlanKey}

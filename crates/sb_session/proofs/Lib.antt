@@ -1,0 +1,9 @@
+pub mod KeyedTimes
+pub mod Maps
+pub mod Closing
+pub mod Going
+pub mod Rows
+pub mod Giving
+pub mod Ascending
+pub mod Sets
+pub mod Candidates
