@@ -20,6 +20,8 @@ mod lane;
 mod links;
 mod putting;
 mod taking;
+#[cfg(test)]
+mod tests;
 
 pub use answers::{ArriveStop, LaneClose, NoMemoryWith, NotYet};
 pub use container::Container;
