@@ -6,3 +6,5 @@ pub mod Counts
 pub mod Results
 pub mod Linking
 pub mod KeepingMarks
+pub mod InTheCore
+pub mod OrderKept

@@ -10,3 +10,4 @@ pub mod LaneChanges
 pub mod KeptMarks
 pub mod Looks
 pub mod Arriving
+pub mod Laws

@@ -13,10 +13,11 @@
 mod answers;
 mod arena;
 mod closing;
-pub mod container;
+mod container;
 mod filling;
 mod finding;
 mod lane;
+pub mod laws;
 mod links;
 mod putting;
 mod taking;
@@ -24,5 +25,4 @@ mod taking;
 mod tests;
 
 pub use answers::{ArriveStop, LaneClose, NoMemoryWith, NotYet};
-pub use container::Container;
 pub use lane::Lane;
