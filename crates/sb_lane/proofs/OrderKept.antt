@@ -1,17 +1,16 @@
 -- Each change keeps the order of a lane.
-use Rattle.std.proofs.Common.{◌≡◌, ℕ, suc, ◌+◌, ◌≤◌, ◌<◌, Bool, true, false, cond, eqb, ltb, List, [], ◌∷◌, ◌++◌, length, drop, Some, None, Option, sym, refl, ap, subst, ◌∙◌, arith}
+use Rattle.std.proofs.Common.{◌≡◌, ℕ, ◌+◌, ◌≤◌, ◌<◌, Bool, true, false, cond, eqb, ltb, List, [], ◌∷◌, ◌++◌, length, drop, Some, None, sym, refl, ap, subst, ◌∙◌, arith}
 use Rattle.std.specs.Prelude.{Ok, filter, not}
 use Rattle.std.specs.List.{AllByRecursion}
 use Rattle.std.proofs.lemmas.List.{length-drop}
 use Rattle.std.proofs.lemmas.Option.{same_Some}
 use Rattle.sb_record.specs.declared.item.Record.{Record}
-use Rattle.sb_record.specs.Reading.{◌>>=◌}
 use Rattle.sb_record.proofs.Numbers.{bind_some}
 use Rattle.sb_bundle.specs.declared.bundle.Bundle.{Bundle}
 use Rattle.sb_core.specs.declared.moment.Cont.{Cont}
 use Rattle.sb_core.specs.declared.moment.CoreLane.{CoreLane}
 use Rattle.sb_core.specs.LaneOrder.{IsLane, IsWithin, IsBundleOf, AreContainers, IsReady}
-use Rattle.sb_core.specs.Lanes.{fresh, in_epoch, next_epoch, next_floor, with_arrival, with_bundle, with_seal, with_first_closing, finish_in}
+use Rattle.sb_core.specs.Lanes.{fresh, in_epoch, next_epoch, next_floor, with_arrival, with_bundle, with_seal, with_first_closing}
 use Rattle.sb_core.specs.Marks.{first_is_closing, last_of_first}
 use Rattle.sb_core.proofs.Ending.{end-lane}
 use Rattle.sb_core.proofs.InEpoch.{others_calm, still_ready}

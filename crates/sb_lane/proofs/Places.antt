@@ -1,5 +1,5 @@
 -- Containers in places, in an order: what a write, a new place and the end of the first do to what stands there.
-use Rattle.std.proofs.Common.{◌≡◌, ℕ, suc, zero, ◌+◌, ◌<◌, ◌≤◌, cond, eqb, List, [], ◌∷◌, map, length, get_or, set, sym, refl, ap, ◌∙◌, arith}
+use Rattle.std.proofs.Common.{◌≡◌, ℕ, suc, zero, ◌+◌, ◌<◌, ◌≤◌, cond, eqb, List, [], ◌∷◌, map, length, get_or, set, sym, refl, ap, subst, ◌∙◌, arith}
 use Rattle.std.specs.Prelude.{◌≢◌, Option, None}
 use Rattle.std.proofs.lemmas.Bool.{eq-eqb, ne_eqb}
 use Rattle.std.proofs.lemmas.List.{length-map, get_or-map, map-set, get_or-set_same, get_or-set_other, length-set, set-get_or}
@@ -65,106 +65,116 @@ arranged-read slots order i p c d h at within is =
 pub arranged-length : (slots : List Container) (order : List ℕ) → length (arranged slots order) ≡ length order
 arranged-length slots order = length-map order (slot slots)
 
-module _ (slots : List Container) (room : ℕ) (order free : List ℕ) (are : AreSlots (length slots) room order free) where
-  -- a place of the order is there
-  pub within : (i p : ℕ) → i < length order → p ≡ get_or order i p → p < length slots
-  within i p h at = are.there p (omega (arith, stands order i p h at))
+-- a write keeps the places
+pub still : (slots : List Container) (room : ℕ) (order free : List ℕ) → AreSlots (length slots) room order free → (p : ℕ) (c : Container) → AreSlots (length (set slots p c)) room order free
+still slots room order free are p c = record {
+  all = omega (arith, are.all, length-set slots p c);
+  enough = omega (arith, are.enough, length-set slots p c);
+  once = are.once;
+  there = λ q h. let k = are.there q h in omega (arith, length-set slots p c);
+}
 
-  pub once_in : (p : ℕ) → times_in p order ≤ 1
-  once_in p = omega (arith, are.once p)
+-- of an arena that is seen as this list: the place at an index of its order
+pub record StandsIn (slots : List Container) (order : List ℕ) (v : List Placed) (i p : ℕ) : Type 0 where
+  pub seen : arranged slots order ≡ v
+  pub in_order : i < length order
+  pub at : p ≡ get_or order i p
+  pub once : times_in p order ≤ 1
+  pub within : p < length slots
 
-  -- a write keeps them
-  pub still : (p : ℕ) (c : Container) → AreSlots (length (set slots p c)) room order free
-  still p c = record {
-    all = omega (arith, are.all, length-set slots p c);
-    enough = omega (arith, are.enough, length-set slots p c);
-    once = are.once;
-    there = λ q h. let k = are.there q h in omega (arith, length-set slots p c);
-  }
+pub stands-in : (slots : List Container) (order : List ℕ) {room : ℕ} {free : List ℕ} {v : List Placed} {i p : ℕ} → AreSlots (length slots) room order free → arranged slots order ≡ v → i < length v → p ≡ get_or order i p → StandsIn slots order v i p
+stands-in slots order {room} {free} {v} {i} {p} are seen h at = record {
+  seen = seen;
+  in_order = in_order;
+  at = at;
+  once = omega (arith, are.once p);
+  within = are.there p (omega (arith, stands order i p in_order at));
+}
+  where
+    in_order : i < length order
+    in_order = let k : length (arranged slots order) ≡ length v = ap length seen in omega (arith, arranged-length slots order)
 
--- what a write to the container at an index of the order does
-module _ (slots : List Container) (room : ℕ) (order free : List ℕ) (are : AreSlots (length slots) room order free) (i p : ℕ) (c with : Container) (h : i < length order) (at : p ≡ get_or order i p) (is : c ≡ get_or slots p c) where
-  reads : (d : Placed) → get_or (arranged slots order) i d ≡ placed_at p c
-  reads d = arranged-read slots order i p c d h at (within slots room order free are i p h at) is
+module _ {slots : List Container} {order : List ℕ} {v : List Placed} {i p : ℕ} (here : StandsIn slots order v i p) where
+  seen-length : length order ≡ length v
+  seen-length = let k : length (arranged slots order) ≡ length v = ap length here.seen in omega (arith, arranged-length slots order)
 
-  writes : arranged (set slots p with) order ≡ set (arranged slots order) i (placed_at p with)
-  writes = arranged-write slots p with order i (once_in slots room order free are p) h at (within slots room order free are i p h at)
+  -- the container in that place is read
+  module _ (c : Container) (is : c ≡ get_or slots p c) where
+    pub placed-read : (d : Placed) → get_or v i d ≡ placed_at p c
+    placed-read d = ap (λ l. get_or l i d) (sym here.seen) ∙ arranged-read slots order i p c d here.in_order here.at here.within is
 
-  there : i < length (arranged slots order)
-  there = omega (arith, arranged-length slots order)
+    there : i < length v
+    there = omega (arith, seen-length, here.in_order)
 
-  pub cont-read : (d : Cont) → get_or (conts_of (arranged slots order)) i d ≡ cont_of c
-  cont-read d = get_or-map (λ (x : Placed). x.cont) (arranged slots order) i (placed_at p c) d there ∙ ap (λ (x : Placed). x.cont) (reads (placed_at p c))
+    pub cont-read : (d : Cont) → get_or (conts_of v) i d ≡ cont_of c
+    cont-read d = get_or-map (λ (x : Placed). x.cont) v i (placed_at p c) d there ∙ ap (λ (x : Placed). x.cont) (placed-read (placed_at p c))
 
-  pub link-read : (d : Link) → get_or (links_of (arranged slots order)) i d ≡ link_of (placed_at p c)
-  link-read d = get_or-map link_of (arranged slots order) i (placed_at p c) d there ∙ ap link_of (reads (placed_at p c))
+    pub link-read : (d : Link) → get_or (links_of v) i d ≡ link_of (placed_at p c)
+    link-read d = get_or-map link_of v i (placed_at p c) d there ∙ ap link_of (placed-read (placed_at p c))
 
-  pub changes : (change : Cont → Cont) → cont_of with ≡ change (cont_of c) → with.down ≡ c.down → (change (cont_of c)).epoch ≡ c.epoch → Changes change i (arranged slots order) (arranged (set slots p with) order)
-  changes change e down epochs = record {
-    conts = λ d. ap conts_of writes ∙ map-set (λ (x : Placed). x.cont) (arranged slots order) i (placed_at p with) ∙ ap (set (conts_of (arranged slots order)) i) (e ∙ ap change (sym (cont-read d)));
-    links =
-        let same : link_of (placed_at p with) ≡ link_of (placed_at p c) = λ j. record { epoch = (ap (λ (x : Cont). x.epoch) e ∙ epochs) j; place = p; down = down j } in
-        ap links_of writes ∙ map-set_same link_of (arranged slots order) i (placed_at p with) (placed_at p c) (same ∙ ap link_of (sym (reads (placed_at p c))));
-  }
+    pub room-read : ((d : Placed) → 1 ≤ (get_or v i d).room) → 1 ≤ room_of c
+    room-read room = let k : (get_or v i (placed_at p c)).room ≡ room_of c = ap (λ (x : Placed). x.room) (placed-read (placed_at p c)) in omega (arith, room (placed_at p c), k)
 
-  pub same : cont_of with ≡ cont_of c → with.down ≡ c.down → DifferInRooms (arranged slots order) (arranged (set slots p with) order)
-  same e down =
-      let k = changes (λ x. x) e down refl in
-      record {
-        conts = k.conts (cont_of c) ∙ ap (set (conts_of (arranged slots order)) i) refl ∙ set-get_or (conts_of (arranged slots order)) i (cont_of c);
-        links = k.links;
+    -- and written
+    module _ (with : Container) where
+      written : arranged (set slots p with) order ≡ set v i (placed_at p with)
+      written = arranged-write slots p with order i here.once here.in_order here.at here.within ∙ ap (λ l. set l i (placed_at p with)) here.seen
+
+      pub changes : (change : Cont → Cont) → cont_of with ≡ change (cont_of c) → with.down ≡ c.down → (change (cont_of c)).epoch ≡ c.epoch → Changes change i v (arranged (set slots p with) order)
+      changes change e down epochs = record {
+        conts = λ d. ap conts_of written ∙ map-set (λ (x : Placed). x.cont) v i (placed_at p with) ∙ ap (set (conts_of v) i) (e ∙ ap change (sym (cont-read d)));
+        links =
+            let same : link_of (placed_at p with) ≡ link_of (placed_at p c) = λ j. record { epoch = (ap (λ (x : Cont). x.epoch) e ∙ epochs) j; place = p; down = down j } in
+            ap links_of written ∙ map-set_same link_of v i (placed_at p with) (placed_at p c) (same ∙ ap link_of (sym (placed-read (placed_at p c))));
       }
 
-  pub rooms : (d : Placed) → (get_or (arranged slots order) i d).room ≡ room_of c
-  rooms d = ap (λ (x : Placed). x.room) (reads d)
+      pub same : cont_of with ≡ cont_of c → with.down ≡ c.down → DifferInRooms v (arranged (set slots p with) order)
+      same e down =
+          let k = changes (λ x. x) e down refl in
+          record { conts = k.conts (cont_of c) ∙ set-get_or (conts_of v) i (cont_of c); links = k.links }
 
-  -- rooms, before and after
-  pub rooms-written : 1 ≤ room_of with → (d : Placed) → 1 ≤ (get_or (arranged (set slots p with) order) i d).room
-  rooms-written h d = let e : (get_or (arranged (set slots p with) order) i d).room ≡ room_of with = ap (λ l. (get_or l i d).room) writes ∙ ap (λ (x : Placed). x.room) (get_or-set_same (arranged slots order) i (placed_at p with) d there) in omega (arith, e)
+      pub room-written : 1 ≤ room_of with → (d : Placed) → 1 ≤ (get_or (arranged (set slots p with) order) i d).room
+      room-written h d =
+          let e : (get_or (arranged (set slots p with) order) i d).room ≡ room_of with = ap (λ l. (get_or l i d).room) written ∙ ap (λ (x : Placed). x.room) (get_or-set_same v i (placed_at p with) d there) in
+          omega (arith, e)
 
-  pub rooms-read : (v : List Placed) → arranged slots order ≡ v → ((d : Placed) → 1 ≤ (get_or v i d).room) → 1 ≤ room_of c
-  rooms-read v e room = let k : (get_or v i (placed_at p c)).room ≡ room_of c = ap (λ l. (get_or l i (placed_at p c)).room) (sym e) ∙ rooms (placed_at p c) in omega (arith, room (placed_at p c), k)
+      -- where a link alone is set
+      pub conts-linked : cont_of with ≡ cont_of c → conts_of (arranged (set slots p with) order) ≡ conts_of v
+      conts-linked e = ap conts_of written ∙ map-set_same (λ (x : Placed). x.cont) v i (placed_at p with) (placed_at p c) (e ∙ ap (λ (x : Placed). x.cont) (sym (placed-read (placed_at p c))))
 
-  -- a link set
-  pub conts-linked : cont_of with ≡ cont_of c → conts_of (arranged (set slots p with) order) ≡ conts_of (arranged slots order)
-  conts-linked e = ap conts_of writes ∙ map-set_same (λ (x : Placed). x.cont) (arranged slots order) i (placed_at p with) (placed_at p c) (e ∙ ap (λ (x : Placed). x.cont) (sym (reads (placed_at p c))))
+      pub links-linked : (down : Option ℕ) → cont_of with ≡ cont_of c → with.down ≡ down → (d : Link) → links_of (arranged (set slots p with) order) ≡ set (links_of v) i (record (get_or (links_of v) i d) { down = down })
+      links-linked down e is_down d =
+          let same_link : link_of (placed_at p with) ≡ record (link_of (placed_at p c)) { down = down } = λ j. record { epoch = (ap (λ (x : Cont). x.epoch) e) j; place = p; down = is_down j } in
+          ap links_of written ∙ map-set link_of v i (placed_at p with)
+          ∙ ap (set (links_of v) i) (same_link ∙ ap (λ (k : Link). record k { down = down }) (sym (link-read d)))
 
-  pub links-linked : (down : Option ℕ) → cont_of with ≡ cont_of c → with.down ≡ down → (d : Link) → links_of (arranged (set slots p with) order) ≡ set (links_of (arranged slots order)) i (record (get_or (links_of (arranged slots order)) i d) { down = down })
-  links-linked down e is_down d =
-      let same_link : link_of (placed_at p with) ≡ record (link_of (placed_at p c)) { down = down } = λ j. record { epoch = (ap (λ (x : Cont). x.epoch) e) j; place = p; down = is_down j } in
-      ap links_of writes ∙ map-set link_of (arranged slots order) i (placed_at p with)
-      ∙ ap (set (links_of (arranged slots order)) i) (same_link ∙ ap (λ (k : Link). record k { down = down }) (sym (link-read d)))
-
--- the place at an index
-place_in : (r : ℕ) (slots : List Container) (q : ℕ) → q < length slots → (get_or (map (placed_at r) slots) q no_container).place ≡ r
-place_in r [] q h = absurd (omega arith)
-place_in r (c ∷ slots) zero h = refl
-place_in r (c ∷ slots) (suc q) h = place_in r slots q (omega arith)
-
-pub place-read : (slots : List Container) (order : List ℕ) (i p : ℕ) → i < length order → p ≡ get_or order i p → p < length slots → (d : Link) → (get_or (links_of (arranged slots order)) i d).place ≡ p
-place-read slots order i p h at within d =
-    ap (λ (k : Link). k.place) (get_or-map link_of (arranged slots order) i no_container d (omega (arith, arranged-length slots order)))
-    ∙ ap (λ (x : Placed). x.place) (get_or-map (slot slots) order i p no_container h)
-    ∙ ap (λ q. (slot slots q).place) (sym at)
-    ∙ place_in p slots p within
-
--- of an arena that is seen as this list
-module _ (slots : List Container) (room : ℕ) (order free : List ℕ) (are : AreSlots (length slots) room order free) (v : List Placed) (e : arranged slots order ≡ v) (i p : ℕ) (h : i < length v) where
-  pub in_order : i < length order
-  in_order = let k : length (arranged slots order) ≡ length v = ap length e in omega (arith, arranged-length slots order)
-
-  pub in_slots : p ≡ get_or order i p → p < length slots
-  in_slots at = within slots room order free are i p in_order at
-
-  -- and at its place
-  pub place-at : ((d : Link) → (get_or (links_of v) i d).place ≡ p) → p ≡ get_or order i p
-  place-at is =
-      let q = get_or order i p in
-      let at : q ≡ get_or order i q = any_default order i p q in_order in
-      let d : Link = record { epoch = 0; place = 0; down = None } in
-      sym (is d) ∙ ap (λ l. (get_or (links_of l) i d).place) (sym e) ∙ place-read slots order i q in_order at (within slots room order free are i q in_order at) d
+  -- the place is that of the list
+  pub place-read : (d : Link) → (get_or (links_of v) i d).place ≡ p
+  place-read d =
+      ap (λ l. (get_or (links_of l) i d).place) (sym here.seen)
+      ∙ ap (λ (k : Link). k.place) (get_or-map link_of (arranged slots order) i no_container d (omega (arith, here.in_order, arranged-length slots order)))
+      ∙ ap (λ (x : Placed). x.place) (get_or-map (slot slots) order i p no_container here.in_order)
+      ∙ ap (λ q. (slot slots q).place) (sym here.at)
+      ∙ place_in p slots p here.within
     where
-      any_default : (xs : List ℕ) (i a b : ℕ) → i < length xs → get_or xs i a ≡ get_or xs i b
-      any_default [] i a b h = absurd (omega arith)
-      any_default (x ∷ xs) zero a b h = refl
-      any_default (x ∷ xs) (suc i) a b h = any_default xs i a b (omega arith)
+      place_in : (r : ℕ) (slots : List Container) (q : ℕ) → q < length slots → (get_or (map (placed_at r) slots) q no_container).place ≡ r
+      place_in r [] q h = absurd (omega arith)
+      place_in r (c ∷ slots) zero h = refl
+      place_in r (c ∷ slots) (suc q) h = place_in r slots q (omega arith)
+
+-- a place by that of the list
+pub stands-at : (slots : List Container) (order : List ℕ) {room : ℕ} {free : List ℕ} {v : List Placed} {p : ℕ} (i : ℕ) → AreSlots (length slots) room order free → arranged slots order ≡ v → i < length v → ((d : Link) → (get_or (links_of v) i d).place ≡ p) → StandsIn slots order v i p
+stands-at slots order {room} {free} {v} {p} i are seen h is = subst (StandsIn slots order v i) (sym (place-read here no_link) ∙ is no_link) here
+  where
+    no_link : Link
+    no_link = record { epoch = 0; place = 0; down = None }
+
+    any_default : (xs : List ℕ) (i a b : ℕ) → i < length xs → get_or xs i a ≡ get_or xs i b
+    any_default [] i a b h = absurd (omega arith)
+    any_default (x ∷ xs) zero a b h = refl
+    any_default (x ∷ xs) (suc i) a b h = any_default xs i a b (omega arith)
+
+    here : StandsIn slots order v i (get_or order i p)
+    here =
+        let k : length (arranged slots order) ≡ length v = ap length seen in
+        stands-in slots order are seen h (any_default order i p (get_or order i p) (omega (arith, arranged-length slots order)))

@@ -1,7 +1,7 @@
 use Rattle.std.proofs.Common.{◌≡◌, ℕ, vec_capacity, List, length, get_or, ap, sym, arith, subst}
 use Rattle.sb_lane.specs.Slots.{AreSlots}
-use Rattle.sb_lane.proofs.Places.{in_order, in_slots, cont-read}
 use Rattle.sb_lane.proofs.Inserts.{end-are}
+use Rattle.sb_lane.proofs.Places.{stands-in, cont-read}
 use Rattle.sb_lane.proofs.arena.Arena.end.Goals as goal
 
 pub index-c-requires : goal.index-c-requires
@@ -9,7 +9,8 @@ index-c-requires c =
     let s = c.self.inside in
     let p = c.in-Some.place in
     let at : p ≡ get_or s.order.items 0 p = sym (ap (λ (l : List ℕ). get_or l 0 p) c.in-Some.ensures.items) in
-    omega (arith, s.slots.ok, in_slots s.slots.items _ s.order.items s.free.items c.self.invariant c.args.self.now c.self.view_is 0 p c.requires at)
+    let here = stands-in s.slots.items s.order.items c.self.invariant c.self.view_is c.requires at in
+    omega (arith, s.slots.ok, here.within)
 
 pub invariant_of-self : goal.invariant_of-self
 invariant_of-self c =
@@ -21,8 +22,7 @@ pub returns-in-Some-clause-gone : goal.returns-in-Some-clause-gone
 returns-in-Some-clause-gone c = λ d.
     let s = c.self.inside in
     let p = c.in-Some.place in
-    let at : p ≡ get_or s.order.items 0 p = sym (ap (λ (l : List ℕ). get_or l 0 p) c.in-Some.ensures.items) in
     let x = c.index-c.result.now in
-    rw (← c.self.view_is)
-    (rw (cont-read s.slots.items _ s.order.items s.free.items c.self.invariant 0 p x x (in_order s.slots.items _ s.order.items s.free.items c.self.invariant c.args.self.now c.self.view_is 0 p c.requires) at c.index-c.ensures d)
-    (omega (arith, x.waiting.ok, x.out.ok, c.len.ensures, c.len-in-Some.ensures)))
+    let at : p ≡ get_or s.order.items 0 p = sym (ap (λ (l : List ℕ). get_or l 0 p) c.in-Some.ensures.items) in
+    let here = stands-in s.slots.items s.order.items c.self.invariant c.self.view_is c.requires at in
+    rw (cont-read here x c.index-c.ensures d) (omega (arith, x.waiting.ok, x.out.ok, c.len.ensures, c.len-in-Some.ensures))
