@@ -1,5 +1,5 @@
 -- What contracts see of a lane.
-use Rattle.std.specs.Prelude.{ℕ, ◌+◌, List, [], min, Option}
+use Rattle.std.specs.Prelude.{ℕ, ◌+◌, ◌-◌, ◌^◌, List, [], min, Option}
 use Rattle.sb_core.specs.declared.moment.CoreLane.{CoreLane}
 use Rattle.sb_lane.specs.Placed.{Placed, conts_of}
 use Rattle.sb_lane.specs.Links.{Link, links_of, link_in}
@@ -28,4 +28,4 @@ link_at epoch s = link_in epoch (links_of s.containers)
 
 -- one search more; the number stays at its greatest value
 abbrev pub one_search_more : ℕ → ℕ
-one_search_more n = min (n + 1) 18446744073709551615
+one_search_more n = min (n + 1) (2 ^ 64 - 1)

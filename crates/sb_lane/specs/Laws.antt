@@ -82,7 +82,8 @@ abbrev pub EndsKeepOrder : Type 0
 EndsKeepOrder =
     (bound : ℕ) (lane : CoreLane)
     → IsLane bound lane → first_is_closing lane.conts ≡ true
-    → (lane.ended < length lane.marks) × IsLane bound (record lane { conts = drop 1 lane.conts; ended = lane.ended + 1 })
+    → (lane.ended < length lane.marks)
+    × IsLane bound (record lane { conts = drop 1 lane.conts; ended = lane.ended + 1 })
 
 -- what is taken is what the core takes by its number
 abbrev pub TakesAreTheCores : Type 0

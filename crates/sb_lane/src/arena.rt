@@ -1,6 +1,6 @@
 //! Containers in places that stay, chained in an order.
 
-ghost use Rattle.std.specs.Prelude.{◌≡◌, ◌≤◌, ◌<◌, ◌+◌, ℕ, true, List, [], ◌∷◌, ◌++◌, length, drop, insert, filter, not, ◌==◌};
+ghost use Rattle.std.specs.Prelude.{◌≡◌, ◌≤◌, ◌<◌, ◌+◌, ℕ, true, List, [], ◌∷◌, ◌++◌, length, drop, insert};
 ghost use Rattle.std.specs.Prelude.{None, Some, OnOk, OnErr, IsOk, IfOk, IfErr, IfSome, IfNone};
 ghost use Rattle.std.specs.Prelude.{slice_index_or, vec_len, vec_capacity};
 ghost use Rattle.std.specs.VecDeque.{deque_len, deque_capacity};
@@ -234,8 +234,8 @@ impl Arena {
     pub(crate) fn finish(&mut self, at: usize, number: u64) -> usize
         requires { at < length self.old }
         ensures cont { Changes (with_finished number) at self.old self.new }
-        ensures gone { (d : ACont) → length (filter (λ n. not (n == number)) (slice_index_or (conts_of self.old) at d).out)
-            + result ≡ length (slice_index_or (conts_of self.old) at d).out }
+        ensures gone { (d : ACont) → length (with_finished number (slice_index_or (conts_of self.old) at d)).out + result
+            ≡ length (slice_index_or (conts_of self.old) at d).out }
     {
         let place = self.order[at];
         let c = &mut self.slots[place];

@@ -1,6 +1,6 @@
 //! A lane, and its calls.
 
-ghost use Rattle.std.specs.Prelude.{◌≡◌, ◌≤◌, ◌<◌, ◌+◌, ◌-◌, ◌^◌, ◌==◌, ℕ, true, length, drop, is_some, None, Some};
+ghost use Rattle.std.specs.Prelude.{◌≡◌, ◌≤◌, ◌<◌, ◌+◌, ◌==◌, ℕ, true, length, drop, is_some, None, Some};
 ghost use Rattle.std.specs.Prelude.{OnOk, OnErr, IsOk, IfOk, IfErr, IfSome, IfNone};
 ghost use Rattle.sb_core.specs.LaneOrder.{IsLane};
 ghost use Rattle.sb_core.specs.Lanes.{in_epoch, next_epoch, next_floor, with_first_closing};
@@ -153,7 +153,7 @@ impl Lane {
 
     /// Puts a bundle from outside into its epoch and gives its number, unless too many bundles wait or are out.
     pub fn arrive(&mut self, bundle: Bundle) -> Result<u64, ArriveStop>
-        requires { self.old.arrived < 2 ^ 64 - 1 }
+        requires { self.old.arrived < u64.MAX }
         ensures number { IfOk result (λ n. n ≡ self.old.arrived + 1) }
         ensures ok { OnOk result (Admits bundle self.old self.new) }
         ensures links { OnOk result (GivesPlace bundle.epoch self.old self.new) }
@@ -174,7 +174,7 @@ impl Lane {
     /// Puts a bundle from the lane above into its epoch, however many wait, and gives its number. It looks for the
     /// container.
     pub fn deliver(&mut self, bundle: Bundle) -> Result<u64, NoMemoryWith>
-        requires { self.old.arrived < 2 ^ 64 - 1 }
+        requires { self.old.arrived < u64.MAX }
         ensures number { IfOk result (λ n. n ≡ self.old.arrived + 1) }
         ensures ok { OnOk result (Admits bundle self.old self.new) }
         ensures links { OnOk result (GivesPlace bundle.epoch self.old self.new) }
@@ -189,7 +189,7 @@ impl Lane {
 
     // Puts a bundle into its epoch. The search for it is not counted.
     fn put(&mut self, bundle: Bundle) -> Result<u64, NoMemoryWith>
-        requires { self.old.arrived < 2 ^ 64 - 1 }
+        requires { self.old.arrived < u64.MAX }
         ensures number { IfOk result (λ n. n ≡ self.old.arrived + 1) }
         ensures ok { OnOk result (Admits bundle self.old self.new) }
         ensures links { OnOk result (GivesPlace bundle.epoch self.old self.new) }
@@ -237,7 +237,7 @@ impl Lane {
     /// Puts a bundle into the container of its epoch, which stands at this place, and gives its number. It looks for
     /// nothing, and does not fail where the container has room.
     pub fn deliver_at(&mut self, place: u64, bundle: Bundle) -> Result<u64, NoMemoryWith>
-        requires numbers { self.old.arrived < 2 ^ 64 - 1 }
+        requires numbers { self.old.arrived < u64.MAX }
         requires here { StandsAt bundle.epoch place self.old.containers }
         ensures number { IfOk result (λ n. n ≡ self.old.arrived + 1) }
         ensures ok { OnOk result ((bound : ℕ) → IsLane bound (lane_of self.old) → Admits bundle self.old self.new) }

@@ -54,7 +54,8 @@ pub fn finishes_are_the_cores()
     ensures { law.FinishesAreTheCores }
 {}
 
-/// In a lane in order a closing that can begin is that of the first epoch that has not ended, which the core lets close.
+/// In a lane in order a closing that can begin is that of the first epoch that has not ended, and the core lets it
+/// begin.
 pub fn closings_are_the_cores()
     ensures { law.ClosingsAreTheCores }
 {}
