@@ -1,0 +1,10 @@
+pub mod Places
+pub mod Inserts
+pub mod Views
+pub mod Firsts
+pub mod Counts
+pub mod Results
+pub mod Linking
+pub mod KeepingMarks
+pub mod InTheCore
+pub mod OrderKept
