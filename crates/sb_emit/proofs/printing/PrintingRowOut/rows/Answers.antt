@@ -1,0 +1,36 @@
+use Rattle.std.proofs.Common.{List, ◌∙◌, ap, take, arith}
+use Rattle.std.proofs.lemmas.List.{length-drop, take_rest}
+use Rattle.sb_record.specs.declared.item.Record.{Record}
+use Rattle.sb_record.specs.Rows.{text_of}
+use Rattle.sb_outside.proofs.Appending.{wrote_more}
+use Rattle.sb_outside.proofs.SinkCauses.{calls_then, whatever_given}
+use Rattle.sb_emit.proofs.Batches.{batch_written, batch_failed}
+use Rattle.sb_emit.proofs.printing.PrintingRowOut.rows.Goals as goal
+
+pub writes-preserved : goal.writes-preserved
+writes-preserved g c =
+    let taken = c.in-Ok.taken in
+    let written = c.writes.written in
+    let text = c.as_slice-text.result.now in record {
+      within = omega (arith, c.in-Ok.ensures.bound, c.writes.invariant.within, length-drop written text);
+      taken = wrote_more _ _ _ text written taken c.writes.invariant.taken (rw (take_rest text written) at c.in-Ok.ensures.bytes.1);
+      cause = whatever_given _ _ taken 0 (calls_then _ _ _ 0 _ c.writes.invariant.cause c.in-Ok.ensures.cause);
+    }
+
+pub returns-in-Err-clause-rows : goal.returns-in-Err-clause-rows
+returns-in-Err-clause-rows g c =
+    let rows = c.args.rows.now in
+    let count = c.gather-count.result in
+    let is = c.as_slice-text.ensures.bytes ∙ c.gather-count.ensures.text ∙ ap (λ (l : List Record). text_of (take count l)) (take_rest rows c.batches.done) in
+    rw (← c.self.view_is) (batch_failed _ _ _ _ rows c.batches.done count c.writes.written c.as_slice-text.result.now is c.batches.invariant.taken c.writes.invariant.taken c.in-Err.ensures.bytes)
+
+pub batches-preserved : goal.batches-preserved
+batches-preserved g c =
+    let rows = c.args.rows.now in
+    let count = c.gather-count.result in
+    let done = c.batches.done in
+    let is = c.as_slice-text.ensures.bytes ∙ c.gather-count.ensures.text ∙ ap (λ (l : List Record). text_of (take count l)) (take_rest rows done) in record {
+      within = omega (arith, c.gather-count.ensures.within, c.batches.invariant.within, length-drop done rows);
+      taken = batch_written _ _ _ rows done count c.writes.written c.as_slice-text.result.now is c.writes-test.false c.batches.invariant.taken c.writes.invariant.taken;
+      cause = calls_then _ _ _ 0 _ c.batches.invariant.cause c.writes.invariant.cause;
+    }

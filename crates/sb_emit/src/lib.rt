@@ -1,0 +1,11 @@
+//! How rows leave the engine: to outputs, which take all of them.
+//!
+//! A [`RowOut`] takes rows in the order of their windows. [`Printing`] writes their text to a sink.
+#![tactic(auto)]
+
+mod batch;
+mod output;
+mod printing;
+
+pub use output::RowOut;
+pub use printing::Printing;
