@@ -4,8 +4,12 @@
 #![tactic(auto)]
 
 mod batch;
+mod offering;
 mod output;
 mod printing;
+mod tap;
 
+pub use offering::{TapStop, offer};
 pub use output::RowOut;
 pub use printing::Printing;
+pub use tap::{Tap, TapFault, Wish};
