@@ -1,3 +1,4 @@
+pub mod Writing
 pub mod Batches
 pub mod Places
 pub mod OfferedTaps

@@ -1,6 +1,6 @@
 -- How far an offer of a row has come in a list of taps.
-use Rattle.std.proofs.Common.{◌≡◌, ◌<◌, ◌≤◌, ◌+◌, ℕ, List, [], ◌∷◌, ◌++◌, map, filter, cond, take, drop, length, true, false, Bool, Ok, Err, refl, ap, sym, subst, ◌∙◌, arith, append_assoc, append-nil}
-use Rattle.std.proofs.lemmas.List.{length-append, length-map, take_at, drop_at}
+use Rattle.std.proofs.Common.{◌≡◌, ◌<◌, ◌≤◌, ◌+◌, ℕ, List, [], ◌∷◌, ◌++◌, filter, cond, take, drop, length, true, false, Bool, Ok, Err, refl, ap, sym, subst, ◌∙◌, arith, append_assoc, append-nil}
+use Rattle.std.proofs.lemmas.List.{length-append, take_at, drop_at}
 use Rattle.std.proofs.lemmas.List.Elements.{filter-append, AllZip-push}
 use Rattle.std.specs.List.{AllZip}
 use Rattle.sb_record.specs.declared.item.Record.{Record}

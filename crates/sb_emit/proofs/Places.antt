@@ -1,5 +1,5 @@
 -- A list of taps beside the list of what they show.
-use Rattle.std.proofs.Common.{◌≡◌, ◌<◌, ◌≤◌, ◌+◌, ℕ, suc, List, [], ◌∷◌, ◌++◌, map, take, drop, length, get_or, set, true, false, Bool, Ok, Err, refl, ap, sym, ◌∙◌, arith, add-one}
+use Rattle.std.proofs.Common.{◌≡◌, ◌<◌, ◌+◌, ℕ, suc, List, ◌∷◌, ◌++◌, map, take, drop, length, get_or, set, true, false, Bool, Ok, Err, refl, ap, sym, ◌∙◌, arith, add-one}
 use Rattle.std.proofs.lemmas.List.{drop_more, set_split, map-append, length-map, length-take-le, take-append-drop, take-set, drop-set-lt}
 use Rattle.std.specs.List.{remove}
 use Rattle.sb_emit.specs.declared.tap.Wish.{Wish}

@@ -4,3 +4,4 @@ pub mod TextLaws
 pub mod Taps
 pub mod Offers
 pub mod OfferSteps
+pub mod TapKinds

@@ -4,11 +4,16 @@
 #![tactic(auto)]
 
 mod batch;
+mod count_tap;
+mod head_tap;
 mod offering;
 mod output;
 mod printing;
+mod seen_rows;
 mod tap;
 
+pub use count_tap::CountTap;
+pub use head_tap::HeadTap;
 pub use offering::{TapStop, offer};
 pub use output::RowOut;
 pub use printing::Printing;

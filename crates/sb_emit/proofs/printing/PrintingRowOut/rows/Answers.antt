@@ -2,20 +2,14 @@ use Rattle.std.proofs.Common.{List, ◌∙◌, ap, take, arith}
 use Rattle.std.proofs.lemmas.List.{length-drop, take_rest}
 use Rattle.sb_record.specs.declared.item.Record.{Record}
 use Rattle.sb_record.specs.Rows.{text_of}
-use Rattle.sb_outside.proofs.Appending.{wrote_more}
-use Rattle.sb_outside.proofs.SinkCauses.{calls_then, whatever_given}
+use Rattle.sb_outside.proofs.SinkCauses.{calls_then}
+use Rattle.sb_emit.proofs.Writing.{writes_more}
 use Rattle.sb_emit.proofs.Batches.{batch_written, batch_failed}
 use Rattle.sb_emit.proofs.printing.PrintingRowOut.rows.Goals as goal
 
 pub writes-preserved : goal.writes-preserved
 writes-preserved g c =
-    let taken = c.in-Ok.taken in
-    let written = c.writes.written in
-    let text = c.as_slice-text.result.now in record {
-      within = omega (arith, c.in-Ok.ensures.bound, c.writes.invariant.within, length-drop written text);
-      taken = wrote_more _ _ _ text written taken c.writes.invariant.taken (rw (take_rest text written) at c.in-Ok.ensures.bytes.1);
-      cause = whatever_given _ _ taken 0 (calls_then _ _ _ 0 _ c.writes.invariant.cause c.in-Ok.ensures.cause);
-    }
+    writes_more _ _ _ c.as_slice-text.result.now c.writes.written c.in-Ok.taken _ _ _ c.writes.invariant c.in-Ok.ensures.bound c.in-Ok.ensures.bytes.1 c.in-Ok.ensures.cause
 
 pub returns-in-Err-clause-rows : goal.returns-in-Err-clause-rows
 returns-in-Err-clause-rows g c =

@@ -2,6 +2,7 @@ use Rattle.std.proofs.Common.{ℕ, ◌≤◌, ◌-◌, length, take, Ok}
 use Rattle.std.specs.Io.KnownBytes.{Appends}
 use Rattle.sb_record.specs.Rows.{text_of}
 use Rattle.sb_outside.specs.Sinks.{SinkCause}
+use Rattle.sb_emit.proofs.Writing.{Writing}
 use Rattle.sb_emit.proofs.printing.PrintingRowOut.rows.Given as goal
 
 abbrev pub invariant-batches : goal.invariant-batches
@@ -15,11 +16,8 @@ abbrev pub decreases-batches : goal.decreases-batches
 decreases-batches g l = length l.rows - l.done
 
 abbrev pub invariant-writes : goal.invariant-writes
-invariant-writes g l = record {
-  within : l.written ≤ length l.text;
-  taken : Appends (g.K.Sink.taken l.initial.self-inside.1.0) (g.K.Sink.taken l.self-inside.1.0) (take l.written l.text);
-  cause : SinkCause {T = ℕ} (g.K.Sink.sink_state l.initial.self-inside.1.0) (g.K.Sink.sink_state l.self-inside.1.0) (Ok 0);
-}
+invariant-writes g l =
+    Writing (g.K.Sink.taken l.initial.self-inside.1.0) (g.K.Sink.taken l.self-inside.1.0) l.text l.written (g.K.Sink.sink_state l.initial.self-inside.1.0) (g.K.Sink.sink_state l.self-inside.1.0)
 
 abbrev pub decreases-writes : goal.decreases-writes
 decreases-writes g l = length l.text - l.written
