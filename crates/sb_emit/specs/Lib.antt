@@ -5,3 +5,5 @@ pub mod Taps
 pub mod Offers
 pub mod OfferSteps
 pub mod TapKinds
+pub mod Summaries
+pub mod SumLaws

@@ -10,6 +10,7 @@ mod offering;
 mod output;
 mod printing;
 mod seen_rows;
+mod summary;
 mod tap;
 
 pub use count_tap::CountTap;
@@ -17,4 +18,5 @@ pub use head_tap::HeadTap;
 pub use offering::{TapStop, offer};
 pub use output::RowOut;
 pub use printing::Printing;
+pub use summary::Summary;
 pub use tap::{Tap, TapFault, Wish};
