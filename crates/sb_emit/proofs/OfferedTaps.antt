@@ -19,9 +19,10 @@ pub record Offering (row : Record) (place staying : ℕ) (old now : List TapStat
   pub leaves : LeavesThoseThatWantMore row earlier left
   pub is_staying : length left ≡ staying
   pub stands : now ≡ left ++ later
+  pub fewer : staying ≤ place
 
 pub nothing_offered : (row : Record) (old : List TapState) → Offering row 0 0 old old
-nothing_offered row old = record { earlier = []; later = old; was = refl; is_place = refl; left = []; leaves = tt; is_staying = refl; stands = refl }
+nothing_offered row old = record { earlier = []; later = old; was = refl; is_place = refl; left = []; leaves = tt; is_staying = refl; stands = refl; fewer = omega arith }
 
 -- the tap that is offered the row is the first of those to come
 next_is : (row : Record) (place staying : ℕ) (old now : List TapState) (tap : TapState) (f : Offering row place staying old now) (at : OfferedAt staying now tap)
@@ -56,6 +57,7 @@ tap_stays row place staying old now new f (tap, saw, at, sees, wants, is) =
       leaves = subst (λ l. AllZip (SawRow row) l (f.left ++ saw ∷ [])) (sym (wanting row f.earlier tap true wants)) (AllZip-push (SawRow row) (filter (wants_more_after row) f.earlier) f.left tap saw f.leaves sees);
       is_staying = one_more f.left saw staying f.is_staying;
       stands = is ∙ ap (λ l. l ++ saw ∷ at.later) (sym next.0) ∙ sym (append_assoc f.left (saw ∷ []) at.later);
+      fewer = omega (arith, f.fewer);
     }
 
 -- the tap goes
@@ -71,6 +73,7 @@ tap_goes row place staying old now new f (tap, at, enough, is) =
       leaves = subst (λ l. AllZip (SawRow row) l f.left) (sym (wanting row f.earlier tap false enough ∙ append-nil (filter (wants_more_after row) f.earlier))) f.leaves;
       is_staying = f.is_staying;
       stands = is ∙ ap (λ l. l ++ at.later) (sym next.0);
+      fewer = omega (arith, f.fewer);
     }
 
 -- the tap refuses

@@ -1,6 +1,6 @@
 //! Offering a row to a list of taps.
 
-ghost use Rattle.std.specs.Prelude.{◌≡◌, ◌<◌, ◌^◌, length, map};
+ghost use Rattle.std.specs.Prelude.{◌≡◌, ◌<◌, ◌≤◌, ◌^◌, length, map};
 ghost use Rattle.sb_emit.specs.Taps.{Answers};
 ghost use Rattle.sb_emit.specs.Offers.{Offers};
 ghost use Rattle.sb_emit.specs.OfferSteps.{OffersAt};
@@ -52,8 +52,9 @@ fn offer_at(taps: &mut Vec<Box<dyn Tap>>, place: usize, row: &Record) -> Result<
 pub fn offer(taps: &mut Vec<Box<dyn Tap>>, row: &Record) -> Result<(), TapStop>
     requires few { length taps.old.items < 2 ^ 32 }
     requires time { row.now.time < END_MARK }
-    ensures { Offers row.now
+    ensures offers { Offers row.now
         (map (λ t. tap_state t) taps.old.items) (map (λ t. tap_state t) taps.new.items) result }
+    ensures fewer { length taps.new.items ≤ length taps.old.items }
 {
     let mut staying = 0usize;
     'places: for place in 0..taps.len() {

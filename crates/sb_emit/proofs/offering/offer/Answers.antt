@@ -21,13 +21,13 @@ places-preserved g c =
       | else-stays w ↦ rw w.staying-is (tap_goes _ _ _ _ _ _ c.places.invariant (rw w.if-stays.false at c.in-Ok.ensures))
     ]
 
-pub returns-in-Err-Failed : goal.returns-in-Err-Failed
-returns-in-Err-Failed g c = tap_refuses _ c.places.place _ _ _ _ _ c.places.invariant (rw c.in-Err-Failed.field-0-is at c.in-Err-Failed.ensures)
+pub returns-in-Err-Failed-clause-offers : goal.returns-in-Err-Failed-clause-offers
+returns-in-Err-Failed-clause-offers g c = tap_refuses _ c.places.place _ _ _ _ _ c.places.invariant (rw c.in-Err-Failed.field-0-is at c.in-Err-Failed.ensures)
 
-pub returns-in-Err-Memory : goal.returns-in-Err-Memory
-returns-in-Err-Memory g c = (c.places.place, tap_refuses _ c.places.place _ _ _ _ _ c.places.invariant (rw c.in-Err-Memory.field-0-is at c.in-Err-Memory.ensures))
+pub returns-in-Err-Memory-clause-offers : goal.returns-in-Err-Memory-clause-offers
+returns-in-Err-Memory-clause-offers g c = (c.places.place, tap_refuses _ c.places.place _ _ _ _ _ c.places.invariant (rw c.in-Err-Memory.field-0-is at c.in-Err-Memory.ensures))
 
-pub returns : goal.returns
-returns g c =
+pub returns-clause-offers : goal.returns-clause-offers
+returns-clause-offers g c =
     let many = length-map c.args.taps.now.items (λ t. (goal.Tap-dyn g (t.vtable, t.value)).tap_state t.value) in
     all_offered c.args.row.now c.places.place c.places.staying _ _ c.places.invariant (omega arith)
