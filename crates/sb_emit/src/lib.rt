@@ -20,3 +20,6 @@ pub use output::RowOut;
 pub use printing::Printing;
 pub use summary::Summary;
 pub use tap::{Tap, TapFault, Wish};
+
+#[cfg(test)]
+mod tests;
