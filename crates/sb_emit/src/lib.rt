@@ -1,6 +1,9 @@
-//! How rows leave the engine: to outputs, which take all of them.
+//! How rows leave the engine: to an output, which takes all of them, and past taps, which look at them one at a time.
 //!
-//! A [`RowOut`] takes rows in the order of their windows. [`Printing`] writes their text to a sink.
+//! A [`RowOut`] takes rows in the order of their windows: [`Printing`] writes their text to a sink, and [`Summary`]
+//! keeps three numbers of them. A [`Tap`] says behind each row whether it has enough: [`offer`] offers a row to a list
+//! of taps and drops those that have. [`HeadTap`] writes the first rows, and [`CountTap`] counts all. No call here takes
+//! memory of its own.
 #![tactic(auto)]
 
 mod batch;

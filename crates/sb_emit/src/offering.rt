@@ -7,6 +7,8 @@ ghost use Rattle.sb_emit.specs.OfferSteps.{OffersAt};
 
 use crate::tap::{Tap, TapFault, Wish};
 use sb_record::{END_MARK, Record};
+use std::error::Error;
+use std::fmt;
 
 /// Why an offer ended before the last tap.
 #[derive(Clone, Copy, Debug, PartialEq, Eq, Drop)]
@@ -16,6 +18,17 @@ pub enum TapStop {
     /// A tap was out of memory.
     Memory,
 }
+
+impl fmt::Display for TapStop {
+    fn fmt<W: fmt::Write>(&self, f: &mut fmt::Formatter<W>) -> fmt::Result {
+        match self {
+            TapStop::Failed { place } => write!(f, "tap {place} failed"),
+            TapStop::Memory => f.write_str("out of memory"),
+        }
+    }
+}
+
+impl Error for TapStop {}
 
 // Offers a row to one tap.
 fn offer_one(tap: &mut Box<dyn Tap>, row: &Record) -> Result<Wish, TapFault>

@@ -3,7 +3,7 @@
 ghost use Rattle.std.specs.Prelude.{◌≡◌, ◌<◌, List, [], ◌++◌, false, All, OnOk};
 ghost use Rattle.sb_record.specs.declared.item.Record.{Record};
 ghost use Rattle.sb_outside.specs.Sinks.{SinkCause, SinkState};
-ghost use Rattle.sb_emit.specs.Outputs.{Takes};
+ghost use Rattle.sb_emit.specs.Outputs.{TakesRows};
 
 use sb_outside::SinkFault;
 use sb_record::{END_MARK, Record};
@@ -14,6 +14,9 @@ use sb_record::{END_MARK, Record};
 /// prefix of what it makes of them. `row_state` counts what the output has refused. An output may take rows and then
 /// fail to pass them on: it counts that fault at once and refuses all that follows, so that whoever calls `finish`
 /// after the last rows learns of each fault.
+///
+/// The members below the calls are the laws by which calls add up: rows and then rows are all of these rows, rows and
+/// then a part of more are a part of all, and a part of some rows is a part of more.
 pub trait RowOut: Send {
     ghost row_state: { Self → SinkState };
 
@@ -21,7 +24,7 @@ pub trait RowOut: Send {
 
     ghost part: { Self → List Record → Self → Type 0 };
 
-    /// Takes rows, in their order. The time of each is below [`END_MARK`].
+    /// TakesRows rows, in their order. The time of each is below [`END_MARK`].
     ///
     /// # Errors
     ///
@@ -29,7 +32,7 @@ pub trait RowOut: Send {
     /// what the rows give has then been taken.
     fn rows(&mut self, rows: &[Record]) -> Result<(), SinkFault>
         requires { All (λ r. r.time < END_MARK) rows.now }
-        ensures rows { Takes after part self.old rows.now self.new result }
+        ensures rows { TakesRows after part self.old rows.now self.new result }
         ensures cause { SinkCause (row_state self.old) (row_state self.new) result };
 
     /// Passes on all that was taken. To be called after the last rows.
@@ -38,7 +41,7 @@ pub trait RowOut: Send {
     ///
     /// As those of `rows`. A fault that no answer has told is told here.
     fn finish(&mut self) -> Result<(), SinkFault>
-        ensures rows { Takes after part self.old [] self.new result }
+        ensures rows { TakesRows after part self.old [] self.new result }
         ensures cause { SinkCause (row_state self.old) (row_state self.new) result }
         ensures told { OnOk result ((row_state self.new).refuses ≡ false) };
 

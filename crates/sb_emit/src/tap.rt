@@ -4,6 +4,8 @@ ghost use Rattle.std.specs.Prelude.{◌≡◌, ◌<◌, ◌%◌, ◌^◌, length
 ghost use Rattle.sb_emit.specs.Taps.{Answers, TapState};
 
 use sb_record::{END_MARK, Record};
+use std::error::Error;
+use std::fmt;
 
 /// What a tap wants behind a row.
 #[derive(Clone, Copy, Debug, PartialEq, Eq, Drop)]
@@ -22,6 +24,17 @@ pub enum TapFault {
     /// There was not enough memory.
     Memory,
 }
+
+impl fmt::Display for TapFault {
+    fn fmt<W: fmt::Write>(&self, f: &mut fmt::Formatter<W>) -> fmt::Result {
+        f.write_str(match self {
+            TapFault::Failed => "a tap failed",
+            TapFault::Memory => "out of memory",
+        })
+    }
+}
+
+impl Error for TapFault {}
 
 /// Who looks at rows.
 ///
