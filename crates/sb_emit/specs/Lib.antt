@@ -1,2 +1,11 @@
 pub mod Sinks
 pub mod ByTime
+pub mod Outputs
+pub mod Printed
+pub mod TextLaws
+pub mod Taps
+pub mod Offers
+pub mod OfferSteps
+pub mod TapKinds
+pub mod Summaries
+pub mod SumLaws

@@ -1,6 +1,31 @@
-//! What leaves the engine: rows that the sink keeps until a watermark lies above their times.
+//! How rows leave the engine: from the sink, which keeps them until a watermark lies above their times, to an output, which
+//! takes all of them, and past taps, which look at them one at a time.
+//!
+//! [`SinkKept`] is what the sink keeps. A [`RowOut`] takes rows in the order of their windows: [`Printing`] writes their
+//! text to a sink of bytes, and [`Summary`] keeps three numbers of them. A [`Tap`] says behind each row whether it has
+//! enough: [`offer`] offers a row to a list of taps and drops those that have. [`HeadTap`] writes the first rows, and
+//! [`CountTap`] counts all. Only what the sink keeps takes memory.
 #![tactic(auto)]
 
+mod batch;
+mod count_tap;
+mod head_tap;
+mod offering;
+mod output;
+mod printing;
+mod seen_rows;
 mod sink;
+mod summary;
+mod tap;
 
+pub use count_tap::CountTap;
+pub use head_tap::HeadTap;
+pub use offering::{TapStop, offer};
+pub use output::RowOut;
+pub use printing::Printing;
 pub use sink::SinkKept;
+pub use summary::Summary;
+pub use tap::{Tap, TapFault, Wish};
+
+#[cfg(test)]
+mod tests;
