@@ -10,11 +10,12 @@ mod flow;
 mod gather;
 mod operate;
 mod rows;
+mod sent;
 mod sessions;
 #[cfg(test)]
 mod tests;
 
-pub use flow::{push_on_lane, slow_rows};
+pub use flow::{push_on_lane, rows_of_streams, slow_rows};
 pub use operate::{all_records, output, session_rows};
 pub use rows::sort_below;
 pub use sessions::session_ends;
