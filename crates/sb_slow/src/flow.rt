@@ -1,8 +1,7 @@
 //! How records flow through a plan, where each transform takes whole lists.
 
-ghost use Rattle.std.specs.Prelude.{◌≡◌, ◌+◌, ◌≤◌, ◌<◌, ◌++◌, [], ◌∷◌, ℕ, All, length, take, vec_len, vec_capacity, IsOk, OnOk, OnErr, IfOk};
+ghost use Rattle.std.specs.Prelude.{◌≡◌, ◌≤◌, ◌<◌, ◌++◌, [], ◌∷◌, ℕ, All, IfOk};
 ghost use Rattle.sb_record.specs.Streams as streams_spec;
-ghost use Rattle.sb_record.specs.Elements.{on_lane};
 ghost use Rattle.sb_pipeline.specs.Flow as flow;
 ghost use Rattle.sb_pipeline.specs.Operators as operators;
 ghost use Rattle.sb_pipeline.specs.Plans.{IsValidKind};
@@ -14,7 +13,7 @@ use crate::operate::{first_lane, given_for};
 use crate::rows::sort_below;
 use crate::sent::{Sent, from_streams, send, take_sent};
 use sb_pipeline::{Down, Kind, Plan};
-use sb_record::{END_MARK, Item, KeptRec, MAX_TIME, NoMemory, Record, Stream};
+use sb_record::{END_MARK, Item, MAX_TIME, NoMemory, Record, Stream};
 use std::alloc::Global;
 
 /// The rows with a time below `below` that the plan gives for the records of the items, in order.
@@ -93,26 +92,4 @@ fn pass_on(
     let records = given_for(alloc, kind, first, second)?;
     send(down, records, &mut sent)?;
     Ok(sent)
-}
-
-/// Appends the records, on a lane. It takes no memory if there is room for all of them.
-///
-/// # Errors
-///
-/// [`NoMemory`] if there is no memory for one of them; those before it are appended.
-pub fn push_on_lane(
-    lane: u32,
-    records: &[Record],
-    elements: &mut Vec<KeptRec>,
-) -> Result<(), NoMemory>
-    ensures ok { OnOk result (elements.new.items ≡ elements.old.items ++ on_lane lane records.now) }
-    ensures err { OnErr result ((count : ℕ) × (count < length records.now)
-        × (elements.new.items ≡ elements.old.items ++ on_lane lane (take count records.now))) }
-    ensures succeeds { vec_len elements.old + length records.now ≤ vec_capacity elements.old → IsOk result }
-{
-    for record in records {
-        let rec = Record { ..*record };
-        elements.push(KeptRec { lane, rec })?;
-    }
-    Ok(())
 }

@@ -8,6 +8,7 @@
 
 mod flow;
 mod gather;
+mod lanes;
 mod operate;
 mod rows;
 mod sent;
@@ -15,7 +16,8 @@ mod sessions;
 #[cfg(test)]
 mod tests;
 
-pub use flow::{push_on_lane, rows_of_streams, slow_rows};
-pub use operate::{all_records, output, session_rows};
+pub use flow::{rows_of_streams, slow_rows};
+pub use lanes::{all_records, push_on_lane};
+pub use operate::{output, session_rows};
 pub use rows::sort_below;
 pub use sessions::session_ends;

@@ -9,13 +9,13 @@ ghost use Rattle.sb_pardo.specs.Outputs.{outputs_of};
 ghost use Rattle.sb_aggregate.specs.Aggregates.{aggregate_rows, aggregate_values};
 ghost use Rattle.sb_aggregate.specs.Sessions as session_spec;
 ghost use Rattle.sb_join.specs.Joins.{join_rows};
-ghost use Rattle.sb_record.specs.Elements as elements_spec;
 ghost use Rattle.sb_pipeline.specs.Operators as operators;
 ghost use Rattle.sb_pipeline.specs.Plans.{IsValidKind};
 ghost use Rattle.sb_slow.specs.Gathered.{rows_of_pairs};
 ghost use Rattle.sb_slow.specs.Inputs as inputs_spec;
 
 use crate::gather::{values_by_session, values_by_window};
+use crate::lanes::{all_records, of_lane};
 use sb_aggregate::{Agg, aggregated};
 use sb_join::{Combine, pair_values};
 use sb_pardo::{Op, apply};
@@ -78,30 +78,6 @@ pub(crate) fn given_for(
         Kind::Session(agg, gap) => session_rows(alloc, *agg, *gap, &first),
         Kind::Join(combine, windows) => pairs(alloc, *combine, windows, first, second),
     }
-}
-
-/// The records of all lanes, in order.
-pub fn all_records(alloc: Global, elements: &[KeptRec]) -> Result<Vec<Record>, NoMemory>
-    ensures { IfOk result (λ records. records.items ≡ elements_spec.all_records elements.now) }
-{
-    let mut records = Vec::new(alloc);
-    for element in elements {
-        records.push(Record { ..element.rec })?;
-    }
-    Ok(records)
-}
-
-/// The records of a lane, in order.
-fn of_lane(alloc: Global, lane: u32, elements: &[KeptRec]) -> Result<Vec<Record>, NoMemory>
-    ensures { IfOk result (λ records. records.items ≡ elements_spec.of_lane lane elements.now) }
-{
-    let mut records = Vec::new(alloc);
-    for element in elements {
-        if element.lane == lane {
-            records.push(Record { ..element.rec })?;
-        }
-    }
-    Ok(records)
 }
 
 /// What an operation gives for each record.
