@@ -7,9 +7,12 @@ use Rattle.sb_record.specs.declared.item.Record.{Record}
 use Rattle.sb_record.specs.declared.intake.Stop.{Stop}
 use Rattle.sb_record.specs.Records.{sorted, before}
 use Rattle.sb_record.specs.Rows.{text_of}
-use Rattle.sb_record.specs.Streams.{dropped_of, low_watermark}
+use Rattle.sb_record.specs.declared.item.Stream.{Stream}
+use Rattle.sb_record.specs.declared.item.Stream.TheVariants.{A, B}
+use Rattle.sb_record.specs.Streams.{dropped_of, low_watermark, records_of}
 use Rattle.sb_pipeline.specs.Shapes.{Shape, streams_of}
 use Rattle.sb_pipeline.specs.Results.{output_of}
+use Rattle.sb_slow.specs.Inputs.{by_stream}
 use Rattle.sb_outside.specs.Folders.{Files, Load}
 use Rattle.sb_cli.specs.declared.ending.Ending.{Ending}
 use Rattle.sb_cli.specs.declared.status.Status.{Status}
@@ -44,10 +47,13 @@ all_listed plan stop items taken taken' dropped (Plan fault) written is = absurd
 all_listed plan stop items taken taken' dropped Folder written is = absurd written
 
 -- the rows below the watermark are those that are due
-pub rows_are_due : (plan : Shape) (below low : ℕ) (stop : Stop) (items items' : List Item) (rows : List Record) → rows ≡ sorted (before below (output_of plan (streams_in items')))
-    → items' ≡ items → below ≡ due_mark stop low → low ≡ low_watermark (streams_of plan) items → rows ≡ due_rows plan stop items
-rows_are_due plan below low stop items items' rows are same at is_low =
-    are ∙ (λ i. sorted (before ((at ∙ ap (due_mark stop) is_low) i) (output_of plan (streams_in (same i)))))
+pub rows_are_due : (plan : Shape) (below low : ℕ) (stop : Stop) (items : List Item) (a b rows : List Record) → rows ≡ sorted (before below (output_of plan (by_stream a b)))
+    → a ≡ records_of A items → b ≡ records_of B items → below ≡ due_mark stop low → low ≡ low_watermark (streams_of plan) items → rows ≡ due_rows plan stop items
+rows_are_due plan below low stop items a b rows are of_a of_b at is_low = are ∙ (λ i. sorted (before ((at ∙ ap (due_mark stop) is_low) i) (output_of plan (λ s. each s i))))
+  where
+    each : (s : Stream) → by_stream a b s ≡ streams_in items s
+    each A = of_a
+    each B = of_b
 
 -- a run for a plan in which nothing fails is done
 complete_for : (plan : Shape) (left left' taken taken' : Option (List ℕ)) (before now : Faults) (status : Status) (given : Given left left')

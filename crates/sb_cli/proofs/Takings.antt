@@ -1,6 +1,9 @@
 -- How far the reading of an input has come.
-use Rattle.std.proofs.Common.{◌≡◌, ℕ, ◌+◌, ◌<◌, ◌≤◌, Bool, List, [], ◌∷◌, ◌++◌, Option, Some, None, Ok, Err, refl, sym, ap, ◌∙◌, arith, append_assoc}
+use Rattle.std.proofs.Common.{◌≡◌, ℕ, ◌+◌, ◌<◌, ◌≤◌, Bool, List, [], ◌∷◌, ◌++◌, Option, Some, None, Ok, Err, refl, sym, ap, subst, ◌∙◌, arith, append-nil, append_assoc}
 use Rattle.std.specs.Io.KnownBytes.{Consumes}
+use Rattle.std.specs.List.{flat_map}
+use Rattle.std.specs.Prelude.{IsErr, Result}
+use Rattle.std.proofs.lemmas.List.Concat.{flat_map-append}
 use Rattle.sb_record.specs.declared.item.Item.{Item}
 use Rattle.sb_record.specs.declared.item.Item.TheVariants.{Rec, Mark, Skip, Late}
 use Rattle.sb_record.specs.declared.item.Stream.TheVariants.{A, B}
@@ -11,14 +14,17 @@ use Rattle.sb_record.specs.declared.intake.Stop.TheVariants.{End, Refused, Fault
 use Rattle.sb_record.specs.Progress.{Progress}
 use Rattle.sb_record.specs.Intake.{tested, after, low}
 use Rattle.sb_record.specs.Inputs.{Accepted, progress_of, accepted, accepted_if, accepted_after, stop_of}
-use Rattle.sb_record.specs.Streams.{low_watermark}
+use Rattle.sb_record.specs.Streams.{low_watermark, record_in, records_of, dropped_in, dropped_of}
 use Rattle.sb_record.proofs.InputLemmas.{progress-more}
 use Rattle.sb_outside.specs.Lines.{lines}
 use Rattle.sb_pipeline.specs.Shapes.{Shape, streams_of}
 use Rattle.sb_outside.specs.Readings.{Held, MayCome, reading, rest_of_lines}
-use Rattle.std.proofs.KnownBytes.{Consumes-trans}
+use Rattle.std.proofs.KnownBytes.{Consumes-nil, Consumes-trans}
+use Rattle.sb_cli.specs.declared.input.Input.{Input}
+use Rattle.sb_cli.specs.declared.kept.Kept.{Kept}
 use Rattle.sb_cli.specs.Given.{Given, items_of}
-use Rattle.sb_cli.specs.Reads.{IsGoing, IsInputOf, StopsAt, StopsReading, TakesItem}
+use Rattle.sb_cli.specs.Keeping.{AreKept, Keeps}
+use Rattle.sb_cli.specs.Reads.{IsGoing, IsInputOf, ReadsAll, StopsAt, StopsReading, TakesItem}
 
 -- what a plan accepts of lines, from the first on and after some items, and what these items have said
 abbrev starting : Shape → List (List ℕ) → Accepted
@@ -41,6 +47,17 @@ pub record Taking (plan : Shape) (left left' : Option (List ℕ)) (held : Held) 
   pub room : p.lines ≤ MAX_LINES
   pub no_fault : faults' ≡ faults
 
+-- before the first line
+pub taking-none : (plan : Shape) (left : Option (List ℕ)) (held : Held) (p : Progress) (faults : ℕ) → held ≡ record { at_hand = []; line = []; halt = None } → p ≡ said_by plan [] → Taking plan left left held p [] faults faults
+taking-none plan left held p faults nothing said =
+    subst (λ (h : Held). Taking plan left left h p [] faults faults) (sym nothing)
+    (record { bytes = []; given = Consumes-nil left; going = tt; accepts = λ ended later may. refl; progress = said; room = let none = ap (λ (q : Progress). q.lines) said in omega (arith, none); no_fault = refl })
+
+-- nothing is told of items where memory was wanting
+pub reads_err : {E : Type 0} (plan : Shape) (left left' : Option (List ℕ)) (result : Result Input E) → IsErr result → Given left left' → ReadsAll plan left left' result
+reads_err plan left left' (Ok input) err given = cc err
+reads_err plan left left' (Err e) err given = given
+
 after-lines : (i : Item) (p : Progress) → (after i p).lines ≡ p.lines + 1
 after-lines (Rec s r) p = refl
 after-lines (Mark A t) p = refl
@@ -56,6 +73,18 @@ accepted-more plan items line rest i ok = ap (λ r. accepted_if r items (λ more
 accepted-stops : (plan : Shape) (items : List Item) (line : List ℕ) (rest : List (List ℕ)) (refusal : Refusal) → tested (said_by plan items) line ≡ Err refusal
     → following plan items (line ∷ rest) ≡ record { items = items; refused = Some refusal }
 accepted-stops plan items line rest refusal bad = ap (λ r. accepted_if r items (λ more. following plan more rest)) bad
+
+-- what is kept, with one item more
+flat_map-more : {X : Type 0} (f : Item → List X) (items : List Item) (i : Item) → flat_map f items ++ f i ≡ flat_map f (items ++ i ∷ [])
+flat_map-more f items i = sym (flat_map-append f items (i ∷ []) ∙ ap (λ l. flat_map f items ++ l) (append-nil (f i)))
+
+pub kept-more : (items : List Item) (i : Item) (before after : Kept) → AreKept before items → Keeps before after i → AreKept after (items ++ i ∷ [])
+kept-more items i before after are keeps =
+    record {
+      a = keeps.a ∙ ap (λ l. l ++ record_in A i) are.a ∙ flat_map-more (record_in A) items i;
+      b = keeps.b ∙ ap (λ l. l ++ record_in B i) are.b ∙ flat_map-more (record_in B) items i;
+      dropped = keeps.dropped ∙ ap (λ l. l ++ dropped_in i) are.dropped ∙ flat_map-more dropped_in items i;
+    }
 
 module _ {S : Type 0} (left_of : S → Option (List ℕ)) where
   -- one item more
@@ -80,11 +109,11 @@ module _ {S : Type 0} (left_of : S → Option (List ℕ)) where
       }
 
   -- reading stops
-  pub taking-stops : (plan : Shape) (left : Option (List ℕ)) (source source' : S) (held held' : Held) (p p' : Progress) (items : List Item) (mark : ℕ) (stop : Stop) (faults faults' : ℕ)
-      → Taking plan left (left_of source) held p items faults faults'
+  pub taking-stops : (plan : Shape) (left : Option (List ℕ)) (source source' : S) (held held' : Held) (p p' : Progress) (items : List Item) (kept : Kept) (mark : ℕ) (stop : Stop) (faults faults' : ℕ)
+      → Taking plan left (left_of source) held p items faults faults' → AreKept kept items
       → StopsReading left_of (reading source held) (reading source' held') p p' stop → mark ≡ low p'
-      → (given : Given left (left_of source')) × IsInputOf plan given (record { items = items; low = mark; stop = stop })
-  taking-stops plan left source source' held held' p p' items mark stop faults faults' t stops is_low = (given, input)
+      → (given : Given left (left_of source')) × IsInputOf plan given (record { kept = kept; low = mark; stop = stop })
+  taking-stops plan left source source' held held' p p' items kept mark stop faults faults' t are_kept stops is_low = (given, input)
     where
       given : Given left (left_of source')
       given = record {
@@ -115,9 +144,9 @@ module _ {S : Type 0} (left_of : S → Option (List ℕ)) where
       same_items : items ≡ items_of plan given
       same_items = sym (ap (λ (a : Accepted). a.items) are ∙ why.2)
 
-      input : IsInputOf plan given (record { items = items; low = mark; stop = stop })
+      input : IsInputOf plan given (record { kept = kept; low = mark; stop = stop })
       input = record {
-        items = same_items;
+        kept = subst (AreKept kept) same_items are_kept;
         low = is_low ∙ ap low (stops.progress ∙ t.progress) ∙ ap (low_watermark (streams_of plan)) same_items;
         stop = sym (ap (λ (a : Accepted). stop_of stops.ended a.refused) are ∙ why.3);
       }

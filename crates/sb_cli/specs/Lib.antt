@@ -1,6 +1,7 @@
 pub mod Words
 pub mod Statuses
 pub mod Given
+pub mod Keeping
 pub mod Reads
 pub mod Batches
 pub mod Pipelines

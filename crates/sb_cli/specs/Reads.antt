@@ -12,13 +12,14 @@ use Rattle.sb_outside.specs.declared.lines.Halt.{Halt}
 use Rattle.sb_outside.specs.declared.lines.Halt.TheVariants as halt
 use Rattle.sb_outside.specs.Readings.{Reading, MayCome, rest_of_lines}
 use Rattle.sb_cli.specs.declared.input.Input.{Input}
+use Rattle.sb_cli.specs.Keeping.{AreKept}
 use Rattle.sb_pipeline.specs.Shapes.{Shape, streams_of}
 use Rattle.sb_cli.specs.Given.{Given, items_of, stop_at}
 
--- the items that were accepted, their low watermark, and where reading stopped
+-- what is kept of the items that were accepted, their low watermark, and where reading stopped
 pub record IsInputOf
     {left left' : Option (List ℕ)} (plan : Shape) (given : Given left left') (input : Input) : Type 0 where
-  pub items : input.items ≡ items_of plan given
+  pub kept : AreKept input.kept (items_of plan given)
   pub low : input.low ≡ low_watermark (streams_of plan) (items_of plan given)
   pub stop : input.stop ≡ stop_at plan given
 

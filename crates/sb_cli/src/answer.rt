@@ -1,31 +1,30 @@
 //! The answer to a request: an input is read whole, and then its rows are written.
 
-ghost use Rattle.std.specs.Prelude.{◌≡◌, List, Some};
-ghost use Rattle.std.specs.List.{AllByRecursion};
-ghost use Rattle.sb_record.specs.Lines.{IsItemInRange};
-ghost use Rattle.sb_record.specs.Streams.{low_watermark};
+ghost use Rattle.std.specs.Prelude.{◌≡◌, ◌<◌, All, List, Some};
+ghost use Rattle.sb_record.specs.declared.item.Item.{Item};
 ghost use Rattle.sb_outside.specs.Folders.{Files, Load};
 ghost use Rattle.sb_outside.specs.Sources.{Rose};
 ghost use Rattle.sb_pipeline.specs.Plans.{IsPlan};
-ghost use Rattle.sb_pipeline.specs.Shapes.{streams_of, sum_shape};
+ghost use Rattle.sb_pipeline.specs.Shapes.{Shape, sum_shape};
 ghost use Rattle.sb_plan.specs.PlanFiles.{AnswersPlan};
 ghost use Rattle.sb_plan.specs.Wants.{BlamesLoad};
 ghost use Rattle.sb_cli.specs.Answers as spec;
-ghost use Rattle.sb_cli.specs.Answers.{IsAnswer, IsAnswerOf, IsRead, IsUnread, IsWritten, HasWritten};
+ghost use Rattle.sb_cli.specs.Answers.{IsAnswer, IsAnswerOf, IsRead, IsUnread, IsWritten, HasWritten, due_rows};
 ghost use Rattle.sb_cli.specs.Faults.{BlamesFile, HasCause, HidesNoFault, IsWantedFor, faults_of};
 ghost use Rattle.sb_cli.specs.Pipelines.{plan_in};
 ghost use Rattle.sb_cli.specs.Words.{IsSize};
 ghost use Rattle.sb_cli.specs.Words.Asked.{Run};
 
 use crate::ending::Ending;
-use crate::input::{Input, dropped_in, read_input};
+use crate::input::{Input, read_input};
+use crate::kept::Kept;
 use crate::output::write_rows;
 use crate::status::Status;
 use sb_outside::{Folder, FolderFault, Sink, SinkFault, Source};
 use sb_pipeline::{Plan, sum_plan};
 use sb_plan::{MAX_PLAN_BYTES, PlanStop, plan_of};
-use sb_record::{END_MARK, NoMemory, Stop};
-use sb_slow::slow_rows;
+use sb_record::{END_MARK, NoMemory, Record, Stop};
+use sb_slow::rows_of_streams;
 use std::alloc::Global;
 
 /// The plan in a file.
@@ -117,13 +116,14 @@ fn answer_plan<S: Source, K: Sink>(
     let Ok(input) = read_input(alloc, plan, source) else {
         return Ending::of(alloc, Status::Memory);
     };
-    match dropped_in(alloc, input.items.as_slice()) {
-        Ok(dropped) => Ending {
-            status: write_due(alloc, plan, &input, out),
-            dropped,
-        },
-        Err(NoMemory) => Ending::of(alloc, Status::Memory),
-    }
+    let below = due_mark(&input);
+    let Input { kept, stop, .. } = input;
+    let Kept { a, b, dropped } = kept;
+    let status = match rows_of_streams(alloc, plan, a.into_vec(), b.into_vec(), below) {
+        Ok(rows) => write_due(&rows, stop, out),
+        Err(NoMemory) => Status::Memory,
+    };
+    Ending { status, dropped }
 }
 
 /// The watermark below which rows are due.
@@ -137,20 +137,16 @@ fn due_mark(input: &Input) -> u64
 }
 
 /// Writes the rows that are due where reading stopped.
-fn write_due<K: Sink>(alloc: Global, plan: &Plan, input: &Input, out: &mut K) -> Status
-    requires range { AllByRecursion (IsItemInRange plan.now.keys) input.now.items }
-    requires low { input.now.low ≡ low_watermark (streams_of plan.now) input.now.items }
-    ensures written { HasWritten plan.now input.now.stop input.now.items (K.taken out.old) (K.taken out.new) result }
+fn write_due<K: Sink>(rows: &[Record], stop: Stop, out: &mut K) -> Status
+    requires { All (λ r. r.time < END_MARK) rows.now }
+    ensures written { (plan : Shape) (items : List Item) → rows.now ≡ due_rows plan stop items
+        → HasWritten plan stop items (K.taken out.old) (K.taken out.new) result }
     ensures cause { result ≡ Status.Output → Rose (K.sink_state out.old).faults (K.sink_state out.new).faults }
     ensures told { IsWritten result → (K.sink_state out.new).faults ≡ (K.sink_state out.old).faults }
-    ensures fault { result ≡ Status.Input → input.now.stop ≡ Stop.Fault }
+    ensures fault { result ≡ Status.Input → stop ≡ Stop.Fault }
 {
-    let rows = match slow_rows(alloc, plan, input.items.as_slice(), due_mark(input)) {
-        Ok(rows) => rows,
-        Err(NoMemory) => return Status::Memory,
-    };
-    match write_rows(out, &rows) {
-        Ok(()) => Status::of_stop(input.stop),
+    match write_rows(out, rows) {
+        Ok(()) => Status::of_stop(stop),
         Err(SinkFault::Failed) => Status::Output,
         Err(SinkFault::Memory) => Status::Memory,
     }

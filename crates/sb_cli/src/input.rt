@@ -1,21 +1,21 @@
-//! Reading an input: the items of its lines, up to where reading stops.
+//! Reading an input: what is kept of the items of its lines, up to where reading stops.
 
 ghost use Rattle.std.specs.Prelude.{◌≡◌, ◌≤◌, ◌<◌, ◌+◌, IfOk, IfErr, OnOk};
-ghost use Rattle.sb_record.specs.Streams.{dropped_of};
 ghost use Rattle.sb_outside.specs.Readings.{reading};
 ghost use Rattle.sb_pipeline.specs.Plans.{IsPlan};
 ghost use Rattle.sb_cli.specs.Reads.{ReadsAll, IsGoing, TakesNext, FaultCause};
 
+use crate::kept::Kept;
 use sb_outside::{LineBuffer, Source, Step};
 use sb_pipeline::Plan;
-use sb_record::{Dropped, Intake, Item, MAX_LINES, NoMemory, Sequence, Stop};
+use sb_record::{Intake, Item, MAX_LINES, NoMemory, Stop};
 use std::alloc::Global;
 
 /// What was read of an input.
 #[derive(Drop)]
 pub(crate) struct Input {
-    /// The accepted items, in order.
-    pub items: Sequence<Item>,
+    /// What is kept of the accepted items.
+    pub kept: Kept,
     /// Their low watermark.
     pub low: u64,
     /// Where reading stopped.
@@ -46,7 +46,7 @@ fn next_item<S: Source>(
     }
 }
 
-/// The items of an input, up to where reading stops, by the plan's rules for lines.
+/// What is kept of the items of an input, up to where reading stops, by the plan's rules for lines.
 pub(crate) fn read_input<S: Source>(
     alloc: Global,
     plan: &Plan,
@@ -58,36 +58,14 @@ pub(crate) fn read_input<S: Source>(
 {
     let mut lines = LineBuffer::new();
     let mut intake = Intake::new(plan.streams(), 0, plan.late(), plan.keys());
-    let mut items = Vec::new(alloc);
+    let mut kept = Kept::nothing(alloc);
     'items: loop {
         match next_item(source, &mut lines, &mut intake) {
-            Ok(item) => {
-                if items.push(item).is_err() {
-                    return Err(NoMemory);
-                }
-            }
+            Ok(item) => kept.keep(item)?,
             Err(stop) => {
-                return Ok(Input {
-                    items: Sequence::new(items),
-                    low: intake.low(),
-                    stop,
-                });
+                let low = intake.low();
+                return Ok(Input { kept, low, stop });
             }
         }
     }
-}
-
-/// The late records that were dropped, in order.
-pub(crate) fn dropped_in(alloc: Global, items: &[Item]) -> Result<Sequence<Dropped>, NoMemory>
-    ensures { IfOk result (λ dropped. dropped ≡ dropped_of items.now) }
-{
-    let mut dropped = Vec::new(alloc);
-    for item in items {
-        if let Item::Late { line, time, mark } = *item {
-            dropped
-                .push(Dropped { line, time, mark })
-                .map_err(|_| NoMemory)?;
-        }
-    }
-    Ok(Sequence::new(dropped))
 }

@@ -8,6 +8,7 @@ mod answer;
 mod command;
 mod ending;
 mod input;
+mod kept;
 mod note;
 mod output;
 #[cfg(test)]

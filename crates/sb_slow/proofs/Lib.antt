@@ -4,3 +4,4 @@ pub mod Steps
 pub mod Pairs
 pub mod Walking
 pub mod BySession
+pub mod TakingOut

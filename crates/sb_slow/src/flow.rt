@@ -1,19 +1,20 @@
 //! How records flow through a plan, where each transform takes whole lists.
 
-ghost use Rattle.std.specs.Prelude.{◌≡◌, ◌+◌, ◌≤◌, ◌<◌, ◌++◌, [], ◌∷◌, ℕ, All, length, take, vec_len, vec_capacity, IsOk, OnOk, OnErr, IfOk};
+ghost use Rattle.std.specs.Prelude.{◌≡◌, ◌≤◌, ◌<◌, ◌++◌, [], ◌∷◌, ℕ, All, IfOk};
 ghost use Rattle.sb_record.specs.Streams as streams_spec;
-ghost use Rattle.sb_record.specs.Elements.{on_lane};
 ghost use Rattle.sb_pipeline.specs.Flow as flow;
+ghost use Rattle.sb_pipeline.specs.Operators as operators;
+ghost use Rattle.sb_pipeline.specs.Plans.{IsValidKind};
 ghost use Rattle.sb_pipeline.specs.Results as results;
-ghost use Rattle.sb_pipeline.specs.Shapes.{source};
+ghost use Rattle.sb_slow.specs.Inputs.{by_stream};
 
 use crate::gather::records_of;
-use crate::operate::{all_records, output};
+use crate::operate::{first_lane, given_for};
 use crate::rows::sort_below;
-use sb_pipeline::{Down, Plan};
-use sb_record::{END_MARK, Item, KeptRec, MAX_TIME, NoMemory, Record, Sequence, Stream};
+use crate::sent::{Sent, from_streams, send, take_sent};
+use sb_pipeline::{Down, Kind, Plan};
+use sb_record::{END_MARK, Item, MAX_TIME, NoMemory, Record, Stream};
 use std::alloc::Global;
-use std::marker::Model;
 
 /// The rows with a time below `below` that the plan gives for the records of the items, in order.
 pub fn slow_rows(
@@ -28,113 +29,67 @@ pub fn slow_rows(
         (λ rows. rows.items ≡ results.rows_below below plan.now (λ s. streams_spec.records_of s items.now)) }
     ensures times { IfOk result (λ rows. All (λ r. r.time < END_MARK) rows.items) }
 {
-    let mut rows = output_of(alloc, plan, items)?;
+    let a = records_of(alloc, Stream::A, items)?;
+    let b = records_of(alloc, Stream::B, items)?;
+    rows_of_streams(alloc, plan, a, b, below)
+}
+
+/// The rows with a time below `below` that the plan gives for the records of streams a and b, in order. Both lists are
+/// given up on the way.
+pub fn rows_of_streams(
+    alloc: Global,
+    plan: &Plan,
+    a: Vec<Record>,
+    b: Vec<Record>,
+    below: u64,
+) -> Result<Vec<Record>, NoMemory>
+    requires times { All (λ r. r.time ≤ MAX_TIME) a.items × All (λ r. r.time ≤ MAX_TIME) b.items }
+    ensures rows { IfOk result (λ rows. rows.items ≡ results.rows_below below plan.now (by_stream a.items b.items)) }
+    ensures times { IfOk result (λ rows. All (λ r. r.time < END_MARK) rows.items) }
+{
+    let mut rows = output_of(alloc, plan, a, b)?;
     sort_below(&mut rows, below)?;
     Ok(rows)
 }
 
-/// A list on its way to a lane of a node.
-#[derive(Drop)]
-struct Sent {
-    down: Down,
-    records: Sequence<Record>,
-}
-
-impl Model for Sent {
-    ghost use Rattle.sb_pipeline.specs.Flow as flow;
-
-    ghost Value = { flow.Sent };
-
-    ghost view = { λ s. record { down = s.down; records = s.records } };
-}
-
 /// What arrives at the sink once each transform has given what it gives.
-fn output_of(alloc: Global, plan: &Plan, items: &[Item]) -> Result<Vec<Record>, NoMemory>
-    requires times { All (λ r. r.time ≤ MAX_TIME) (streams_spec.records_of Stream.A items.now)
-        × All (λ r. r.time ≤ MAX_TIME) (streams_spec.records_of Stream.B items.now) }
-    ensures rows { IfOk result
-        (λ rows. rows.items ≡ results.output_of plan.now (λ s. streams_spec.records_of s items.now)) }
-    ensures times { IfOk result (λ rows. All (λ r. r.time < END_MARK) rows.items) }
-{
-    let mut sent = from_streams(alloc, plan, items)?;
-    for node in 0..plan.transforms() {
-        let elements = arriving(alloc, node, &sent)?;
-        let records = output(alloc, plan.kind(node), &elements)?;
-        send(plan.down(node), records, &mut sent)?;
-    }
-    let elements = arriving(alloc, plan.transforms(), &sent)?;
-    all_records(alloc, &elements)
-}
-
-/// What both streams send.
-fn from_streams(alloc: Global, plan: &Plan, items: &[Item]) -> Result<Vec<Sent>, NoMemory>
-    ensures { IfOk result (λ sent. sent.items ≡ flow.from_streams plan.now (λ s. streams_spec.records_of s items.now)) }
-{
-    let mut sent = Vec::new(alloc);
-    send_stream(alloc, plan, Stream::A, items, &mut sent)?;
-    send_stream(alloc, plan, Stream::B, items, &mut sent)?;
-    Ok(sent)
-}
-
-/// Sends the records of a stream where they go, if the plan uses them.
-fn send_stream(
+fn output_of(
     alloc: Global,
     plan: &Plan,
-    stream: Stream,
-    items: &[Item],
-    sent: &mut Vec<Sent>,
-) -> Result<(), NoMemory>
-    ensures { OnOk result
-        (sent.new.items
-        ≡ sent.old.items ++ flow.from_stream (source plan.now stream) (streams_spec.records_of stream items.now)) }
+    a: Vec<Record>,
+    b: Vec<Record>,
+) -> Result<Vec<Record>, NoMemory>
+    requires times { All (λ r. r.time ≤ MAX_TIME) a.items × All (λ r. r.time ≤ MAX_TIME) b.items }
+    ensures rows { IfOk result (λ rows. rows.items ≡ results.output_of plan.now (by_stream a.items b.items)) }
+    ensures times { IfOk result (λ rows. All (λ r. r.time < END_MARK) rows.items) }
 {
-    let Some(down) = plan.source(stream) else {
-        return Ok(());
-    };
-    let records = records_of(alloc, stream, items)?;
-    send(down, records, sent)
-}
-
-/// Sends records to a lane of a node.
-fn send(down: Down, records: Vec<Record>, sent: &mut Vec<Sent>) -> Result<(), NoMemory>
-    ensures { OnOk result (sent.new.items ≡ sent.old.items ++ record { down = down; records = records.items } ∷ []) }
-{
-    let records = Sequence::new(records);
-    sent.push(Sent { down, records })?;
-    Ok(())
-}
-
-/// What arrives at a node, of all that was sent.
-fn arriving(alloc: Global, node: u32, sent: &[Sent]) -> Result<Vec<KeptRec>, NoMemory>
-    ensures { IfOk result (λ elements. elements.items ≡ flow.arriving node sent.now) }
-{
-    let mut elements = Vec::new(alloc);
-    for list in sent {
-        if list.down.node == node {
-            push_on_lane(list.down.lane, list.records.as_slice(), &mut elements)?;
-        }
+    let mut sent = from_streams(alloc, plan, a, b)?;
+    for node in 0..plan.transforms() {
+        sent = pass_on(alloc, node, plan.kind(node), plan.down(node), sent)?;
     }
-    Ok(elements)
+    let (rows, _) = take_sent(alloc, plan.transforms(), None, sent)?;
+    Ok(rows)
 }
 
-/// Appends the records, on a lane. It takes no memory if there is room for all of them.
-///
-/// # Errors
-///
-/// [`NoMemory`] if there is no memory for one of them; those before it are appended.
-pub fn push_on_lane(
-    lane: u32,
-    records: &[Record],
-    elements: &mut Vec<KeptRec>,
-) -> Result<(), NoMemory>
-    ensures ok { OnOk result (elements.new.items ≡ elements.old.items ++ on_lane lane records.now) }
-    ensures err { OnErr result ((count : ℕ) × (count < length records.now)
-        × (elements.new.items ≡ elements.old.items ++ on_lane lane (take count records.now))) }
-    ensures succeeds { vec_len elements.old + length records.now ≤ vec_capacity elements.old → IsOk result }
+/// What is sent once a transform has given what it gives, without what it took: what arrives at the nodes behind it.
+fn pass_on(
+    alloc: Global,
+    node: u32,
+    kind: &Kind,
+    down: Down,
+    sent: Vec<Sent>,
+) -> Result<Vec<Sent>, NoMemory>
+    requires valid { IsValidKind kind.now }
+    requires times { All (λ e. e.rec.time < END_MARK) (flow.arriving node sent.items) }
+    ensures { IfOk result (λ next. (behind : ℕ) → node < behind → flow.arriving behind next.items
+        ≡ flow.arriving behind (sent.items ++ record {
+          down = down;
+          records = operators.output (operators.operator_of kind.now) (flow.arriving node sent.items);
+        } ∷ [])) }
 {
-    for record in records {
-        let rec = Record { ..*record };
-        elements.push(KeptRec { lane, rec })?;
-    }
-    Ok(())
+    let (first, sent) = take_sent(alloc, node, first_lane(kind), sent)?;
+    let (second, mut sent) = take_sent(alloc, node, Some(1), sent)?;
+    let records = given_for(alloc, kind, first, second)?;
+    send(down, records, &mut sent)?;
+    Ok(sent)
 }

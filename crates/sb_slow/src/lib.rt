@@ -8,13 +8,16 @@
 
 mod flow;
 mod gather;
+mod lanes;
 mod operate;
 mod rows;
+mod sent;
 mod sessions;
 #[cfg(test)]
 mod tests;
 
-pub use flow::{push_on_lane, slow_rows};
-pub use operate::{all_records, output, session_rows};
+pub use flow::{rows_of_streams, slow_rows};
+pub use lanes::{all_records, push_on_lane};
+pub use operate::{output, session_rows};
 pub use rows::sort_below;
 pub use sessions::session_ends;

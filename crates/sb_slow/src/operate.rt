@@ -9,12 +9,13 @@ ghost use Rattle.sb_pardo.specs.Outputs.{outputs_of};
 ghost use Rattle.sb_aggregate.specs.Aggregates.{aggregate_rows, aggregate_values};
 ghost use Rattle.sb_aggregate.specs.Sessions as session_spec;
 ghost use Rattle.sb_join.specs.Joins.{join_rows};
-ghost use Rattle.sb_record.specs.Elements as elements_spec;
 ghost use Rattle.sb_pipeline.specs.Operators as operators;
 ghost use Rattle.sb_pipeline.specs.Plans.{IsValidKind};
 ghost use Rattle.sb_slow.specs.Gathered.{rows_of_pairs};
+ghost use Rattle.sb_slow.specs.Inputs as inputs_spec;
 
 use crate::gather::{values_by_session, values_by_window};
+use crate::lanes::{all_records, of_lane};
 use sb_aggregate::{Agg, aggregated};
 use sb_join::{Combine, pair_values};
 use sb_pardo::{Op, apply};
@@ -30,49 +31,53 @@ pub fn output(alloc: Global, kind: &Kind, elements: &[KeptRec]) -> Result<Vec<Re
     requires times { All (λ e. e.rec.time < END_MARK) elements.now }
     ensures { IfOk result (λ rows. rows.items ≡ operators.output (operators.operator_of kind.now) elements.now) }
 {
+    let (first, second) = inputs(alloc, kind, elements)?;
+    given_for(alloc, kind, first, second)
+}
+
+/// The records that a transform takes first, and those that a join takes beside them.
+fn inputs(
+    alloc: Global,
+    kind: &Kind,
+    elements: &[KeptRec],
+) -> Result<(Vec<Record>, Vec<Record>), NoMemory>
+    ensures first { IfOk result (λ inputs. inputs.0.items ≡ inputs_spec.first_input kind.now elements.now) }
+    ensures second { IfOk result (λ inputs. inputs.1.items ≡ inputs_spec.second_input kind.now elements.now) }
+{
+    if !kind.is_join() {
+        return Ok((all_records(alloc, elements)?, Vec::new(alloc)));
+    }
+    let left = of_lane(alloc, 0, elements)?;
+    let right = of_lane(alloc, 1, elements)?;
+    Ok((left, right))
+}
+
+/// The lane whose records a transform takes first: lane 0 of a join, and all lanes of any other.
+pub(crate) fn first_lane(kind: &Kind) -> Option<u32>
+    ensures { result ≡ inputs_spec.first_lane kind.now }
+{
+    if kind.is_join() { Some(0) } else { None }
+}
+
+/// What a transform gives for the records that it takes first, and where it is a join for those that it takes beside
+/// them.
+pub(crate) fn given_for(
+    alloc: Global,
+    kind: &Kind,
+    first: Vec<Record>,
+    second: Vec<Record>,
+) -> Result<Vec<Record>, NoMemory>
+    requires valid { IsValidKind kind.now }
+    requires first { All (λ r. r.time < END_MARK) first.items }
+    requires second { All (λ r. r.time < END_MARK) second.items }
+    ensures { IfOk result (λ rows. rows.items ≡ inputs_spec.given_for kind.now first.items second.items) }
+{
     match kind {
-        Kind::Do(op) => {
-            let records = all_records(alloc, elements)?;
-            outputs(alloc, op, &records)
-        }
-        Kind::Group(agg, windows) => {
-            let records = all_records(alloc, elements)?;
-            aggregates(alloc, *agg, windows, &records)
-        }
-        Kind::Session(agg, gap) => {
-            let records = all_records(alloc, elements)?;
-            session_rows(alloc, *agg, *gap, &records)
-        }
-        Kind::Join(combine, windows) => {
-            let left = of_lane(alloc, 0, elements)?;
-            let right = of_lane(alloc, 1, elements)?;
-            pairs(alloc, *combine, windows, &left, &right)
-        }
+        Kind::Do(op) => outputs(alloc, op, &first),
+        Kind::Group(agg, windows) => aggregates(alloc, *agg, windows, first),
+        Kind::Session(agg, gap) => session_rows(alloc, *agg, *gap, &first),
+        Kind::Join(combine, windows) => pairs(alloc, *combine, windows, first, second),
     }
-}
-
-/// The records of all lanes, in order.
-pub fn all_records(alloc: Global, elements: &[KeptRec]) -> Result<Vec<Record>, NoMemory>
-    ensures { IfOk result (λ records. records.items ≡ elements_spec.all_records elements.now) }
-{
-    let mut records = Vec::new(alloc);
-    for element in elements {
-        records.push(Record { ..element.rec })?;
-    }
-    Ok(records)
-}
-
-/// The records of a lane, in order.
-fn of_lane(alloc: Global, lane: u32, elements: &[KeptRec]) -> Result<Vec<Record>, NoMemory>
-    ensures { IfOk result (λ records. records.items ≡ elements_spec.of_lane lane elements.now) }
-{
-    let mut records = Vec::new(alloc);
-    for element in elements {
-        if element.lane == lane {
-            records.push(Record { ..element.rec })?;
-        }
-    }
-    Ok(records)
 }
 
 /// What an operation gives for each record.
@@ -90,12 +95,13 @@ fn aggregates(
     alloc: Global,
     agg: Agg,
     windows: &Windows,
-    records: &[Record],
+    records: Vec<Record>,
 ) -> Result<Vec<Record>, NoMemory>
-    requires { All (λ r. r.time < END_MARK) records.now }
-    ensures { IfOk result (λ rows. rows.items ≡ aggregate_rows agg windows.now records.now) }
+    requires { All (λ r. r.time < END_MARK) records.items }
+    ensures { IfOk result (λ rows. rows.items ≡ aggregate_rows agg windows.now records.items) }
 {
-    let values = values_by_window(alloc, windows, records)?;
+    let values = values_by_window(alloc, windows, &records)?;
+    drop(records);
     aggregates_of(alloc, agg, values)
 }
 
@@ -137,16 +143,18 @@ fn pairs(
     alloc: Global,
     combine: Combine,
     windows: &Windows,
-    left: &[Record],
-    right: &[Record],
+    left: Vec<Record>,
+    right: Vec<Record>,
 ) -> Result<Vec<Record>, NoMemory>
-    requires left { All (λ r. r.time < END_MARK) left.now }
-    requires right { All (λ r. r.time < END_MARK) right.now }
-    ensures { IfOk result (λ rows. rows.items ≡ join_rows combine windows.now left.now right.now) }
+    requires left { All (λ r. r.time < END_MARK) left.items }
+    requires right { All (λ r. r.time < END_MARK) right.items }
+    ensures { IfOk result (λ rows. rows.items ≡ join_rows combine windows.now left.items right.items) }
 {
-    let left = values_by_window(alloc, windows, left)?;
-    let right = values_by_window(alloc, windows, right)?;
-    pairs_of(alloc, combine, left, &right)
+    let left_values = values_by_window(alloc, windows, &left)?;
+    drop(left);
+    let right_values = values_by_window(alloc, windows, &right)?;
+    drop(right);
+    pairs_of(alloc, combine, left_values, &right_values)
 }
 
 /// The rows of each keyed window that has values on the left.

@@ -1,41 +1,55 @@
-use Rattle.std.proofs.Common.{sym, subst, ap, ◌∙◌}
-use Rattle.std.specs.List.{AllByRecursion}
-use Rattle.sb_record.specs.Lines.{IsItemInRange}
-use Rattle.sb_record.specs.Streams.{dropped_of}
-use Rattle.sb_record.proofs.InputLemmas.{accepted-in_range}
+use Rattle.std.proofs.Common.{◌≡◌, ◌≤◌, ℕ, List, sym, subst, ap, ◌∙◌}
+use Rattle.std.proofs.lemmas.List.Elements.{All-from_recursion, All-same}
+use Rattle.sb_record.specs.declared.item.Record.{Record}
+use Rattle.sb_record.specs.declared.item.Stream.TheVariants.{A, B}
+use Rattle.sb_record.specs.declared.item.TheConstants.{MAX_TIME}
+use Rattle.sb_record.specs.Streams.{records_of}
+use Rattle.sb_record.proofs.InputLemmas.{accepted-in_range, records-in_range}
 use Rattle.sb_outside.specs.Lines.{lines}
 use Rattle.sb_pipeline.specs.Shapes.{streams_of}
-use Rattle.sb_cli.specs.Answers.{HasWritten}
+use Rattle.sb_cli.specs.Answers.{HasWritten, due_rows}
 use Rattle.sb_cli.specs.Given.{items_of, stop_at}
-use Rattle.sb_cli.proofs.Answering.{all_listed, memory_answer}
+use Rattle.sb_cli.proofs.Answering.{all_listed, memory_answer, nothing_written, rows_are_due}
 use Rattle.sb_cli.proofs.answer.answer_plan.Goals as goal
+use Rattle.sb_cli.proofs.answer.answer_plan.Goals.{in-Ok-rows_of_streams, in-Err}
 
 pub returns-in_default-clause-answer : goal.returns-in_default-clause-answer
 returns-in_default-clause-answer g c =
     memory_answer c.args.plan.now (g.S.Source.left c.args.source.now) (g.S.Source.left c.read_input.new.source) (g.K.Sink.taken c.args.out.now)
     c.of.result c.in_default.ensures.reads c.of.ensures.status c.of.ensures.dropped
 
-pub returns-in-Ok-dropped_in-clause-answer : goal.returns-in-Ok-dropped_in-clause-answer
-returns-in-Ok-dropped_in-clause-answer g c =
+pub rows_of_streams-requires : goal.rows_of_streams-requires
+rows_of_streams-requires g c =
     let plan = c.args.plan.now in
     let (given, is) = c.in-Ok.ensures.reads in
-    let taken = g.K.Sink.taken c.args.out.now in
-    let taken' = g.K.Sink.taken c.write_due.new.out in
-    let written : HasWritten plan (stop_at plan given) (items_of plan given) taken taken' c.write_due.result = rw (← is.stop, ← is.items) c.write_due.ensures.written in
+    let in_range = accepted-in_range (streams_of plan) plan.late plan.keys (lines given.ended given.bytes) in
     record {
-      given = given;
-      written = written;
-      lists = all_listed plan (stop_at plan given) (items_of plan given) taken taken'
-          c.in-Ok-dropped_in.dropped c.write_due.result written (c.in-Ok-dropped_in.ensures ∙ ap dropped_of (c.as_slice.ensures ∙ is.items));
+      times = (
+        All-same (λ (r : Record). r.time ≤ MAX_TIME) _ _ (c.into_vec.ensures ∙ is.kept.a)
+        (All-from_recursion (λ r. r.time ≤ MAX_TIME) (records_of A (items_of plan given)) (records-in_range plan.keys A (items_of plan given) in_range)),
+        All-same (λ (r : Record). r.time ≤ MAX_TIME) _ _ (c.into_vec-2.ensures ∙ is.kept.b)
+        (All-from_recursion (λ r. r.time ≤ MAX_TIME) (records_of B (items_of plan given)) (records-in_range plan.keys B (items_of plan given) in_range)),
+      );
     }
 
 pub returns-clause-answer : goal.returns-clause-answer
 returns-clause-answer g c =
-    memory_answer c.args.plan.now (g.S.Source.left c.args.source.now) (g.S.Source.left c.read_input.new.source) (g.K.Sink.taken c.args.out.now)
-    c.of-in-Err.result c.in-Ok.ensures.reads.0 c.of-in-Err.ensures.status c.of-in-Err.ensures.dropped
-
-pub write_due-requires-clause-range : goal.write_due-requires-clause-range
-write_due-requires-clause-range g c = λ κs outlives.
     let plan = c.args.plan.now in
+    let input = c.in-Ok.input in
     let (given, is) = c.in-Ok.ensures.reads in
-    subst (λ items. AllByRecursion (IsItemInRange plan.keys) items) (sym is.items) (accepted-in_range (streams_of plan) plan.late plan.keys (lines given.ended given.bytes))
+    let items = items_of plan given in
+    let taken = g.K.Sink.taken c.args.out.now in
+    let written : HasWritten plan (stop_at plan given) items taken (g.K.Sink.taken c.match-rows_of_streams.out) c.match-rows_of_streams.status = elim c.match-rows_of_streams.branch [
+      | in-Ok-rows_of_streams w ↦
+          let due : w.deref.result.now ≡ due_rows plan input.stop items =
+          w.deref.ensures.value
+          ∙ rows_are_due plan c.due_mark-below.result input.low input.stop items c.into_vec.result.items c.into_vec-2.result.items w.in-Ok-rows_of_streams.rows.items w.in-Ok-rows_of_streams.ensures.rows
+          (c.into_vec.ensures ∙ is.kept.a) (c.into_vec-2.ensures ∙ is.kept.b) c.due_mark-below.ensures is.low in
+          rw (w.out-is, w.status-is) (subst (λ s. HasWritten plan s items taken (g.K.Sink.taken w.write_due-status.new.out) w.write_due-status.result) is.stop (w.write_due-status.ensures.written plan items due))
+      | in-Err w ↦ rw (w.out-is, w.status-is) (nothing_written taken (due_rows plan (stop_at plan given) items))
+    ] in
+    record {
+      given = given;
+      written = written;
+      lists = all_listed plan (stop_at plan given) items taken (g.K.Sink.taken c.match-rows_of_streams.out) input.kept.dropped c.match-rows_of_streams.status written is.kept.dropped;
+    }

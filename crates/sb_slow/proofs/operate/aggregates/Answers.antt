@@ -10,6 +10,6 @@ use Rattle.sb_slow.proofs.operate.aggregates.Goals as goal
 
 pub returns : goal.returns
 returns c =
-    let at : (q : KeyedWindow) → get keyed_window_cmp c.in_ok-values.values q ≡ values_at c.args.windows.now c.args.records.now q = search rules in
+    let at : (q : KeyedWindow) → get keyed_window_cmp c.in_ok-values.values q ≡ values_at c.args.windows.now c.args.records.items q = search rules in
     subst (λ (l : List Record). IfOk c.aggregates_of.result (λ rows. rows.items ≡ l))
-    (rows_of_entries-gathered (λ vs. vs) (aggregate_values c.args.agg) c.args.windows.now c.args.records.now c.in_ok-values.values c.aggregates_of.ensures.ordered at) c.aggregates_of.ensures.rows
+    (rows_of_entries-gathered (λ vs. vs) (aggregate_values c.args.agg) c.args.windows.now c.args.records.items c.in_ok-values.values c.aggregates_of.ensures.ordered at) c.aggregates_of.ensures.rows

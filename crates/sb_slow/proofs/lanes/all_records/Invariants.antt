@@ -1,6 +1,6 @@
 use Rattle.std.proofs.Common.{◌≡◌, take}
 use Rattle.sb_record.specs.Elements as elements_spec
-use Rattle.sb_slow.proofs.operate.all_records.Given as goal
+use Rattle.sb_slow.proofs.lanes.all_records.Given as goal
 
 abbrev pub invariant-loop-element : goal.invariant-loop-element
 invariant-loop-element l = l.records.items ≡ elements_spec.all_records (take l.element-index l.elements)
