@@ -26,7 +26,7 @@ mod tests;
 pub struct Session {
     alloc: Global,
     agg: Agg,
-    open: Option<OpenSessions>,
+    kept: Option<OpenSessions>,
     closed: u64,
     ghost one: { GivesOne agg } by { gives_one-prop agg },
 }
@@ -46,7 +46,7 @@ impl Session {
         Session {
             alloc,
             agg,
-            open: Some(OpenSessions::new(alloc, gap)),
+            kept: Some(OpenSessions::new(alloc, gap)),
             closed: 0,
         }
     }
@@ -56,12 +56,12 @@ impl Grouping for Session {
     type Part = Vec<Record>;
 
     // nothing is kept
-    ghost spent = { λ g. g.open ≡ None };
+    ghost spent = { λ g. g.kept ≡ None };
 
     ghost closed = { λ g. g.closed };
 
     // the rows of the sessions of what is kept and of the elements
-    ghost gives = { λ g l. gives_open g.agg g.open l };
+    ghost gives = { λ g l. gives_open g.agg g.kept l };
 
     // the times of the part are those of records, so that a gap can be added
     ghost fits = { λ g p. All (λ r. r.time < item.END_MARK) p.items };
@@ -69,22 +69,22 @@ impl Grouping for Session {
     // the elements are the records of the part, on lane 0
     ghost stands = { λ p es. es ≡ on_lane 0 p.items };
 
-    ghost order = { λ g l m h. gives_open-order g.agg g.open l m h };
+    ghost order = { λ g l m h. gives_open-order g.agg g.kept l m h };
 
     fn is_spent(&self) -> bool {
-        self.open.is_none()
+        self.kept.is_none()
     }
 
     fn absorb(&mut self, part: Vec<Record>) -> Result<(), NoMemory> {
-        let open_ = self.open.take().ok_or(NoMemory)?;
-        self.open = Some(open_.with(self.alloc, &part)?);
+        let kept = self.kept.take().ok_or(NoMemory)?;
+        self.kept = Some(kept.with(self.alloc, &part)?);
         Ok(())
     }
 
     fn close(&mut self, mark: u64) -> Result<Vec<Record>, NoMemory> {
-        let open_ = self.open.take().ok_or(NoMemory)?;
-        let closed = open_.close(self.alloc, self.agg, mark)?;
-        self.open = Some(closed.left);
+        let kept = self.kept.take().ok_or(NoMemory)?;
+        let closed = kept.close(self.alloc, self.agg, mark)?;
+        self.kept = Some(closed.left);
         self.closed = mark;
         Ok(closed.rows)
     }
