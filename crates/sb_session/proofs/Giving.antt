@@ -1,5 +1,5 @@
 -- What a grouping of sessions gives after an absorb, and after a closing.
-use Rattle.std.proofs.Common.{◌≡◌, ℕ, ◌+◌, ◌-◌, ◌≤◌, ◌<◌, Bool, cond, not, true, Option, Some, List, [], ◌∷◌, ◌++◌, append_assoc, subst, sym, refl, ap, ◌∙◌, arith}
+use Rattle.std.proofs.Common.{◌≡◌, ℕ, ◌+◌, ◌-◌, ◌≤◌, ◌<◌, Bool, cond, not, true, Option, Some, List, [], ◌∷◌, ◌++◌, append_assoc, append-nil, subst, sym, refl, ap, ◌∙◌, arith}
 use Rattle.std.specs.Prelude.{filter, sum_by, nat_lt}
 use Rattle.std.specs.List.{list_any, AllByRecursion}
 use Rattle.std.proofs.lemmas.Bool.{le-ltb, eqb-true, ltb-true, and_parts}
@@ -16,7 +16,7 @@ use Rattle.sb_record.specs.Records.{record_cmp, before, at_least}
 use Rattle.sb_record.specs.Reorderings.{IsReordered}
 use Rattle.sb_record.proofs.Earlier.{before-low}
 use Rattle.sb_record.proofs.Elements.{every, All-any, All-flat_map, All-join, All-map, All-passed, All-anything}
-use Rattle.sb_record.proofs.OnLanes.{All-all_records}
+use Rattle.sb_record.proofs.OnLanes.{All-all_records, all_records-on_lane}
 use Rattle.sb_record.proofs.Sorting.{sorted-unique}
 use Rattle.sb_window.specs.Groupings.{IsFrom, Adds, Closes}
 use Rattle.sb_window.specs.declared.keyed_window.KeyedWindow.{KeyedWindow}
@@ -29,14 +29,6 @@ use Rattle.sb_session.specs.Gives.{gives_of, gives_open, joined}
 use Rattle.sb_session.specs.Kept.{kept_of}
 use Rattle.sb_session.specs.declared.open.OpenSessions.{OpenSessions}
 
--- ---- elements and their records
-records-append : (es fs : List KeptRec) → all_records (es ++ fs) ≡ all_records es ++ all_records fs
-records-append = map-append (λ e. e.rec)
-
-records-on_lane : (lane : ℕ) (rs : List Record) → all_records (on_lane lane rs) ≡ rs
-records-on_lane lane [] = refl
-records-on_lane lane (r ∷ rs) = ap (λ rs. r ∷ rs) (records-on_lane lane rs)
-
 -- ---- records that differ in order alone give the same
 same-given : (agg : Agg) (gap : ℕ) (a b c : List Record) → IsReordered a b → session_rows agg gap (a ++ c) ≡ session_rows agg gap (b ++ c)
 same-given agg gap a b c h = session_rows-orderless agg gap (a ++ c) (b ++ c) (joined a b c c h (λ f. refl))
@@ -46,7 +38,7 @@ pub gives-adds : (agg : Agg) (gap closed : ℕ) (kept later part : List Record) 
     → Adds closed (gives_of agg gap kept) (gives_of agg gap later) es
 gives-adds agg gap closed kept later part es is stands l late f = ap (sum_by f) (
     same-given agg gap later (kept ++ part) (all_records l) is
-    ∙ ap (session_rows agg gap) (append_assoc kept part (all_records l) ∙ ap (λ rs. kept ++ rs) (sym (records-append es l ∙ ap (λ rs. rs ++ all_records l) (ap all_records stands ∙ records-on_lane 0 part)))))
+    ∙ ap (session_rows agg gap) (append_assoc kept part (all_records l) ∙ ap (λ rs. kept ++ rs) (sym (map-append (λ (e : KeptRec). e.rec) es l ∙ ap (λ rs. rs ++ all_records l) (ap all_records (stands ∙ sym (append-nil (on_lane 0 part))) ∙ all_records-on_lane 0 part)))))
 
 -- ---- a closing
 -- the rows of open sessions come from the mark on

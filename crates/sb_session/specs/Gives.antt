@@ -1,8 +1,7 @@
 -- What a grouping of sessions gives, by the records that it keeps.
-use Rattle.std.specs.Prelude.{ℕ, List, [], ◌++◌, Option, Some, None}
+use Rattle.std.specs.Prelude.{ℕ, ◌+◌, List, [], ◌++◌, sum_by, Option, Some, None}
 use Rattle.std.proofs.Common.{refl, sym, ap, ◌∙◌}
 use Rattle.std.proofs.lemmas.List.Sums.{sum_by-append}
-use Rattle.std.specs.Prelude.{sum_by, ◌+◌}
 use Rattle.sb_record.specs.declared.element.KeptRec.{KeptRec}
 use Rattle.sb_record.specs.declared.item.Record.{Record}
 use Rattle.sb_record.specs.Elements.{all_records}
@@ -25,15 +24,19 @@ pub joined : (a b c d : List Record) → IsReordered a b → IsReordered c d →
 joined a b c d h k f = sum_by-append f a c ∙ (λ i. h f i + k f i) ∙ sym (sum_by-append f b d)
 
 -- what comes in another order gives the same rows; it stands here because the grouping's law of order cites it
-pub gives-order : (agg : Agg) (gap : ℕ) (kept : List Record) (l m : List KeptRec) → IsReordered l m → IsReordered (gives_of agg gap kept l) (gives_of agg gap kept m)
-gives-order agg gap kept l m h f = ap (sum_by f) (session_rows-orderless agg gap (kept ++ all_records l) (kept ++ all_records m) (joined kept kept (all_records l) (all_records m) (λ f. refl) (IsReordered-map (λ e. e.rec) l m h)))
+pub gives-order : (agg : Agg) (gap : ℕ) (kept : List Record) (l m : List KeptRec) → IsReordered l m
+    → IsReordered (gives_of agg gap kept l) (gives_of agg gap kept m)
+gives-order agg gap kept l m h f = ap (sum_by f) (
+    session_rows-orderless agg gap (kept ++ all_records l) (kept ++ all_records m)
+    (joined kept kept (all_records l) (all_records m) (λ f. refl) (IsReordered-map (λ e. e.rec) l m h)))
 
--- the same of a grouping's open sessions, where it has them
+-- the same of a grouping's open sessions; it has none once it found no memory
 abbrev pub gives_open : Agg → Option OpenSessions → List KeptRec → List Record
 gives_open agg None l = []
 gives_open agg (Some o) l = gives_of agg o.gap (kept_of o.times.entries) l
 
-pub gives_open-order : (agg : Agg) (o : Option OpenSessions) (l m : List KeptRec) → IsReordered l m → IsReordered (gives_open agg o l) (gives_open agg o m)
+pub gives_open-order : (agg : Agg) (o : Option OpenSessions) (l m : List KeptRec) → IsReordered l m
+    → IsReordered (gives_open agg o l) (gives_open agg o m)
 gives_open-order agg None l m h = λ f. refl
 gives_open-order agg (Some o) l m h = gives-order agg o.gap (kept_of o.times.entries) l m h
 

@@ -1,7 +1,7 @@
 //! A closing: the sessions that end by a mark.
 
-ghost use Rattle.std.specs.Prelude.{◌≡◌, ℕ, ◌-◌, map, ◌≤◌, ◌<◌, ◌+◌, ◌++◌, true, false, All, IsSome, None, IfOk, OnOk};
-ghost use Rattle.std.specs.BTreeMap.{IsOrdered, get};
+ghost use Rattle.std.specs.Prelude.{◌≡◌, ◌≤◌, ◌++◌, ℕ, true, false, All, map, IfOk, OnOk};
+ghost use Rattle.std.specs.BTreeMap.{IsOrdered};
 ghost use Rattle.sb_session.specs.Kept.{keyed_time_cmp};
 ghost use Rattle.sb_session.specs.Kept.{kept_of, AreFull};
 ghost use Rattle.sb_session.specs.Candidates.{AreDue};
@@ -10,7 +10,7 @@ ghost use Rattle.sb_session.specs.Closings as spec;
 use crate::keyed_time::KeyedTime;
 use crate::times::{first_between, take_below};
 use sb_aggregate::{Agg, aggregated};
-use sb_record::{Key, NoMemory, Record, Sequence};
+use sb_record::{NoMemory, Record, Sequence};
 use sb_window::KeyedWindow;
 use std::alloc::Global;
 use std::collections::BTreeMap;

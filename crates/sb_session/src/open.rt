@@ -4,7 +4,7 @@
 //! closing takes out the candidates that are due, and finds in the map whether the session goes on. So it looks at each
 //! kept time once, when its candidate is due, and at nothing that stays open beyond that.
 
-ghost use Rattle.std.specs.Prelude.{◌≡◌, ◌≤◌, ◌<◌, ◌++◌, ◌∷◌, [], ◌⊎◌, All, filter, IfOk, OnOk, IfSome, IfNone};
+ghost use Rattle.std.specs.Prelude.{◌≡◌, ◌≤◌, ◌<◌, ◌++◌, ◌∷◌, [], All, filter, IfOk, OnOk, IfSome, IfNone};
 ghost use Rattle.std.specs.List.Sorted.{IsStrictlySortedBy};
 ghost use Rattle.sb_record.specs.Orders.{IsAscending};
 ghost use Rattle.sb_record.specs.Records.{before, record_cmp};
@@ -21,7 +21,7 @@ use crate::close::close_due;
 use crate::keyed_time::KeyedTime;
 use crate::times::add_value;
 use sb_aggregate::{Agg, MAX_GAP};
-use sb_record::{END_MARK, Key, NoMemory, Record, Sequence};
+use sb_record::{END_MARK, NoMemory, Record, Sequence};
 use sb_window::KeyedWindow;
 use std::alloc::Global;
 use std::collections::{BTreeMap, BTreeSet};

@@ -1,6 +1,6 @@
 //! The values of the records that are kept, by key and time.
 
-ghost use Rattle.std.specs.Prelude.{◌≡◌, ◌≤◌, ◌<◌, ◌++◌, ◌∷◌, [], IfSome, IfNone, IfOk, OnOk, IsSome, None, true, false, nat_lt, ◌&&◌};
+ghost use Rattle.std.specs.Prelude.{◌≡◌, ◌++◌, ◌∷◌, [], nat_lt, true, false, ◌&&◌, IsSome, IfSome, IfNone, IfOk, OnOk};
 ghost use Rattle.std.specs.BTreeMap.{IsOrdered, get};
 ghost use Rattle.std.specs.Ordering.{is_lt};
 ghost use Rattle.sb_record.specs.Keys.{same_key};
@@ -11,7 +11,7 @@ ghost use Rattle.sb_session.specs.Kept as spec;
 ghost use Rattle.sb_session.specs.Closings.{Takes};
 
 use crate::keyed_time::KeyedTime;
-use sb_record::{Key, NoMemory, Record, Sequence};
+use sb_record::{NoMemory, Record, Sequence};
 use sb_window::KeyedWindow;
 use std::alloc::Global;
 use std::collections::BTreeMap;
