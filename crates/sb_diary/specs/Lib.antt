@@ -2,3 +2,5 @@ pub mod Lines
 pub mod Legal
 pub mod Worked
 pub mod Laws
+pub mod Texts
+pub mod Reading

@@ -9,5 +9,9 @@
 
 mod event;
 pub mod laws;
+mod reading;
+mod text;
 
 pub use event::DiaryEvent;
+pub use reading::read_diary_line;
+pub use text::{DiaryLine, LineBuf, line_bytes};
