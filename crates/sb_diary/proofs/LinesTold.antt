@@ -7,7 +7,7 @@ use Rattle.sb_diary.specs.declared.event.DiaryEvent.{DiaryEvent}
 use Rattle.sb_diary.specs.declared.event.DiaryEvent.TheVariants.{Arrive, Seal, Take, Finish, Begin, End}
 use Rattle.sb_diary.specs.declared.text.DiaryLine.{DiaryLine}
 use Rattle.sb_diary.specs.declared.text.DiaryLine.TheVariants.{Head, Event}
-use Rattle.sb_diary.specs.Texts.{event_word, word_of, numbers_of, spaced, text_of, IsLine}
+use Rattle.sb_diary.specs.Texts.{event_word, event_numbers, word_of, numbers_of, spaced, text_of, IsLine, LinesAreToldApart}
 use Rattle.sb_diary.specs.Reading.{HasNoSpace, IsAtSpace, AreFields, IsSpelled}
 use Rattle.sb_diary.proofs.Spelling.{split-unique, spaced-at_space, spaced-unique, in-range_fit, apart}
 
@@ -64,3 +64,24 @@ no_event None None line word rest same none e w r other = by_line
     by_line : (l : DiaryLine) → IsLine l → text_of l ≡ line → ⊥
     by_line (Head n lanes) is text = other (sym (split_text (Head n lanes) line word rest e w r is text).1)
     by_line (Event x) is text = none x (split_text (Event x) line word rest e w r is text)
+
+-- a word and its numbers tell the event
+event_told : (e f : DiaryEvent) → event_word e ≡ event_word f → event_numbers e ≡ event_numbers f → e ≡ f
+event_told (Arrive a b c d) (Arrive i j k l) w n = cc
+event_told (Seal a b c) (Seal i j k) w n = cc
+event_told (Take a b) (Take i j) w n = cc
+event_told (Finish a b c) (Finish i j k) w n = cc
+event_told (Begin a b c d) (Begin i j k l) w n = cc
+event_told (End a b) (End i j) w n = cc
+event_told e f w n = cc
+
+line_told : (l m : DiaryLine) → word_of l ≡ word_of m → numbers_of l ≡ numbers_of m → l ≡ m
+line_told (Head a b) (Head i j) w n = cc
+line_told (Head a b) (Event f) w n = absurd (event_no_head f (sym w))
+line_told (Event e) (Head i j) w n = absurd (event_no_head e w)
+line_told (Event e) (Event f) w n = ap (λ x. Event x) (event_told e f w n)
+
+pub told_apart : LinesAreToldApart
+told_apart l m is also same =
+    let split = split_text l (text_of m) (word_of m) (spaced (numbers_of m)) refl (no_space-word m) (spaced-at_space (numbers_of m)) is same in
+    line_told l m split.1 (spaced-unique (numbers_of l) (numbers_of m) (in-range_fit (numbers_of l) is.0) (in-range_fit (numbers_of m) also.0) split.2)

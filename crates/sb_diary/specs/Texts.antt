@@ -1,5 +1,5 @@
 -- The text of a diary: a head line for each node, and the lines of its events behind it.
-use Rattle.std.specs.Prelude.{ℕ, ◌+◌, ◌<◌, ◌≤◌, ◌^◌, List, [], ◌∷◌, ◌++◌, map, flat_map, codes, decimal}
+use Rattle.std.specs.Prelude.{◌≡◌, ℕ, ◌+◌, ◌<◌, ◌≤◌, ◌^◌, List, [], ◌∷◌, ◌++◌, map, flat_map, codes, decimal}
 use Rattle.std.specs.List.{AllByRecursion}
 use Rattle.sb_diary.specs.declared.event.DiaryEvent.{DiaryEvent}
 use Rattle.sb_diary.specs.declared.event.DiaryEvent.TheVariants.{Arrive, Seal, Take, Finish, Begin, End}
@@ -69,3 +69,7 @@ lines_from node (d ∷ diaries) = Head node d.lanes ∷ map Event d.events ++ li
 -- the text of the diaries of all nodes, which are numbered from 0: each line ends by a line feed
 abbrev pub diary_text : List NodeDiary → List ℕ
 diary_text diaries = flat_map (λ line. text_of line ++ 10 ∷ []) (lines_from 0 diaries)
+
+-- lines that differ have texts that differ
+abbrev pub LinesAreToldApart : Type 0
+LinesAreToldApart = (l m : DiaryLine) → IsLine l → IsLine m → text_of l ≡ text_of m → l ≡ m

@@ -7,11 +7,13 @@
 //! own.
 #![tactic(auto)]
 
+mod diary;
 mod event;
 pub mod laws;
 mod reading;
 mod text;
 
+pub use diary::{Diary, MAX_LINES};
 pub use event::DiaryEvent;
 pub use reading::read_diary_line;
 pub use text::{DiaryLine, LineBuf, line_bytes};
