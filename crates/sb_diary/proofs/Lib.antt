@@ -1,3 +1,5 @@
 pub mod Telling
 pub mod Worked
 pub mod LegalLines
+pub mod Spelling
+pub mod LinesTold

@@ -1,7 +1,9 @@
 //! The laws of diaries, over any lines, and a worked diary. Each function has its law for a contract, and does nothing.
 
 ghost use Rattle.sb_diary.specs.Laws as law;
+ghost use Rattle.sb_diary.specs.Texts as texts;
 ghost use Rattle.sb_diary.specs.Worked as worked;
+ghost use Rattle.sb_diary.specs.WorkedText as worked_text;
 
 /// A line more is legal exactly if it is so after what the lines before it say.
 pub fn legal_line_by_line()
@@ -11,6 +13,16 @@ pub fn legal_line_by_line()
 /// The bundles that a legal diary says were finished in a lane are of those that came into it.
 pub fn finished_ones_came()
     ensures { law.FinishedOnesCame }
+{}
+
+/// Lines that differ have texts that differ.
+pub fn lines_are_told_apart()
+    ensures { texts.LinesAreToldApart }
+{}
+
+/// The text of the worked diary of a sum and the sink.
+pub fn worked_is_spelled()
+    ensures { worked_text.WorkedIsSpelled }
 {}
 
 /// The worked diary of a sum and the sink is legal and settled.

@@ -3,11 +3,21 @@
 //! The diary of a node (a transform, or the sink) has one line for each event that changed the node ([`DiaryEvent`]).
 //! Which lines may follow others (a legal diary), and when nothing is left open (a settled one), is defined over the
 //! lines alone (`specs/Legal.antt`), with no engine in sight: whoever has the lines can test them. [`laws`] has what
-//! follows from that, and a worked diary. This crate is data, definitions and laws; no function of it has a body of its
-//! own.
+//! follows from that, and a worked diary.
+//!
+//! A [`Diary`] is the diary of a node while it is written. The text of the diaries of all nodes
+//! (`specs/Texts.antt`) is made of [`DiaryLine`]s, which [`line_bytes`] prints and [`read_diary_line`] reads.
 #![tactic(auto)]
 
+mod diary;
+#[cfg(test)]
+mod diary_tests;
 mod event;
 pub mod laws;
+mod reading;
+mod text;
 
+pub use diary::{Diary, MAX_LINES};
 pub use event::DiaryEvent;
+pub use reading::read_diary_line;
+pub use text::{DiaryLine, LineBuf, line_bytes};
