@@ -5,8 +5,7 @@ use Rattle.sb_record.specs.declared.element.KeptRec.{KeptRec}
 use Rattle.sb_record.specs.declared.item.Record.{Record}
 use Rattle.sb_record.specs.Elements.{all_records}
 use Rattle.sb_record.specs.Reorderings.{IsReordered}
-use Rattle.sb_record.proofs.Sums.{IsReordered-map}
-use Rattle.sb_window.proofs.Marks.{IsReordered-append}
+use Rattle.sb_record.proofs.Sums.{IsReordered-append, IsReordered-map}
 
 -- the records that are kept, the mark of the last closing, and whether no memory was found
 pub record SinkState : Type 0 where

@@ -26,7 +26,8 @@ use Rattle.sb_window.specs.Gatherings.{rows_of_entries}
 use Rattle.sb_window.specs.Groupings.{IsFrom, Adds, Closes}
 use Rattle.sb_window.specs.Spacing.{Spacing}
 use Rattle.sb_window.specs.Windows.{keyed_window_cmp, values_in}
-use Rattle.sb_window.proofs.Marks.{IsReordered-append, from-reordered, before-all, before-none, at_least-all, All-at_least, All-split, All-both}
+use Rattle.sb_record.proofs.Sums.{IsReordered-append}
+use Rattle.sb_window.proofs.Marks.{from-reordered, before-all, before-none, at_least-all, All-at_least, All-split, All-both}
 use Rattle.sb_window.proofs.Rows.{exact_keyed_windows}
 use Rattle.sb_join.specs.declared.join.Combine.{Combine}
 use Rattle.sb_join.specs.declared.join.Side.{Side}

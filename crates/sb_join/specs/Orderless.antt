@@ -7,11 +7,10 @@ use Rattle.sb_record.specs.declared.item.Record.{Record}
 use Rattle.sb_record.specs.Elements.{of_lane}
 use Rattle.sb_record.specs.Reorderings.{IsReordered}
 use Rattle.sb_record.proofs.Elements.{filter_all}
-use Rattle.sb_record.proofs.Sums.{IsReordered-map, IsReordered-filter, IsReordered-flat_map_each, any_reordered}
+use Rattle.sb_record.proofs.Sums.{IsReordered-append, IsReordered-map, IsReordered-filter, IsReordered-flat_map_each, any_reordered}
 use Rattle.sb_window.specs.declared.keyed_window.KeyedWindow.{KeyedWindow}
 use Rattle.sb_window.specs.Spacing.{Spacing}
 use Rattle.sb_window.specs.Windows.{is_in, keyed_windows, values_in}
-use Rattle.sb_window.proofs.Marks.{IsReordered-append}
 use Rattle.sb_window.proofs.Rows.{row, values_in-reordered, keyed_windows-same}
 use Rattle.sb_join.specs.declared.join.Combine.{Combine}
 use Rattle.sb_join.specs.Joins.{combined, pair_values, pairs, join_rows}

@@ -1,18 +1,15 @@
--- Records and elements from a mark on, and lists that differ in order alone.
+-- Records and elements from a mark on.
 use Rattle.std.proofs.Common.{◌≡◌, ℕ, suc, ◌+◌, ◌≤◌, ◌<◌, Bool, true, false, not, cond, List, [], ◌∷◌, ◌++◌, length, sym, refl, ap, ◌∙◌, arith}
 use Rattle.std.specs.Prelude.{◌||◌, nat_lt}
 use Rattle.std.specs.List.{list_any, sum_by, AllByRecursion}
 use Rattle.std.proofs.lemmas.Bool.{ltb-false, lt-ltb, le-ltb}
-use Rattle.std.proofs.lemmas.List.Sums.{sum_by-append, sum_by-cons}
+use Rattle.std.proofs.lemmas.List.Sums.{sum_by-cons}
 use Rattle.sb_record.specs.declared.element.KeptRec.{KeptRec}
 use Rattle.sb_record.specs.declared.item.Record.{Record}
 use Rattle.sb_record.specs.Records.{before, at_least}
 use Rattle.sb_record.specs.Reorderings.{IsReordered}
 use Rattle.sb_record.proofs.Elements.{every}
 use Rattle.sb_record.proofs.Sums.{any_reordered}
-
-pub IsReordered-append : {X : Type 0} (l m r s : List X) → IsReordered l m → IsReordered r s → IsReordered (l ++ r) (m ++ s)
-IsReordered-append l m r s h k f = sum_by-append f l r ∙ (λ i. h f i + k f i) ∙ sym (sum_by-append f m s)
 
 pub length-reordered : {X : Type 0} (l m : List X) → IsReordered l m → length l ≡ length m
 length-reordered l m h = counted l ∙ h (λ x. 1) ∙ sym (counted m)
