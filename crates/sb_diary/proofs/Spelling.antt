@@ -3,9 +3,11 @@ use Rattle.std.proofs.Common.{◌≡◌, ◌==◌, ℕ, suc, ◌+◌, ◌%◌, �
 use Rattle.std.proofs.lemmas.Bool.{eqb-true, eq-eqb}
 use Rattle.std.proofs.lemmas.Fmt.{decimal_by_steps, decimal_injective}
 use Rattle.std.proofs.lemmas.List.{take_all}
-use Rattle.std.specs.List.{AllByRecursion, position_or_len}
+use Rattle.std.specs.List.{AllByRecursion, position, position_or_len}
 use Rattle.std.specs.Prelude.{decimal, Option, Result, OkIff}
 use Rattle.std.specs.Result.{result_ok}
+use Rattle.std.specs.Option.{unwrap_or}
+use Rattle.sb_record.proofs.WordBytes.{position_or_end}
 use Rattle.std.proofs.lemmas.Option.{same_Some}
 use Rattle.sb_diary.specs.Texts.{spaced, AreInRange}
 use Rattle.sb_diary.specs.Reading.{HasNoSpace, IsAtSpace, BeginsWith, AreNumbers, AreFields}
@@ -17,6 +19,10 @@ apart e = cc
 -- the first space splits a text
 abbrev pub first_at : List ℕ → ℕ
 first_at bytes = position_or_len (λ b. b == 32) bytes
+
+-- it is what the search for it gives, or the end
+pub found_at : (bytes : List ℕ) (found : Option ℕ) (end : ℕ) → found ≡ position (λ b. b == 32) bytes → end ≡ unwrap_or found (length bytes) → end ≡ first_at bytes
+found_at bytes found end e f = f ∙ ap (λ o. unwrap_or o (length bytes)) e ∙ position_or_end (λ b. b == 32) bytes
 
 split-here : (b : ℕ) (bytes : List ℕ) (t : Bool) → (b == 32) ≡ t → HasNoSpace (take (first_at bytes) bytes) → IsAtSpace (drop (first_at bytes) bytes)
     → HasNoSpace (take (cond (not t) (1 + first_at bytes) 0) (b ∷ bytes)) × IsAtSpace (drop (cond (not t) (1 + first_at bytes) 0) (b ∷ bytes))

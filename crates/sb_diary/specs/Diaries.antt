@@ -1,5 +1,5 @@
 -- What contracts see of a diary that is being written.
-use Rattle.std.specs.Prelude.{ℕ, ◌+◌, ◌-◌, Bool, List, [], ◌∷◌, ◌++◌}
+use Rattle.std.specs.Prelude.{ℕ, ◌-◌, Bool, List, [], ◌∷◌, ◌++◌}
 use Rattle.sb_diary.specs.declared.event.DiaryEvent.{DiaryEvent}
 
 -- the lanes of its node, all its lines, whether the lines themselves are kept, and how many more there is room for

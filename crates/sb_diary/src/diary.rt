@@ -13,7 +13,7 @@ use std::alloc::Global;
 use std::marker::Model;
 
 /// The most lines of a diary: no machine has room for more.
-pub const MAX_LINES: u64 = 72_057_594_037_927_936;
+pub const MAX_DIARY_LINES: u64 = 72_057_594_037_927_936;
 
 /// The diary of a node: its lines so far, and room for more.
 #[derive(Drop)]
@@ -28,14 +28,14 @@ pub struct Diary {
 
 impl Model for Diary {
     ghost use Rattle.std.specs.Prelude.{◌≡◌, ◌≤◌, ◌+◌, length, is_some, IfSome, vec_capacity};
-    ghost use Rattle.sb_diary.specs.declared.diary.TheConstants.{MAX_LINES};
+    ghost use Rattle.sb_diary.specs.declared.diary.TheConstants.{MAX_DIARY_LINES};
     ghost use Rattle.sb_diary.specs.Diaries.{Written};
 
     ghost Value = { Written };
 
     ghost view = { λ d. record { lanes = d.lanes; events = d.listed; keeps = is_some d.kept; spare = d.spare } };
 
-    ghost invariant = { λ d. (d.count ≡ length d.listed) × (d.count + d.spare ≤ MAX_LINES)
+    ghost invariant = { λ d. (d.count ≡ length d.listed) × (d.count + d.spare ≤ MAX_DIARY_LINES)
         × IfSome d.kept (λ v. (v.items ≡ d.listed) × (length d.listed + d.spare ≤ vec_capacity v)) };
 }
 
@@ -54,18 +54,18 @@ impl Diary {
     }
 
     /// Makes room for at least so many lines more. Only a diary that keeps its lines takes memory for that. An error
-    /// says that there was none, or that the diary would have more than [`MAX_LINES`] lines; it changes nothing.
+    /// says that there was none, or that the diary would have more than [`MAX_DIARY_LINES`] lines; it changes nothing.
     pub fn reserve(&mut self, more: usize) -> Result<(), NoMemory>
         ensures ok { OnOk result (self.new ≡ spec.with_spare (max self.old.spare more) self.old) }
         ensures err { OnErr result (self.new ≡ self.old) }
         ensures enough { more ≤ self.old.spare → IsOk result }
-        ensures unkept { self.old.keeps ≡ false → length self.old.events + more ≤ MAX_LINES → IsOk result }
-        ensures most { length self.new.events + self.new.spare ≤ MAX_LINES }
+        ensures unkept { self.old.keeps ≡ false → length self.old.events + more ≤ MAX_DIARY_LINES → IsOk result }
+        ensures most { length self.new.events + self.new.spare ≤ MAX_DIARY_LINES }
     {
         if more <= self.spare {
             return Ok(());
         }
-        if more as u64 > MAX_LINES - self.count {
+        if more as u64 > MAX_DIARY_LINES - self.count {
             return Err(NoMemory);
         }
         if let Some(lines) = &mut self.kept {

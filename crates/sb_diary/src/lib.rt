@@ -17,7 +17,7 @@ pub mod laws;
 mod reading;
 mod text;
 
-pub use diary::{Diary, MAX_LINES};
+pub use diary::{Diary, MAX_DIARY_LINES};
 pub use event::DiaryEvent;
 pub use reading::read_diary_line;
 pub use text::{DiaryLine, LineBuf, line_bytes};
