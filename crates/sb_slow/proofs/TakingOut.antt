@@ -16,7 +16,7 @@ use Rattle.sb_pipeline.specs.declared.transform.Kind.TheVariants.{Do, Group, Ses
 use Rattle.sb_pipeline.specs.Flow.{Sent, arriving}
 use Rattle.sb_pipeline.specs.Operators.{operator_of, output}
 use Rattle.sb_pipeline.specs.Plans.{is_join}
-use Rattle.sb_slow.specs.Inputs.{first_lane, first_input, second_input, given_for}
+use Rattle.sb_slow.specs.Taken.{first_lane, first_input, second_input, given_for}
 use Rattle.sb_slow.specs.Sendings.{is_to, records_to, sent_elsewhere}
 
 -- what a list brings to a node

@@ -41,7 +41,11 @@ pub fn all_records(alloc: Global, elements: &[KeptRec]) -> Result<Vec<Record>, N
 }
 
 /// The records of a lane, in order.
-pub(crate) fn of_lane(alloc: Global, lane: u32, elements: &[KeptRec]) -> Result<Vec<Record>, NoMemory>
+pub(crate) fn of_lane(
+    alloc: Global,
+    lane: u32,
+    elements: &[KeptRec],
+) -> Result<Vec<Record>, NoMemory>
     ensures { IfOk result (λ records. records.items ≡ elements_spec.of_lane lane elements.now) }
 {
     let mut records = Vec::new(alloc);

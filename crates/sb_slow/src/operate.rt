@@ -12,7 +12,7 @@ ghost use Rattle.sb_join.specs.Joins.{join_rows};
 ghost use Rattle.sb_pipeline.specs.Operators as operators;
 ghost use Rattle.sb_pipeline.specs.Plans.{IsValidKind};
 ghost use Rattle.sb_slow.specs.Gathered.{rows_of_pairs};
-ghost use Rattle.sb_slow.specs.Inputs as inputs_spec;
+ghost use Rattle.sb_slow.specs.Taken as taken;
 
 use crate::gather::{values_by_session, values_by_window};
 use crate::lanes::{all_records, of_lane};
@@ -41,8 +41,8 @@ fn inputs(
     kind: &Kind,
     elements: &[KeptRec],
 ) -> Result<(Vec<Record>, Vec<Record>), NoMemory>
-    ensures first { IfOk result (λ inputs. inputs.0.items ≡ inputs_spec.first_input kind.now elements.now) }
-    ensures second { IfOk result (λ inputs. inputs.1.items ≡ inputs_spec.second_input kind.now elements.now) }
+    ensures first { IfOk result (λ inputs. inputs.0.items ≡ taken.first_input kind.now elements.now) }
+    ensures second { IfOk result (λ inputs. inputs.1.items ≡ taken.second_input kind.now elements.now) }
 {
     if !kind.is_join() {
         return Ok((all_records(alloc, elements)?, Vec::new(alloc)));
@@ -54,7 +54,7 @@ fn inputs(
 
 /// The lane whose records a transform takes first: lane 0 of a join, and all lanes of any other.
 pub(crate) fn first_lane(kind: &Kind) -> Option<u32>
-    ensures { result ≡ inputs_spec.first_lane kind.now }
+    ensures { result ≡ taken.first_lane kind.now }
 {
     if kind.is_join() { Some(0) } else { None }
 }
@@ -70,7 +70,7 @@ pub(crate) fn given_for(
     requires valid { IsValidKind kind.now }
     requires first { All (λ r. r.time < END_MARK) first.items }
     requires second { All (λ r. r.time < END_MARK) second.items }
-    ensures { IfOk result (λ rows. rows.items ≡ inputs_spec.given_for kind.now first.items second.items) }
+    ensures { IfOk result (λ rows. rows.items ≡ taken.given_for kind.now first.items second.items) }
 {
     match kind {
         Kind::Do(op) => outputs(alloc, op, &first),

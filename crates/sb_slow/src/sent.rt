@@ -59,11 +59,7 @@ fn send_stream(
 }
 
 /// Sends records to a lane of a node.
-pub(crate) fn send(
-    down: Down,
-    records: Vec<Record>,
-    sent: &mut Vec<Sent>,
-) -> Result<(), NoMemory>
+pub(crate) fn send(down: Down, records: Vec<Record>, sent: &mut Vec<Sent>) -> Result<(), NoMemory>
     ensures { OnOk result (sent.new.items ≡ sent.old.items ++ record { down = down; records = records.items } ∷ []) }
 {
     let records = Sequence::new(records);

@@ -26,9 +26,9 @@ rows_of_streams-requires g c =
     record {
       times = (
         All-same (λ (r : Record). r.time ≤ MAX_TIME) _ _ (c.into_vec.ensures ∙ is.kept.a)
-        (All-from_recursion (λ r. r.time ≤ MAX_TIME) (records_of A (items_of plan given)) (records-in_range plan.keys A (items_of plan given) in_range)),
+            (All-from_recursion (λ r. r.time ≤ MAX_TIME) (records_of A (items_of plan given)) (records-in_range plan.keys A (items_of plan given) in_range)),
         All-same (λ (r : Record). r.time ≤ MAX_TIME) _ _ (c.into_vec-2.ensures ∙ is.kept.b)
-        (All-from_recursion (λ r. r.time ≤ MAX_TIME) (records_of B (items_of plan given)) (records-in_range plan.keys B (items_of plan given) in_range)),
+            (All-from_recursion (λ r. r.time ≤ MAX_TIME) (records_of B (items_of plan given)) (records-in_range plan.keys B (items_of plan given) in_range)),
       );
     }
 

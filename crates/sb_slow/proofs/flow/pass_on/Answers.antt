@@ -5,7 +5,7 @@ use Rattle.sb_record.specs.declared.item.TheConstants.{END_MARK}
 use Rattle.sb_record.specs.declared.element.KeptRec.{KeptRec}
 use Rattle.sb_pipeline.specs.Flow.{arriving}
 use Rattle.sb_pipeline.specs.Operators.{operator_of, output}
-use Rattle.sb_slow.specs.Inputs.{first_input, second_input, given_for}
+use Rattle.sb_slow.specs.Taken.{first_input, second_input, given_for}
 use Rattle.sb_slow.proofs.TakingOut.{first-taken, second-taken, given-output, All-first_input, All-second_input, arriving-elsewhere, arriving-more}
 use Rattle.sb_slow.proofs.flow.pass_on.Goals as goal
 

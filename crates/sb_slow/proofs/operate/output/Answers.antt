@@ -3,7 +3,7 @@ use Rattle.std.proofs.lemmas.List.Elements.{All-from_recursion, All-same, recurs
 use Rattle.sb_record.specs.declared.item.Record.{Record}
 use Rattle.sb_record.specs.declared.item.TheConstants.{END_MARK}
 use Rattle.sb_record.specs.declared.element.KeptRec.{KeptRec}
-use Rattle.sb_slow.specs.Inputs.{first_input, second_input}
+use Rattle.sb_slow.specs.Taken.{first_input, second_input}
 use Rattle.sb_slow.proofs.TakingOut.{All-first_input, All-second_input}
 use Rattle.sb_slow.proofs.operate.output.Goals as goal
 
