@@ -4,14 +4,14 @@
 //! values of both sides. A record costs one look-up. A closing splits the windows that end by the mark off an ordered
 //! map, and looks at no other. It pairs the values of these, so each pair is given once, when its window closes.
 
-ghost use Rattle.std.specs.Prelude.{◌≡◌, ℕ, ◌-◌, ◌^◌, ◌≤◌, ◌<◌, ◌++◌, [], ◌∷◌, List, All, map, true, Some, OnOk, OnErr, IfOk, if◌then◌else◌};
+ghost use Rattle.std.specs.Prelude.{◌≡◌, ℕ, ◌-◌, ◌^◌, ◌≤◌, ◌<◌, ◌++◌, [], ◌∷◌, List, map, Some};
+ghost use Rattle.std.specs.Prelude.{OnOk, OnErr, IfOk, if◌then◌else◌};
 ghost use Rattle.std.specs.List.{AllByRecursion};
 ghost use Rattle.std.specs.BTreeMap.{get, is_at, insert_entry, IsOrdered};
 ghost use Rattle.sb_record.specs.declared.element.KeptRec.{KeptRec as Element};
 ghost use Rattle.sb_record.specs.declared.item.TheConstants.{END_MARK};
-ghost use Rattle.sb_record.specs.Elements.{on_lane, of_lane};
+ghost use Rattle.sb_record.specs.Elements.{of_lane};
 ghost use Rattle.sb_record.specs.Records.{sorted};
-ghost use Rattle.sb_record.specs.Reorderings.{IsReordered};
 ghost use Rattle.sb_window.specs.declared.keyed_window.KeyedWindow.{KeyedWindow as Window};
 ghost use Rattle.sb_window.specs.Gatherings.{rows_of_entries};
 ghost use Rattle.sb_window.specs.Groupings.{IsFrom, Adds, Closes};
@@ -71,7 +71,8 @@ impl Model for JoinKept {
       is_spent = s.is_spent;
     } };
 
-    ghost invariant = { λ s. (s.windows.size ≡ s.windows.every) × (s.is_spent ≡ false → entries.AreKept s.windows s.closed s.values) };
+    ghost invariant = { λ s. (s.windows.size ≡ s.windows.every)
+        × (s.is_spent ≡ false → entries.AreKept s.windows s.closed s.values) };
 }
 
 impl JoinKept {
@@ -79,7 +80,8 @@ impl JoinKept {
     pub fn new(alloc: Global, combine: Combine, windows: Windows) -> JoinKept
         requires fixed { windows.size ≡ windows.every }
         ensures empty { result ≡ spec.fresh combine windows }
-        ensures fresh { (l : List Element) → spec.gives result l ≡ join_rows combine windows (of_lane 0 l) (of_lane 1 l) }
+        ensures fresh { (l : List Element)
+            → spec.gives result l ≡ join_rows combine windows (of_lane 0 l) (of_lane 1 l) }
     {
         JoinKept {
             alloc,
@@ -93,8 +95,8 @@ impl JoinKept {
         }
     }
 
-    /// Keeps the watermark of a side, which is not below its last one, and gives the joint mark: no record still to come
-    /// on either side has a time below it.
+    /// Keeps the watermark of a side, which is not below its last one, and gives the joint mark: no record still to
+    /// come on either side has a time below it.
     pub fn mark(&mut self, side: Side, mark: u64) -> u64
         requires rising { spec.mark_of side self.old ≤ mark }
         ensures kept { self.new ≡ spec.with_mark side mark self.old }
@@ -192,7 +194,8 @@ fn add_all(
 ) -> Result<(), NoMemory>
     requires fixed { windows.now.size ≡ windows.now.every }
     requires times { spec.IsInTime part.now.records.items }
-    ensures adds { OnOk result (entries.Gathers windows.now part.now.side part.now.records.items values.old values.new) }
+    ensures adds { OnOk result
+        (entries.Gathers windows.now part.now.side part.now.records.items values.old values.new) }
     ensures keeps { OnOk result ((mark : ℕ) → AllByRecursion (λ r. mark ≤ r.time) part.now.records.items
         → entries.AreKept windows.now mark values.old → entries.AreKept windows.now mark values.new) }
 {

@@ -10,6 +10,8 @@ mod join;
 mod kept;
 pub mod laws;
 mod sides;
+#[cfg(test)]
+mod tests;
 
 pub use join::{Combine, Side, pair_values};
 pub use kept::{JoinKept, JoinPart};
