@@ -7,7 +7,9 @@
 //! own.
 #![tactic(auto)]
 
+mod bundle;
 mod event;
 pub mod laws;
 
+pub use bundle::{Came, Stage};
 pub use event::DiaryEvent;
