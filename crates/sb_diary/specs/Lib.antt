@@ -1,4 +1,5 @@
 pub mod Lines
 pub mod Legal
+pub mod Books
 pub mod Worked
 pub mod Laws

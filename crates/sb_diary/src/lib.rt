@@ -8,6 +8,7 @@
 #![tactic(auto)]
 
 mod bundle;
+mod counts;
 mod event;
 pub mod laws;
 
