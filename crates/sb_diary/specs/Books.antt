@@ -1,9 +1,13 @@
 -- What an auditor counts of a lane's bundles beside its lines, so that it tests the next line without a scan.
-use Rattle.std.specs.Prelude.{◌≡◌, ℕ, ◌==◌, ◌&&◌, not, nat_lt, Bool, true, List, Option, Some, None, unwrap_or}
+use Rattle.std.specs.Prelude.{◌≡◌, ℕ, ◌+◌, ◌-◌, ◌==◌, ◌&&◌, not, nat_lt, max, Bool, true, List, [], ◌∷◌, ◌++◌, length, slice_get}
+use Rattle.std.specs.Prelude.{if◌then◌else◌, Option, Some, None, unwrap_or, Result, Ok, Err}
 use Rattle.std.specs.List.{count_by, list_all}
 use Rattle.std.specs.BTreeMap.{BTreeMap, get}
 use Rattle.std.specs.Ordering.{nat_cmp}
-use Rattle.sb_diary.specs.Legal.{Came, is_done}
+use Rattle.sb_diary.specs.declared.bundle.Stage.TheVariants.{Waiting}
+use Rattle.sb_diary.specs.declared.line_stop.LineStop.{LineStop}
+use Rattle.sb_diary.specs.declared.line_stop.LineStop.TheVariants.{NotLegal, Memory}
+use Rattle.sb_diary.specs.Legal.{Came, LaneAudit, is_done, all_done}
 
 -- the count at an epoch, 0 if there is none
 abbrev pub count_in : BTreeMap ℕ ℕ → ℕ → ℕ
@@ -27,3 +31,29 @@ pub record IsCounted (came : List Came) (counts : BTreeMap ℕ ℕ) (count : ℕ
   pub each : (epoch : ℕ) → count_in counts epoch ≡ count_by (is_unfinished_in epoch) came
   pub all : count ≡ count_by is_unfinished came
   pub newest : (epoch : ℕ) → list_all (λ c. nat_lt c.epoch epoch) came ≡ is_below epoch latest
+
+-- the newer of an epoch and the newest one so far
+abbrev pub newer : Option ℕ → ℕ → ℕ
+newer None epoch = epoch
+newer (Some e) epoch = max e epoch
+
+-- the lane with one more bundle, or one more mark
+abbrev pub with_arrival : ℕ → LaneAudit → LaneAudit
+with_arrival epoch lane = record lane { came = lane.came ++ record { epoch = epoch; stage = Waiting } ∷ [] }
+
+abbrev pub with_mark : ℕ → LaneAudit → LaneAudit
+with_mark mark lane = record lane { marks = lane.marks ++ mark ∷ [] }
+
+-- the bundle of this number, if it came
+abbrev pub bundle_at : ℕ → List Came → Option Came
+bundle_at number came = if nat_lt 0 number then slice_get came (number - 1) else None
+
+-- an epoch may close: it is the oldest, it is sealed, and all its bundles were finished
+abbrev pub may_close : LaneAudit → ℕ → Bool
+may_close lane epoch = (epoch == lane.ended) && (nat_lt epoch (length lane.marks) && all_done epoch lane.came)
+
+-- the answer to a line after which this is said; there is nothing if it is not legal, and a refusal changes nothing
+abbrev pub Answers : {X T : Type 0} → Option X → X → X → Result T LineStop → Type 0
+Answers next old new (Ok x) = next ≡ Some new
+Answers next old new (Err NotLegal) = (next ≡ None) × (new ≡ old)
+Answers next old new (Err Memory) = new ≡ old

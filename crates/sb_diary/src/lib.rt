@@ -10,7 +10,9 @@
 mod bundle;
 mod counts;
 mod event;
+mod lane_book;
 pub mod laws;
+mod line_stop;
 
 pub use bundle::{Came, Stage};
 pub use event::DiaryEvent;
