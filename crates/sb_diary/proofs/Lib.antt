@@ -1,3 +1,4 @@
 pub mod Telling
 pub mod Worked
 pub mod LegalLines
+pub mod Recounts

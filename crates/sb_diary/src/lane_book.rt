@@ -1,6 +1,7 @@
 //! What an auditor keeps of one lane: its lines so far, and counts that tell what may come next without a scan.
 
-ghost use Rattle.std.specs.Prelude.{◌≡◌, ◌<◌, ◌+◌, ◌==◌, length, slice_index};
+ghost use Rattle.std.specs.Prelude.{◌≡◌, ◌<◌, ◌+◌, ◌==◌, length, slice_index, nat_lt};
+ghost use Rattle.std.specs.List.{list_all};
 ghost use Rattle.sb_diary.specs.Books.{Answers, bundle_at, may_close, newer, with_arrival, with_mark};
 ghost use Rattle.sb_diary.specs.Legal as spec;
 
@@ -208,15 +209,28 @@ impl LaneBook {
         self.ended += 1;
     }
 
+    // Whether each bundle was finished.
+    fn is_all_done(&self) -> bool
+        ensures { result ≡ list_all (λ c. spec.is_done c.stage) self.now.came }
+    {
+        self.unfinished == 0
+    }
+
+    // Whether each epoch in which a bundle came is sealed.
+    fn is_all_sealed(&self) -> bool
+        ensures { result ≡ list_all (λ c. nat_lt c.epoch (length self.now.marks)) self.now.came }
+    {
+        match self.latest {
+            Some(latest) => latest < self.sealed(),
+            None => true,
+        }
+    }
+
     // Whether nothing is left open.
+    #[tactic(auto, using(crate::proofs::Recounts::settled_is))]
     pub fn is_settled(&self) -> bool
         ensures { result ≡ spec.is_lane_settled self.now }
     {
-        let sealed = self.sealed();
-        let latest_is_sealed = match self.latest {
-            Some(latest) => latest < sealed,
-            None => true,
-        };
-        self.ended == sealed && self.unfinished == 0 && latest_is_sealed
+        self.ended == self.sealed() && self.is_all_done() && self.is_all_sealed()
     }
 }
