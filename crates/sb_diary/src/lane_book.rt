@@ -2,11 +2,12 @@
 
 ghost use Rattle.std.specs.Prelude.{◌≡◌, ◌<◌, ◌+◌, ◌==◌, length, slice_index, nat_lt};
 ghost use Rattle.std.specs.List.{list_all};
-ghost use Rattle.sb_diary.specs.Books.{Answers, bundle_at, may_close, newer, with_arrival, with_mark};
+ghost use Rattle.sb_diary.specs.Books.{Answers, bundle_at, lane_after, may_close, newer, with_arrival, with_mark};
 ghost use Rattle.sb_diary.specs.Legal as spec;
 
 use crate::bundle::{Came, Stage};
 use crate::counts::{count_at, count_one, uncount_one};
+use crate::event::DiaryEvent;
 use crate::line_stop::LineStop;
 use std::alloc::Global;
 use std::collections::BTreeMap;
@@ -123,7 +124,7 @@ impl LaneBook {
     }
 
     // A bundle comes.
-    pub fn arrive(&mut self, epoch: u64, number: u64, length: u64) -> Result<(), LineStop>
+    fn arrive(&mut self, epoch: u64, number: u64, length: u64) -> Result<(), LineStop>
         ensures { Answers (spec.when (spec.may_arrive self.old epoch number length) (with_arrival epoch self.old))
             self.old self.new result }
     {
@@ -142,7 +143,7 @@ impl LaneBook {
     }
 
     // A watermark seals an epoch.
-    pub fn seal(&mut self, epoch: u64, mark: u64) -> Result<(), LineStop>
+    fn seal(&mut self, epoch: u64, mark: u64) -> Result<(), LineStop>
         ensures { Answers (spec.when (spec.may_seal self.old epoch mark) (with_mark mark self.old))
             self.old self.new result }
     {
@@ -154,7 +155,7 @@ impl LaneBook {
     }
 
     // A worker takes a bundle.
-    pub fn take(&mut self, number: u64) -> Result<(), LineStop>
+    fn take(&mut self, number: u64) -> Result<(), LineStop>
         ensures { Answers (spec.moved spec.is_waiting Stage.Taken number self.old) self.old self.new result }
     {
         let Some(Came {
@@ -170,7 +171,7 @@ impl LaneBook {
     }
 
     // A bundle was finished.
-    pub fn finish(&mut self, number: u64) -> Result<(), LineStop>
+    fn finish(&mut self, number: u64) -> Result<(), LineStop>
         ensures { Answers (spec.moved spec.is_taken Stage.Done number self.old) self.old self.new result }
     {
         let Some(Came {
@@ -185,6 +186,32 @@ impl LaneBook {
         uncount_one(&mut self.by_epoch, epoch);
         self.unfinished -= 1;
         Ok(())
+    }
+
+    // A line that is of this lane alone, as a closing's is not.
+    pub fn event(&mut self, event: &DiaryEvent) -> Result<(), LineStop>
+        ensures { Answers (lane_after event.now self.old) self.old self.new result }
+    {
+        match *event {
+            DiaryEvent::Arrive {
+                lane: _,
+                epoch,
+                number,
+                length,
+            } => self.arrive(epoch, number, length),
+            DiaryEvent::Seal {
+                lane: _,
+                epoch,
+                mark,
+            } => self.seal(epoch, mark),
+            DiaryEvent::Take { lane: _, number } => self.take(number),
+            DiaryEvent::Finish {
+                lane: _,
+                number,
+                length: _,
+            } => self.finish(number),
+            DiaryEvent::Begin { .. } | DiaryEvent::End { .. } => Err(LineStop::NotLegal),
+        }
     }
 
     // Whether the closing of an epoch may begin, as far as the lane says.

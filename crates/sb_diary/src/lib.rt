@@ -13,6 +13,7 @@ mod event;
 mod lane_book;
 pub mod laws;
 mod line_stop;
+mod node_book;
 
 pub use bundle::{Came, Stage};
 pub use event::DiaryEvent;
