@@ -3,3 +3,5 @@ pub mod Worked
 pub mod LegalLines
 pub mod Recounts
 pub mod Nodes
+pub mod Spelling
+pub mod LinesTold

@@ -1,5 +1,8 @@
 pub mod Lines
 pub mod Legal
 pub mod Books
+pub mod Texts
+pub mod Reading
+pub mod Audits
 pub mod Worked
 pub mod Laws

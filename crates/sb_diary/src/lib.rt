@@ -3,10 +3,14 @@
 //! The diary of a node (a transform, or the sink) has one line for each event that changed the node ([`DiaryEvent`]).
 //! Which lines may follow others (a legal diary), and when nothing is left open (a settled one), is defined over the
 //! lines alone (`specs/Legal.antt`), with no engine in sight: whoever has the lines can test them. [`laws`] has what
-//! follows from that, and a worked diary. This crate is data, definitions and laws; no function of it has a body of its
-//! own.
+//! follows from that, and a worked diary.
+//!
+//! Diaries are printed and read as text ([`line_bytes`], [`read_diary_line`]), and an [`Auditor`] tests a text line by
+//! line.
 #![tactic(auto)]
 
+mod audit;
+mod auditor;
 mod bundle;
 mod counts;
 mod event;
@@ -14,6 +18,15 @@ mod lane_book;
 pub mod laws;
 mod line_stop;
 mod node_book;
+mod reading;
+#[cfg(test)]
+mod tests;
+mod text;
+mod text_book;
 
+pub use audit::{AuditEnd, AuditFault, AuditStop};
+pub use auditor::Auditor;
 pub use bundle::{Came, Stage};
 pub use event::DiaryEvent;
+pub use reading::read_diary_line;
+pub use text::{DiaryLine, LineBuf, line_bytes};
