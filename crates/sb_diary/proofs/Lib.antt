@@ -5,3 +5,4 @@ pub mod Recounts
 pub mod Nodes
 pub mod Spelling
 pub mod LinesTold
+pub mod TextLines

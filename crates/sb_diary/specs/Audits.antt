@@ -114,3 +114,8 @@ stop_of (Err stop) = Some stop
 -- why the next line is refused if it has too many bytes
 abbrev pub too_long : TextAudit → AuditFault
 too_long t = if nat_lt (lines_in t) MAX_LINES then TooLong (lines_in t + 1) else TooMany
+
+-- the texts of these lines are legal one after the other, behind lines that say t, and then the lines say u
+abbrev pub AreLegalTexts : TextAudit → List (List ℕ) → TextAudit → Type 0
+AreLegalTexts t [] u = u ≡ t
+AreLegalTexts t (text ∷ texts) u = (v : TextAudit) × IsLegalText t text v × AreLegalTexts v texts u
