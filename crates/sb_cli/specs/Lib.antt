@@ -2,8 +2,10 @@ pub mod Words
 pub mod Statuses
 pub mod Given
 pub mod Reads
+pub mod DiaryReads
 pub mod Batches
 pub mod Pipelines
 pub mod Answers
 pub mod Faults
 pub mod Notes
+pub mod AuditSteps

@@ -3,13 +3,14 @@
 //! The work for a line does not grow with the number of lines before it, save that of finding the count of an epoch
 //! among those that have unfinished bundles.
 
-ghost use Rattle.std.specs.Prelude.{◌≡◌, None, Some, Err};
+ghost use Rattle.std.specs.Prelude.{◌≡◌, ◌≤◌, None, Some, Err};
 ghost use Rattle.sb_diary.specs.Audits as spec;
-ghost use Rattle.sb_diary.specs.Audits.{IsTakenText, stop_of};
+ghost use Rattle.sb_diary.specs.Audits.{IsTakenText, lines_in, stop_of};
 ghost use Rattle.sb_diary.specs.declared.audit.AuditStop.{AuditStop as Stop};
 
 use crate::audit::{AuditEnd, AuditFault, AuditStop};
 use crate::text_book::TextBook;
+use sb_record::MAX_LINES;
 use std::alloc::Global;
 use std::marker::Model;
 
@@ -59,7 +60,8 @@ impl Auditor {
 
     /// Why the next line is refused if whoever reads the text finds that it has too many bytes.
     pub fn too_long(&self) -> AuditFault
-        ensures { result ≡ spec.too_long self.now.text }
+        ensures value { result ≡ spec.too_long self.now.text }
+        ensures most { lines_in self.now.text ≤ MAX_LINES }
     {
         self.book.too_long()
     }

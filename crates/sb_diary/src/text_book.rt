@@ -83,7 +83,8 @@ impl TextBook {
 
     // Why the next line is refused if it has too many bytes.
     pub fn too_long(&self) -> AuditFault
-        ensures { result ≡ spec.too_long self.now }
+        ensures value { result ≡ spec.too_long self.now }
+        ensures most { lines_in self.now ≤ MAX_LINES }
     {
         if self.lines() >= MAX_LINES {
             return AuditFault::TooMany;
