@@ -1,10 +1,10 @@
 -- Which words are a command.
-use Rattle.std.proofs.Common.{◌≡◌, ◌↔◌, ℕ, ◌≤◌, List, [], ◌∷◌, Some, None, Option, sym, ap, ◌∙◌, arith, rules}
+use Rattle.std.proofs.Common.{◌≡◌, ◌↔◌, ℕ, ◌≤◌, List, [], ◌∷◌, Some, None, Option, refl, sym, ap, ◌∙◌, arith, rules}
 use Rattle.std.specs.Prelude.{decimal, codes}
 use Rattle.std.proofs.lemmas.Option.{same_Some}
 use Rattle.sb_window.specs.declared.windows.TheConstants.{MAX_SIZE}
 use Rattle.sb_cli.specs.Words.{Asked, IsCommand}
-use Rattle.sb_cli.specs.Words.Asked.{Sum, Run, Slow}
+use Rattle.sb_cli.specs.Words.Asked.{Sum, Run, Slow, Diary}
 
 -- a number within a bound that is not 0 is a size
 pub is_size : (v most : ℕ) (text : List ℕ) → (v ≡ 0 → ⊥) → ((n : ℕ) → (◌≡◌ {A = Option ℕ} (Some v) (Some n)) ↔ ((n ≤ most) × (text ≡ decimal n)))
@@ -54,3 +54,11 @@ is_sum command text size sum exact (Slow name) = (λ e. cc, λ is. absurd (other
   where
     other_word : codes "sum" ≡ codes "slow" → ⊥
     other_word e = search (rules, e)
+is_sum command text size sum exact Diary = (λ e. cc, λ is. cc is.1)
+
+-- the word of an audit asks for one, and for nothing else
+pub is_audit : (command : List ℕ) → command ≡ codes "audit" → (wanted : Asked) → (◌≡◌ {A = Option Asked} (Some Diary) (Some wanted)) ↔ IsCommand wanted (command ∷ [])
+is_audit command audit Diary = (λ e. (tt, λ i. audit i ∷ []), λ is. refl)
+is_audit command audit (Sum n) = (λ e. cc, λ is. cc is.1)
+is_audit command audit (Run name) = (λ e. cc, λ is. cc is.1)
+is_audit command audit (Slow name) = (λ e. cc, λ is. cc is.1)

@@ -5,3 +5,5 @@ pub mod Printing
 pub mod Answering
 pub mod PlanNotes
 pub mod Wanting
+pub mod DiaryReading
+pub mod AuditAnswers

@@ -16,15 +16,15 @@ use Rattle.sb_outside.specs.Readings.{Reading, Advances, MayCome, rest_of_lines}
 use Rattle.sb_cli.specs.Reads.{IsGoing, StopsReading, TakesItem}
 
 -- where a reader that gave a line stands, its source has ended
-abbrev ended_by : Option Halt → Bool
+abbrev pub ended_by : Option Halt → Bool
 ended_by None = false
 ended_by (Some h) = true
 
-may_end : (h : Option Halt) → MayCome h (ended_by h) []
+pub may_end : (h : Option Halt) → MayCome h (ended_by h) []
 may_end None = tt
 may_end (Some h) = (refl, refl)
 
-ended_there : (h : Option Halt) (left : Option (List ℕ)) → IfSome h (λ x. (x ≡ halt.End) × IsAtEnd left) → ended_by h ≡ true → IsAtEnd left
+pub ended_there : (h : Option Halt) (left : Option (List ℕ)) → IfSome h (λ x. (x ≡ halt.End) × IsAtEnd left) → ended_by h ≡ true → IsAtEnd left
 ended_there None left last e = cc
 ended_there (Some h) left last e = last.1
 
@@ -33,7 +33,7 @@ pub too_long_tested : (p : Progress) (line : List ℕ) → is_too_long line ≡ 
 too_long_tested p line long = elim (cases_Bool (nat_le 4294967295 p.lines)) [ inl many ↦ rw many refl | inr few ↦ rw (few, long) refl ]
 
 -- a reader that gave a line goes on, or its source has ended
-goes_on : (h : Option Halt) (left : Option (List ℕ)) → IfSome h (λ x. (x ≡ halt.End) × IsAtEnd left) → IsGoing h left
+pub goes_on : (h : Option Halt) (left : Option (List ℕ)) → IfSome h (λ x. (x ≡ halt.End) × IsAtEnd left) → IsGoing h left
 goes_on None left last = tt
 goes_on (Some halt.End) left last = last.1
 goes_on (Some halt.TooLong) left last = cc last.0

@@ -1,5 +1,5 @@
 -- The answer to an input.
-use Rattle.std.specs.Prelude.{◌≡◌, ◌⊎◌, ℕ, List, [], ◌++◌, Option, ⊤}
+use Rattle.std.specs.Prelude.{◌≡◌, ◌⊎◌, ℕ, Bool, true, false, List, [], ◌++◌, Option, ⊤}
 use Rattle.std.specs.Io.KnownBytes.{Appends}
 use Rattle.sb_record.specs.declared.intake.Stop.{Stop}
 use Rattle.sb_record.specs.declared.intake.Stop.TheVariants.{End, Refused, Fault}
@@ -13,10 +13,14 @@ use Rattle.sb_pipeline.specs.Shapes.{Shape, streams_of}
 use Rattle.sb_outside.specs.Sinks.{AppendsPrefix}
 use Rattle.sb_cli.specs.declared.ending.Ending.{Ending}
 use Rattle.sb_cli.specs.declared.status.Status.{Status}
-use Rattle.sb_cli.specs.declared.status.Status.TheVariants.{Done, Words, Plan, Line, Input, Output, Folder, Memory}
-use Rattle.sb_cli.specs.Given.{Given, items_of, stop_at}
+use Rattle.sb_cli.specs.declared.status.Status.TheVariants.{Done, Words, Plan, Line, Input, Output, Folder, Memory, Audit}
+use Rattle.sb_cli.specs.Given.{Given, items_of, lines_of, stop_at}
 use Rattle.sb_outside.specs.Folders.{Files}
 use Rattle.sb_cli.specs.Words.{Asked}
+use Rattle.sb_cli.specs.Words.Asked.{Sum, Run, Slow, Diary}
+use Rattle.sb_cli.specs.DiaryReads.{IsRefusedAmong}
+use Rattle.sb_cli.specs.Statuses.{audit_text}
+use Rattle.sb_diary.specs.Audits.{TextAudit, AreLegalTexts, begun, end_of}
 use Rattle.sb_cli.specs.Pipelines.{IsPlanFor, IsFaultFor, AsksForFile, rows_below}
 
 -- a run that ended so, and lists these late records
@@ -51,6 +55,7 @@ HasWritten plan stop items taken taken' Memory = WrotePrefix taken taken' (due_r
 HasWritten plan stop items taken taken' Words = ⊥
 HasWritten plan stop items taken taken' (Plan fault) = ⊥
 HasWritten plan stop items taken taken' Folder = ⊥
+HasWritten plan stop items taken taken' (Audit fault) = ⊥
 
 -- these are the first of the late records that were dropped
 abbrev pub AreFirstDropped : List Dropped → List Item → Type 0
@@ -66,6 +71,7 @@ ListsDropped items dropped Memory = AreFirstDropped dropped items
 ListsDropped items dropped Words = ⊥
 ListsDropped items dropped (Plan fault) = ⊥
 ListsDropped items dropped Folder = ⊥
+ListsDropped items dropped (Audit fault) = ⊥
 
 -- the answer to what the source gave, for a plan: what was written, and the late records that are listed
 pub record IsAnswerOf (plan : Shape) (left left' taken taken' : Option (List ℕ)) (ending : Ending) : Type 0 where
@@ -83,6 +89,7 @@ HasNoPlan folder wanted Words = ⊥
 HasNoPlan folder wanted (Line refusal) = ⊥
 HasNoPlan folder wanted Input = ⊥
 HasNoPlan folder wanted Output = ⊥
+HasNoPlan folder wanted (Audit fault) = ⊥
 
 -- there is no plan, and nothing was read, written or dropped
 pub record IsAnswerOfNoPlan
@@ -92,12 +99,48 @@ pub record IsAnswerOfNoPlan
   pub unwritten : taken' ≡ taken
   pub undropped : ending.dropped ≡ []
 
--- the answer to what is asked for: there is no plan, or it is the answer for the plan
-abbrev pub IsAnswer
+-- the answer where a plan is asked for: there is none, or it is the answer for the plan
+abbrev pub IsPlanAnswer
     : Option Files → Asked → Option (List ℕ) → Option (List ℕ) → Option (List ℕ) → Option (List ℕ) → Ending → Type 0
-IsAnswer folder wanted left left' taken taken' ending =
+IsPlanAnswer folder wanted left left' taken taken' ending =
     IsAnswerOfNoPlan folder wanted left left' taken taken' ending
     ⊎ ((plan : Shape) × IsPlanFor folder wanted plan × IsAnswerOf plan left left' taken taken' ending)
+
+-- a diary text was read to its end and is legal, and this is what an audit says of it
+pub record Audited (lines : List (List ℕ)) (ended : Bool) (text : TextAudit) : Type 0 where
+  pub legal : AreLegalTexts begun lines text
+  pub whole : ended ≡ true
+
+-- what an audit wrote, by how the run ended: its line if all is legal, or a prefix of it if writing failed, else nothing
+abbrev pub HasAudited : List (List ℕ) → Bool → Option (List ℕ) → Option (List ℕ) → Status → Type 0
+HasAudited lines ended taken taken' Done =
+    (text : TextAudit) × Audited lines ended text × Appends taken taken' (audit_text (end_of text))
+HasAudited lines ended taken taken' Output =
+    (text : TextAudit) × Audited lines ended text × AppendsPrefix taken taken' (audit_text (end_of text))
+HasAudited lines ended taken taken' Memory =
+    (taken' ≡ taken)
+    ⊎ ((text : TextAudit) × Audited lines ended text × AppendsPrefix taken taken' (audit_text (end_of text)))
+HasAudited lines ended taken taken' Input =
+    ((text : TextAudit) × AreLegalTexts begun lines text) × (ended ≡ false) × (taken' ≡ taken)
+HasAudited lines ended taken taken' (Audit fault) = IsRefusedAmong lines fault × (taken' ≡ taken)
+HasAudited lines ended taken taken' Words = ⊥
+HasAudited lines ended taken taken' (Plan fault) = ⊥
+HasAudited lines ended taken taken' (Line refusal) = ⊥
+HasAudited lines ended taken taken' Folder = ⊥
+
+-- the answer to what the source gave, for an audit
+pub record IsAuditAnswer (left left' taken taken' : Option (List ℕ)) (ending : Ending) : Type 0 where
+  pub given : Given left left'
+  pub audited : HasAudited (lines_of given) given.ended taken taken' ending.status
+  pub undropped : ending.dropped ≡ []
+
+-- the answer to what is asked for
+abbrev pub IsAnswer
+    : Option Files → Asked → Option (List ℕ) → Option (List ℕ) → Option (List ℕ) → Option (List ℕ) → Ending → Type 0
+IsAnswer folder (Sum size) left left' taken taken' ending = IsPlanAnswer folder (Sum size) left left' taken taken' ending
+IsAnswer folder (Run name) left left' taken taken' ending = IsPlanAnswer folder (Run name) left left' taken taken' ending
+IsAnswer folder (Slow name) left left' taken taken' ending = IsPlanAnswer folder (Slow name) left left' taken taken' ending
+IsAnswer folder Diary left left' taken taken' ending = IsAuditAnswer left left' taken taken' ending
 
 -- a status at which the input was not read
 abbrev pub IsUnread : Status → Type 0
@@ -109,6 +152,7 @@ IsUnread (Line refusal) = ⊥
 IsUnread Input = ⊥
 IsUnread Output = ⊥
 IsUnread Memory = ⊥
+IsUnread (Audit fault) = ⊥
 
 -- a status at which the input was read, or out of memory
 abbrev pub IsRead : Status → Type 0
@@ -120,6 +164,7 @@ IsRead (Line refusal) = ⊤
 IsRead Input = ⊤
 IsRead Output = ⊤
 IsRead Memory = ⊤
+IsRead (Audit fault) = ⊤
 
 -- a status at which all rows that are due were written
 abbrev pub IsWritten : Status → Type 0
@@ -131,3 +176,4 @@ IsWritten (Plan fault) = ⊥
 IsWritten Output = ⊥
 IsWritten Folder = ⊥
 IsWritten Memory = ⊥
+IsWritten (Audit fault) = ⊥

@@ -10,10 +10,12 @@ use Rattle.sb_plan.specs.Failures.Failure.{NoFile}
 use Rattle.sb_plan.specs.PlanFiles.{plan_of}
 use Rattle.sb_plan.specs.declared.TheConstants.{MAX_PLAN_BYTES, MAX_TABLE_BYTES}
 use Rattle.sb_cli.specs.declared.status.Status.{Status}
-use Rattle.sb_cli.specs.declared.status.Status.TheVariants.{Done, Words, Plan, Line, Input, Output, Folder, Memory}
-use Rattle.sb_cli.specs.Given.{Given, stop_at}
+use Rattle.sb_cli.specs.declared.status.Status.TheVariants.{Done, Words, Plan, Line, Input, Output, Folder, Memory, Audit}
+use Rattle.sb_diary.specs.declared.audit.AuditFault.{AuditFault}
+use Rattle.sb_cli.specs.DiaryReads.{IsRefusedAmong}
+use Rattle.sb_cli.specs.Given.{Given, lines_of, stop_at}
 use Rattle.sb_cli.specs.Words.{Asked}
-use Rattle.sb_cli.specs.Words.Asked.{Sum, Run, Slow}
+use Rattle.sb_cli.specs.Words.Asked.{Sum, Run, Slow, Diary}
 
 -- how many reads and writes have failed, and which loads
 pub record Faults : Type 0 where
@@ -35,6 +37,7 @@ HasCause before now Words = ⊤
 HasCause before now (Plan fault) = ⊤
 HasCause before now (Line refusal) = ⊤
 HasCause before now Memory = ⊤
+HasCause before now (Audit fault) = ⊤
 
 -- the load of the plan file
 abbrev pub plan_load : List ℕ → Load
@@ -56,6 +59,7 @@ abbrev pub IsWanted : Option Files → Asked → Load → Type 0
 IsWanted folder (Sum size) load = ⊥
 IsWanted folder (Run name) load = IsWantedFor folder name load
 IsWanted folder (Slow name) load = IsWantedFor folder name load
+IsWanted folder Diary load = ⊥
 
 -- one load failed, which was wanted
 abbrev pub BlamesFile : Option Files → Asked → List Load → List Load → Type 0
@@ -71,10 +75,17 @@ HidesNoFault before now Input = (now.writes ≡ before.writes) × (now.loads ≡
 HidesNoFault before now Output = now.loads ≡ before.loads
 HidesNoFault before now Folder = (now.reads ≡ before.reads) × (now.writes ≡ before.writes)
 HidesNoFault before now Memory = now.loads ≡ before.loads
+HidesNoFault before now (Audit fault) = now ≡ before
 
 -- the run was done, or there was no memory
 abbrev pub IsDoneOrMemory : Status → Type 0
 IsDoneOrMemory status = (status ≡ Done) ⊎ (status ≡ Memory)
+
+-- no line of the diary text that the source gave is refused, and nothing failed
+pub record NothingFailsInAudit (left left' : Option (List ℕ)) (before now : Faults) : Type 0 where
+  pub no_refusal : (given : Given left left') (fault : AuditFault) → IsRefusedAmong (lines_of given) fault → ⊥
+  pub no_read_failed : Rose before.reads now.reads → ⊥
+  pub no_write_failed : Rose before.writes now.writes → ⊥
 
 -- no line of what the source gave is refused, and nothing failed
 pub record NothingFails (plan : Shape) (left left' : Option (List ℕ)) (before now : Faults) : Type 0 where

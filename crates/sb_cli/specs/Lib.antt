@@ -3,8 +3,10 @@ pub mod Statuses
 pub mod Given
 pub mod Keeping
 pub mod Reads
+pub mod DiaryReads
 pub mod Batches
 pub mod Pipelines
 pub mod Answers
 pub mod Faults
 pub mod Notes
+pub mod AuditSteps

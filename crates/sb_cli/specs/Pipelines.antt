@@ -14,7 +14,7 @@ use Rattle.sb_plan.specs.Failures.{Failure, in_file}
 use Rattle.sb_plan.specs.Failures.Failure.{Fails}
 use Rattle.sb_plan.specs.PlanFiles.{plan_of}
 use Rattle.sb_cli.specs.Words.{Asked}
-use Rattle.sb_cli.specs.Words.Asked.{Sum, Run, Slow}
+use Rattle.sb_cli.specs.Words.Asked.{Sum, Run, Slow, Diary}
 
 -- the plan in a file, or its first fault, or that the file or one that it names is not there. One byte more than a plan may have shows that it is too long
 abbrev pub plan_in : Files → List ℕ → Result Shape (Failure PlanFault)
@@ -29,24 +29,28 @@ abbrev pub IsPlanFor : Option Files → Asked → Shape → Type 0
 IsPlanFor folder (Sum size) plan = plan ≡ sum_shape size
 IsPlanFor folder (Run name) plan = IsPlan plan × GivesPlan folder name (Ok plan)
 IsPlanFor folder (Slow name) plan = IsPlan plan × GivesPlan folder name (Ok plan)
+IsPlanFor folder Diary plan = ⊥
 
 -- there is no such plan: this is the first fault of its file
 abbrev pub IsFaultFor : Option Files → Asked → PlanFault → Type 0
 IsFaultFor folder (Sum size) fault = ⊥
 IsFaultFor folder (Run name) fault = GivesPlan folder name (Err (Fails fault))
 IsFaultFor folder (Slow name) fault = GivesPlan folder name (Err (Fails fault))
+IsFaultFor folder Diary fault = ⊥
 
 -- a file is asked for
 abbrev pub AsksForFile : Asked → Type 0
 AsksForFile (Sum size) = ⊥
 AsksForFile (Run name) = Unit {0}
 AsksForFile (Slow name) = Unit {0}
+AsksForFile Diary = ⊥
 
 -- the folder tells its files, where one is asked for, and that gives this plan
 abbrev pub TellsPlan : Option Files → Asked → Shape → Type 0
 TellsPlan folder (Sum size) plan = plan ≡ sum_shape size
 TellsPlan folder (Run name) plan = (files : Files) × (folder ≡ Some files) × (plan_in files name ≡ Ok plan)
 TellsPlan folder (Slow name) plan = (files : Files) × (folder ≡ Some files) × (plan_in files name ≡ Ok plan)
+TellsPlan folder Diary plan = ⊥
 
 -- the records of each stream among the items
 abbrev pub streams_in : List Item → Stream → List Record

@@ -1,5 +1,8 @@
 -- What each status is for a caller of the program, and for its user.
-use Rattle.std.specs.Prelude.{ℕ, ◌==◌, if◌then◌else◌, List, [], ◌∷◌, ◌++◌, flat_map, decimal, codes}
+use Rattle.std.specs.Prelude.{ℕ, Bool, ◌==◌, if◌then◌else◌, List, [], ◌∷◌, ◌++◌, flat_map, decimal, codes}
+use Rattle.sb_diary.specs.declared.audit.AuditEnd.{AuditEnd}
+use Rattle.sb_diary.specs.declared.audit.AuditFault.{AuditFault}
+use Rattle.sb_diary.specs.declared.audit.AuditFault.TheVariants as audit
 use Rattle.sb_record.specs.declared.item.Dropped.{Dropped}
 use Rattle.sb_record.specs.declared.intake.Refusal.{Refusal}
 use Rattle.sb_record.specs.declared.intake.Refusal.TheVariants.{TooMany, TooLong, Malformed, WrongStream, Late, Back}
@@ -12,7 +15,7 @@ use Rattle.sb_plan.specs.declared.fault.PlanCause.TheVariants as cause
 use Rattle.sb_plan.specs.declared.fault.PlanFault.{PlanFault}
 use Rattle.sb_plan.specs.Keys.{key_text}
 use Rattle.sb_cli.specs.declared.status.Status.{Status}
-use Rattle.sb_cli.specs.declared.status.Status.TheVariants.{Done, Words, Plan, Line, Input, Output, Folder, Memory}
+use Rattle.sb_cli.specs.declared.status.Status.TheVariants.{Done, Words, Plan, Line, Input, Output, Folder, Memory, Audit}
 
 -- the exit code
 abbrev pub code_of : Status → ℕ
@@ -24,6 +27,7 @@ code_of Input = 4
 code_of Output = 5
 code_of Folder = 6
 code_of Memory = 7
+code_of (Audit fault) = 9
 
 -- the status of a run whose output went well
 abbrev pub status_of : Stop → Status
@@ -47,6 +51,13 @@ refusal_text (Malformed line) = at_line line ++ codes "malformed"
 refusal_text (WrongStream line) = at_line line ++ codes "stream not in the plan"
 refusal_text (Late line time mark) = with_times (at_line line ++ codes "late record") time mark
 refusal_text (Back line time mark) = with_times (at_line line ++ codes "watermark goes back") time mark
+
+-- what a user is told of a refused line of a diary text
+abbrev pub audit_fault_text : AuditFault → List ℕ
+audit_fault_text audit.TooMany = codes "line 4294967296: too many lines"
+audit_fault_text (audit.TooLong line) = at_line line ++ codes "too long"
+audit_fault_text (audit.Malformed line) = at_line line ++ codes "malformed"
+audit_fault_text (audit.NotLegal line) = at_line line ++ codes "not legal"
 
 -- what is wrong with a row of a table
 abbrev pub row_fault_text : RowFault → List ℕ
@@ -93,6 +104,7 @@ note_text Input = codes "input failed" ++ 10 ∷ []
 note_text Output = codes "output failed" ++ 10 ∷ []
 note_text Folder = codes "file failed" ++ 10 ∷ []
 note_text Memory = codes "out of memory" ++ 10 ∷ []
+note_text (Audit fault) = audit_fault_text fault ++ 10 ∷ []
 
 -- what a user is told of a late record that was dropped, as a line
 abbrev pub dropped_text : Dropped → List ℕ
@@ -101,3 +113,13 @@ dropped_text d = with_times (at_line d.line ++ codes "dropped") d.time d.mark ++
 -- what a user is told: of each late record that was dropped, in order, and then of how the run ended
 abbrev pub notes_text : List Dropped → Status → List ℕ
 notes_text dropped status = flat_map dropped_text dropped ++ note_text status
+
+-- `settled` if nothing in the diaries is left open, else `running`
+abbrev pub settled_text : Bool → List ℕ
+settled_text settled = if settled then codes "settled" else codes "running"
+
+-- what an audit says of a diary text, as a line
+abbrev pub audit_text : AuditEnd → List ℕ
+audit_text e =
+    codes "transforms " ++ decimal e.transforms ++ codes " events " ++ decimal e.events ++ codes " "
+    ++ settled_text e.settled ++ 10 ∷ []

@@ -4,16 +4,19 @@ use Rattle.sb_cli.specs.declared.words.Request.{Request}
 use Rattle.sb_cli.specs.declared.words.Request.TheVariants as request
 use Rattle.sb_window.specs.declared.windows.TheConstants.{MAX_SIZE}
 
--- what users may ask for: sums over windows of a size, or the rows of a plan from a file, by the engine or by the plain program
+-- what users may ask for: sums over windows of a size; the rows of a plan from a file, by the engine or by the plain
+-- program; or the audit of a diary text
 pub data Asked : Type 0 where
   Sum : (size : ℕ) → Asked
   Run : (name : List ℕ) → Asked
   Slow : (name : List ℕ) → Asked
+  Diary : Asked
 
 abbrev pub asked : Request → Asked
 asked (request.Sum size) = Sum size
 asked (request.Run name) = Run name.now
 asked (request.Slow name) = Slow name.now
+asked request.Audit = Diary
 
 -- a size of windows that users may ask for
 abbrev pub IsSize : ℕ → Type 0
@@ -29,12 +32,14 @@ abbrev pub IsValid : Asked → Type 0
 IsValid (Sum size) = IsSize size
 IsValid (Run name) = IsFileName name
 IsValid (Slow name) = IsFileName name
+IsValid Diary = Unit {0}
 
 -- the words that ask for it
 abbrev pub words_of : Asked → List (List ℕ)
 words_of (Sum size) = codes "sum" ∷ decimal size ∷ []
 words_of (Run name) = codes "run" ∷ name ∷ []
 words_of (Slow name) = codes "slow" ∷ name ∷ []
+words_of Diary = codes "audit" ∷ []
 
 -- the words are the command for this
 abbrev pub IsCommand : Asked → List (List ℕ) → Type 0

@@ -5,14 +5,16 @@ ghost use Rattle.sb_record.specs.declared.item.Dropped.{Dropped};
 ghost use Rattle.sb_outside.specs.Sinks.{SinkCause, WritesAll};
 ghost use Rattle.sb_pipeline.specs.Shapes.{Shape};
 ghost use Rattle.sb_cli.specs.Answers.{IsAnswer, IsUnread, ending_of};
-ghost use Rattle.sb_cli.specs.Faults.{BlamesFile, HasCause, HidesNoFault, IsDoneOrMemory, NothingFails, faults_of};
+ghost use Rattle.sb_cli.specs.Faults.{BlamesFile, HasCause, HidesNoFault, IsDoneOrMemory, NothingFails, NothingFailsInAudit};
+ghost use Rattle.sb_cli.specs.Faults.{faults_of};
 ghost use Rattle.sb_cli.specs.Notes.{HasNoted};
 ghost use Rattle.sb_cli.specs.Pipelines.{TellsPlan};
 ghost use Rattle.sb_cli.specs.Statuses.{note_text, notes_text};
 ghost use Rattle.sb_cli.specs.Words.{Asked, IsCommand, IsNoCommand, texts};
-ghost use Rattle.sb_cli.specs.Words.Asked.{Sum};
+ghost use Rattle.sb_cli.specs.Words.Asked.{Sum, Diary};
 
 use crate::answer::{answer_file, answer_sum};
+use crate::audit::answer_audit;
 use crate::ending::Ending;
 use crate::note::note_of;
 use crate::output::write_dropped;
@@ -59,6 +61,7 @@ pub fn streambox<S: Source, K: Sink, N: Sink, F: Folder>(
     // Files are loaded if a plan file is asked for, and none is changed.
     ensures same { F.files folder.new ≡ F.files folder.old }
     ensures sum_loads_nothing { (size : ℕ) → IsCommand (Sum size) (texts words.now) → folder.new ≡ folder.old }
+    ensures audit_loads_nothing { IsCommand Diary (texts words.now) → folder.new ≡ folder.old }
 
     // Faults come from where they say: a read, a write, or the load of a file that is wanted at its turn.
     ensures cause { HasCause
@@ -74,6 +77,11 @@ pub fn streambox<S: Source, K: Sink, N: Sink, F: Folder>(
     ensures complete { (wanted : Asked) (plan : Shape) → IsCommand wanted (texts words.now)
         → TellsPlan (F.files folder.old) wanted plan
         → NothingFails plan (S.left input.old) (S.left input.new)
+        (faults_of (S.faults input.old) (K.sink_state out.old) (F.failed folder.old))
+        (faults_of (S.faults input.new) (K.sink_state out.new) (F.failed folder.new))
+        → IsDoneOrMemory result }
+    ensures audit_complete { IsCommand Diary (texts words.now)
+        → NothingFailsInAudit (S.left input.old) (S.left input.new)
         (faults_of (S.faults input.old) (K.sink_state out.old) (F.failed folder.old))
         (faults_of (S.faults input.new) (K.sink_state out.new) (F.failed folder.new))
         → IsDoneOrMemory result }
@@ -100,6 +108,7 @@ fn respond<S: Source, K: Sink, F: Folder>(
     ensures unread { IsUnread result.status → (input.new ≡ input.old) × (out.new ≡ out.old) }
     ensures same { F.files folder.new ≡ F.files folder.old }
     ensures sum_loads_nothing { (size : ℕ) → IsCommand (Sum size) (texts words.now) → folder.new ≡ folder.old }
+    ensures audit_loads_nothing { IsCommand Diary (texts words.now) → folder.new ≡ folder.old }
     ensures cause { HasCause
         (faults_of (S.faults input.old) (K.sink_state out.old) (F.failed folder.old))
         (faults_of (S.faults input.new) (K.sink_state out.new) (F.failed folder.new)) result.status }
@@ -111,6 +120,7 @@ fn respond<S: Source, K: Sink, F: Folder>(
 {
     match read_words(words) {
         Some(Request::Sum(size)) => answer_sum(alloc, size, input, out),
+        Some(Request::Audit) => answer_audit(alloc, input, out),
         Some(Request::Run(name) | Request::Slow(name)) => {
             answer_file(alloc, name, input, out, folder)
         }

@@ -5,7 +5,9 @@
 #![tactic(auto)]
 
 mod answer;
+mod audit;
 mod command;
+mod diary_input;
 mod ending;
 mod input;
 mod kept;

@@ -5,6 +5,7 @@ ghost use Rattle.sb_plan.specs.Keys.{key_text};
 ghost use Rattle.sb_cli.specs.Statuses as spec;
 
 use crate::status::Status;
+use sb_diary::{AuditEnd, AuditFault};
 use sb_pardo::{RowFault, TableFault};
 use sb_plan::{PlanCause, PlanFault, PlanKey};
 use sb_record::{Dropped, Refusal, TextBuf};
@@ -72,6 +73,35 @@ fn refusal_note(refusal: Refusal) -> Note
             let mut note = at_line(line);
             note.push(b"watermark goes back");
             push_times(&mut note, time, mark);
+            note
+        }
+    }
+}
+
+/// What is wrong with a refused line of a diary text.
+fn audit_note(fault: AuditFault) -> Note
+    ensures text { result ≡ spec.audit_fault_text fault }
+    ensures short { length result ≤ 127 }
+{
+    match fault {
+        AuditFault::TooMany => {
+            let mut note = Note::new();
+            note.push(b"line 4294967296: too many lines");
+            note
+        }
+        AuditFault::TooLong { line } => {
+            let mut note = at_line(line);
+            note.push(b"too long");
+            note
+        }
+        AuditFault::Malformed { line } => {
+            let mut note = at_line(line);
+            note.push(b"malformed");
+            note
+        }
+        AuditFault::NotLegal { line } => {
+            let mut note = at_line(line);
+            note.push(b"not legal");
             note
         }
     }
@@ -163,6 +193,7 @@ pub(crate) fn note_of(status: Status) -> Note
         Status::Done => return Note::new(),
         Status::Line(refusal) => refusal_note(refusal),
         Status::Plan(fault) => plan_note(fault),
+        Status::Audit(fault) => audit_note(fault),
         _ => Note::new(),
     };
     match status {
@@ -186,4 +217,21 @@ pub(crate) fn dropped_note(dropped: &Dropped) -> Note
     push_times(&mut note, dropped.time, dropped.mark);
     note.push(b"\n");
     note
+}
+
+/// The line that an audit says of a diary text.
+pub(crate) fn audit_line(said: &AuditEnd) -> Note
+    ensures { result ≡ spec.audit_text said.now }
+{
+    let mut line = Note::new();
+    line.push(b"transforms ");
+    line.push_number(u64::from(said.transforms));
+    line.push(b" events ");
+    line.push_number(said.events);
+    if said.settled {
+        line.push(b" settled\n");
+    } else {
+        line.push(b" running\n");
+    }
+    line
 }

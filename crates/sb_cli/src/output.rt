@@ -57,6 +57,16 @@ pub(crate) fn write_rows<K: Sink>(out: &mut K, rows: &[Record]) -> Result<(), Si
     }
 }
 
+/// Writes a text, and has the sink pass all of it on.
+pub(crate) fn write_whole<K: Sink>(out: &mut K, text: &[u8]) -> Result<(), SinkFault>
+    ensures bytes { WritesAll (K.taken out.old) (K.taken out.new) text.now result }
+    ensures cause { SinkCause (K.sink_state out.old) (K.sink_state out.new) result }
+    ensures told { OnOk result ((K.sink_state out.new).faults ≡ (K.sink_state out.old).faults) }
+{
+    write_all_of(out, text)?;
+    out.finish()
+}
+
 /// Writes the lines of late records that were dropped, and takes no memory for it.
 pub(crate) fn write_dropped<N: Sink>(notes: &mut N, dropped: &[Dropped]) -> Result<(), SinkFault>
     ensures bytes { WritesAll (N.taken notes.old) (N.taken notes.new) (flat_map dropped_text dropped.now) result }

@@ -3,6 +3,7 @@
 ghost use Rattle.std.specs.Prelude.{◌≡◌};
 ghost use Rattle.sb_cli.specs.Statuses as spec;
 
+use sb_diary::AuditFault;
 use sb_plan::PlanFault;
 use sb_record::{Refusal, Stop};
 
@@ -25,6 +26,8 @@ pub enum Status {
     Folder,
     /// There was no memory.
     Memory,
+    /// A line of a diary text is refused: the first one that is.
+    Audit(AuditFault),
 }
 
 impl Status {
@@ -41,6 +44,7 @@ impl Status {
             Status::Output => 5,
             Status::Folder => 6,
             Status::Memory => 7,
+            Status::Audit(_) => 9,
         }
     }
 

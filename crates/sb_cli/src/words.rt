@@ -5,6 +5,7 @@
 //! | `sum SIZE` | the sums of stream a over windows of that size, 1 to 10^12 |
 //! | `run PLAN` | the rows of the plan in that file |
 //! | `slow PLAN` | the same rows, by the plain program |
+//! | `audit` | what the diary text on the input says, if it is legal |
 //!
 //! A number is decimal digits, without a sign and without leading zeros. A PLAN has at least one byte and does not begin
 //! with `-`.
@@ -25,6 +26,8 @@ pub enum Request<'a> {
     Run(&'a str),
     /// The same rows, by the plain program.
     Slow(&'a str),
+    /// What a diary text says.
+    Audit,
 }
 
 /// The size of a window, as users spell it.
@@ -50,10 +53,24 @@ pub fn read_words(words: &[String]) -> Option<Request<'_>>
     ensures exact { (wanted : Asked) → (option_map asked result ≡ Some wanted) ↔ IsCommand wanted (texts words.now) }
     ensures valid { IfSome result (λ request. IsValid (asked request)) }
 {
-    let [command, argument] = words else {
-        return None;
-    };
-    read_command(command.as_str(), argument.as_str())
+    match words {
+        [command] => read_word(command.as_str()),
+        [command, argument] => read_command(command.as_str(), argument.as_str()),
+        _ => None,
+    }
+}
+
+/// What a command without an argument asks for.
+fn read_word(command: &str) -> Option<Request<'_>>
+    ensures exact { (wanted : Asked) → (option_map asked result ≡ Some wanted)
+        ↔ IsCommand wanted (command.now ∷ []) }
+    ensures valid { IfSome result (λ request. IsValid (asked request)) }
+{
+    if command == "audit" {
+        Some(Request::Audit)
+    } else {
+        None
+    }
 }
 
 /// What a command and its argument ask for.

@@ -12,8 +12,10 @@ use Rattle.sb_record.specs.Reading.{◌>>=◌}
 use Rattle.sb_diary.specs.declared.event.DiaryEvent.{DiaryEvent}
 use Rattle.sb_diary.specs.declared.event.DiaryEvent.TheVariants.{Arrive, Seal, Take, Finish, Begin, End}
 use Rattle.sb_diary.specs.Lines.{Sized, Finished, arrive_in, seal_in, end_in, finish_in, arrivals, seals, ends, finishes}
-use Rattle.sb_diary.specs.Legal.{Stage, Came, LaneAudit, Audit, moved, is_waiting, is_taken, with_end, when, after_line, after_lines, fresh_lane, fresh, audited}
-use Rattle.sb_diary.specs.Legal.Stage.{Taken, Done, Waiting}
+use Rattle.sb_diary.specs.declared.bundle.Came.{Came}
+use Rattle.sb_diary.specs.declared.bundle.Stage.{Stage}
+use Rattle.sb_diary.specs.declared.bundle.Stage.TheVariants.{Taken, Done, Waiting}
+use Rattle.sb_diary.specs.Legal.{LaneAudit, Audit, moved, is_waiting, is_taken, with_end, when, after_line, after_lines, fresh_lane, fresh, audited}
 
 -- ---- lines one after another
 bind_assoc : {X Y Z : Type 0} (o : Option X) (f : X → Option Y) (g : Y → Option Z) → ((o >>= f) >>= g) ≡ (o >>= λ x. f x >>= g)

@@ -4,19 +4,11 @@ use Rattle.std.specs.Prelude.{if◌then◌else◌, List, [], ◌∷◌, ◌++◌
 use Rattle.std.specs.Prelude.{slice_get, slice_set, slice_index}
 use Rattle.std.specs.List.{list_all}
 use Rattle.sb_record.specs.Reading.{◌>>=◌}
+pub use Rattle.sb_diary.specs.declared.bundle.Came.{Came}
+pub use Rattle.sb_diary.specs.declared.bundle.Stage.{Stage}
+pub use Rattle.sb_diary.specs.declared.bundle.Stage.TheVariants.{Waiting, Taken, Done}
 use Rattle.sb_diary.specs.declared.event.DiaryEvent.{DiaryEvent}
 use Rattle.sb_diary.specs.declared.event.DiaryEvent.TheVariants.{Arrive, Seal, Take, Finish, Begin, End}
-
--- how far a bundle has come
-pub data Stage : Type 0 where
-  Waiting : Stage
-  Taken : Stage
-  Done : Stage
-
--- a bundle that came
-pub record Came : Type 0 where
-  pub epoch : ℕ
-  pub stage : Stage
 
 -- what a lane's lines say: the bundles that came, by number; the marks that sealed its epochs; how many have ended
 pub record LaneAudit : Type 0 where

@@ -1,8 +1,10 @@
 pub mod Lines
 pub mod Legal
-pub mod Worked
-pub mod Laws
+pub mod Books
 pub mod Diaries
 pub mod Texts
 pub mod Reading
+pub mod Audits
+pub mod Worked
 pub mod WorkedText
+pub mod Laws

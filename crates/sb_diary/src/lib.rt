@@ -6,17 +6,31 @@
 //! follows from that, and a worked diary.
 //!
 //! A [`Diary`] is the diary of a node while it is written. The text of the diaries of all nodes
-//! (`specs/Texts.antt`) is made of [`DiaryLine`]s, which [`line_bytes`] prints and [`read_diary_line`] reads.
+//! (`specs/Texts.antt`) is made of [`DiaryLine`]s, which [`line_bytes`] prints and [`read_diary_line`] reads. An
+//! [`Auditor`] tests such a text line by line.
 #![tactic(auto)]
 
+mod audit;
+mod auditor;
+mod bundle;
+mod counts;
 mod diary;
 #[cfg(test)]
 mod diary_tests;
 mod event;
+mod lane_book;
 pub mod laws;
+mod line_stop;
+mod node_book;
 mod reading;
+#[cfg(test)]
+mod tests;
 mod text;
+mod text_book;
 
+pub use audit::{AuditEnd, AuditFault, AuditStop};
+pub use auditor::Auditor;
+pub use bundle::{Came, Stage};
 pub use diary::{Diary, MAX_DIARY_LINES};
 pub use event::DiaryEvent;
 pub use reading::read_diary_line;

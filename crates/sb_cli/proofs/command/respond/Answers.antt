@@ -19,3 +19,9 @@ returns-in-Some-Sum-clause-cause g c = c.answer_sum.ensures.cause (g.F.Folder.fa
 
 pub returns-in-Some-Sum-clause-no_fault_hidden : goal.returns-in-Some-Sum-clause-no_fault_hidden
 returns-in-Some-Sum-clause-no_fault_hidden g c = c.answer_sum.ensures.no_fault_hidden (g.F.Folder.failed c.args.folder.now)
+
+pub returns-in-Some-Audit-clause-cause : goal.returns-in-Some-Audit-clause-cause
+returns-in-Some-Audit-clause-cause g c = c.answer_audit.ensures.cause (g.F.Folder.failed c.args.folder.now)
+
+pub returns-in-Some-Audit-clause-no_fault_hidden : goal.returns-in-Some-Audit-clause-no_fault_hidden
+returns-in-Some-Audit-clause-no_fault_hidden g c = c.answer_audit.ensures.no_fault_hidden (g.F.Folder.failed c.args.folder.now)

@@ -1,0 +1,10 @@
+use Rattle.std.proofs.Common.{◌-◌}
+use Rattle.sb_diary.specs.Audits.{lines_in}
+use Rattle.sb_cli.proofs.DiaryReading.{TakingDiary}
+use Rattle.sb_cli.proofs.diary_input.read_diary.Given as goal
+
+abbrev pub invariant-lines : goal.invariant-lines
+invariant-lines g l = TakingDiary (g.S.Source.left l.initial.source) (g.S.Source.left l.source) l.lines l.auditor (g.S.Source.faults l.initial.source) (g.S.Source.faults l.source)
+
+abbrev pub decreases-lines : goal.decreases-lines
+decreases-lines g l = 4294967296 - lines_in l.auditor.text

@@ -1,0 +1,56 @@
+//! The answer to `audit`: a diary text is read, and what it says is written as one line.
+
+ghost use Rattle.std.specs.Prelude.{◌≡◌, List};
+ghost use Rattle.sb_outside.specs.Folders.{Load};
+ghost use Rattle.sb_outside.specs.Sinks.{WritesAll};
+ghost use Rattle.sb_outside.specs.Sources.{Rose};
+ghost use Rattle.sb_cli.specs.Answers.{IsAuditAnswer, IsRead, IsWritten};
+ghost use Rattle.sb_cli.specs.Faults.{HasCause, HidesNoFault, faults_of};
+ghost use Rattle.sb_cli.specs.AuditSteps.{WritesAudit};
+
+use crate::diary_input::{DiaryHalt, read_diary};
+use crate::ending::Ending;
+use crate::note::audit_line;
+use crate::output::write_whole;
+use crate::status::Status;
+use sb_diary::AuditEnd;
+use sb_outside::{Sink, SinkFault, Source};
+use std::alloc::Global;
+
+/// Answers with what a diary text says.
+pub(crate) fn answer_audit<S: Source, K: Sink>(
+    alloc: Global,
+    source: &mut S,
+    out: &mut K,
+) -> Ending
+    ensures answer { IsAuditAnswer (S.left source.old) (S.left source.new)
+        (K.taken out.old) (K.taken out.new) result }
+    ensures read { IsRead result.status }
+    ensures cause { (loads : List Load) → HasCause
+        (faults_of (S.faults source.old) (K.sink_state out.old) loads)
+        (faults_of (S.faults source.new) (K.sink_state out.new) loads) result.status }
+    ensures no_fault_hidden { (loads : List Load) → HidesNoFault
+        (faults_of (S.faults source.old) (K.sink_state out.old) loads)
+        (faults_of (S.faults source.new) (K.sink_state out.new) loads) result.status }
+{
+    let input = read_diary(alloc, source);
+    match input.halt {
+        DiaryHalt::End => Ending::of(alloc, write_said(out, &input.said)),
+        DiaryHalt::Refused(fault) => Ending::of(alloc, Status::Audit(fault)),
+        DiaryHalt::Fault => Ending::of(alloc, Status::Input),
+        DiaryHalt::Memory => Ending::of(alloc, Status::Memory),
+    }
+}
+
+/// Writes what an audit says.
+fn write_said<K: Sink>(out: &mut K, said: &AuditEnd) -> Status
+    ensures written { WritesAudit said.now (K.taken out.old) (K.taken out.new) result }
+    ensures cause { result ≡ Status.Output → Rose (K.sink_state out.old).faults (K.sink_state out.new).faults }
+    ensures told { IsWritten result → (K.sink_state out.new).faults ≡ (K.sink_state out.old).faults }
+{
+    match write_whole(out, audit_line(said).as_slice()) {
+        Ok(()) => Status::Done,
+        Err(SinkFault::Failed) => Status::Output,
+        Err(SinkFault::Memory) => Status::Memory,
+    }
+}
