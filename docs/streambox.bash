@@ -1,7 +1,7 @@
 # Completes the words of streambox in bash. Load it with: source docs/streambox.bash
 _streambox() {
   local word=${COMP_WORDS[COMP_CWORD]} before=${COMP_WORDS[COMP_CWORD - 1]} place=$COMP_CWORD
-  local commands='sum run slow'
+  local commands='sum run slow audit'
   COMPREPLY=()
   if ((place > 1)) && [[ ${COMP_WORDS[1]} == --try ]]; then
     place=$((place - 1))

@@ -18,11 +18,7 @@ use sb_outside::{Sink, SinkFault, Source};
 use std::alloc::Global;
 
 /// Answers with what a diary text says.
-pub(crate) fn answer_audit<S: Source, K: Sink>(
-    alloc: Global,
-    source: &mut S,
-    out: &mut K,
-) -> Ending
+pub(crate) fn answer_audit<S: Source, K: Sink>(alloc: Global, source: &mut S, out: &mut K) -> Ending
     ensures answer { IsAuditAnswer (S.left source.old) (S.left source.new)
         (K.taken out.old) (K.taken out.new) result }
     ensures read { IsRead result.status }

@@ -6,6 +6,8 @@
 
 mod answer;
 mod audit;
+#[cfg(test)]
+mod audit_tests;
 mod command;
 mod diary_input;
 mod ending;

@@ -11,10 +11,10 @@ use std::test::Fail;
 
 /// What a run gave: its status, the rows and the notes.
 #[derive(Drop)]
-struct Ran {
-    status: Status,
-    rows: Vec<u8>,
-    notes: Vec<u8>,
+pub(crate) struct Ran {
+    pub status: Status,
+    pub rows: Vec<u8>,
+    pub notes: Vec<u8>,
 }
 
 /// Pieces that are all of one size.
@@ -33,7 +33,7 @@ fn strings_of(alloc: Global, words: &[&str]) -> Result<Vec<String>, AllocError> 
     Ok(strings)
 }
 
-fn run(
+pub(crate) fn run(
     alloc: Global,
     words: &[&str],
     input: &mut MemSource,
@@ -51,7 +51,12 @@ fn run(
 }
 
 /// A run over a text that comes in pieces of one size.
-fn run_in_pieces(alloc: Global, words: &[&str], text: &[u8], size: usize) -> Result<Ran, AllocError>
+pub(crate) fn run_in_pieces(
+    alloc: Global,
+    words: &[&str],
+    text: &[u8],
+    size: usize,
+) -> Result<Ran, AllocError>
     requires { 1 ≤ size }
 {
     let bytes = Vec::from_slice(alloc, text)?;
@@ -222,7 +227,7 @@ fn a_line_has_at_most_128_bytes(rt: HostRuntime) -> Result<(), Fail> {
 
 #[test]
 fn words_outside_the_grammar_are_not_understood(rt: HostRuntime) -> Result<(), Fail> {
-    let faulty: [&[&str]; 15] = [
+    let faulty: [&[&str]; 17] = [
         &[],
         &["sum"],
         &["sum", "0"],
@@ -238,6 +243,8 @@ fn words_outside_the_grammar_are_not_understood(rt: HostRuntime) -> Result<(), F
         &["run", "-p.toml"],
         &["slow", "--help"],
         &["run", "p.toml", "x"],
+        &["audit", "x"],
+        &["Audit"],
     ];
     for words in faulty {
         let ran = run_in_pieces(rt.alloc(), words, FIRST, 7)?;

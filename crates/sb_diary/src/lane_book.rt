@@ -117,10 +117,7 @@ impl LaneBook {
     fn may_arrive(&self, epoch: u64, number: u64, length: u64) -> bool
         ensures { result ≡ spec.may_arrive self.now epoch number length }
     {
-        number > 0
-            && number - 1 == self.came.len() as u64
-            && epoch >= self.sealed()
-            && length > 0
+        number > 0 && number - 1 == self.came.len() as u64 && epoch >= self.sealed() && length > 0
     }
 
     // A bundle comes.
@@ -158,10 +155,12 @@ impl LaneBook {
     fn take(&mut self, number: u64) -> Result<(), LineStop>
         ensures { Answers (spec.moved spec.is_waiting Stage.Taken number self.old) self.old self.new result }
     {
-        let Some(Came {
-            epoch,
-            stage: Stage::Waiting,
-        }) = self.bundle(number)
+        let Some(
+            Came {
+                epoch,
+                stage: Stage::Waiting,
+            },
+        ) = self.bundle(number)
         else {
             return Err(LineStop::NotLegal);
         };
@@ -174,10 +173,12 @@ impl LaneBook {
     fn finish(&mut self, number: u64) -> Result<(), LineStop>
         ensures { Answers (spec.moved spec.is_taken Stage.Done number self.old) self.old self.new result }
     {
-        let Some(Came {
-            epoch,
-            stage: Stage::Taken,
-        }) = self.bundle(number)
+        let Some(
+            Came {
+                epoch,
+                stage: Stage::Taken,
+            },
+        ) = self.bundle(number)
         else {
             return Err(LineStop::NotLegal);
         };

@@ -72,7 +72,12 @@ fn legal_texts_are_told(rt: HostRuntime) -> Result<(), Fail> {
         (&["transform 0 1", "seal 0 0 10"], told(1, 1, false)),
         // A bundle was finished in an epoch that is not sealed.
         (
-            &["transform 0 1", "arrive 0 9 1 1", "take 0 1", "finish 0 1 0"],
+            &[
+                "transform 0 1",
+                "arrive 0 9 1 1",
+                "take 0 1",
+                "finish 0 1 0",
+            ],
             told(1, 3, false),
         ),
         // What is left open in a diary stays so behind the next head.
@@ -112,14 +117,42 @@ const NOT_LEGAL: [&[&str]; 27] = [
     &["transform 0 1", "arrive 0 0 1 1", "take 0 1", "take 0 1"],
     // One is finished that was not taken, or twice.
     &["transform 0 1", "arrive 0 0 1 1", "finish 0 1 0"],
-    &["transform 0 1", "arrive 0 0 1 1", "take 0 1", "finish 0 1 0", "finish 0 1 0"],
+    &[
+        "transform 0 1",
+        "arrive 0 0 1 1",
+        "take 0 1",
+        "finish 0 1 0",
+        "finish 0 1 0",
+    ],
     // A closing begins while another has not ended, of an epoch that is not the oldest, and of one that is not sealed.
-    &["transform 0 2", "seal 0 0 10", "seal 1 0 20", "begin 0 0 0 0", "begin 1 0 10 0"],
-    &["transform 0 1", "seal 0 0 10", "seal 0 1 20", "begin 0 1 20 0"],
+    &[
+        "transform 0 2",
+        "seal 0 0 10",
+        "seal 1 0 20",
+        "begin 0 0 0 0",
+        "begin 1 0 10 0",
+    ],
+    &[
+        "transform 0 1",
+        "seal 0 0 10",
+        "seal 0 1 20",
+        "begin 0 1 20 0",
+    ],
     &["transform 0 1", "begin 0 0 0 0"],
     // A closing begins while a bundle waits, or is out.
-    &["transform 0 1", "arrive 0 0 1 1", "seal 0 0 10", "begin 0 0 10 0"],
-    &["transform 0 1", "arrive 0 0 1 1", "take 0 1", "seal 0 0 10", "begin 0 0 10 1"],
+    &[
+        "transform 0 1",
+        "arrive 0 0 1 1",
+        "seal 0 0 10",
+        "begin 0 0 10 0",
+    ],
+    &[
+        "transform 0 1",
+        "arrive 0 0 1 1",
+        "take 0 1",
+        "seal 0 0 10",
+        "begin 0 0 10 1",
+    ],
     // A closing begins with a wrong mark, and with the greater one of two lanes.
     &["transform 0 1", "seal 0 0 10", "begin 0 0 11 0"],
     &[
@@ -132,7 +165,13 @@ const NOT_LEGAL: [&[&str]; 27] = [
     ],
     // A closing ends that did not begin, in a wrong lane, and of a wrong epoch.
     &["transform 0 1", "seal 0 0 10", "end 0 0"],
-    &["transform 0 2", "seal 0 0 10", "seal 1 0 20", "begin 0 0 0 0", "end 1 0"],
+    &[
+        "transform 0 2",
+        "seal 0 0 10",
+        "seal 1 0 20",
+        "begin 0 0 0 0",
+        "end 1 0",
+    ],
     &["transform 0 1", "seal 0 0 10", "begin 0 0 10 0", "end 0 1"],
 ];
 
