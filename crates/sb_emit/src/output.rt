@@ -24,7 +24,7 @@ pub trait RowOut: Send {
 
     ghost part: { Self → List Record → Self → Type 0 };
 
-    /// TakesRows rows, in their order. The time of each is below [`END_MARK`].
+    /// Takes rows, in their order. The time of each is below [`END_MARK`].
     ///
     /// # Errors
     ///
