@@ -2,5 +2,7 @@
 #![tactic(auto)]
 
 mod sink;
+#[cfg(test)]
+mod tests;
 
 pub use sink::SinkKept;
