@@ -15,6 +15,8 @@ mod output;
 mod printing;
 mod seen_rows;
 mod sink;
+#[cfg(test)]
+mod sink_tests;
 mod summary;
 mod tap;
 

@@ -21,7 +21,7 @@ use std::alloc::Global;
 use std::collections::BTreeMap;
 use std::marker::Model;
 
-/// The rows that the sink keeps.
+/// The rows that the sink keeps. Once no memory was found it keeps none.
 #[derive(Drop)]
 pub struct SinkKept {
     alloc: Global,
@@ -38,9 +38,14 @@ impl Model for SinkKept {
 
     ghost Value = { spec.SinkState };
 
-    ghost view = { λ s. record { kept = entries.records_in s.by_time.entries; closed = s.closed; is_spent = s.is_spent } };
+    ghost view = { λ s. record {
+      kept = entries.records_in s.by_time.entries;
+      closed = s.closed;
+      is_spent = s.is_spent;
+    } };
 
-    ghost invariant = { λ s. (s.held ≡ length (entries.records_in s.by_time.entries)) × entries.AreByTime s.by_time };
+    ghost invariant = { λ s. (s.held ≡ length (entries.records_in s.by_time.entries))
+        × entries.AreByTime s.by_time };
 }
 
 impl SinkKept {
@@ -116,6 +121,7 @@ impl Grouping for SinkKept {
         ensures closed { OnOk result (self.new.closed ≡ mark) }
         ensures rows { IfOk result (λ rows. rows.items ≡ sorted (before mark self.old.kept)) }
         ensures kept { OnOk result (self.new.kept ≡ at_least mark self.old.kept) }
+        ensures count { IfOk result (λ rows. length rows.items + length self.new.kept ≡ length self.old.kept) }
         ensures closes { IfOk result (λ rows. Closes mark (spec.gives self.old) rows.items (spec.gives self.new)) }
         ensures err { OnErr result (spec.IsSpent self.new) }
     {
@@ -138,7 +144,7 @@ impl Grouping for SinkKept {
     }
 }
 
-/// Adds rows to those of their times, and gives how many there are then, where so many were there before.
+/// Adds rows to those of their times, and gives how many there are then, if so many were held before.
 fn add_rows(
     alloc: Global,
     by_time: &mut BTreeMap<u64, Sequence<Record>>,
@@ -146,9 +152,11 @@ fn add_rows(
     rows: &[Record],
 ) -> Result<usize, NoMemory>
     ensures held { IfOk result (λ n. n ≡ held + length rows.now) }
-    ensures adds { OnOk result (IsReordered (entries.records_in by_time.new.entries) (entries.records_in by_time.old.entries ++ rows.now)) }
+    ensures adds { OnOk result (IsReordered (entries.records_in by_time.new.entries)
+        (entries.records_in by_time.old.entries ++ rows.now)) }
     ensures keeps { OnOk result (entries.AreByTime by_time.old → entries.AreByTime by_time.new) }
 {
+    // There is no memory for more rows than can be counted.
     let Some(held) = held.checked_add(rows.len()) else {
         return Err(NoMemory);
     };
@@ -182,8 +190,10 @@ fn take_below(
     by_time: &mut BTreeMap<u64, Sequence<Record>>,
     mark: u64,
 ) -> Result<Vec<Record>, NoMemory>
-    ensures rows { IfOk result (λ rows. entries.AreByTime by_time.old → rows.items ≡ sorted (before mark (entries.records_in by_time.old.entries))) }
-    ensures kept { OnOk result (entries.AreByTime by_time.old → entries.records_in by_time.new.entries ≡ at_least mark (entries.records_in by_time.old.entries)) }
+    ensures rows { IfOk result (λ rows. entries.AreByTime by_time.old
+        → rows.items ≡ sorted (before mark (entries.records_in by_time.old.entries))) }
+    ensures kept { OnOk result (entries.AreByTime by_time.old
+        → entries.records_in by_time.new.entries ≡ at_least mark (entries.records_in by_time.old.entries)) }
     ensures keeps { OnOk result (entries.AreByTime by_time.old → entries.AreByTime by_time.new) }
 {
     let later = by_time.split_off(&mark)?;

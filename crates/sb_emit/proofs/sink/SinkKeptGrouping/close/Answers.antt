@@ -1,4 +1,4 @@
-use Rattle.std.proofs.Common.{subst, arith}
+use Rattle.std.proofs.Common.{length, subst, ap, ◌∙◌, arith}
 use Rattle.sb_window.specs.Groupings.{Closes}
 use Rattle.sb_emit.specs.ByTime.{records_in}
 use Rattle.sb_emit.specs.Sinks.{SinkState, gives}
@@ -26,3 +26,9 @@ returns-in-Ok-clause-closes c =
     let t : SinkState = record { kept = later; closed = c.args.mark; is_spent = c.self.inside.is_spent } in
     subst (λ (x : SinkState). Closes c.args.mark (gives x) c.in-Ok.rows.items (gives t)) c.self.view_is
     (closes s t c.args.mark c.in-Ok.rows.items (c.in-Ok.ensures.rows c.self.invariant.1) (c.in-Ok.ensures.kept c.self.invariant.1))
+
+pub returns-in-Ok-clause-count : goal.returns-in-Ok-clause-count
+returns-in-Ok-clause-count c =
+    let old = records_in c.self.inside.by_time.entries in
+    let later = records_in c.take_below.new.by_time.entries in
+    lengths old later c.in-Ok.rows.items c.args.mark (c.in-Ok.ensures.rows c.self.invariant.1) (c.in-Ok.ensures.kept c.self.invariant.1) ∙ ap (λ (x : SinkState). length x.kept) c.self.view_is
