@@ -83,7 +83,13 @@ fn add_record(
             end,
             key: record.key,
         };
-        join_at(alloc, agg, partials, window, Partial::of_one(agg, record.value))?;
+        join_at(
+            alloc,
+            agg,
+            partials,
+            window,
+            Partial::of_one(agg, record.value),
+        )?;
     }
     Ok(())
 }

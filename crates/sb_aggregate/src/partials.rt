@@ -76,11 +76,7 @@ pub(crate) fn split_at(partials: &mut Partials, mark: u64) -> Result<Partials, N
 }
 
 /// The rows of partial values, in order.
-pub(crate) fn rows_of(
-    alloc: Global,
-    agg: Agg,
-    partials: Partials,
-) -> Result<Vec<Record>, NoMemory>
+pub(crate) fn rows_of(alloc: Global, agg: Agg, partials: Partials) -> Result<Vec<Record>, NoMemory>
     ensures rows { IfOk result (λ rows. rows.items ≡ sorted (rows_of_entries (final_values agg) partials.entries)) }
     ensures ordered { IsOrdered keyed_window_cmp partials }
 {

@@ -62,20 +62,45 @@ fn sliding_windows(rt: HostRuntime) -> Result<(), AllocError> {
     let second = [of_key(7, 2), of_key(3, -1), of_key(4, 5)];
     let late = [of_key(10, 7), of_key(13, 7)];
     let cases = [
-        (Agg::Count, vec![in alloc; (4, 3), (9, 5), (14, 5), (19, 3)]?),
-        (Agg::Sum, vec![in alloc; (4, 9), (9, 10), (14, 20), (19, 19)]?),
-        (Agg::Min, vec![in alloc; (4, -1), (9, -1), (14, -1), (19, 5)]?),
+        (
+            Agg::Count,
+            vec![in alloc; (4, 3), (9, 5), (14, 5), (19, 3)]?,
+        ),
+        (
+            Agg::Sum,
+            vec![in alloc; (4, 9), (9, 10), (14, 20), (19, 19)]?,
+        ),
+        (
+            Agg::Min,
+            vec![in alloc; (4, -1), (9, -1), (14, -1), (19, 5)]?,
+        ),
         (Agg::Max, vec![in alloc; (4, 5), (9, 5), (14, 7), (19, 7)]?),
-        (Agg::Distinct, vec![in alloc; (4, 2), (9, 3), (14, 4), (19, 2)]?),
+        (
+            Agg::Distinct,
+            vec![in alloc; (4, 2), (9, 3), (14, 4), (19, 2)]?,
+        ),
         (
             Agg::Top(2),
-            vec![in alloc; (4, 5), (4, 5), (9, 5), (9, 5), (14, 7), (14, 7), (19, 7), (19, 7)]?,
+            vec![in alloc;
+                (4, 5),
+                (4, 5),
+                (9, 5),
+                (9, 5),
+                (14, 7),
+                (14, 7),
+                (19, 7),
+                (19, 7),
+            ]?,
         ),
     ];
     for (agg, want) in cases {
-        let rows = rows_of_parts(alloc, agg, &windows, (&first, &second), 10, &late).expect(&rt, "rows");
+        let rows = rows_of_parts(alloc, agg, &windows, (&first, &second), 10, &late).expect(
+            &rt, "rows",
+        );
         assert_eq!(rt; shown(alloc, &rows)?, want, "{agg:?}");
-        let swapped = rows_of_parts(alloc, agg, &windows, (&second, &first), 10, &late).expect(&rt, "rows");
+        let swapped = rows_of_parts(alloc, agg, &windows, (&second, &first), 10, &late).expect(
+            &rt, "rows",
+        );
         assert_eq!(rt; shown(alloc, &swapped)?, want, "{agg:?} swapped");
     }
     Ok(())
@@ -94,10 +119,15 @@ fn ends_of_the_range(rt: HostRuntime) -> Result<(), AllocError> {
         (Agg::Min, vec![in alloc; (9, i64::MIN), (19, i64::MIN)]?),
         (Agg::Max, vec![in alloc; (9, i64::MAX), (19, i64::MIN)]?),
         (Agg::Distinct, vec![in alloc; (9, 3), (19, 1)]?),
-        (Agg::Top(3), vec![in alloc; (9, 1), (9, i64::MAX), (9, i64::MAX), (19, i64::MIN)]?),
+        (
+            Agg::Top(3),
+            vec![in alloc; (9, 1), (9, i64::MAX), (9, i64::MAX), (19, i64::MIN)]?,
+        ),
     ];
     for (agg, want) in cases {
-        let rows = rows_of_parts(alloc, agg, &windows, (&first, &second), 9, &late).expect(&rt, "rows");
+        let rows = rows_of_parts(alloc, agg, &windows, (&first, &second), 9, &late).expect(
+            &rt, "rows",
+        );
         assert_eq!(rt; shown(alloc, &rows)?, want, "{agg:?}");
     }
     Ok(())

@@ -42,9 +42,7 @@ impl<T> Trail<T> {
     pub fn start() -> Trail<T>
         ensures { result ≡ [] }
     {
-        Trail {
-            link: Link::Start,
-        }
+        Trail { link: Link::Start }
     }
 
     /// The list with one entry more. It takes no memory.

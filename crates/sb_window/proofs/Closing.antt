@@ -91,7 +91,7 @@ module _ (values : List ℤ → List ℤ) (windows : Spacing) (closed mark : ℕ
     same = λ l late f.
         let now : sum_by f (before mark (at_least closed (rows_by values windows (absorbed ++ all_records l)))) ≡ sum_by f rows =
         ap (sum_by f) (between closed mark (rows_by values windows (absorbed ++ all_records l)) ∙ rows-final (all_records l) (All-all_records (λ r. mark ≤ r.time) l late))
-            ∙ sym (ap (sum_by f) are ∙ IsReordered-in_order record_cmp (when (is_between closed mark) (rows_by values windows absorbed)) f) in
+        ∙ sym (ap (sum_by f) are ∙ IsReordered-in_order record_cmp (when (is_between closed mark) (rows_by values windows absorbed)) f) in
         let later : at_least mark (at_least closed (rows_by values windows (absorbed ++ all_records l))) ≡ at_least mark (rows_by values windows (absorbed ++ all_records l)) =
         filter_of_filter (λ r. not (nat_lt r.time mark)) (λ r. not (nat_lt r.time closed)) (λ r h. let k : mark ≤ r.time = passes_from mark r.time h in from_passes closed r.time (omega arith)) (rows_by values windows (absorbed ++ all_records l)) in
         sym (sum_by-filter_both (λ r. nat_lt r.time mark) (λ r. not (nat_lt r.time mark)) (λ r. refl) f (at_least closed (rows_by values windows (absorbed ++ all_records l))))
