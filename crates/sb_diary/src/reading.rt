@@ -1,4 +1,8 @@
 //! Diary lines as they are read.
+//!
+//! A line is read from the left: its word, up to the first space, and then its numbers, each behind one space. A number
+//! is taken only as it is printed, and nothing may follow the last one. So a line has one text, and any other text is
+//! refused.
 
 ghost use Rattle.std.specs.Prelude.{◌≡◌, ◌==◌, ◌<◌, ◌^◌, ◌++◌, ◌∷◌, ℕ, List, Some, IfSome, IfNone, codes, decimal};
 ghost use Rattle.std.specs.List.{position};
