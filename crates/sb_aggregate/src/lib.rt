@@ -19,8 +19,6 @@ mod part;
 mod partial;
 mod partials;
 mod session;
-#[cfg(test)]
-mod tests;
 
 pub use aggregate::{Agg, MAX_TOP, aggregated};
 pub use grouping::Aggregate;
