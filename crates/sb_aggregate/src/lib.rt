@@ -19,6 +19,8 @@ mod part;
 mod partial;
 mod partials;
 mod session;
+#[cfg(test)]
+mod tests;
 
 pub use aggregate::{Agg, MAX_TOP, aggregated};
 pub use grouping::Aggregate;

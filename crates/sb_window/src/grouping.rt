@@ -45,11 +45,13 @@ pub trait Grouping {
     /// [`NoMemory`]; then the grouping is spent.
     fn absorb(&mut self, part: Self::Part) -> Result<(), NoMemory>
         requires fits { (spent self.old → ⊥) → fits self.old part }
-        requires from { (spent self.old → ⊥) → (es : List KeptRec) × stands part es × IsFrom (closed self.old) es }
+        requires from { (spent self.old → ⊥)
+            → (es : List KeptRec) × stands part es × IsFrom (closed self.old) es }
         ensures was { OnOk result (spent self.old → ⊥) }
         ensures is { OnOk result (spent self.new → ⊥) }
         ensures closed { OnOk result (closed self.new ≡ closed self.old) }
-        ensures adds { OnOk result ((es : List KeptRec) → stands part es → IsFrom (closed self.old) es → Adds (closed self.old) (gives self.old) (gives self.new) es) }
+        ensures adds { OnOk result ((es : List KeptRec) → stands part es → IsFrom (closed self.old) es
+            → Adds (closed self.old) (gives self.old) (gives self.new) es) }
         ensures fits { OnOk result ((p : Self.Part) → fits self.old p → fits self.new p) }
         ensures err { OnErr result (spent self.new) };
 
