@@ -126,19 +126,19 @@ check_reports() {
     folder=${readme%/*}
     blocks sh "$readme" > "$scratch/commands"
     blocks text "$readme" > "$scratch/told"
-    made=$(grep -oE '(> |tee |-d )[a-z]+\.txt' "$scratch/commands" | sed 's/.* //' | sort -u)
-    [ -n "$made" ] || fail "$readme: no commands"
+    [ -s "$scratch/commands" ] || fail "$readme: no commands"
+    made=$({ grep -oE '(> |tee |-d )[a-z]+\.txt' "$scratch/commands" || true; } | sed 's/.* //' | sort -u)
     (
       cd "$scratch/copy/examples/$folder"
       # shellcheck disable=SC2086 # names of letters
-      rm $made
+      rm -f $made
       bash -euo pipefail "$scratch/commands" > "$scratch/printed" || fail "$readme: exit code $?"
     )
     diff "$scratch/told" "$scratch/printed" || fail "$readme: prints something else"
     diff -r "$folder" "$scratch/copy/examples/$folder" || fail "$readme: makes other files"
     reports=$((reports + 1))
   done
-  some "$reports" 'reports, from the log to the text'
+  some "$reports" 'examples, from the first file to the last'
 }
 
 # blocks KIND FILE: what stands in the blocks of this kind.
