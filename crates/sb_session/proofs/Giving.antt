@@ -18,6 +18,7 @@ use Rattle.sb_record.proofs.Earlier.{before-low}
 use Rattle.sb_record.proofs.Elements.{every, All-any, All-flat_map, All-join, All-map, All-passed, All-anything}
 use Rattle.sb_record.proofs.OnLanes.{All-all_records, all_records-on_lane}
 use Rattle.sb_record.proofs.Sorting.{sorted-unique}
+use Rattle.sb_record.proofs.Sums.{IsReordered-append}
 use Rattle.sb_window.specs.Groupings.{IsFrom, Adds, Closes}
 use Rattle.sb_window.specs.declared.keyed_window.KeyedWindow.{KeyedWindow}
 use Rattle.sb_window.proofs.Rows.{row}
@@ -25,13 +26,17 @@ use Rattle.sb_aggregate.specs.declared.aggregate.Agg.{Agg}
 use Rattle.sb_aggregate.specs.Aggregates.{aggregate_values}
 use Rattle.sb_aggregate.specs.Sessions.{session_end, sessions_of, is_in_session, is_session_open, values_in_session, rows_in_session, session_rows}
 use Rattle.sb_aggregate.proofs.SessionRows.{All-sessions, session_rows-orderless, closed_sessions-final, open_sessions-rest, open-fewer, open-more, open-late}
-use Rattle.sb_session.specs.Gives.{gives_of, gives_open, joined}
 use Rattle.sb_session.specs.Kept.{kept_of}
+use Rattle.sb_session.specs.SessionStates.{records_in}
 use Rattle.sb_session.specs.declared.open.OpenSessions.{OpenSessions}
+
+-- the rows of the sessions of what is kept and of what comes
+abbrev pub gives_of : Agg → ℕ → List Record → List KeptRec → List Record
+gives_of agg gap kept l = session_rows agg gap (kept ++ all_records l)
 
 -- ---- records that differ in order alone give the same
 same-given : (agg : Agg) (gap : ℕ) (a b c : List Record) → IsReordered a b → session_rows agg gap (a ++ c) ≡ session_rows agg gap (b ++ c)
-same-given agg gap a b c h = session_rows-orderless agg gap (a ++ c) (b ++ c) (joined a b c c h (λ f. refl))
+same-given agg gap a b c h = session_rows-orderless agg gap (a ++ c) (b ++ c) (IsReordered-append a b c c h (λ f. refl))
 
 -- what is absorbed is kept, in any order
 pub gives-adds : (agg : Agg) (gap closed : ℕ) (kept later part : List Record) (es : List KeptRec) → IsReordered later (kept ++ part) → es ≡ on_lane 0 part
@@ -105,19 +110,18 @@ module _ (agg : Agg) (gap mark : ℕ) where
           ∙ at_least-all (session_rows agg gap (open_ ++ all_records l)) (rows-open (open_ ++ all_records l) (all-open some kept (all_records l) (from l late)))
           ∙ sym (by_order l)
 
--- ---- the same of a grouping's open sessions
-pub open-adds : (agg : Agg) (closed : ℕ) (o : Option OpenSessions) (was_open after : OpenSessions) (part : List Record) (es : List KeptRec) → o ≡ Some was_open → after.gap ≡ was_open.gap
-    → IsReordered (kept_of after.times.entries) (kept_of was_open.times.entries ++ part) → es ≡ on_lane 0 part → Adds closed (gives_open agg o) (gives_open agg (Some after)) es
-open-adds agg closed o was_open after part es was gap is stands l late f =
-    ap (λ g. sum_by f (gives_of agg g (kept_of after.times.entries) l)) gap
-    ∙ gives-adds agg was_open.gap closed (kept_of was_open.times.entries) (kept_of after.times.entries) part es is stands l late f
-    ∙ ap (λ (p : Option OpenSessions). sum_by f (gives_open agg p (es ++ l))) (sym was)
+-- ---- the same of what is kept in an option
+pub open-adds : (agg : Agg) (gap closed : ℕ) (o : Option OpenSessions) (was_open : OpenSessions) (later part : List Record) (es : List KeptRec) → o ≡ Some was_open
+    → IsReordered later (kept_of was_open.times.entries ++ part) → es ≡ on_lane 0 part → Adds closed (gives_of agg gap (records_in o)) (gives_of agg gap later) es
+open-adds agg gap closed o was_open later part es was is stands =
+    subst (λ (p : Option OpenSessions). Adds closed (gives_of agg gap (records_in p)) (gives_of agg gap later) es) (sym was)
+    (gives-adds agg gap closed (kept_of was_open.times.entries) later part es is stands)
 
-pub open-closes : (agg : Agg) (mark : ℕ) (o : Option OpenSessions) (was_open after : OpenSessions) (rows : List Record) → o ≡ Some was_open → after.gap ≡ was_open.gap → 1 ≤ was_open.gap
+pub open-closes : (agg : Agg) (gap mark : ℕ) (o : Option OpenSessions) (was_open : OpenSessions) (later rows : List Record) → o ≡ Some was_open → was_open.gap ≡ gap → 1 ≤ was_open.gap
     → rows ≡ before mark (session_rows agg was_open.gap (kept_of was_open.times.entries)) → IsAscending record_cmp rows
-    → IsReordered (kept_of after.times.entries) (filter (is_session_open was_open.gap mark (kept_of was_open.times.entries)) (kept_of was_open.times.entries))
-    → Closes mark (gives_open agg o) rows (gives_open agg (Some after))
-open-closes agg mark o was_open after rows was gap some rows_are up left =
-    subst (λ (p : Option OpenSessions). Closes mark (gives_open agg p) rows (gives_open agg (Some after))) (sym was)
-    (subst (λ g. Closes mark (gives_of agg was_open.gap (kept_of was_open.times.entries)) rows (gives_of agg g (kept_of after.times.entries))) (sym gap)
-    (gives-closes agg was_open.gap mark some (kept_of was_open.times.entries) (kept_of after.times.entries) rows rows_are up left))
+    → IsReordered later (filter (is_session_open was_open.gap mark (kept_of was_open.times.entries)) (kept_of was_open.times.entries))
+    → Closes mark (gives_of agg gap (records_in o)) rows (gives_of agg gap later)
+open-closes agg gap mark o was_open later rows was same some rows_are up left =
+    subst (λ (p : Option OpenSessions). Closes mark (gives_of agg gap (records_in p)) rows (gives_of agg gap later)) (sym was)
+    (subst (λ g. Closes mark (gives_of agg g (kept_of was_open.times.entries)) rows (gives_of agg g later)) same
+    (gives-closes agg was_open.gap mark some (kept_of was_open.times.entries) later rows rows_are up left))

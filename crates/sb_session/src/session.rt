@@ -1,18 +1,21 @@
 //! The grouping of sessions, as the engine asks for it.
 
-ghost use Rattle.std.specs.Prelude.{◌≡◌, ◌≤◌, ◌<◌, List, All, None};
-ghost use Rattle.sb_record.specs.declared.element.KeptRec.{KeptRec};
+ghost use Rattle.std.specs.Prelude.{◌≡◌, ◌≤◌, ◌<◌, List, All, OnOk, OnErr, IfOk};
+ghost use Rattle.sb_record.specs.declared.element.KeptRec.{KeptRec as Element};
 ghost use Rattle.sb_record.specs.declared.item.TheConstants as item;
 ghost use Rattle.sb_record.specs.Elements.{all_records, on_lane};
+ghost use Rattle.sb_window.specs.Groupings.{IsFrom, Adds, Closes};
 ghost use Rattle.sb_aggregate.specs.Aggregates.{GivesOne};
 ghost use Rattle.sb_aggregate.specs.Sessions.{session_rows};
-ghost use Rattle.sb_session.specs.Gives.{gives_one-prop, gives_open, gives_open-order};
+ghost use Rattle.sb_session.specs.SessionStates as spec;
+ghost use Rattle.sb_session.specs.SessionStates.{gives-orderless};
 
 use crate::open::OpenSessions;
 use sb_aggregate::{Agg, MAX_GAP};
 use sb_record::{NoMemory, Record};
 use sb_window::Grouping;
 use std::alloc::Global;
+use std::marker::Model;
 
 #[cfg(test)]
 mod tests;
@@ -26,9 +29,28 @@ mod tests;
 pub struct Session {
     alloc: Global,
     agg: Agg,
+    gap: u64,
     kept: Option<OpenSessions>,
     closed: u64,
-    ghost one: { GivesOne agg } by { gives_one-prop agg },
+}
+
+impl Model for Session {
+    ghost use Rattle.std.specs.Prelude.{◌≡◌, IfSome};
+    ghost use Rattle.std.specs.Option.{is_none};
+    ghost use Rattle.sb_aggregate.specs.Aggregates.{GivesOne};
+    ghost use Rattle.sb_session.specs.SessionStates as spec;
+
+    ghost Value = { spec.SessionState };
+
+    ghost view = { λ s. record {
+      agg = s.agg;
+      gap = s.gap;
+      records = spec.records_in s.kept;
+      closed = s.closed;
+      spent = is_none s.kept;
+    } };
+
+    ghost invariant = { λ s. GivesOne s.agg × IfSome s.kept (λ o. o.gap ≡ s.gap) };
 }
 
 impl Session {
@@ -38,14 +60,13 @@ impl Session {
         requires some_gap { 1 ≤ gap }
         requires most_gap { gap ≤ MAX_GAP }
         requires one { GivesOne agg }
-        ensures is { ⟦<Session as Grouping>⟧.spent result → ⊥ }
-        ensures closed { ⟦<Session as Grouping>⟧.closed result ≡ 0 }
-        ensures fresh { (l : List KeptRec)
-            → ⟦<Session as Grouping>⟧.gives result l ≡ session_rows agg gap (all_records l) }
+        ensures empty { result ≡ spec.fresh agg gap }
+        ensures fresh { (l : List Element) → spec.gives result l ≡ session_rows agg gap (all_records l) }
     {
         Session {
             alloc,
             agg,
+            gap,
             kept: Some(OpenSessions::new(alloc, gap)),
             closed: 0,
         }
@@ -55,33 +76,49 @@ impl Session {
 impl Grouping for Session {
     type Part = Vec<Record>;
 
-    // nothing is kept
-    ghost spent = { λ g. g.kept ≡ None };
+    ghost spent = { spec.IsSpent };
 
     ghost closed = { λ g. g.closed };
 
-    // the rows of the sessions of what is kept and of the elements
-    ghost gives = { λ g l. gives_open g.agg g.kept l };
+    ghost gives = { spec.gives };
 
     // the times of the part are those of records, so that a gap can be added
-    ghost fits = { λ g p. All (λ r. r.time < item.END_MARK) p.items };
+    ghost fits = { λ g part. spec.IsInTime part.items };
 
     // the elements are the records of the part, on lane 0
-    ghost stands = { λ p es. es ≡ on_lane 0 p.items };
+    ghost stands = { λ part es. es ≡ on_lane 0 part.items };
 
-    ghost order = { λ g l m h. gives_open-order g.agg g.kept l m h };
+    ghost order = { gives-orderless };
 
     fn is_spent(&self) -> bool {
         self.kept.is_none()
     }
 
-    fn absorb(&mut self, part: Vec<Record>) -> Result<(), NoMemory> {
+    fn absorb(&mut self, part: Vec<Record>) -> Result<(), NoMemory>
+        requires fits { (spec.IsSpent self.old → ⊥) → spec.IsInTime part.items }
+        ensures was { OnOk result (spec.IsSpent self.old → ⊥) }
+        ensures is { OnOk result (spec.IsSpent self.new → ⊥) }
+        ensures closed { OnOk result (self.new.closed ≡ self.old.closed) }
+        ensures adds { OnOk result ((es : List Element) → es ≡ on_lane 0 part.items
+            → IsFrom self.old.closed es → Adds self.old.closed (spec.gives self.old) (spec.gives self.new) es) }
+        ensures agg { OnOk result (self.new.agg ≡ self.old.agg) }
+        ensures gap { OnOk result (self.new.gap ≡ self.old.gap) }
+        ensures err { OnErr result (spec.IsSpent self.new) }
+    {
         let kept = self.kept.take().ok_or(NoMemory)?;
         self.kept = Some(kept.with(self.alloc, &part)?);
         Ok(())
     }
 
-    fn close(&mut self, mark: u64) -> Result<Vec<Record>, NoMemory> {
+    fn close(&mut self, mark: u64) -> Result<Vec<Record>, NoMemory>
+        ensures was { OnOk result (spec.IsSpent self.old → ⊥) }
+        ensures is { OnOk result (spec.IsSpent self.new → ⊥) }
+        ensures closed { OnOk result (self.new.closed ≡ mark) }
+        ensures closes { IfOk result (λ rows. Closes mark (spec.gives self.old) rows.items (spec.gives self.new)) }
+        ensures agg { OnOk result (self.new.agg ≡ self.old.agg) }
+        ensures gap { OnOk result (self.new.gap ≡ self.old.gap) }
+        ensures err { OnErr result (spec.IsSpent self.new) }
+    {
         let kept = self.kept.take().ok_or(NoMemory)?;
         let closed = kept.close(self.alloc, self.agg, mark)?;
         self.kept = Some(closed.left);

@@ -1,6 +1,6 @@
 //! Sessions with a gap of 5, by example.
 
-ghost use Rattle.std.specs.Prelude.{◌≡◌, nat_lt, not, ◌&&◌};
+ghost use Rattle.std.specs.Prelude.{◌≡◌, nat_lt};
 ghost use Rattle.std.specs.List.{list_all};
 ghost use Rattle.sb_record.specs.declared.item.TheConstants as item;
 
@@ -25,28 +25,19 @@ enum Ask<'a> {
     Close(u64, &'a [Line]),
 }
 
-/// Whether the times of the records are from the mark on, and below the last one of all.
-fn are_from(mark: u64, part: &[Record]) -> bool
-    ensures { result ≡ list_all (λ r. not (nat_lt r.time mark) && nat_lt r.time item.END_MARK) part.now }
+/// Whether the times of the records are below the last one of all.
+fn are_in_time(part: &[Record]) -> bool
+    ensures { result ≡ list_all (λ r. nat_lt r.time item.END_MARK) part.now }
 {
-    part.iter()
-        .all(|record| mark <= record.time && record.time < END_MARK)
+    part.iter().all(|record| record.time < END_MARK)
 }
 
 /// Absorbs the records, where their times are such as may come.
 fn absorb(session: &mut Session, part: Vec<Record>) -> Result<(), NoMemory> {
-    if !are_from(session.closed, &part) {
+    if !are_in_time(&part) {
         return Err(NoMemory);
     }
     session.absorb(part)
-}
-
-/// Closes at the mark, where it is not below the last one.
-fn close(session: &mut Session, mark: u64) -> Result<Vec<Record>, NoMemory> {
-    if mark < session.closed {
-        return Err(NoMemory);
-    }
-    session.close(mark)
 }
 
 fn records(alloc: Global, lines: &[Line]) -> Result<Vec<Record>, Fail> {
@@ -83,7 +74,7 @@ fn check(
             }
             Ask::Close(mark, want) => {
                 let want = rows(rt.alloc(), want)?;
-                assert_eq!(rt; close(&mut session, mark), Ok(want), "at {mark}");
+                assert_eq!(rt; session.close(mark), Ok(want), "at {mark}");
             }
         }
     }
