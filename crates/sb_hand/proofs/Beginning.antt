@@ -1,0 +1,232 @@
+-- A closing begins.
+use Rattle.std.proofs.Common.{◌≡◌, ℕ, suc, ◌+◌, ◌≤◌, Bool, true, false, not, List, [], ◌∷◌, ◌++◌, length, map, Some, Option, sym, refl, ap, subst, ◌∙◌, arith}
+use Rattle.std.specs.Prelude.{◌||◌, Ok}
+use Rattle.std.specs.List.{slice_get, slice_set, list_any}
+use Rattle.std.proofs.lemmas.List.{map-set}
+use Rattle.sb_record.specs.declared.item.Record.{Record}
+use Rattle.sb_record.specs.Reading.{◌>>=◌}
+use Rattle.sb_record.specs.Records.{sorted, before}
+use Rattle.sb_record.specs.declared.element.KeptRec.{KeptRec}
+use Rattle.sb_pipeline.specs.Shapes.{Shape}
+use Rattle.sb_pipeline.specs.Plans.{IsPlan}
+use Rattle.sb_pipeline.specs.Operators.{Operator, operator_at, lanes_of}
+use Rattle.sb_pipeline.specs.Operators.Operator.{ParDo, Windowed, Sink}
+use Rattle.sb_pipeline.specs.Operators.WindowOperator.{Aggregated, Sessions, Joined}
+use Rattle.sb_core.specs.declared.moment.Cont.{Cont}
+use Rattle.sb_core.specs.declared.moment.CoreLane.{CoreLane}
+use Rattle.sb_core.specs.declared.moment.Node.{Node}
+use Rattle.sb_core.specs.declared.moment.Moment.{Moment}
+use Rattle.sb_core.specs.declared.held.Held.{Held}
+use Rattle.sb_core.specs.declared.held.Held.TheVariants.{Close}
+use Rattle.sb_core.specs.declared.event.Event.TheVariants.{Begin}
+use Rattle.sb_core.specs.Bounds.{bound_at}
+use Rattle.sb_core.specs.Closings.{kept_at, rows_at, collected, is_sink}
+use Rattle.sb_core.specs.Events.{after}
+use Rattle.sb_core.specs.Lanes.{closable, with_first_closing}
+use Rattle.sb_core.specs.Marks.{before_closing, first_is_closing, closed}
+use Rattle.sb_core.specs.Moments.{set_lane, is_close_of}
+use Rattle.sb_core.specs.Parts.{Part, part_after, with_part}
+use Rattle.sb_core.specs.Soundness.{IsSound}
+use Rattle.sb_core.proofs.AfterSound.{events-keep_sound}
+use Rattle.sb_core.proofs.PartsLaw.{parts-are_events}
+use Rattle.sb_lane.specs.declared.answers.LaneClose.{LaneClose}
+use Rattle.sb_lane.specs.Looks.{look_of}
+use Rattle.sb_lane.specs.LaneView.{LaneView, lane_of}
+use Rattle.sb_lane.specs.Placed.{conts_of}
+use Rattle.sb_hand.specs.declared.state.NodeState.{NodeState}
+use Rattle.sb_kept.specs.declared.kept.Kept.{Kept}
+use Rattle.sb_kept.specs.Keeping.{IsMadeFor, IsSpent, ShowsKept, closed_mark, given_by, gives}
+use Rattle.sb_hand.specs.Marking.{mark_for}
+use Rattle.sb_hand.specs.Sets.{HasLane, BeginsAt}
+use Rattle.sb_hand.specs.Showing.{ShowsNode, Stands, Reaches, Does, diaries_of}
+use Rattle.sb_hand.proofs.Calm.{node_is}
+use Rattle.sb_hand.proofs.LaneLaws.{MayClose, calm_before, may-close, mark_for-is}
+use Rattle.sb_hand.proofs.ShowsKept.{StandsFor, groups-at, rows-closes, shows-closes, rows-at}
+use Rattle.std.proofs.lemmas.Option.{get_or_from_slice_get}
+use Rattle.sb_core.specs.Moments.{empty_lane}
+use Rattle.sb_diary.specs.declared.event.DiaryEvent.{DiaryEvent}
+use Rattle.sb_diary.specs.declared.event.DiaryEvent.TheVariants as line
+use Rattle.sb_tally.specs.Written.{line_after}
+use Rattle.sb_hand.proofs.Single.{chain, passing, there-too, get-map, event-free}
+
+pub lanes_two : (op : Operator) → lanes_of op ≤ 2
+lanes_two (ParDo op) = omega arith
+lanes_two (Windowed (Aggregated agg windows)) = omega arith
+lanes_two (Windowed (Sessions agg gap)) = omega arith
+lanes_two (Windowed (Joined combine windows)) = omega arith
+lanes_two Sink = omega arith
+
+-- what begins, as the core has it
+abbrev pub begun_part : Operator → ℕ → ℕ → Node → CoreLane → Cont → Part
+begun_part op k l n lane c =
+    let begun = set_lane l (record lane { conts = with_first_closing lane.conts }) n in
+    record {
+      node = record begun { kept = kept_at op (closed begun.lanes) n.kept; closings = n.closings + 1 };
+      held = Close k l c.epoch n.closings (closed n.lanes) (closed begun.lanes) (rows_at op (closed n.lanes) (closed begun.lanes) n.kept) (is_sink op) ∷ [];
+      rows = collected op (closed begun.lanes) n.kept;
+    }
+
+module _ (plan : Shape) (is_plan : IsPlan plan) (bundle : ℕ) (nodes : List NodeState) (rows : List Record) (m : Moment) (s : Stands plan bundle nodes [] rows m) (k l : ℕ) (within : k ≤ length plan.steps) (lane : LaneView) (has : HasLane k l lane nodes) (close : LaneClose) (looks : look_of (conts_of lane.containers) ≡ Ok close) (n : Node) (at_m : slice_get m.nodes k ≡ Some n) where
+  pub shown : ShowsNode (operator_at (slice_get plan.steps k)) has.own n
+  shown = s.each k has.own n has.there at_m
+
+  pub lane_in : slice_get n.lanes l ≡ Some (lane_of lane)
+  lane_in = ap (λ ls. slice_get ls l) shown.lanes ∙ get-map lane_of has.own.lanes.items l lane has.in_it
+
+  in_moment : (i : ℕ) (x : CoreLane) → slice_get n.lanes i ≡ Some x → (slice_get m.nodes k >>= λ y. slice_get y.lanes i) ≡ Some x
+  in_moment i x h = ap (λ (o : Option Node). o >>= λ y. slice_get y.lanes i) at_m ∙ h
+
+  pub may : MayClose (lane_of lane) close
+  may = may-close (bound_at plan k) (lane_of lane) close (s.sound.lanes (record { node = k; lane = l }) (lane_of lane) (in_moment l (lane_of lane) lane_in)) looks
+
+  -- nothing is held, so no lane is closing
+  none : (i : ℕ) (x : CoreLane) → slice_get n.lanes i ≡ Some x → first_is_closing x.conts ≡ false
+  none i x h = by_case (first_is_closing x.conts) refl
+    where
+      by_case : (b : Bool) → first_is_closing x.conts ≡ b → b ≡ false
+      by_case true e =
+          let z : list_any (is_close_of k i) m.held ≡ true = s.sound.closing_held (record { node = k; lane = i }) x (in_moment i x h) e in
+          let w : false ≡ true = sym (ap (list_any (is_close_of k i)) s.held_is) ∙ z in cc
+      by_case false e = refl
+
+  none_any : list_any (λ (x : CoreLane). first_is_closing x.conts) n.lanes ≡ false
+  none_any = go n.lanes none
+    where
+      go : (lanes : List CoreLane) → ((i : ℕ) (x : CoreLane) → slice_get lanes i ≡ Some x → first_is_closing x.conts ≡ false) → list_any (λ (x : CoreLane). first_is_closing x.conts) lanes ≡ false
+      go [] each = refl
+      go (x ∷ lanes) each = (λ i. each 0 x refl i || go lanes (λ j y h. each (suc j) y h) i)
+
+  pub part_is : part_after plan bundle (Begin k l) n ≡ Some (begun_part (operator_at (slice_get plan.steps k)) k l n (lane_of lane) may.first)
+  part_is = chain (slice_get n.lanes l) _ (lane_of lane) _ lane_in (chain (closable lane.ended (conts_of lane.containers)) _ may.first _ may.may (passing _ _ _ (ap not none_any) refl))
+
+  pub mark_is : closed (slice_set n.lanes l (record (lane_of lane) { conts = with_first_closing (conts_of lane.containers) })) ≡ mark_for l (map lane_of has.own.lanes.items)
+  mark_is =
+      mark_for-is l n.lanes (lane_of lane) may.first may.rest two lane_in may.conts none ∙ ap (mark_for l) shown.lanes
+    where
+      two : length n.lanes ≤ 2
+      two = let e : length n.lanes ≡ lanes_of (operator_at (slice_get plan.steps k)) = ap (λ (x : Node). length x.lanes) (sym (node_is m k n at_m)) ∙ s.sound.lanes_there k within in omega (arith, e, lanes_two (operator_at (slice_get plan.steps k)))
+
+  pub floor_is : before_closing (map lane_of has.own.lanes.items) ≡ closed n.lanes
+  floor_is = ap before_closing (sym shown.lanes) ∙ calm_before n.lanes none
+
+  rises_in : (rest : List Held) → IsSound plan (with_part k [] m (begun_part (operator_at (slice_get plan.steps k)) k l n (lane_of lane) may.first)) → closed n.lanes ≤ closed (slice_set n.lanes l (record (lane_of lane) { conts = with_first_closing (conts_of lane.containers) }))
+  rises_in rest still = still.holds.0.rises
+
+  -- the mark does not fall
+  pub rises : closed_mark has.own.kept ≤ mark_for l (map lane_of has.own.lanes.items)
+  rises =
+      let p = begun_part (operator_at (slice_get plan.steps k)) k l n (lane_of lane) may.first in
+      let e : after plan m (Begin k l) ≡ Some (with_part k [] m p) = parts-are_events plan m (Begin k l) k n p s.sound refl at_m (ap (λ b. part_after plan b (Begin k l) n) s.bundle_is ∙ part_is) ∙ ap (λ x. Some (with_part k x m p)) s.held_is in
+      let still = (events-keep_sound plan is_plan m (with_part k [] m p) (Begin k l) e s.sound).0 in
+      let le = rises_in [] still in
+      omega (arith, le, mark_is, shown.kept.closed_is)
+
+rows_at-sink : (op : Operator) (floor mark : ℕ) (kept : List KeptRec) → is_sink op ≡ true → rows_at op floor mark kept ≡ []
+rows_at-sink (ParDo op) floor mark kept h = cc
+rows_at-sink (Windowed g) floor mark kept h = cc
+rows_at-sink Sink floor mark kept h = refl
+
+collected-sink : (op : Operator) (floor mark : ℕ) (kept : List KeptRec) → is_sink op ≡ true → collected op mark kept ≡ sorted (before mark (given_by op floor kept))
+collected-sink (ParDo op) floor mark kept h = cc
+collected-sink (Windowed g) floor mark kept h = cc
+collected-sink Sink floor mark kept h = refl
+
+collected-other : (op : Operator) (mark : ℕ) (kept : List KeptRec) → is_sink op ≡ false → collected op mark kept ≡ []
+collected-other (ParDo op) mark kept h = refl
+collected-other (Windowed g) mark kept h = refl
+collected-other Sink mark kept h = cc
+
+module _ (plan : Shape) (is_plan : IsPlan plan) (bundle : ℕ) (nodes new : List NodeState) (k l : ℕ) (within : k ≤ length plan.steps) (lane : LaneView) (close : LaneClose) (looks : look_of (conts_of lane.containers) ≡ Ok close) (serial floor mark : ℕ) (out : List Record)
+    (b : BeginsAt k l nodes new lane close.epoch serial floor mark out) where
+  abbrev has_it : HasLane k l lane nodes
+  has_it = record { own = b.sets.own; there = b.sets.there; in_it = b.sets.in_it }
+
+  module _ (rows : List Record) (m : Moment) (s : Stands plan bundle nodes [] rows m) (n : Node) (at_m : slice_get m.nodes k ≡ Some n) where
+    abbrev op : Operator
+    op = operator_at (slice_get plan.steps k)
+
+    abbrev begun_lane : CoreLane
+    begun_lane = record (lane_of lane) { conts = with_first_closing (conts_of lane.containers) }
+
+    abbrev first : Cont
+    first = (may plan is_plan bundle nodes rows m s k l within lane has_it close looks n at_m).first
+
+    abbrev part : Part
+    part = begun_part op k l n (lane_of lane) first
+
+    sh : ShowsNode op b.sets.own n
+    sh = shown plan is_plan bundle nodes rows m s k l within lane has_it close looks n at_m
+
+    floor_path : closed n.lanes ≡ floor
+    floor_path = sym (floor_is plan is_plan bundle nodes rows m s k l within lane has_it close looks n at_m) ∙ sym b.floor_is
+
+    floor_now : closed_mark b.was ≡ floor
+    floor_now = ap closed_mark (sym b.sets.was_so) ∙ sh.kept.closed_is ∙ floor_path
+
+    mark_path : closed (slice_set n.lanes l begun_lane) ≡ mark
+    mark_path = mark_is plan is_plan bundle nodes rows m s k l within lane has_it close looks n at_m ∙ sym b.mark_is
+
+    shows0 : StandsFor op floor (gives b.was) n.kept
+    shows0 = subst (λ x. StandsFor op x (gives b.was) n.kept) floor_now (subst (λ (x : Kept). ShowsKept op x n.kept) b.sets.was_so sh.kept.kept)
+
+    out_is : sorted (before mark (given_by op floor n.kept)) ≡ out
+    out_is = sym (rows-closes op floor mark (gives b.was) (gives b.is) n.kept out shows0 b.closes)
+
+    epoch_path : first.epoch ≡ close.epoch
+    epoch_path = (may plan is_plan bundle nodes rows m s k l within lane has_it close looks n at_m).epoch_is
+
+    serial_path : n.closings ≡ serial
+    serial_path = sh.closings ∙ sym b.serial_is
+
+    node_shows : IsSound plan (with_part k [] m part) → ShowsNode op b.sets.with part.node
+    node_shows still =
+        let up : floor ≤ mark = let le = rises_in plan is_plan bundle nodes rows m s k l within lane has_it close looks n at_m [] still in omega (arith, le, floor_path, mark_path) in
+        let rest : StandsFor op mark (gives b.is) (kept_at op mark n.kept) = shows-closes op (groups-at plan is_plan k) floor mark (gives b.was) (gives b.is) n.kept out up shows0 b.closes in
+        record {
+          lanes = ap (λ ls. slice_set ls l begun_lane) sh.lanes ∙ ap (slice_set (map lane_of b.sets.own.lanes.items) l) (sym b.lane_is) ∙ sym (map-set lane_of b.sets.own.lanes.items l b.now) ∙ ap (map lane_of) (sym b.sets.lanes);
+          closings = ap (λ x. x + 1) sh.closings ∙ sym b.sets.closings;
+          kept = record {
+            made = subst (λ (x : Kept). IsMadeFor op x) (sym b.sets.kept) (b.made op (subst (λ (x : Kept). IsMadeFor op x) b.sets.was_so sh.kept.made));
+            unspent = subst (λ (x : Kept). IsSpent x → ⊥) (sym b.sets.kept) b.unspent;
+            closed_is = ap closed_mark b.sets.kept ∙ b.closed ∙ sym mark_path;
+            kept = subst (λ z. z) (λ i. ShowsKept op (sym b.sets.kept i) (kept_at op (sym mark_path i) n.kept)) (subst (λ x. StandsFor op x (gives b.is) (kept_at op mark n.kept)) (sym b.closed) rest);
+          };
+        }
+
+    -- what the diary says of it
+    line_is : (taken added : List Record) → rows_at op floor mark n.kept ≡ taken → collected op mark n.kept ≡ added → length taken + length added ≡ length out → line_after plan (Begin k l) n ≡ line.Begin l close.epoch mark (length out)
+    line_is taken added taken_is added_is count =
+        (λ i. begun (get_or_from_slice_get n.lanes l (lane_of lane) empty_lane lane_there i))
+        ∙ (λ i. line.Begin l (oldest_path i) (mark_path i) (length (rows_at op (floor_path i) (mark_path i) n.kept) + length (collected op (mark_path i) n.kept)))
+        ∙ (λ i. line.Begin l close.epoch mark (length (taken_is i) + length (added_is i)))
+        ∙ ap (λ c. line.Begin l close.epoch mark c) count
+      where
+        begun : CoreLane → DiaryEvent
+        begun x =
+            line.Begin l x.ended (closed (set_lane l (record x { conts = with_first_closing x.conts }) n).lanes)
+            (length (rows_at op (closed n.lanes) (closed (set_lane l (record x { conts = with_first_closing x.conts }) n).lanes) n.kept) + length (collected op (closed (set_lane l (record x { conts = with_first_closing x.conts }) n).lanes) n.kept))
+
+        lane_there : slice_get n.lanes l ≡ Some (lane_of lane)
+        lane_there = lane_in plan is_plan bundle nodes rows m s k l within lane has_it close looks n at_m
+
+        oldest_path : lane.ended ≡ close.epoch
+        oldest_path = sym (may plan is_plan bundle nodes rows m s k l within lane has_it close looks n at_m).oldest ∙ epoch_path
+
+    pub begins : (taken added : List Record) (passed : Bool) → is_sink op ≡ passed → rows_at op floor mark n.kept ≡ taken → collected op mark n.kept ≡ added → length taken + length added ≡ length out → Reaches plan bundle (Begin k l ∷ []) m (diaries_of nodes) new (Close k l close.epoch serial floor mark taken passed ∷ []) (rows ++ added)
+    begins taken added passed sink taken_is added_is count =
+        subst (λ z. z) (λ i. Reaches plan bundle (Begin k l ∷ []) m (diaries_of nodes) (sym b.sets.set i) (Close k l (epoch_path i) (serial_path i) (floor_path i) (mark_path i) ((ap (λ f. rows_at op f (closed (slice_set n.lanes l begun_lane)) n.kept) floor_path ∙ ap (λ x. rows_at op floor x n.kept) mark_path ∙ taken_is) i) (sink i) ∷ []) (rows ++ (ap (λ x. collected op x n.kept) mark_path ∙ added_is) i))
+        (event-free plan is_plan bundle nodes [] rows m s k b.sets.own b.sets.with n part b.sets.there at_m (Begin k l) (line.Begin l close.epoch mark (length out)) refl refl (part_is plan is_plan bundle nodes rows m s k l within lane has_it close looks n at_m) b.sets.diary (line_is taken added taken_is added_is count) node_shows)
+
+  -- a closing of a transform
+  pub begin-does : is_sink (operator_at (slice_get plan.steps k)) ≡ false → Does plan bundle (Begin k l ∷ []) nodes [] new (Close k l close.epoch serial floor mark out false ∷ []) []
+  begin-does other = λ rows m s.
+      let found = there-too nodes m.nodes k b.sets.own s.count b.sets.there in
+      begins rows m s found.0 found.1 out [] false other
+      (rows-at (operator_at (slice_get plan.steps k)) floor mark found.0.kept other ∙ out_is rows m s found.0 found.1) (collected-other (operator_at (slice_get plan.steps k)) mark found.0.kept other) (omega arith)
+
+  -- a closing of the sink
+  pub begin-sink : is_sink (operator_at (slice_get plan.steps k)) ≡ true → Does plan bundle (Begin k l ∷ []) nodes [] new (Close k l close.epoch serial floor mark [] true ∷ []) out
+  begin-sink sink = λ rows m s.
+      let found = there-too nodes m.nodes k b.sets.own s.count b.sets.there in
+      begins rows m s found.0 found.1 [] out true sink
+      (rows_at-sink (operator_at (slice_get plan.steps k)) floor mark found.0.kept sink) (collected-sink (operator_at (slice_get plan.steps k)) floor mark found.0.kept sink ∙ out_is rows m s found.0 found.1) (omega arith)

@@ -1,0 +1,27 @@
+use Rattle.std.proofs.Common.{false, subst}
+use Rattle.std.specs.Prelude.{slice_get}
+use Rattle.sb_pipeline.specs.Operators.{operator_at}
+use Rattle.sb_work.specs.declared.outputs.Output.{Output}
+use Rattle.sb_lane.proofs.Results.{on_ok}
+use Rattle.sb_hand.proofs.Outputs.{Comes, comes}
+use Rattle.sb_hand.proofs.Works.{work-lane, work-part, works-part}
+use Rattle.sb_hand.proofs.bundles.finish_bundle.Goals as goal
+
+pub finish_part-requires-clause-at : goal.finish_part-requires-clause-at
+finish_part-requires-clause-at c = work-lane c.args.plan.now c.args.size c.args.nodes.now.items c.args.claim.now.node c.args.claim.now.lane c.args.claim.now.bundle false c.requires.can
+
+pub finish_part-requires-clause-takes : goal.finish_part-requires-clause-takes
+finish_part-requires-clause-takes c =
+    let cl = c.args.claim.now in
+    let op = operator_at (slice_get c.args.plan.now.steps cl.node) in
+    let o = subst (λ (x : Output). Comes op cl.lane cl.bundle.records x) c.in-Part.is (comes op cl.lane cl.bundle.records c.args.output c.requires.output) in
+    work-part c.args.plan.now c.requires.plan c.args.size c.args.nodes.now.items cl.node cl.lane cl.bundle c.requires.can c.requires.node c.in-Part.part o.1
+
+pub returns-in-Part : goal.returns-in-Part
+returns-in-Part c =
+    let cl = c.args.claim.now in
+    let op = operator_at (slice_get c.args.plan.now.steps cl.node) in
+    let o = subst (λ (x : Output). Comes op cl.lane cl.bundle.records x) c.in-Part.is (comes op cl.lane cl.bundle.records c.args.output c.requires.output) in
+    let takes = work-part c.args.plan.now c.requires.plan c.args.size c.args.nodes.now.items cl.node cl.lane cl.bundle c.requires.can c.requires.node c.in-Part.part o.1 in
+    let has = work-lane c.args.plan.now c.args.size c.args.nodes.now.items cl.node cl.lane cl.bundle false c.requires.can in
+    on_ok c.finish_part.result (λ a. works-part c.args.plan.now c.requires.plan c.args.size cl.node cl.lane cl.bundle c.args.nodes.now.items c.requires.can c.finish_part.new.nodes.items has.0 c.in-Part.part o.0 takes (a has.0 has.1)) c.finish_part.ensures

@@ -1,0 +1,61 @@
+use Rattle.std.proofs.Common.{◌≡◌, ◌∷◌, [], sym, subst, ◌∙◌, arith, false, length}
+use Rattle.sb_core.specs.declared.event.Event.TheVariants.{Begin}
+use Rattle.sb_lane.proofs.Results.{on_ok, both_ok}
+use Rattle.sb_hand.specs.Runs.{close_of, ClosesNode}
+use Rattle.sb_hand.specs.Sets.{BeginsAt}
+use Rattle.sb_hand.proofs.Composing.{can-after}
+use Rattle.sb_hand.proofs.Whole.{few-there, rises-there, begins-transform, closes-transform, sink-lane, closes-sink}
+use Rattle.sb_hand.proofs.closings.close_node.Goals as goal
+
+pub begin_at-requires-clause-looks : goal.begin_at-requires-clause-looks
+begin_at-requires-clause-looks c = λ at h. let l = c.requires.looks at h in (l.0, l.1)
+
+pub begin_at-requires-clause-few : goal.begin_at-requires-clause-few
+begin_at-requires-clause-few c = few-there c.args.plan.now c.args.bundle c.args.nodes.now.items c.requires.can c.args.node c.requires.node
+
+pub begin_at-requires-clause-rises : goal.begin_at-requires-clause-rises
+begin_at-requires-clause-rises c =
+    let at = c.requires.at in
+    let l = c.requires.looks at.0 at.1 in
+    rises-there c.args.plan.now c.requires.plan c.args.bundle c.args.nodes.now.items c.requires.can c.args.node c.args.lane c.requires.node at.0 at.1 l.0 l.1
+
+pub close_transform-requires-clause-can : goal.close_transform-requires-clause-can
+close_transform-requires-clause-can c =
+    let cl = c.in_ok-closing.closing in
+    let at = c.requires.at in
+    let l = c.requires.looks at.0 at.1 in
+    let names = c.in_ok-closing.ensures.names in
+    let b = subst (λ z. z) (λ i. BeginsAt (sym names.0 i) (sym names.1 i) c.args.nodes.now.items c.begin_at.new.nodes.items at.0 (sym names.2 i) cl.serial cl.floor cl.mark cl.rows.items) (c.in_ok-closing.ensures.begins at.0 at.1) in
+    can-after c.args.plan.now c.args.bundle (Begin cl.node cl.lane ∷ []) c.args.nodes.now.items c.begin_at.new.nodes.items [] (close_of cl cl.rows.items false ∷ []) [] c.requires.can
+    (begins-transform c.args.plan.now c.requires.plan c.args.bundle cl c.args.nodes.now.items c.begin_at.new.nodes.items at.0 l.0 l.1 (l.2 ∙ sym names.2) b (omega (arith, names.0, c.if-node-transforms.true, c.transforms.ensures.value)))
+
+pub close_sink-requires : goal.close_sink-requires
+close_sink-requires c =
+    let cl = c.in_ok-closing.closing in
+    let at = c.requires.at in
+    let l = c.requires.looks at.0 at.1 in
+    let names = c.in_ok-closing.ensures.names in
+    let b = subst (λ z. z) (λ i. BeginsAt (sym names.0 i) (sym names.1 i) c.args.nodes.now.items c.begin_at.new.nodes.items at.0 (sym names.2 i) cl.serial cl.floor cl.mark cl.rows.items) (c.in_ok-closing.ensures.begins at.0 at.1) in
+    sink-lane c.args.plan.now c.requires.plan c.args.bundle cl c.args.nodes.now.items c.begin_at.new.nodes.items at.0 l.0 l.1 (l.2 ∙ sym names.2) b c.requires.can (omega (arith, names.0, c.if-node-transforms.false, c.transforms.ensures.value, c.requires.node))
+
+pub returns-then-node-transforms : goal.returns-then-node-transforms
+returns-then-node-transforms c =
+    let cl = c.in_ok-closing.closing in
+    let at = c.requires.at in
+    let l = c.requires.looks at.0 at.1 in
+    let names = c.in_ok-closing.ensures.names in
+    let b = subst (λ z. z) (λ i. BeginsAt (sym names.0 i) (sym names.1 i) c.args.nodes.now.items c.begin_at.new.nodes.items at.0 (sym names.2 i) cl.serial cl.floor cl.mark cl.rows.items) (c.in_ok-closing.ensures.begins at.0 at.1) in
+    on_ok c.close_transform.result (λ e. subst (λ z. z) (λ i. ClosesNode c.args.plan.now c.args.bundle (names.0 i) (names.1 i) c.args.nodes.now.items c.args.tray.now.items c.close_transform.new.nodes.items c.args.tray.now.items)
+    (closes-transform c.args.plan.now c.requires.plan c.args.bundle cl c.args.nodes.now.items c.begin_at.new.nodes.items at.0 l.0 l.1 (l.2 ∙ sym names.2) b c.close_transform.new.nodes.items c.args.tray.now.items (omega (arith, names.0, c.if-node-transforms.true, c.transforms.ensures.value)) e)) c.close_transform.ensures
+
+pub returns-else-node-transforms : goal.returns-else-node-transforms
+returns-else-node-transforms c =
+    let cl = c.in_ok-closing.closing in
+    let at = c.requires.at in
+    let l = c.requires.looks at.0 at.1 in
+    let names = c.in_ok-closing.ensures.names in
+    let b = subst (λ z. z) (λ i. BeginsAt (sym names.0 i) (sym names.1 i) c.args.nodes.now.items c.begin_at.new.nodes.items at.0 (sym names.2 i) cl.serial cl.floor cl.mark cl.rows.items) (c.in_ok-closing.ensures.begins at.0 at.1) in
+    let at_end : cl.node ≡ length c.args.plan.now.steps = omega (arith, names.0, c.if-node-transforms.false, c.transforms.ensures.value, c.requires.node) in
+    let own = sink-lane c.args.plan.now c.requires.plan c.args.bundle cl c.args.nodes.now.items c.begin_at.new.nodes.items at.0 l.0 l.1 (l.2 ∙ sym names.2) b c.requires.can at_end in
+    both_ok c.close_sink.result (λ t e. subst (λ z. z) (λ i. ClosesNode c.args.plan.now c.args.bundle (names.0 i) (names.1 i) c.args.nodes.now.items c.args.tray.now.items c.close_sink.new.nodes.items c.close_sink.new.tray.items)
+    (closes-sink c.args.plan.now c.requires.plan c.args.bundle cl c.args.nodes.now.items c.begin_at.new.nodes.items at.0 l.0 l.1 (l.2 ∙ sym names.2) b c.close_sink.new.nodes.items c.args.tray.now.items c.close_sink.new.tray.items at_end t own.0 (e own.0 own.1) own.3)) c.close_sink.ensures.tray c.close_sink.ensures.ends

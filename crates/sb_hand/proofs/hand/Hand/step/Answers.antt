@@ -1,0 +1,15 @@
+use Rattle.sb_hand.proofs.Stepwise.{can-steps, settings-step}
+use Rattle.sb_hand.proofs.hand.Hand.step.Goals as goal
+
+pub invariant_of-self-2 : goal.invariant_of-self-2
+invariant_of-self-2 c = λ e.
+    let s = c.self.inside in
+    can-steps s.plan s.bundle c.args.node s.nodes.items c.step_node.new.nodes.items s.tray.items c.step_node.new.tray.items c.in_ok-did.did c.in_ok-did.ensures (c.self.invariant c.if-self.false)
+
+pub returns-clause-steps : goal.returns-clause-steps
+returns-clause-steps c = rw (← c.self.view_is) c.in_ok-did.ensures
+
+pub returns-clause-settings : goal.returns-clause-settings
+returns-clause-settings c =
+    let s = c.self.inside in
+    rw (← c.self.view_is) (settings-step s.plan s.bundle c.args.node s.nodes.items c.step_node.new.nodes.items s.tray.items c.step_node.new.tray.items c.in_ok-did.did c.in_ok-did.ensures)

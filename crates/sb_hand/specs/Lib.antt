@@ -1,0 +1,10 @@
+pub mod Feeding
+pub mod HandLaws
+pub mod Hands
+pub mod Marking
+pub mod NewNodes
+pub mod Runs
+pub mod Sets
+pub mod Showing
+pub mod Stepping
+pub mod Todo

@@ -1,0 +1,52 @@
+-- What a step of a node does.
+use Rattle.std.specs.Prelude.{◌≡◌, ℕ, true, is_some, List, All, Some, None, Ok, Err, slice_get}
+use Rattle.sb_record.specs.declared.item.Record.{Record}
+use Rattle.sb_pipeline.specs.Shapes.{Shape}
+use Rattle.sb_lane.specs.declared.answers.LaneClose.{LaneClose}
+use Rattle.sb_lane.specs.declared.answers.NotYet.{NotYet}
+use Rattle.sb_lane.specs.Looks.{look_of}
+use Rattle.sb_lane.specs.LaneView.{LaneView}
+use Rattle.sb_lane.specs.Placed.{conts_of}
+use Rattle.sb_lane.specs.Taking.{take_first}
+use Rattle.sb_hand.specs.declared.did.Did.{Did}
+use Rattle.sb_hand.specs.declared.did.Did.TheVariants.{Bundle, Closing, Nothing}
+use Rattle.sb_hand.specs.declared.state.NodeState.{NodeState}
+use Rattle.sb_hand.specs.Runs.{WorksOff, ClosesNode}
+use Rattle.sb_hand.specs.Sets.{HasLane}
+
+-- no bundle waits in the lane
+abbrev pub NoneWaits : LaneView → Type 0
+NoneWaits lane = take_first (conts_of lane.containers) ≡ None
+
+-- the lane's oldest container cannot close, and this is why
+abbrev pub CannotClose : LaneView → Type 0
+CannotClose lane = (why : NotYet) × (look_of (conts_of lane.containers) ≡ Err why)
+
+-- nothing waits in a lane of the node, and none of its closings can begin
+pub record IsIdle (k : ℕ) (nodes : List NodeState) : Type 0 where
+  pub own : NodeState
+  pub there : slice_get nodes k ≡ Some own
+  pub waits : All NoneWaits own.lanes.items
+  pub closes : All CannotClose own.lanes.items
+
+-- a bundle waits in a lane of the node
+pub record WaitsIn (k l : ℕ) (nodes : List NodeState) : Type 0 where
+  pub lane : LaneView
+  pub has : HasLane k l lane nodes
+  pub waits : is_some (take_first (conts_of lane.containers)) ≡ true
+
+-- nothing waits in the node, and the oldest container of a lane can close
+pub record ClosesIn (k l : ℕ) (nodes : List NodeState) : Type 0 where
+  pub lane : LaneView
+  pub has : HasLane k l lane nodes
+  pub none : All NoneWaits has.own.lanes.items
+  pub close : LaneClose
+  pub looks : look_of (conts_of lane.containers) ≡ Ok close
+
+-- a step worked a bundle off, or made a whole closing, or found nothing to do
+abbrev pub Steps : Shape → ℕ → ℕ → List NodeState → List Record → List NodeState → List Record → Did → Type 0
+Steps plan bundle k old tray new later Bundle =
+    (l : ℕ) × WaitsIn k l old × WorksOff plan bundle k l old new × (later ≡ tray)
+Steps plan bundle k old tray new later Closing =
+    (l : ℕ) × ClosesIn k l old × ClosesNode plan bundle k l old tray new later
+Steps plan bundle k old tray new later Nothing = IsIdle k old × (new ≡ old) × (later ≡ tray)

@@ -1,0 +1,140 @@
+//! Whole bundles: taken, processed, delivered and finished.
+
+ghost use Rattle.std.specs.Prelude.{◌≡◌, ◌<◌, ◌≤◌, ◌∷◌, [], true, false, length, OnOk, slice_get, is_some};
+ghost use Rattle.sb_core.specs.Closings.{delivery, is_pardo};
+ghost use Rattle.sb_lane.specs.LaneView.{LaneView};
+ghost use Rattle.sb_lane.specs.Placed.{conts_of};
+ghost use Rattle.sb_lane.specs.Taking.{take_first};
+ghost use Rattle.sb_pipeline.specs.Operators.{operator_at};
+ghost use Rattle.sb_pipeline.specs.Plans.{IsPlan};
+ghost use Rattle.sb_work.specs.Processing.{IsOutput};
+ghost use Rattle.sb_hand.specs.Runs.{work_of, FinishesWork, WorksOff};
+ghost use Rattle.sb_hand.specs.Sets.{HasLane};
+ghost use Rattle.sb_hand.specs.Showing.{CanStand};
+
+use crate::events::{finish_at, finish_part, put_at, take_at};
+use crate::state::NodeState;
+use sb_bundle::Bundle;
+use sb_pipeline::Plan;
+use sb_record::{NoMemory, Record, Sequence};
+use sb_work::{Claim, Output, process};
+use std::alloc::Global;
+
+/// What a transform of single records gives for a bundle goes below, and the bundle is finished.
+fn deliver_given(
+    plan: &Plan,
+    size: u32,
+    nodes: &mut Vec<NodeState>,
+    claim: &Claim,
+    given: Sequence<Record>,
+) -> Result<(), NoMemory>
+    requires plan { IsPlan plan.now }
+    requires node { claim.now.node < length plan.now.steps }
+    requires can { CanStand plan.now size nodes.old.items
+        (work_of claim.now.node claim.now.lane claim.now.bundle false ∷ []) }
+    requires pardo { is_pardo (operator_at (slice_get plan.now.steps claim.now.node)) ≡ true }
+    requires given { given
+        ≡ delivery (operator_at (slice_get plan.now.steps claim.now.node)) claim.now.bundle.records }
+    requires some { 0 < length given }
+    ensures { OnOk result (FinishesWork plan.now size claim.now.node claim.now.lane claim.now.bundle
+        nodes.old.items nodes.new.items) }
+{
+    let _ = size;
+    let length = given.as_slice().len() as u64;
+    put_at(
+        nodes,
+        plan.down(claim.node),
+        Bundle {
+            number: 0,
+            epoch: claim.bundle.epoch,
+            floor: claim.bundle.floor,
+            records: given,
+        },
+    )?;
+    finish_at(
+        nodes,
+        claim.node,
+        claim.lane,
+        claim.bundle.epoch,
+        claim.bundle.number,
+        length,
+    )
+}
+
+/// A bundle for which a transform of single records gives nothing is finished.
+fn finish_empty(
+    plan: &Plan,
+    size: u32,
+    nodes: &mut Vec<NodeState>,
+    claim: &Claim,
+) -> Result<(), NoMemory>
+    requires plan { IsPlan plan.now }
+    requires can { CanStand plan.now size nodes.old.items
+        (work_of claim.now.node claim.now.lane claim.now.bundle false ∷ []) }
+    requires pardo { is_pardo (operator_at (slice_get plan.now.steps claim.now.node)) ≡ true }
+    requires none { delivery (operator_at (slice_get plan.now.steps claim.now.node)) claim.now.bundle.records ≡ [] }
+    ensures { OnOk result (FinishesWork plan.now size claim.now.node claim.now.lane claim.now.bundle
+        nodes.old.items nodes.new.items) }
+{
+    let _ = size;
+    let _ = plan.transforms();
+    finish_at(
+        nodes,
+        claim.node,
+        claim.lane,
+        claim.bundle.epoch,
+        claim.bundle.number,
+        0,
+    )
+}
+
+/// What comes of a bundle in hand, and its end.
+fn finish_bundle(
+    plan: &Plan,
+    size: u32,
+    nodes: &mut Vec<NodeState>,
+    claim: &Claim,
+    output: Output,
+) -> Result<(), NoMemory>
+    requires plan { IsPlan plan.now }
+    requires node { claim.now.node ≤ length plan.now.steps }
+    requires can { CanStand plan.now size nodes.old.items
+        (work_of claim.now.node claim.now.lane claim.now.bundle false ∷ []) }
+    requires output { IsOutput (operator_at (slice_get plan.now.steps claim.now.node)) claim.now.lane
+        claim.now.bundle.records output }
+    ensures { OnOk result (FinishesWork plan.now size claim.now.node claim.now.lane claim.now.bundle
+        nodes.old.items nodes.new.items) }
+{
+    match output {
+        Output::Records(given) => {
+            if given.is_empty() {
+                finish_empty(plan, size, nodes, claim)
+            } else {
+                deliver_given(plan, size, nodes, claim, Sequence::new(given))
+            }
+        }
+        Output::Part(part) => finish_part(nodes, claim, part),
+    }
+}
+
+/// Works off a bundle that waits in a lane of a node.
+pub(crate) fn work_off(
+    alloc: Global,
+    plan: &Plan,
+    size: u32,
+    nodes: &mut Vec<NodeState>,
+    node: u32,
+    lane: u32,
+) -> Result<(), NoMemory>
+    requires plan { IsPlan plan.now }
+    requires node { node ≤ length plan.now.steps }
+    requires can { CanStand plan.now size nodes.old.items [] }
+    requires waits { (at : LaneView) × HasLane node lane at nodes.old.items
+        × (is_some (take_first (conts_of at.containers)) ≡ true) }
+    ensures { OnOk result (WorksOff plan.now size node lane nodes.old.items nodes.new.items) }
+{
+    let bundle = take_at(nodes, node, lane)?;
+    let claim = Claim { node, lane, bundle };
+    let output = process(alloc, plan, &claim)?;
+    finish_bundle(plan, size, nodes, &claim, output)
+}

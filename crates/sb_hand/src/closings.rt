@@ -1,0 +1,155 @@
+//! Whole closings.
+
+ghost use Rattle.std.specs.Prelude.{◌≡◌, ◌<◌, ◌≤◌, ◌++◌, ◌+◌, ◌∷◌, [], true, false, length, drop, take, OnOk, IfOk, Ok};
+ghost use Rattle.sb_core.specs.Marks.{first_is_closing};
+ghost use Rattle.sb_diary.specs.declared.event.DiaryEvent.TheVariants as line;
+ghost use Rattle.sb_lane.specs.LaneView.{LaneView, lane_of};
+ghost use Rattle.sb_lane.specs.Looks.{look_of};
+ghost use Rattle.sb_lane.specs.Placed.{conts_of};
+ghost use Rattle.sb_lane.specs.declared.answers.LaneClose.{LaneClose as AClose};
+ghost use Rattle.sb_pipeline.specs.Plans.{IsPlan};
+ghost use Rattle.sb_hand.specs.Runs.{close_of, Delivers, Ends, ClosesNode};
+ghost use Rattle.sb_hand.specs.Sets.{HasLane, Turns};
+ghost use Rattle.sb_hand.specs.Showing.{CanStand};
+
+use crate::closing::Closing;
+use crate::events::{begin_at, end_at, put_at, seal_at};
+use crate::state::NodeState;
+use sb_bundle::Bundle;
+use sb_pipeline::Plan;
+use sb_record::{NoMemory, Record, Sequence};
+use std::alloc::Global;
+
+/// The first records of a list.
+fn first_of(alloc: Global, rows: &[Record], count: usize) -> Result<Sequence<Record>, NoMemory>
+    requires { count ≤ length rows.now }
+    ensures { IfOk result (λ records. records ≡ take count rows.now) }
+{
+    match Vec::from_slice(alloc, &rows[..count]) {
+        Ok(first) => Ok(Sequence::new(first)),
+        Err(_) => Err(NoMemory),
+    }
+}
+
+/// The next rows of a closing go below: how many are gone then.
+fn deliver_next(
+    alloc: Global,
+    plan: &Plan,
+    bundle: u32,
+    nodes: &mut Vec<NodeState>,
+    closing: &Closing,
+    from: usize,
+) -> Result<usize, NoMemory>
+    requires plan { IsPlan plan.now }
+    requires node { closing.now.node < length plan.now.steps }
+    requires from { from < length closing.now.rows.items }
+    requires can { CanStand plan.now bundle nodes.old.items
+        (close_of closing.now (drop from closing.now.rows.items) false ∷ []) }
+    ensures more { IfOk result (λ upto. (from < upto) × (upto ≤ length closing.now.rows.items)) }
+    ensures does { IfOk result (λ upto. Delivers plan.now bundle closing.now
+        nodes.old.items (drop from closing.now.rows.items) nodes.new.items (drop upto closing.now.rows.items)) }
+{
+    let (_, rest) = closing.rows.as_slice().split_at(from);
+    let count = (bundle as usize).min(rest.len());
+    let records = first_of(alloc, rest, count)?;
+    put_at(
+        nodes,
+        plan.down(closing.node),
+        Bundle {
+            number: 0,
+            epoch: closing.serial,
+            floor: closing.floor,
+            records,
+        },
+    )?;
+    Ok(from + count)
+}
+
+/// The rows of a closing go below, a bundle at a time.
+fn deliver_rows(
+    alloc: Global,
+    plan: &Plan,
+    bundle: u32,
+    nodes: &mut Vec<NodeState>,
+    closing: &Closing,
+) -> Result<(), NoMemory>
+    requires plan { IsPlan plan.now }
+    requires node { closing.now.node < length plan.now.steps }
+    requires can { CanStand plan.now bundle nodes.old.items (close_of closing.now closing.now.rows.items false ∷ []) }
+    ensures { OnOk result
+        (Delivers plan.now bundle closing.now nodes.old.items closing.now.rows.items nodes.new.items []) }
+{
+    let mut from = 0;
+    while from < closing.rows.len() {
+        from = deliver_next(alloc, plan, bundle, nodes, closing, from)?;
+    }
+    Ok(())
+}
+
+/// The closing of a transform, which has begun, comes to its end: rows and watermark go below.
+fn close_transform(
+    alloc: Global,
+    plan: &Plan,
+    bundle: u32,
+    nodes: &mut Vec<NodeState>,
+    closing: &Closing,
+) -> Result<(), NoMemory>
+    requires plan { IsPlan plan.now }
+    requires node { closing.now.node < length plan.now.steps }
+    requires can { CanStand plan.now bundle nodes.old.items (close_of closing.now closing.now.rows.items false ∷ []) }
+    ensures { OnOk result (Ends plan.now bundle closing.now nodes.old.items nodes.new.items) }
+{
+    deliver_rows(alloc, plan, bundle, nodes, closing)?;
+    seal_at(nodes, plan.down(closing.node), closing.mark)?;
+    end_at(nodes, closing.node, closing.lane, closing.epoch)
+}
+
+/// The closing of the sink, which has begun, comes to its end: its rows go to the tray.
+fn close_sink(
+    nodes: &mut Vec<NodeState>,
+    tray: &mut Vec<Record>,
+    closing: Closing,
+) -> Result<(), NoMemory>
+    requires { (at : LaneView) × HasLane closing.node closing.lane at nodes.old.items
+        × (first_is_closing (conts_of at.containers) ≡ true) × (at.ended < length at.marks) }
+    ensures tray { OnOk result (tray.new.items ≡ tray.old.items ++ closing.rows.items) }
+    ensures ends { OnOk result ((at : LaneView) → HasLane closing.node closing.lane at nodes.old.items
+        → Turns closing.node closing.lane nodes.old.items nodes.new.items at
+        (record (lane_of at) { conts = drop 1 (conts_of at.containers); ended = at.ended + 1 })
+        (line.End closing.lane closing.epoch)) }
+{
+    let (node, lane, epoch) = (closing.node, closing.lane, closing.epoch);
+    let mut rows = closing.rows;
+    match tray.append(&mut rows) {
+        Ok(()) => end_at(nodes, node, lane, epoch),
+        Err(_) => Err(NoMemory),
+    }
+}
+
+/// A whole closing of a node, of the oldest container of a lane, which may close.
+pub(crate) fn close_node(
+    alloc: Global,
+    plan: &Plan,
+    bundle: u32,
+    nodes: &mut Vec<NodeState>,
+    tray: &mut Vec<Record>,
+    node: u32,
+    lane: u32,
+    epoch: u64,
+) -> Result<(), NoMemory>
+    requires plan { IsPlan plan.now }
+    requires node { node ≤ length plan.now.steps }
+    requires can { CanStand plan.now bundle nodes.old.items [] }
+    requires at { (at : LaneView) × HasLane node lane at nodes.old.items }
+    requires looks { (at : LaneView) → HasLane node lane at nodes.old.items
+        → (close : AClose) × (look_of (conts_of at.containers) ≡ Ok close) × (close.epoch ≡ epoch) }
+    ensures { OnOk result (ClosesNode plan.now bundle node lane
+        nodes.old.items tray.old.items nodes.new.items tray.new.items) }
+{
+    let closing = begin_at(nodes, node, lane, epoch)?;
+    if node < plan.transforms() {
+        close_transform(alloc, plan, bundle, nodes, &closing)
+    } else {
+        close_sink(nodes, tray, closing)
+    }
+}

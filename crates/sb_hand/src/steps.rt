@@ -1,0 +1,101 @@
+//! A step of a node: a bundle, or a whole closing.
+
+ghost use Rattle.std.specs.Prelude.{◌≡◌, ◌≤◌, [], true, length, All, Some, Ok, slice_get, is_some};
+ghost use Rattle.std.specs.Prelude.{IfOk, IfSome, IfNone};
+ghost use Rattle.sb_lane.specs.declared.answers.LaneClose.{LaneClose as AClose};
+ghost use Rattle.sb_lane.specs.Looks.{look_of};
+ghost use Rattle.sb_lane.specs.LaneView.{LaneView};
+ghost use Rattle.sb_lane.specs.Placed.{conts_of};
+ghost use Rattle.sb_lane.specs.Taking.{take_first};
+ghost use Rattle.sb_pipeline.specs.Plans.{IsPlan};
+ghost use Rattle.sb_hand.specs.declared.state.NodeState.{NodeState as ANode};
+ghost use Rattle.sb_hand.specs.Showing.{CanStand};
+ghost use Rattle.sb_hand.specs.Stepping.{NoneWaits, CannotClose, Steps};
+
+use crate::bundles::work_off;
+use crate::closings::close_node;
+use crate::did::Did;
+use crate::state::NodeState;
+use sb_lane::Lane;
+use sb_pipeline::Plan;
+use sb_record::{NoMemory, Record};
+use std::alloc::Global;
+
+/// The first lane in which a bundle waits.
+fn waiting_lane(lanes: &[Lane]) -> Option<u32>
+    requires { length lanes.now ≤ 2 }
+    ensures some { IfSome result (λ l. (at : LaneView) × (slice_get lanes.now l ≡ Some at)
+        × (is_some (take_first (conts_of at.containers)) ≡ true)) }
+    ensures none { IfNone result (All NoneWaits lanes.now) }
+{
+    for lane in 0..lanes.len() {
+        if lanes[lane].waits() {
+            return Some(lane as u32);
+        }
+    }
+    None
+}
+
+/// The first lane whose oldest container can close, and that container's epoch.
+fn closable_lane(lanes: &[Lane]) -> Option<(u32, u64)>
+    requires { length lanes.now ≤ 2 }
+    ensures some { IfSome result (λ p. (at : LaneView) × (slice_get lanes.now p.0 ≡ Some at)
+        × (close : AClose) × (look_of (conts_of at.containers) ≡ Ok close) × (close.epoch ≡ p.1)) }
+    ensures none { IfNone result (All CannotClose lanes.now) }
+{
+    for lane in 0..lanes.len() {
+        if let Ok(close) = lanes[lane].look() {
+            return Some((lane as u32, close.epoch));
+        }
+    }
+    None
+}
+
+/// A closing of a node in which nothing waits, if one can begin.
+fn close_step(
+    alloc: Global,
+    plan: &Plan,
+    size: u32,
+    nodes: &mut Vec<NodeState>,
+    tray: &mut Vec<Record>,
+    node: u32,
+) -> Result<Did, NoMemory>
+    requires plan { IsPlan plan.now }
+    requires node { node ≤ length plan.now.steps }
+    requires can { CanStand plan.now size nodes.old.items [] }
+    requires idle { (own : ANode) → slice_get nodes.old.items node ≡ Some own → All NoneWaits own.lanes.items }
+    ensures { IfOk result
+        (Steps plan.now size node nodes.old.items tray.old.items nodes.new.items tray.new.items) }
+{
+    match closable_lane(nodes[node as usize].lanes.as_slice()) {
+        Some((lane, epoch)) => {
+            close_node(alloc, plan, size, nodes, tray, node, lane, epoch)?;
+            Ok(Did::Closing)
+        }
+        None => Ok(Did::Nothing),
+    }
+}
+
+/// A step of a node.
+pub(crate) fn step_node(
+    alloc: Global,
+    plan: &Plan,
+    size: u32,
+    nodes: &mut Vec<NodeState>,
+    tray: &mut Vec<Record>,
+    node: u32,
+) -> Result<Did, NoMemory>
+    requires plan { IsPlan plan.now }
+    requires node { node ≤ length plan.now.steps }
+    requires can { CanStand plan.now size nodes.old.items [] }
+    ensures { IfOk result
+        (Steps plan.now size node nodes.old.items tray.old.items nodes.new.items tray.new.items) }
+{
+    match waiting_lane(nodes[node as usize].lanes.as_slice()) {
+        Some(lane) => {
+            work_off(alloc, plan, size, nodes, node, lane)?;
+            Ok(Did::Bundle)
+        }
+        None => close_step(alloc, plan, size, nodes, tray, node),
+    }
+}
