@@ -1,0 +1,10 @@
+pub mod Numbers
+pub mod Settings
+pub mod Naming
+pub mod Given
+pub mod Commands
+pub mod Rows
+pub mod Taking
+pub mod Completing
+pub mod Entering
+pub mod Building

@@ -1,0 +1,52 @@
+-- The words that ask for something.
+use Rattle.std.specs.Prelude.{◌≡◌, ◌≢◌, ◌≤◌, ℕ, List, [], ◌∷◌, decimal, codes}
+use Rattle.sb_window.specs.declared.windows.TheConstants.{MAX_SIZE}
+use Rattle.sb_words.specs.declared.options.Options.{Options}
+use Rattle.sb_words.specs.declared.request.Request.{Request}
+use Rattle.sb_words.specs.declared.request.Request.TheVariants as request
+use Rattle.sb_words.specs.Options.{AreOptions, AreInRange}
+
+-- what users may ask for: sums over windows of a size; the rows of a plan from a file, by the engine or by the plain
+-- program; or the audit of a diary text
+pub data Asked : Type 0 where
+  Sum : (size : ℕ) → (options : Options) → Asked
+  Run : (name : List ℕ) → (options : Options) → Asked
+  Slow : (name : List ℕ) → Asked
+  Audit : Asked
+
+abbrev pub asked : Request → Asked
+asked (request.Sum size options) = Sum size options
+asked (request.Run name options) = Run name.now options
+asked (request.Slow name) = Slow name.now
+asked request.Audit = Audit
+
+-- a size of windows that users may ask for
+abbrev pub IsSize : ℕ → Type 0
+IsSize size = (1 ≤ size) × (size ≤ MAX_SIZE)
+
+-- the name of a file, which is no option: it has at least one byte, and does not begin with `-`
+abbrev pub IsFileName : List ℕ → Type 0
+IsFileName [] = ⊥
+IsFileName (byte ∷ bytes) = byte ≢ 45
+
+-- what users may ask for
+abbrev pub IsValid : Asked → Type 0
+IsValid (Sum size options) = IsSize size × AreInRange options
+IsValid (Run name options) = IsFileName name × AreInRange options
+IsValid (Slow name) = IsFileName name
+IsValid Audit = Unit {0}
+
+-- the words are the command for this: the word of the command, its argument, then options
+abbrev pub IsCommand : Asked → List (List ℕ) → Type 0
+IsCommand (Sum size options) (command ∷ argument ∷ words) =
+    (command ≡ codes "sum") × (argument ≡ decimal size) × IsSize size × AreOptions options words
+IsCommand (Run name options) (command ∷ argument ∷ words) =
+    (command ≡ codes "run") × (argument ≡ name) × IsFileName name × AreOptions options words
+IsCommand (Slow name) (command ∷ argument ∷ []) =
+    (command ≡ codes "slow") × (argument ≡ name) × IsFileName name
+IsCommand Audit (command ∷ []) = command ≡ codes "audit"
+IsCommand wanted words = ⊥
+
+-- the words are no command
+abbrev pub IsNoCommand : List (List ℕ) → Type 0
+IsNoCommand words = (wanted : Asked) → IsCommand wanted words → ⊥

@@ -1,0 +1,85 @@
+//! What the matches of `clap` say.
+
+ghost use Rattle.std.specs.Prelude.{◌≡◌, ◌≤◌, ℕ, Bool, Some};
+ghost use Rattle.std.specs.Option.{option_map};
+ghost use Rattle.clap.specs.Words.{first_of, found_of, one_of, rows_of, subcommand_rows_of};
+ghost use Rattle.sb_words.specs.Readings.{AreRead, IsFlag, IsRead, IsReadAs};
+ghost use Rattle.sb_words.specs.Words.{Asked, asked};
+
+use crate::options::{
+    DEFAULT_BUNDLE, DEFAULT_PENDING, DEFAULT_WORKERS, MAX_PENDING, MAX_WORKERS, Options,
+};
+use crate::request::{Request, read_size};
+use crate::setting::read_count;
+use clap::ArgMatches;
+use sb_bundle::MAX_BUNDLE;
+
+/// The text of an argument, if it has one.
+fn text_of<'a>(matches: &ArgMatches<'a>, id: &str) -> Option<&'a str>
+    ensures { option_map (λ s. s.now) result ≡ first_of id.now (rows_of (found_of matches.now)) }
+{
+    matches.get_str(id)
+}
+
+/// Whether an option without a value is given.
+fn is_given(matches: &ArgMatches<'_>, id: &str) -> bool
+    ensures { (b : Bool) → IsFlag b (one_of id.now (rows_of (found_of matches.now))) → result ≡ b }
+{
+    matches.get_flag(id)
+}
+
+/// The number of an option, 1 to `most`: `default` if the option is not given.
+fn number_of(matches: &ArgMatches<'_>, id: &str, most: u32, default: u32) -> Option<u32>
+    ensures { (n : ℕ) → 1 ≤ n → n ≤ most → IsRead n default (first_of id.now (rows_of (found_of matches.now)))
+        → result ≡ Some n }
+{
+    match text_of(matches, id) {
+        Some(text) => read_count(most, text),
+        None => Some(default),
+    }
+}
+
+/// The options of a command.
+fn options_of(matches: &ArgMatches<'_>) -> Option<Options>
+    ensures { (options : Options) → AreRead options (rows_of (found_of matches.now)) → result ≡ Some options }
+{
+    let workers = number_of(matches, "workers", MAX_WORKERS, DEFAULT_WORKERS)?;
+    let bundle = number_of(matches, "bundle", MAX_BUNDLE, DEFAULT_BUNDLE)?;
+    let pending = number_of(matches, "pending", MAX_PENDING, DEFAULT_PENDING)?;
+    Some(Options {
+        workers,
+        bundle,
+        pending,
+        diary: is_given(matches, "diary"),
+        taps: is_given(matches, "taps"),
+    })
+}
+
+/// What a subcommand of this name and its matches ask for.
+fn asked_by<'a>(name: &str, matches: &ArgMatches<'a>) -> Option<Request<'a>>
+    ensures { (wanted : Asked) → IsReadAs wanted (Some (name.now, rows_of (found_of matches.now)))
+        → option_map asked result ≡ Some wanted }
+{
+    if name == "audit" {
+        return Some(Request::Audit);
+    }
+    let argument = text_of(matches, "argument")?;
+    if name == "slow" {
+        return Some(Request::Slow(argument));
+    }
+    let options = options_of(matches)?;
+    if name == "run" {
+        return Some(Request::Run(argument, options));
+    }
+    let size = read_size(argument.as_bytes())?;
+    Some(Request::Sum(size, options))
+}
+
+/// What the matches ask for.
+pub(crate) fn request_of<'a>(matches: &ArgMatches<'a>) -> Option<Request<'a>>
+    ensures { (wanted : Asked) → IsReadAs wanted (subcommand_rows_of matches.now)
+        → option_map asked result ≡ Some wanted }
+{
+    let (name, inner) = matches.subcommand()?;
+    asked_by(name, inner)
+}
