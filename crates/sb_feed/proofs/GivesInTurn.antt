@@ -1,0 +1,61 @@
+-- Giving out, one call after another.
+use Rattle.std.proofs.Common.{List, [], ◌++◌, Ok, Err, Result, sym, subst, append_assoc, append-nil}
+use Rattle.sb_record.specs.declared.item.Record.{Record}
+use Rattle.sb_pipeline.specs.Shapes.{Shape}
+use Rattle.sb_emit.specs.Taps.{TapState}
+use Rattle.sb_feed.specs.declared.give.GiveStop.{GiveStop}
+use Rattle.sb_feed.specs.declared.give.GiveStop.TheVariants as stop
+use Rattle.sb_feed.specs.Feeds.{Fed, AreRowsSoFar}
+use Rattle.sb_feed.specs.Gives.{GivesOut, StopsOut, Gives, TapsAt}
+use Rattle.sb_feed.specs.TapLists.{LeavesThoseThatStay}
+use Rattle.sb_feed.proofs.OfferedRows.{both_offered, none_offered, stops_behind}
+
+-- the laws by which calls of an output add up
+pub record AddsUp {O : Type 0} (after part : O → List Record → O → Type 0) : Type 0 where
+  pub after_none : (o : O) → after o [] o
+  pub after_more : (o p q : O) (l m : List Record) → after o l p → after p m q → after o (l ++ m) q
+  pub part_later : (o p q : O) (l m : List Record) → after o l p → part p m q → part o (l ++ m) q
+  pub part_of_all : (o p : O) (l m : List Record) → after o l p → part o (l ++ m) p
+
+pub taps_behind : (why : GiveStop) (l m : List Record) (a b c : List TapState) → LeavesThoseThatStay l a b → TapsAt why m b c → TapsAt why (l ++ m) a c
+taps_behind (stop.Tap place) l m a b c first at = stops_behind l m place a b c first at
+taps_behind stop.Output l m a b c first at = tt
+taps_behind stop.Memory l m a b c first at = tt
+
+module _ {O : Type 0} (after part : O → List Record → O → Type 0) (laws : AddsUp after part) where
+  -- rows that came out, and then others
+  pub gives_both : (first second : List Record → Type 0) (o p q : O) (a b c : List TapState) (before : List Record)
+      → (g : GivesOut first after o p a b before) → GivesOut second after p q b c (before ++ g.rows) → GivesOut second after o q a c before
+  gives_both first second o p q a b c before g n = record {
+    rows = g.rows ++ n.rows;
+    stand = subst second (append_assoc before g.rows n.rows) n.stand;
+    wrote = laws.after_more o p q g.rows n.rows g.wrote n.wrote;
+    offered = both_offered g.rows n.rows a b c g.offered n.offered;
+  }
+
+  -- rows that came out, and then others of which not all did
+  pub stops_then : (plan : Shape) (first : List Record → Type 0) (o p q : O) (a b c : List TapState) (f : Fed) (before : List Record) (why : GiveStop)
+      → (g : GivesOut first after o p a b before) → StopsOut plan part p q b c f (before ++ g.rows) why → StopsOut plan part o q a c f before why
+  stops_then plan first o p q a b c f before why g n = record {
+    rows = g.rows ++ n.rows;
+    so_far = subst (AreRowsSoFar plan f) (append_assoc before g.rows n.rows) n.so_far;
+    wrote = laws.part_later o p q g.rows n.rows g.wrote n.wrote;
+    at = taps_behind why g.rows n.rows a b c g.offered n.at;
+  }
+
+  pub gives_then : {T : Type 0} (plan : Shape) (first second : List Record → Type 0) (o p q : O) (a b c : List TapState) (f : Fed) (before : List Record) (result : Result T GiveStop)
+      → (g : GivesOut first after o p a b before) → Gives plan second after part p q b c f (before ++ g.rows) result → Gives plan second after part o q a c f before result
+  gives_then plan first second o p q a b c f before (Ok x) g n = gives_both first second o p q a b c before g n
+  gives_then plan first second o p q a b c f before (Err why) g n = stops_then plan first o p q a b c f before why g n
+
+  -- nothing came out
+  pub gives_none : (stands : List Record → Type 0) (o : O) (taps : List TapState) (before : List Record) → stands before → GivesOut stands after o o taps taps before
+  gives_none stands o taps before h = record { rows = []; stand = subst stands (sym (append-nil before)) h; wrote = laws.after_none o; offered = none_offered taps }
+
+  pub stops_none : (plan : Shape) (o : O) (taps : List TapState) (f : Fed) (before : List Record) → AreRowsSoFar plan f before → StopsOut plan part o o taps taps f before stop.Memory
+  stops_none plan o taps f before h = record { rows = []; so_far = subst (AreRowsSoFar plan f) (sym (append-nil before)) h; wrote = laws.part_of_all o o [] [] (laws.after_none o); at = tt }
+
+  -- there was no memory behind rows that came out
+  pub stops_after : (plan : Shape) (stands : List Record → Type 0) (o p : O) (a b : List TapState) (f : Fed) (before : List Record) → ((rows : List Record) → stands rows → AreRowsSoFar plan f rows)
+      → GivesOut stands after o p a b before → StopsOut plan part o p a b f before stop.Memory
+  stops_after plan stands o p a b f before so_far g = record { rows = g.rows; so_far = so_far (before ++ g.rows) g.stand; wrote = subst (λ l. part o l p) (append-nil g.rows) (laws.part_of_all o p g.rows [] g.wrote); at = tt }

@@ -1,0 +1,12 @@
+pub mod OfferedRows
+pub mod GiveLaws
+pub mod ReadSteps
+pub mod LaterItems
+pub mod ReadSoFar
+pub mod ItemSteps
+pub mod FirstRows
+pub mod GivesInTurn
+pub mod ItemTakes
+pub mod RowsSoFar
+pub mod InputEnds
+pub mod FedSoFar

@@ -1,0 +1,11 @@
+pub mod Calls
+pub mod Due
+pub mod Feeds
+pub mod FedByItems
+pub mod GiveCauses
+pub mod Given
+pub mod Gives
+pub mod InputFeeds
+pub mod Reads
+pub mod Takes
+pub mod TapLists

@@ -1,0 +1,37 @@
+//! Reading the items of an input, one at a time.
+
+ghost use Rattle.std.specs.Prelude.{◌≡◌, ◌≤◌, ◌<◌, ◌+◌, IfOk, IfErr, OnOk};
+ghost use Rattle.sb_outside.specs.Readings.{reading};
+ghost use Rattle.sb_feed.specs.Reads.{IsGoing, TakesNext, FaultCause};
+
+use sb_outside::{LineBuffer, Source, Step};
+use sb_record::{Intake, Item, MAX_LINES, Stop};
+
+/// The item of the next line, or where reading stops. It may be called again only after an item.
+///
+/// # Errors
+///
+/// Where reading stops: at the end of the input, at a line that is refused, or because the source failed. `Fault` only
+/// if the source's count of faults rose in this call.
+pub fn next_item<S: Source>(
+    source: &mut S,
+    lines: &mut LineBuffer,
+    intake: &mut Intake,
+) -> Result<Item, Stop>
+    requires { IsGoing lines.old.halt (S.left source.old) }
+    ensures takes { TakesNext S.left (reading source.old lines.old) (reading source.new lines.new)
+        intake.old intake.new result }
+    ensures same { OnOk result (S.faults source.new ≡ S.faults source.old) }
+    ensures cause { IfErr result (λ stop. FaultCause (S.faults source.old) (S.faults source.new) stop) }
+    ensures room { OnOk result (intake.old.lines < MAX_LINES) }
+{
+    match lines.advance(source) {
+        Step::Line => match intake.accept(lines.line()) {
+            Ok(item) => Ok(item),
+            Err(refusal) => Err(Stop::Refused(refusal)),
+        },
+        Step::End => Err(Stop::End),
+        Step::TooLong => Err(Stop::Refused(intake.too_long())),
+        Step::Fault => Err(Stop::Fault),
+    }
+}
