@@ -1,0 +1,141 @@
+-- The ends of a run.
+use Rattle.std.proofs.Common.{◌≡◌, ℕ, true, false, List, [], ◌∷◌, ◌++◌, length, map, Option, Some, Result, Ok, Err, refl, sym, ap, subst, ◌∙◌, append-nil, arith}
+use Rattle.std.specs.Prelude.{is_some}
+use Rattle.sb_record.specs.declared.intake.Stop.{Stop}
+use Rattle.sb_record.specs.declared.intake.Stop.TheVariants as at
+use Rattle.sb_record.specs.declared.item.Dropped.{Dropped}
+use Rattle.sb_record.specs.declared.item.Item.{Item}
+use Rattle.sb_record.specs.declared.item.Record.{Record}
+use Rattle.sb_record.specs.declared.item.Stream.{Stream}
+use Rattle.sb_record.specs.declared.item.Stream.TheVariants.{A, B}
+use Rattle.sb_record.specs.declared.item.TheConstants.{END_MARK}
+use Rattle.sb_record.specs.Streams.{last_or, least_of, low_watermark, uses}
+use Rattle.sb_bundle.specs.Calls as calls
+use Rattle.sb_bundle.specs.Calls.Call.{Mark}
+use Rattle.sb_bundle.specs.Laws.{bundles_of}
+use Rattle.sb_pipeline.specs.declared.transform.Down.{Down}
+use Rattle.sb_pipeline.specs.Results as result
+use Rattle.sb_pipeline.specs.Shapes.{Shape, source, streams_of}
+use Rattle.sb_core.specs.Laws.{IsDone}
+use Rattle.sb_core.specs.Rest.{AreAtTheEnd}
+use Rattle.sb_core.proofs.NoneLeft.{settles-all}
+use Rattle.sb_core.proofs.RowsAre.{rows-at_the_end}
+use Rattle.sb_tally.specs.Whole.{Tallies, as_fed}
+use Rattle.sb_tally.proofs.Ends.{end-is_tallied}
+use Rattle.sb_tally.proofs.Settling.{end-is_settled}
+use Rattle.sb_tally.proofs.Telling.{diaries-tell}
+use Rattle.sb_emit.specs.Taps.{TapState}
+use Rattle.sb_hand.specs.Hands.{HandView, settings_at}
+use Rattle.sb_hand.specs.Showing.{diaries_of, settings_of}
+use Rattle.sb_hand.proofs.ShownLanes.{done-is-empty}
+use Rattle.sb_feed.specs.declared.cutters.Cutters.{Cutters}
+use Rattle.sb_feed.specs.declared.give.GiveStop.{GiveStop}
+use Rattle.sb_feed.specs.declared.give.GiveStop.TheVariants as stop
+use Rattle.sb_feed.specs.Calls.{calls_of}
+use Rattle.sb_feed.specs.Due.{rows_below, streams_in}
+use Rattle.sb_feed.specs.FedByItems.{IsFedBy, end_items}
+use Rattle.sb_feed.specs.Feeds.{Fed, bundles_in, fed_of}
+use Rattle.sb_feed.specs.Given.{items_of}
+use Rattle.sb_feed.specs.InputFeeds.{Feeds}
+use Rattle.sb_feed.specs.TapLists.{LeavesThoseThatStay}
+use Rattle.sb_feed.proofs.FirstRows.{fed_covers, rows_same}
+use Rattle.sb_run.specs.declared.sizes.Sizes.{Sizes}
+use Rattle.sb_run.specs.Ending.{end_by}
+use Rattle.sb_run.specs.Rested.{IsRested, feed_of}
+use Rattle.sb_run.specs.RunEnds.{Ends, IsDoneHand}
+use Rattle.sb_run.proofs.AtTheEnd.{IsQuiet, bundles_at_end, fed_at_end, floor_at_end, items_are_quiet, marks_at_end, pushed_at_end}
+use Rattle.sb_run.proofs.SoFar.{at_rest, floor_of_source, low_of, rested_rows}
+
+-- ---- where reading stopped before the end: the rows below the low watermark are there
+pub due_low : (h : HandView) (size : ℕ) (items : List Item) (f : Fed) (c : Cutters) (rows : List Record) → IsRested h f rows → IsFedBy size items f c
+    → rows ≡ rows_below (low_watermark (streams_of h.plan) items) h.plan items
+due_low h size items f c rows r fed =
+    let covers = fed_covers size items f c fed in
+    rested_rows h f rows r covers.rest covers.coming
+    ∙ rows_same (low_of h.plan f) h.plan (λ s. fed_of f s ++ covers.rest s) (streams_in items) covers.are
+    ∙ (λ i. rows_below (least_of (streams_of h.plan) (ap (last_or 0) fed.of_a.marks i) (ap (last_or 0) fed.of_b.marks i)) h.plan items)
+
+-- ---- at the end
+used_by : (plan : Shape) (s : Stream) (d : Down) → source plan s ≡ Some d → uses (streams_of plan) s ≡ true
+used_by plan A d is = ap is_some is
+used_by plan B d is = ap is_some is
+
+module _ (h : HandView) (size : ℕ) (items : List Item) (f : Fed) (c : Cutters) (rows : List Record) (r : IsRested h f rows)
+    (fed : IsFedBy size (items ++ end_items (streams_of h.plan) at.End) f c) (quiet : IsQuiet h.plan items) where
+  ends_are : AreAtTheEnd h.plan r.whole.moment
+  ends_are s d is = floor_of_source h f rows r.whole s d is ∙ floor_at_end h.plan size items f c fed quiet s (used_by h.plan s d is)
+
+  rows_are : r.whole.moment.rows ≡ rows
+  rows_are = r.whole.shows.rows_is ∙ ap (λ l. rows ++ l) r.none_ready ∙ append-nil rows
+
+  fed_rows : r.whole.moment.rows ≡ result.rows_below END_MARK h.plan (fed_of f)
+  fed_rows = rows-at_the_end h.plan r.whole.is_plan r.whole.moment (fed_of f) r.whole.shows.sound r.whole.exact (at_rest h f rows r.whole r.idle) ends_are
+
+  pub due_all : rows ≡ rows_below END_MARK h.plan items
+  due_all = sym rows_are ∙ fed_rows ∙ rows_same END_MARK h.plan (fed_of f) (streams_in items) (fed_at_end h.plan size items f c fed quiet)
+
+  done : IsDone h.plan r.whole.moment
+  done = settles-all h.plan r.whole.is_plan r.whole.moment r.whole.shows.sound (at_rest h f rows r.whole r.idle) ends_are
+
+  tallies_at : (n : ℕ) → n ≡ size → r.whole.moment.bundle ≡ n → Tallies h.plan n (λ s. calls_of s items) (diaries_of h.nodes)
+  tallies_at n same is =
+      subst (λ n. Tallies h.plan n (λ s. calls_of s items) (diaries_of h.nodes)) is
+      (end-is_tallied h.plan r.whole.is_plan r.whole.moment (diaries_of h.nodes) (feed_of f) (λ s. calls_of s items) r.whole.shows.sound r.whole.tallied done r.whole.shows.held_is
+      (record {
+        bundles = λ s. ap (map as_fed) (subst (λ x. bundles_in f s ≡ bundles_of x (calls_of s items ++ Mark END_MARK ∷ [])) (sym (is ∙ same)) (bundles_at_end h.plan size items f c fed quiet s));
+        marks = λ s d is. marks_at_end h.plan size items f c fed quiet s (used_by h.plan s d is);
+      })
+      (let e = ap length (fed_rows ∙ rows_same END_MARK h.plan (fed_of f) (λ s. calls.records_of (calls_of s items)) (pushed_at_end h.plan size items f c fed quiet)) in omega (arith, e)))
+
+  pub done_hand : (sizes : Sizes) → h.bundle ≡ sizes.bundle → sizes.bundle ≡ size → settings_of h.nodes ≡ settings_at sizes.keeps_diaries sizes.pending h.plan → IsDoneHand h.plan sizes items h
+  done_hand sizes bundle same settings = record {
+    plan_is = refl;
+    unspent = r.whole.unspent;
+    none_left = done-is-empty h.plan h.bundle h.nodes [] (rows ++ h.tray) r.whole.moment r.whole.shows done;
+    legal = λ k le. (diaries-tell h.plan r.whole.moment (diaries_of h.nodes) (feed_of f) r.whole.shows.sound r.whole.tallied k le).0;
+    settled = end-is_settled h.plan r.whole.is_plan r.whole.moment (diaries_of h.nodes) (feed_of f) r.whole.shows.sound r.whole.tallied done;
+    tallies = tallies_at sizes.bundle same (r.whole.shows.bundle_is ∙ bundle);
+    settings = settings;
+  }
+
+-- ---- all ends
+module _ {O : Type 0} (h : HandView) (sizes : Sizes) (left left' : Option (List ℕ)) (after part : O → List Record → O → Type 0) (o p : O)
+    (taps taps' : List TapState) (dropped dropped' : List Dropped) (bundle : h.bundle ≡ sizes.bundle) where
+  pub ends_here : (fed : Result Stop GiveStop) → (h.spent ≡ false → settings_of h.nodes ≡ settings_at sizes.keeps_diaries sizes.pending h.plan)
+      → Feeds h.plan sizes.bundle left left' (IsRested h) after part o p taps taps' dropped dropped' fed
+      → Ends h.plan sizes left left' after part o p taps taps' dropped dropped' (end_by h fed)
+  ends_here (Ok at.End) settings e =
+      let items = items_of h.plan e.given in
+      let quiet = items_are_quiet h.plan e.given in (
+        record {
+          given = e.given;
+          stopped = sym e.stopped;
+          wrote = subst (λ l. after o l p) (due_all h sizes.bundle items e.f e.cutters e.gives.rows e.gives.stand e.fed quiet) e.gives.wrote;
+          offered = subst (λ l. LeavesThoseThatStay l taps taps') (due_all h sizes.bundle items e.f e.cutters e.gives.rows e.gives.stand e.fed quiet) e.gives.offered;
+          listed = e.listed;
+        },
+        done_hand h sizes.bundle items e.f e.cutters e.gives.rows e.gives.stand e.fed quiet sizes bundle refl (settings e.gives.stand.whole.unspent),
+      )
+  ends_here (Ok (at.Refused refusal)) settings e =
+      let items = items_of h.plan e.given in
+      let due = due_low h sizes.bundle items e.f e.cutters e.gives.rows e.gives.stand (subst (λ l. IsFedBy sizes.bundle l e.f e.cutters) (append-nil items) e.fed) in
+      record {
+        given = e.given;
+        stopped = sym e.stopped;
+        wrote = subst (λ l. after o l p) due e.gives.wrote;
+        offered = subst (λ l. LeavesThoseThatStay l taps taps') due e.gives.offered;
+        listed = e.listed;
+      }
+  ends_here (Ok at.Fault) settings e =
+      let items = items_of h.plan e.given in
+      let due = due_low h sizes.bundle items e.f e.cutters e.gives.rows e.gives.stand (subst (λ l. IsFedBy sizes.bundle l e.f e.cutters) (append-nil items) e.fed) in
+      record {
+        given = e.given;
+        stopped = sym e.stopped;
+        wrote = subst (λ l. after o l p) due e.gives.wrote;
+        offered = subst (λ l. LeavesThoseThatStay l taps taps') due e.gives.offered;
+        listed = e.listed;
+      }
+  ends_here (Err stop.Output) settings e = record { given = e.given; rows = e.rows; first = e.first; wrote = e.wrote; offered = tt; late = e.late; first_late = e.first_late; listed = e.listed }
+  ends_here (Err (stop.Tap place)) settings e = record { given = e.given; rows = e.rows; first = e.first; wrote = e.wrote; offered = e.at; late = e.late; first_late = e.first_late; listed = e.listed }
+  ends_here (Err stop.Memory) settings e = record { given = e.given; rows = e.rows; first = e.first; wrote = e.wrote; offered = tt; late = e.late; first_late = e.first_late; listed = e.listed }

@@ -1,0 +1,9 @@
+pub mod AtTheEnd
+pub mod Coming
+pub mod Ended
+pub mod Flowing
+pub mod Settings
+pub mod Settling
+pub mod SoFar
+pub mod Standing
+pub mod Starting

@@ -1,0 +1,13 @@
+use Rattle.std.proofs.Common.{ℕ, ◌<◌, List}
+use Rattle.sb_record.specs.declared.item.Record.{Record}
+use Rattle.sb_hand.specs.Stepping.{IsIdle}
+use Rattle.sb_feed.specs.Feeds.{Fed}
+use Rattle.sb_run.specs.Rested.{HasSameSetting, IsWhole}
+use Rattle.sb_run.proofs.working.settle.Given as goal
+
+abbrev pub invariant-nodes : goal.invariant-nodes
+invariant-nodes l = record {
+  same : HasSameSetting l.initial.hand l.hand;
+  whole : (f : Fed) (rows : List Record) → IsWhole l.initial.hand f rows → IsWhole l.hand f rows;
+  idle : (k : ℕ) → k < l.node → IsIdle k l.hand.nodes;
+}

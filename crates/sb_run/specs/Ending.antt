@@ -1,0 +1,18 @@
+-- How a run ends, by where feeding stopped.
+use Rattle.std.specs.Prelude.{Result, Ok, Err}
+use Rattle.sb_record.specs.declared.intake.Stop.{Stop}
+use Rattle.sb_record.specs.declared.intake.Stop.TheVariants as at
+use Rattle.sb_hand.specs.Hands.{HandView}
+use Rattle.sb_feed.specs.declared.give.GiveStop.{GiveStop}
+use Rattle.sb_feed.specs.declared.give.GiveStop.TheVariants as stop
+use Rattle.sb_run.specs.declared.run_end.RunEnd.{RunEnd}
+use Rattle.sb_run.specs.declared.run_end.RunEnd.TheVariants.{Done, Refused, Input, Output, Tap, Memory}
+
+-- at the end of the input the hand comes back
+abbrev pub end_by : HandView → Result Stop GiveStop → RunEnd
+end_by hand (Ok at.End) = Done hand
+end_by hand (Ok (at.Refused refusal)) = Refused refusal
+end_by hand (Ok at.Fault) = Input
+end_by hand (Err stop.Output) = Output
+end_by hand (Err (stop.Tap place)) = Tap place
+end_by hand (Err stop.Memory) = Memory

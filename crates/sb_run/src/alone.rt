@@ -1,0 +1,68 @@
+//! A run with one worker.
+
+ghost use Rattle.std.specs.Prelude.{◌≡◌, ◌<◌, ◌^◌, map, length};
+ghost use Rattle.sb_run.specs.Ending.{end_by};
+ghost use Rattle.sb_run.specs.RunEnds.{AreSizes, Ends, InputCause, OutputCause};
+
+use crate::feeding::feed;
+use crate::run_end::RunEnd;
+use crate::sizes::Sizes;
+use sb_emit::{RowOut, Tap};
+use sb_feed::GiveStop;
+use sb_hand::Hand;
+use sb_outside::Source;
+use sb_pipeline::Plan;
+use sb_record::{Dropped, NoMemory, Stop};
+use std::alloc::Global;
+
+// How a run ends whose input was fed to a hand.
+fn end_of(hand: Hand, fed: Result<Stop, GiveStop>) -> RunEnd
+    ensures { result ≡ end_by hand fed }
+{
+    match fed {
+        Ok(Stop::End) => RunEnd::Done(hand),
+        Ok(Stop::Refused(refusal)) => RunEnd::Refused(refusal),
+        Ok(Stop::Fault) => RunEnd::Input,
+        Err(GiveStop::Output) => RunEnd::Output,
+        Err(GiveStop::Tap { place }) => RunEnd::Tap { place },
+        Err(GiveStop::Memory) => RunEnd::Memory,
+    }
+}
+
+/// Runs a plan over an input with one worker: it waits for nobody, starts no thread, and always returns.
+///
+/// After each bundle and each watermark that comes it works off all that can be worked off, and writes and offers the
+/// rows that no later line can change: each row that can be written is written before the next read. The late records
+/// that the plan drops go to the end of `dropped`. After a failed write or offer nothing more is written or offered.
+pub fn execute_alone<S: Source, R: RowOut>(
+    alloc: Global,
+    plan: Plan,
+    sizes: Sizes,
+    input: &mut S,
+    out: &mut R,
+    taps: &mut Vec<Box<dyn Tap>>,
+    dropped: &mut Vec<Dropped>,
+) -> RunEnd
+    requires sizes { AreSizes sizes }
+    requires few { length taps.old.items < 2 ^ 32 }
+    ensures ends { Ends plan sizes (S.left input.old) (S.left input.new) R.after R.part out.old out.new
+        (map (λ t. tap_state t) taps.old.items) (map (λ t. tap_state t) taps.new.items)
+        dropped.old.items dropped.new.items result }
+    ensures input { InputCause (S.faults input.old) (S.faults input.new) result }
+    ensures output { OutputCause (R.row_state out.old) (R.row_state out.new) result }
+{
+    let _ = plan.transforms();
+    let made = Hand::new(
+        alloc,
+        plan,
+        sizes.bundle,
+        sizes.pending,
+        sizes.keeps_diaries,
+    );
+    let mut hand = match made {
+        Ok(hand) => hand,
+        Err(NoMemory) => return RunEnd::Memory,
+    };
+    let fed = feed(alloc, &mut hand, input, out, taps, dropped);
+    end_of(hand, fed)
+}

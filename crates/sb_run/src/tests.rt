@@ -1,0 +1,189 @@
+//! Whole runs with one worker, by example.
+
+ghost use Rattle.std.specs.Prelude.{◌≤◌, All, IfOk};
+
+use crate::{RunEnd, Sizes, execute_alone};
+use sb_aggregate::Agg;
+use sb_bundle::MAX_BUNDLE;
+use sb_emit::{CountTap, Printing, Tap};
+use sb_outside::{MemSink, MemSource};
+use sb_pipeline::{Down, Kind, Plan, Step};
+use sb_record::{Dropped, LatePolicy, Refusal};
+use sb_window::Windows;
+use std::alloc::{AllocError, Global};
+use std::test::Fail;
+
+/// What a run left: its end, the text of the rows that were written, and the late records that were dropped.
+#[derive(Drop)]
+struct Ran {
+    end: RunEnd,
+    rows: Vec<u8>,
+    dropped: Vec<Dropped>,
+}
+
+/// The sums of stream a over windows of 10 units that start so many units apart.
+fn sums(alloc: Global, every: u64, late: LatePolicy) -> Result<Plan, Fail> {
+    let kind = Kind::Group(Agg::Sum, Windows::new(10, every)?);
+    let down = Down { node: 1, lane: 0 };
+    let steps = vec![in alloc; Step { kind, down }]?;
+    let plan = Plan::new(steps, Some(Down { node: 0, lane: 0 }), None).ok_or("no plan")?;
+    Ok(plan.with_late(late))
+}
+
+/// A source that gives the bytes in pieces of 27, and whose calls with these numbers fail.
+fn source(alloc: Global, text: &[u8], failing: &[u64]) -> Result<MemSource, AllocError> {
+    let bytes = Vec::from_slice(alloc, text)?;
+    let failing = Vec::from_slice(alloc, failing)?;
+    Ok(MemSource::new(bytes, pieces(alloc)?, failing))
+}
+
+fn pieces(alloc: Global) -> Result<Vec<usize>, AllocError>
+    ensures { IfOk result (λ pieces. All (λ n. 1 ≤ n) pieces.items) }
+{
+    vec![in alloc; 27; 20]
+}
+
+/// Runs a plan with bundles of a size. The writes with these numbers fail, and so does the tap at these calls.
+fn run(
+    alloc: Global,
+    plan: Plan,
+    bundle: u32,
+    input: &mut MemSource,
+    writes: &[u64],
+    calls: &[u64],
+) -> Result<Ran, AllocError>
+    requires some { 1 ≤ bundle }
+    requires most { bundle ≤ MAX_BUNDLE }
+{
+    let sizes = Sizes {
+        bundle,
+        pending: 4,
+        keeps_diaries: true,
+    };
+    let mut sink = MemSink::new(alloc, Vec::new(alloc), Vec::from_slice(alloc, writes)?);
+    let mut taps: Vec<Box<dyn Tap>> = Vec::new(alloc);
+    taps.push(Box::new(alloc, CountTap::new(Vec::from_slice(alloc, calls)?))?)?;
+    let mut dropped = Vec::new(alloc);
+    let mut out = Printing::new(&mut sink);
+    let end = execute_alone(alloc, plan, sizes, input, &mut out, &mut taps, &mut dropped);
+    let rows = Vec::from_slice(alloc, sink.taken())?;
+    Ok(Ran { end, rows, dropped })
+}
+
+/// How a run ended, in words.
+fn said(end: &RunEnd) -> &'static str {
+    match end {
+        RunEnd::Done(hand) => {
+            if hand.is_settled() {
+                "done"
+            } else {
+                "done too early"
+            }
+        }
+        RunEnd::Refused(
+            Refusal::Late {
+                line: 4,
+                time: 9,
+                mark: 10,
+            },
+        ) => "line 4 is late",
+        RunEnd::Refused(
+            Refusal::Back {
+                line: 2,
+                time: 9,
+                mark: 10,
+            },
+        ) => "line 2 goes back",
+        RunEnd::Refused(_) => "another line is refused",
+        RunEnd::Input => "input failed",
+        RunEnd::Output => "output failed",
+        RunEnd::Tap { place: 0 } => "tap 0 failed",
+        RunEnd::Tap { .. } => "another tap failed",
+        RunEnd::Memory => "out of memory",
+    }
+}
+
+const FIRST: &[u8] = b"r,a,3,1,5\nr,a,7,1,2\nw,a,10\nr,a,12,1,4\n";
+
+const LATE: &[u8] = b"r,a,3,1,5\nw,a,10\nr,a,12,1,4\nr,a,9,1,1\n";
+
+/// Lines of an input, how far apart windows start, the rows and the end.
+type Case = (&'static [u8], u64, &'static str, &'static str);
+
+const CASES: [Case; 8] = [
+    (FIRST, 10, "10,1,7\n20,1,4\n", "done"),
+    (b"", 10, "", "done"),
+    (b"w,a,10\nr,a,10,1,1\n", 10, "20,1,1\n", "done"),
+    (LATE, 10, "10,1,5\n", "line 4 is late"),
+    (b"w,a,10\nw,a,10\nr,a,11,1,1\n", 10, "20,1,1\n", "done"),
+    (b"w,a,10\nw,a,9\n", 10, "", "line 2 goes back"),
+    (b"r,a,7,1,2\n", 5, "10,1,2\n15,1,2\n", "done"),
+    (b"r,a,5,1,2\n", 5, "10,1,2\n15,1,2\n", "done"),
+];
+
+#[test]
+fn rows_do_not_depend_on_the_size_of_bundles(rt: HostRuntime) -> Result<(), Fail> {
+    let alloc = rt.alloc();
+    for (lines, every, rows, end) in CASES {
+        for bundle in [1, 2, 1_024] {
+            let plan = sums(alloc, every, LatePolicy::Refuse)?;
+            let ran = run(
+                alloc,
+                plan,
+                bundle,
+                &mut source(alloc, lines, &[])?,
+                &[],
+                &[],
+            )?;
+            assert_eq!(rt; ran.rows.as_slice(), rows.as_bytes());
+            assert_eq!(rt; said(&ran.end), end);
+        }
+    }
+    Ok(())
+}
+
+#[test]
+fn faults_end_a_run_behind_what_was_written(rt: HostRuntime) -> Result<(), Fail> {
+    let alloc = rt.alloc();
+    for (reads, writes, calls, rows, end) in [
+        (
+            [2].as_slice(),
+            [].as_slice(),
+            [].as_slice(),
+            "10,1,7\n",
+            "input failed",
+        ),
+        (&[], &[2], &[], "10,1,7\n", "output failed"),
+        (&[], &[], &[1], "10,1,7\n", "tap 0 failed"),
+        (&[], &[], &[2], "10,1,7\n20,1,4\n", "tap 0 failed"),
+    ] {
+        let plan = sums(alloc, 10, LatePolicy::Refuse)?;
+        let ran = run(
+            alloc,
+            plan,
+            1,
+            &mut source(alloc, FIRST, reads)?,
+            writes,
+            calls,
+        )?;
+        assert_eq!(rt; ran.rows.as_slice(), rows.as_bytes());
+        assert_eq!(rt; said(&ran.end), end);
+    }
+    Ok(())
+}
+
+#[test]
+fn late_records_are_listed_if_the_plan_drops_them(rt: HostRuntime) -> Result<(), Fail> {
+    let alloc = rt.alloc();
+    let plan = sums(alloc, 10, LatePolicy::Drop)?;
+    let ran = run(alloc, plan, 2, &mut source(alloc, LATE, &[])?, &[], &[])?;
+    assert_eq!(rt; ran.rows.as_slice(), b"10,1,5\n20,1,4\n".as_slice());
+    assert_eq!(rt; said(&ran.end), "done");
+    let late = Dropped {
+        line: 4,
+        time: 9,
+        mark: 10,
+    };
+    assert_eq!(rt; ran.dropped.as_slice(), [late].as_slice());
+    Ok(())
+}

@@ -1,0 +1,133 @@
+//! Feeding a hand: each bundle and each watermark is worked off at once, and the rows are given out.
+
+ghost use Rattle.std.specs.Prelude.{◌≡◌, ◌≤◌, ◌<◌, ◌^◌, ℕ, List, map, length, slice_get, OnOk};
+ghost use Rattle.sb_record.specs.declared.item.Record.{Record as ARecord};
+ghost use Rattle.sb_hand.specs.Stepping.{IsIdle};
+ghost use Rattle.sb_feed.specs.Feeds.{AreRowsSoFar, Fed, MayArrive, MaySeal, with_bundle, with_mark};
+ghost use Rattle.sb_feed.specs.GiveCauses.{GiveCause};
+ghost use Rattle.sb_feed.specs.Gives.{Gives};
+ghost use Rattle.sb_run.specs.Rested.{HasSameSetting, IsRested, IsWhole};
+
+use sb_bundle::Bundle;
+use sb_emit::{RowOut, Tap};
+use sb_feed::{GiveStop, give_out};
+use sb_hand::{Did, Hand};
+use sb_lane::ArriveStop;
+use sb_record::{NoMemory, Stream};
+
+// Steps a node until nothing is left to do there.
+fn settle_node(hand: &mut Hand, node: u32) -> Result<(), NoMemory>
+    requires { node ≤ length hand.old.plan.steps }
+    ensures same { HasSameSetting hand.old hand.new }
+    ensures whole { OnOk result ((f : Fed) (rows : List ARecord) → IsWhole hand.old f rows → IsWhole hand.new f rows) }
+    ensures idle { OnOk result (IsIdle node hand.new.nodes) }
+    ensures earlier { OnOk result ((k : ℕ) → k < node
+        → slice_get hand.new.nodes k ≡ slice_get hand.old.nodes k) }
+{
+    'steps: loop {
+        match hand.step(node) {
+            Ok(Did::Nothing) => return Ok(()),
+            Ok(Did::Bundle | Did::Closing) => {}
+            Err(NoMemory) => return Err(NoMemory),
+        }
+    }
+}
+
+// Steps each node, in order, until nothing is left to do.
+fn settle(hand: &mut Hand) -> Result<(), NoMemory>
+    ensures same { HasSameSetting hand.old hand.new }
+    ensures whole { OnOk result ((f : Fed) (rows : List ARecord) → IsWhole hand.old f rows → IsWhole hand.new f rows) }
+    ensures idle { OnOk result ((k : ℕ) → k ≤ length hand.old.plan.steps → IsIdle k hand.new.nodes) }
+{
+    let sink = hand.plan().transforms();
+    'nodes: for node in 0..=sink {
+        settle_node(hand, node)?;
+    }
+    Ok(())
+}
+
+// Works off what a hand has, and gives out its rows.
+fn flow<R: RowOut>(
+    hand: &mut Hand,
+    out: &mut R,
+    taps: &mut Vec<Box<dyn Tap>>,
+) -> Result<(), GiveStop>
+    requires whole { (f : Fed) × (rows : List ARecord) × IsWhole hand.old f rows }
+    requires few { length taps.old.items < 2 ^ 32 }
+    ensures same { HasSameSetting hand.old hand.new }
+    ensures gives { (f : Fed) (before : List ARecord) → IsWhole hand.old f before → AreRowsSoFar hand.old.plan f before
+        → Gives hand.old.plan (IsRested hand.new f) R.after R.part out.old out.new
+        (map (λ t. tap_state t) taps.old.items) (map (λ t. tap_state t) taps.new.items) f before result }
+    ensures fewer { OnOk result (length taps.new.items ≤ length taps.old.items) }
+    ensures cause { GiveCause (R.row_state out.old) (R.row_state out.new) result }
+{
+    match settle(hand) {
+        Ok(()) => {}
+        Err(NoMemory) => return Err(GiveStop::Memory),
+    }
+    let rows = hand.drain();
+    give_out(&rows, out, taps)
+}
+
+/// A bundle of a stream comes: it is worked off at once, and the rows that no later line can change are written and
+/// offered.
+///
+/// # Errors
+///
+/// Those of [`give_out`], and `Memory`. Then nothing is known of the hand.
+pub(crate) fn arrive<R: RowOut>(
+    hand: &mut Hand,
+    stream: Stream,
+    bundle: Bundle,
+    out: &mut R,
+    taps: &mut Vec<Box<dyn Tap>>,
+) -> Result<(), GiveStop>
+    requires may { (f : Fed) × (rows : List ARecord) × IsRested hand.old f rows
+        × MayArrive hand.old.plan hand.old.bundle f stream bundle }
+    requires few { length taps.old.items < 2 ^ 32 }
+    ensures same { HasSameSetting hand.old hand.new }
+    ensures gives { (f : Fed) (rows : List ARecord) → IsRested hand.old f rows
+        → MayArrive hand.old.plan hand.old.bundle f stream bundle
+        → Gives hand.old.plan (IsRested hand.new (with_bundle stream bundle f)) R.after R.part out.old out.new
+        (map (λ t. tap_state t) taps.old.items) (map (λ t. tap_state t) taps.new.items)
+        (with_bundle stream bundle f) rows result }
+    ensures fewer { OnOk result (length taps.new.items ≤ length taps.old.items) }
+    ensures cause { GiveCause (R.row_state out.old) (R.row_state out.new) result }
+{
+    match hand.arrive(stream, bundle) {
+        Ok(_) => return flow(hand, out, taps),
+        Err(ArriveStop::Memory(_)) => return Err(GiveStop::Memory),
+        Err(ArriveStop::Full(_)) => unreachable!(),
+    }
+}
+
+/// A watermark of a stream comes: what it closes is worked off at once, and the rows that no later line can change are
+/// written and offered.
+///
+/// # Errors
+///
+/// Those of [`give_out`], and `Memory`. Then nothing is known of the hand.
+pub(crate) fn seal<R: RowOut>(
+    hand: &mut Hand,
+    stream: Stream,
+    mark: u64,
+    out: &mut R,
+    taps: &mut Vec<Box<dyn Tap>>,
+) -> Result<(), GiveStop>
+    requires may { (f : Fed) × (rows : List ARecord) × IsRested hand.old f rows
+        × MaySeal hand.old.plan f stream mark }
+    requires few { length taps.old.items < 2 ^ 32 }
+    ensures same { HasSameSetting hand.old hand.new }
+    ensures gives { (f : Fed) (rows : List ARecord) → IsRested hand.old f rows
+        → MaySeal hand.old.plan f stream mark
+        → Gives hand.old.plan (IsRested hand.new (with_mark stream mark f)) R.after R.part out.old out.new
+        (map (λ t. tap_state t) taps.old.items) (map (λ t. tap_state t) taps.new.items)
+        (with_mark stream mark f) rows result }
+    ensures fewer { OnOk result (length taps.new.items ≤ length taps.old.items) }
+    ensures cause { GiveCause (R.row_state out.old) (R.row_state out.new) result }
+{
+    match hand.seal(stream, mark) {
+        Ok(()) => flow(hand, out, taps),
+        Err(NoMemory) => Err(GiveStop::Memory),
+    }
+}
