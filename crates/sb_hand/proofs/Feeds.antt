@@ -16,6 +16,7 @@ use Rattle.sb_pipeline.specs.Plans.{IsPlan}
 use Rattle.sb_pipeline.specs.Shapes.{Shape, source}
 use Rattle.sb_core.specs.declared.event.Event.{Event}
 use Rattle.sb_core.specs.declared.event.Event.TheVariants.{Arrive, Seal}
+use Rattle.sb_core.specs.declared.held.Held.{Held}
 use Rattle.sb_core.specs.declared.moment.CoreLane.{CoreLane}
 use Rattle.sb_core.specs.declared.moment.Moment.{Moment}
 use Rattle.sb_core.specs.declared.moment.Node.{Node}
@@ -56,7 +57,7 @@ module _ (plan : Shape) (size : ℕ) (old new : List NodeState) (k l : ℕ) (lan
       ∙ ap (slice_set (map lane_of t.own.lanes.items) l) t.lane_is
       ∙ set_same (map lane_of t.own.lanes.items) l (lane_of lane) (get-map lane_of t.own.lanes.items l lane t.in_it)
 
-  module _ (rows : List Record) (m : Moment) (s : Stands plan size old [] rows m) where
+  module _ (held : List Held) (rows : List Record) (m : Moment) (s : Stands plan size old held rows m) where
     here : (n : Node) → slice_get m.nodes k ≡ Some n → ShowsNode (operator_at (slice_get plan.steps k)) t.with n
     here n at =
         let shown : ShowsNode (operator_at (slice_get plan.steps k)) t.own n = s.each k t.own n t.there at in
@@ -73,8 +74,8 @@ module _ (plan : Shape) (size : ℕ) (old new : List NodeState) (k l : ℕ) (lan
         (λ ne. s.each j x n (sym (slice_get-set_other old k j t.with ne) ∙ h) g)
         (cases_eq j k)
 
-    stands : Stands plan size new [] rows m
-    stands = subst (λ (z : List NodeState). Stands plan size z [] rows m) (sym t.set) (record {
+    stands : Stands plan size new held rows m
+    stands = subst (λ (z : List NodeState). Stands plan size z held rows m) (sym t.set) (record {
       bundle_is = s.bundle_is;
       count = s.count ∙ sym (length-set old k t.with);
       each = each;
@@ -83,13 +84,16 @@ module _ (plan : Shape) (size : ℕ) (old new : List NodeState) (k l : ℕ) (lan
       sound = s.sound;
     })
 
-  pub stays-does : Does plan size [] old [] new [] []
-  stays-does = λ rows m s. record {
+  pub stays-holding : (held : List Held) → Does plan size [] old held new held []
+  stays-holding held = λ rows m s. record {
     later = m;
     runs = refl;
     told = same_diaries;
-    stands = subst (λ (r : List Record). Stands plan size new [] r m) (sym (append-nil rows)) (stands rows m s);
+    stands = subst (λ (r : List Record). Stands plan size new held r m) (sym (append-nil rows)) (stands held rows m s);
   }
+
+  pub stays-does : Does plan size [] old [] new [] []
+  stays-does = stays-holding []
 
   pub stays-settings : settings_of new ≡ settings_of old
   stays-settings = settings-set old new k l t.own t.with lane t.now t.there t.in_it t.set t.lanes t.keeps t.limit

@@ -1,10 +1,11 @@
 -- A lane that code reads and writes in its node.
-use Rattle.std.proofs.Common.{◌≡◌, ℕ, ◌+◌, List, [], ◌∷◌, ◌++◌, get_or, set, Some, sym, refl, ap, ◌∙◌}
+use Rattle.std.proofs.Common.{◌≡◌, ℕ, ◌+◌, List, [], ◌∷◌, ◌++◌, get_or, set, Some, sym, refl, ap, subst, ◌∙◌}
 use Rattle.std.specs.Prelude.{Result, Ok, Err, OnOk}
 use Rattle.std.specs.List.{slice_get}
-use Rattle.std.proofs.lemmas.Option.{get_or_from_slice_get}
+use Rattle.std.proofs.lemmas.Option.{get_or_from_slice_get, same_Some}
 use Rattle.sb_bundle.specs.declared.bundle.Bundle.{Bundle}
 use Rattle.sb_core.specs.declared.moment.CoreLane.{CoreLane}
+use Rattle.sb_core.proofs.Nodes.{slice_get-set_same}
 use Rattle.sb_diary.specs.Diaries.{Written, with_line, with_spare}
 use Rattle.sb_diary.specs.declared.event.DiaryEvent.{DiaryEvent}
 use Rattle.sb_diary.specs.declared.event.DiaryEvent.TheVariants as line
@@ -13,6 +14,7 @@ use Rattle.sb_lane.specs.LaneView.{LaneView, lane_of}
 use Rattle.sb_lane.specs.Placed.{conts_of}
 use Rattle.sb_lane.specs.Taking.{take_first}
 use Rattle.sb_hand.specs.declared.state.NodeState.{NodeState}
+use Rattle.sb_hand.specs.LinkChanges.{LaneGoes, LinksStay}
 use Rattle.sb_hand.specs.Sets.{HasLane, SetsLane, SetsNode, Takes, Turns}
 
 -- a diary has a line more
@@ -75,6 +77,24 @@ module _ (nodes : List NodeState) (k l : ℕ) (own with : NodeState) (lane at no
     keeps = told.keeps ∙ ap (λ (n : NodeState). n.diary.keeps) node-read;
     limit = limit ∙ ap (λ (x : LaneView). x.pending) lane-read;
   }
+
+-- the lane goes over into another as the call on it says
+pub goes : (nodes : List NodeState) (k l : ℕ) (own with : NodeState) (lane now : LaneView) → own ≡ get_or nodes k own → lane ≡ get_or own.lanes.items l lane → (so : LaneView → LaneView → Type 0) → with.lanes.items ≡ set own.lanes.items l now → so lane now → LaneGoes k l so nodes (set nodes k with)
+goes nodes k l own with lane now own_is lane_is so lanes x = λ was is h g.
+    let read = lane-read nodes k l own with lane was now h own_is lane_is in
+    let node = node-read nodes k l own with lane was now h own_is lane_is in
+    let with_is : g.own ≡ with = same_Some g.own with (sym g.there ∙ slice_get-set_same nodes k h.own with h.there) in
+    let there : slice_get own.lanes.items l ≡ Some was = ap (λ (n : NodeState). slice_get n.lanes.items l) node ∙ h.in_it in
+    let now_is : now ≡ is = same_Some now is (sym (ap (λ (ls : List LaneView). slice_get ls l) lanes ∙ slice_get-set_same own.lanes.items l was now there) ∙ ap (λ (n : NodeState). slice_get n.lanes.items l) (sym with_is) ∙ g.in_it) in
+    subst (λ z. z) (λ i. so (read i) (now_is i)) x
+
+-- no lane was touched
+pub goes-before : (nodes : List NodeState) (k l : ℕ) (own with : NodeState) → own ≡ get_or nodes k own → with.lanes.items ≡ own.lanes.items → LaneGoes k l LinksStay nodes (set nodes k with)
+goes-before nodes k l own with own_is lanes = λ was is h g.
+    let node : own ≡ h.own = own_is ∙ get_or_from_slice_get nodes k h.own own h.there in
+    let with_is : g.own ≡ with = same_Some g.own with (sym g.there ∙ slice_get-set_same nodes k h.own with h.there) in
+    let same : was ≡ is = same_Some was is (sym h.in_it ∙ ap (λ (n : NodeState). slice_get n.lanes.items l) (sym node) ∙ ap (λ (ls : List LaneView). slice_get ls l) (sym lanes) ∙ ap (λ (n : NodeState). slice_get n.lanes.items l) (sym with_is) ∙ g.in_it) in
+    subst (LinksStay was) same (record { links = refl; searches = refl })
 
 pub ok_of : {T E : Type 0} (P : Type 0) (r : Result T E) (x : T) → r ≡ Ok x → OnOk r P → P
 ok_of P (Ok y) x e p = p

@@ -1,9 +1,12 @@
 pub mod Feeding
 pub mod HandLaws
 pub mod Hands
+pub mod LinkChanges
+pub mod Linking
 pub mod Marking
 pub mod NewNodes
 pub mod Runs
+pub mod Searching
 pub mod Sets
 pub mod Showing
 pub mod Stepping

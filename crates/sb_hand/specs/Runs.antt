@@ -63,6 +63,12 @@ pub record ClosesNode (plan : Shape) (bundle k l : ℕ) (old : List NodeState) (
 abbrev pub work_of : ℕ → ℕ → Bundle → Bool → Held
 work_of k l b delivered = Work k l b.epoch b.floor b.number b.records delivered
 
+-- what a transform of single records gives for a bundle in hand is put below
+pub record Gives (plan : Shape) (bundle k l : ℕ) (b : Bundle) (old new : List NodeState) : Type 0 where
+  pub does : Does plan bundle (Deliver k l b.number ∷ []) old (work_of k l b false ∷ []) new (work_of k l b true ∷ []) []
+  pub lowers : Lowers k 0 old new
+  pub settings : settings_of new ≡ settings_of old
+
 -- a bundle in hand is finished: what it gives was put below, or it gave nothing there
 pub record FinishesWork (plan : Shape) (bundle k l : ℕ) (b : Bundle) (old new : List NodeState) : Type 0 where
   pub gave : Bool

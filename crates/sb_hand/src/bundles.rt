@@ -8,17 +8,59 @@ ghost use Rattle.sb_lane.specs.Taking.{take_first};
 ghost use Rattle.sb_pipeline.specs.Operators.{operator_at};
 ghost use Rattle.sb_pipeline.specs.Plans.{IsPlan};
 ghost use Rattle.sb_work.specs.Processing.{IsOutput};
-ghost use Rattle.sb_hand.specs.Runs.{work_of, FinishesWork, WorksOff};
+ghost use Rattle.sb_hand.specs.Linking.{AreLinked, KeepsLinks};
+ghost use Rattle.sb_hand.specs.Runs.{work_of, FinishesWork, Gives, WorksOff};
 ghost use Rattle.sb_hand.specs.Sets.{HasLane};
 ghost use Rattle.sb_hand.specs.Showing.{CanStand};
 
-use crate::events::{finish_at, finish_part, put_at, take_at};
+use crate::events::{down_at, finish_at, finish_part, link_at, put_at, put_first, take_at};
 use crate::state::NodeState;
 use sb_bundle::Bundle;
 use sb_pipeline::Plan;
 use sb_record::{NoMemory, Record, Sequence};
 use sb_work::{Claim, Output, process};
 use std::alloc::Global;
+
+/// What a transform of single records gives for a bundle goes below, to where the bundle's container is linked. If that
+/// is not known yet, it is from now on.
+fn give(
+    plan: &Plan,
+    size: u32,
+    nodes: &mut Vec<NodeState>,
+    claim: &Claim,
+    given: Sequence<Record>,
+) -> Result<(), NoMemory>
+    requires plan { IsPlan plan.now }
+    requires node { claim.now.node < length plan.now.steps }
+    requires can { CanStand plan.now size nodes.old.items
+        (work_of claim.now.node claim.now.lane claim.now.bundle false ∷ []) }
+    requires linked { AreLinked plan.now nodes.old.items }
+    requires pardo { is_pardo (operator_at (slice_get plan.now.steps claim.now.node)) ≡ true }
+    requires given { given
+        ≡ delivery (operator_at (slice_get plan.now.steps claim.now.node)) claim.now.bundle.records }
+    requires some { 0 < length given }
+    ensures gives { OnOk result (Gives plan.now size claim.now.node claim.now.lane claim.now.bundle
+        nodes.old.items nodes.new.items) }
+    ensures links { OnOk result (KeepsLinks plan.now nodes.old.items nodes.new.items) }
+{
+    let _ = size;
+    let below = plan.down(claim.node);
+    let epoch = claim.bundle.epoch;
+    let bundle = Bundle {
+        number: 0,
+        epoch,
+        floor: claim.bundle.floor,
+        records: given,
+    };
+    match down_at(nodes.as_slice(), claim.node, epoch) {
+        Some(place) => put_at(nodes, below, place, bundle),
+        None => {
+            let place = put_first(nodes, below, bundle)?;
+            link_at(nodes, claim.node, epoch, place);
+            Ok(())
+        }
+    }
+}
 
 /// What a transform of single records gives for a bundle goes below, and the bundle is finished.
 fn deliver_given(
@@ -32,25 +74,17 @@ fn deliver_given(
     requires node { claim.now.node < length plan.now.steps }
     requires can { CanStand plan.now size nodes.old.items
         (work_of claim.now.node claim.now.lane claim.now.bundle false ∷ []) }
+    requires linked { AreLinked plan.now nodes.old.items }
     requires pardo { is_pardo (operator_at (slice_get plan.now.steps claim.now.node)) ≡ true }
     requires given { given
         ≡ delivery (operator_at (slice_get plan.now.steps claim.now.node)) claim.now.bundle.records }
     requires some { 0 < length given }
-    ensures { OnOk result (FinishesWork plan.now size claim.now.node claim.now.lane claim.now.bundle
+    ensures finishes { OnOk result (FinishesWork plan.now size claim.now.node claim.now.lane claim.now.bundle
         nodes.old.items nodes.new.items) }
+    ensures links { OnOk result (KeepsLinks plan.now nodes.old.items nodes.new.items) }
 {
-    let _ = size;
     let length = given.as_slice().len() as u64;
-    put_at(
-        nodes,
-        plan.down(claim.node),
-        Bundle {
-            number: 0,
-            epoch: claim.bundle.epoch,
-            floor: claim.bundle.floor,
-            records: given,
-        },
-    )?;
+    give(plan, size, nodes, claim, given)?;
     finish_at(
         nodes,
         claim.node,
@@ -71,10 +105,12 @@ fn finish_empty(
     requires plan { IsPlan plan.now }
     requires can { CanStand plan.now size nodes.old.items
         (work_of claim.now.node claim.now.lane claim.now.bundle false ∷ []) }
+    requires linked { AreLinked plan.now nodes.old.items }
     requires pardo { is_pardo (operator_at (slice_get plan.now.steps claim.now.node)) ≡ true }
     requires none { delivery (operator_at (slice_get plan.now.steps claim.now.node)) claim.now.bundle.records ≡ [] }
-    ensures { OnOk result (FinishesWork plan.now size claim.now.node claim.now.lane claim.now.bundle
+    ensures finishes { OnOk result (FinishesWork plan.now size claim.now.node claim.now.lane claim.now.bundle
         nodes.old.items nodes.new.items) }
+    ensures links { OnOk result (KeepsLinks plan.now nodes.old.items nodes.new.items) }
 {
     let _ = size;
     let _ = plan.transforms();
@@ -100,10 +136,12 @@ fn finish_bundle(
     requires node { claim.now.node ≤ length plan.now.steps }
     requires can { CanStand plan.now size nodes.old.items
         (work_of claim.now.node claim.now.lane claim.now.bundle false ∷ []) }
+    requires linked { AreLinked plan.now nodes.old.items }
     requires output { IsOutput (operator_at (slice_get plan.now.steps claim.now.node)) claim.now.lane
         claim.now.bundle.records output }
-    ensures { OnOk result (FinishesWork plan.now size claim.now.node claim.now.lane claim.now.bundle
+    ensures finishes { OnOk result (FinishesWork plan.now size claim.now.node claim.now.lane claim.now.bundle
         nodes.old.items nodes.new.items) }
+    ensures links { OnOk result (KeepsLinks plan.now nodes.old.items nodes.new.items) }
 {
     match output {
         Output::Records(given) => {
@@ -129,9 +167,11 @@ pub(crate) fn work_off(
     requires plan { IsPlan plan.now }
     requires node { node ≤ length plan.now.steps }
     requires can { CanStand plan.now size nodes.old.items [] }
+    requires linked { AreLinked plan.now nodes.old.items }
     requires waits { (at : LaneView) × HasLane node lane at nodes.old.items
         × (is_some (take_first (conts_of at.containers)) ≡ true) }
-    ensures { OnOk result (WorksOff plan.now size node lane nodes.old.items nodes.new.items) }
+    ensures works { OnOk result (WorksOff plan.now size node lane nodes.old.items nodes.new.items) }
+    ensures links { OnOk result (KeepsLinks plan.now nodes.old.items nodes.new.items) }
 {
     let bundle = take_at(nodes, node, lane)?;
     let claim = Claim { node, lane, bundle };

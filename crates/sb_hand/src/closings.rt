@@ -1,19 +1,23 @@
 //! Whole closings.
 
-ghost use Rattle.std.specs.Prelude.{◌≡◌, ◌<◌, ◌≤◌, ◌++◌, ◌+◌, ◌∷◌, [], true, false, length, drop, take, OnOk, IfOk, Ok};
+ghost use Rattle.std.specs.Prelude.{◌≡◌, ◌<◌, ◌≤◌, ◌++◌, ◌+◌, ◌∷◌, [], true, false, length, drop, take, slice_get, OnOk, IfOk, Ok};
+ghost use Rattle.sb_core.specs.Closings.{is_pardo};
 ghost use Rattle.sb_core.specs.Marks.{first_is_closing};
 ghost use Rattle.sb_diary.specs.declared.event.DiaryEvent.TheVariants as line;
 ghost use Rattle.sb_lane.specs.LaneView.{LaneView, lane_of};
 ghost use Rattle.sb_lane.specs.Looks.{look_of};
 ghost use Rattle.sb_lane.specs.Placed.{conts_of};
 ghost use Rattle.sb_lane.specs.declared.answers.LaneClose.{LaneClose as AClose};
+ghost use Rattle.sb_pipeline.specs.Operators.{operator_at};
 ghost use Rattle.sb_pipeline.specs.Plans.{IsPlan};
+ghost use Rattle.sb_hand.specs.LinkChanges.{DropsLink, LaneGoes};
+ghost use Rattle.sb_hand.specs.Linking.{AreLinked, KeepsLinks, NoneBelow, StandsBelow};
 ghost use Rattle.sb_hand.specs.Runs.{close_of, Delivers, Ends, ClosesNode};
 ghost use Rattle.sb_hand.specs.Sets.{HasLane, Turns};
 ghost use Rattle.sb_hand.specs.Showing.{CanStand};
 
 use crate::closing::Closing;
-use crate::events::{begin_at, end_at, put_at, seal_at};
+use crate::events::{begin_at, end_at, put_at, put_first, seal_at};
 use crate::state::NodeState;
 use sb_bundle::Bundle;
 use sb_pipeline::Plan;
@@ -31,6 +35,43 @@ fn first_of(alloc: Global, rows: &[Record], count: usize) -> Result<Sequence<Rec
     }
 }
 
+/// The first rows of a closing go below: how many are gone then, and where the container stands that took them.
+fn deliver_first(
+    alloc: Global,
+    plan: &Plan,
+    bundle: u32,
+    nodes: &mut Vec<NodeState>,
+    closing: &Closing,
+) -> Result<(usize, u64), NoMemory>
+    requires plan { IsPlan plan.now }
+    requires node { closing.now.node < length plan.now.steps }
+    requires some { 0 < length closing.now.rows.items }
+    requires can { CanStand plan.now bundle nodes.old.items (close_of closing.now closing.now.rows.items false ∷ []) }
+    requires linked { AreLinked plan.now nodes.old.items }
+    requires none { NoneBelow plan.now closing.now.node closing.now.serial nodes.old.items }
+    ensures within { IfOk result (λ r. r.0 ≤ length closing.now.rows.items) }
+    ensures does { IfOk result (λ r. Delivers plan.now bundle closing.now
+        nodes.old.items closing.now.rows.items nodes.new.items (drop r.0 closing.now.rows.items)) }
+    ensures stands { IfOk result (λ r.
+        StandsBelow plan.now closing.now.node closing.now.serial r.1 nodes.new.items) }
+    ensures links { OnOk result (KeepsLinks plan.now nodes.old.items nodes.new.items) }
+{
+    let rows = closing.rows.as_slice();
+    let count = (bundle as usize).min(rows.len());
+    let records = first_of(alloc, rows, count)?;
+    let place = put_first(
+        nodes,
+        plan.down(closing.node),
+        Bundle {
+            number: 0,
+            epoch: closing.serial,
+            floor: closing.floor,
+            records,
+        },
+    )?;
+    Ok((count, place))
+}
+
 /// The next rows of a closing go below: how many are gone then.
 fn deliver_next(
     alloc: Global,
@@ -38,6 +79,7 @@ fn deliver_next(
     bundle: u32,
     nodes: &mut Vec<NodeState>,
     closing: &Closing,
+    place: u64,
     from: usize,
 ) -> Result<usize, NoMemory>
     requires plan { IsPlan plan.now }
@@ -45,9 +87,14 @@ fn deliver_next(
     requires from { from < length closing.now.rows.items }
     requires can { CanStand plan.now bundle nodes.old.items
         (close_of closing.now (drop from closing.now.rows.items) false ∷ []) }
+    requires linked { AreLinked plan.now nodes.old.items }
+    requires stands { StandsBelow plan.now closing.now.node closing.now.serial place nodes.old.items }
     ensures more { IfOk result (λ upto. (from < upto) × (upto ≤ length closing.now.rows.items)) }
     ensures does { IfOk result (λ upto. Delivers plan.now bundle closing.now
         nodes.old.items (drop from closing.now.rows.items) nodes.new.items (drop upto closing.now.rows.items)) }
+    ensures stands { OnOk result
+        (StandsBelow plan.now closing.now.node closing.now.serial place nodes.new.items) }
+    ensures links { OnOk result (KeepsLinks plan.now nodes.old.items nodes.new.items) }
 {
     let (_, rest) = closing.rows.as_slice().split_at(from);
     let count = (bundle as usize).min(rest.len());
@@ -55,6 +102,7 @@ fn deliver_next(
     put_at(
         nodes,
         plan.down(closing.node),
+        place,
         Bundle {
             number: 0,
             epoch: closing.serial,
@@ -65,7 +113,33 @@ fn deliver_next(
     Ok(from + count)
 }
 
-/// The rows of a closing go below, a bundle at a time.
+/// The rows of a closing go below, a bundle at a time: the first to a container that is made, the others there too.
+fn deliver_some(
+    alloc: Global,
+    plan: &Plan,
+    bundle: u32,
+    nodes: &mut Vec<NodeState>,
+    closing: &Closing,
+) -> Result<(), NoMemory>
+    requires plan { IsPlan plan.now }
+    requires node { closing.now.node < length plan.now.steps }
+    requires some { 0 < length closing.now.rows.items }
+    requires can { CanStand plan.now bundle nodes.old.items (close_of closing.now closing.now.rows.items false ∷ []) }
+    requires linked { AreLinked plan.now nodes.old.items }
+    requires none { NoneBelow plan.now closing.now.node closing.now.serial nodes.old.items }
+    ensures does { OnOk result
+        (Delivers plan.now bundle closing.now nodes.old.items closing.now.rows.items nodes.new.items []) }
+    ensures links { OnOk result (KeepsLinks plan.now nodes.old.items nodes.new.items) }
+{
+    let (first, place) = deliver_first(alloc, plan, bundle, nodes, closing)?;
+    let mut from = first;
+    while from < closing.rows.len() {
+        from = deliver_next(alloc, plan, bundle, nodes, closing, place, from)?;
+    }
+    Ok(())
+}
+
+/// The rows of a closing, if it has some, go below.
 fn deliver_rows(
     alloc: Global,
     plan: &Plan,
@@ -76,14 +150,18 @@ fn deliver_rows(
     requires plan { IsPlan plan.now }
     requires node { closing.now.node < length plan.now.steps }
     requires can { CanStand plan.now bundle nodes.old.items (close_of closing.now closing.now.rows.items false ∷ []) }
-    ensures { OnOk result
+    requires linked { AreLinked plan.now nodes.old.items }
+    requires none { is_pardo (operator_at (slice_get plan.now.steps closing.now.node)) ≡ false
+        → NoneBelow plan.now closing.now.node closing.now.serial nodes.old.items }
+    ensures does { OnOk result
         (Delivers plan.now bundle closing.now nodes.old.items closing.now.rows.items nodes.new.items []) }
+    ensures links { OnOk result (KeepsLinks plan.now nodes.old.items nodes.new.items) }
 {
-    let mut from = 0;
-    while from < closing.rows.len() {
-        from = deliver_next(alloc, plan, bundle, nodes, closing, from)?;
+    if closing.rows.is_empty() {
+        Ok(())
+    } else {
+        deliver_some(alloc, plan, bundle, nodes, closing)
     }
-    Ok(())
 }
 
 /// The closing of a transform, which has begun, comes to its end: rows and watermark go below.
@@ -97,7 +175,11 @@ fn close_transform(
     requires plan { IsPlan plan.now }
     requires node { closing.now.node < length plan.now.steps }
     requires can { CanStand plan.now bundle nodes.old.items (close_of closing.now closing.now.rows.items false ∷ []) }
-    ensures { OnOk result (Ends plan.now bundle closing.now nodes.old.items nodes.new.items) }
+    requires linked { AreLinked plan.now nodes.old.items }
+    requires none { is_pardo (operator_at (slice_get plan.now.steps closing.now.node)) ≡ false
+        → NoneBelow plan.now closing.now.node closing.now.serial nodes.old.items }
+    ensures ends { OnOk result (Ends plan.now bundle closing.now nodes.old.items nodes.new.items) }
+    ensures links { OnOk result (KeepsLinks plan.now nodes.old.items nodes.new.items) }
 {
     deliver_rows(alloc, plan, bundle, nodes, closing)?;
     seal_at(nodes, plan.down(closing.node), closing.mark)?;
@@ -117,6 +199,7 @@ fn close_sink(
         → Turns closing.node closing.lane nodes.old.items nodes.new.items at
         (record (lane_of at) { conts = drop 1 (conts_of at.containers); ended = at.ended + 1 })
         (line.End closing.lane closing.epoch)) }
+    ensures links { OnOk result (LaneGoes closing.node closing.lane DropsLink nodes.old.items nodes.new.items) }
 {
     let (node, lane, epoch) = (closing.node, closing.lane, closing.epoch);
     let mut rows = closing.rows;
@@ -140,11 +223,13 @@ pub(crate) fn close_node(
     requires plan { IsPlan plan.now }
     requires node { node ≤ length plan.now.steps }
     requires can { CanStand plan.now bundle nodes.old.items [] }
+    requires linked { AreLinked plan.now nodes.old.items }
     requires at { (at : LaneView) × HasLane node lane at nodes.old.items }
     requires looks { (at : LaneView) → HasLane node lane at nodes.old.items
         → (close : AClose) × (look_of (conts_of at.containers) ≡ Ok close) × (close.epoch ≡ epoch) }
-    ensures { OnOk result (ClosesNode plan.now bundle node lane
+    ensures closes { OnOk result (ClosesNode plan.now bundle node lane
         nodes.old.items tray.old.items nodes.new.items tray.new.items) }
+    ensures links { OnOk result (KeepsLinks plan.now nodes.old.items nodes.new.items) }
 {
     let closing = begin_at(nodes, node, lane, epoch)?;
     if node < plan.transforms() {

@@ -1,18 +1,22 @@
 //! What each event does to the state of the one node that it changes.
 
 ghost use Rattle.std.specs.Prelude.{◌≡◌, ◌<◌, ◌≤◌, ◌+◌, ◌-◌, ◌^◌, true, length, OnOk, IfOk, slice_get, Some, is_some};
-ghost use Rattle.std.specs.Prelude.{drop, map, Ok};
-ghost use Rattle.sb_core.specs.Lanes.{next_epoch, with_arrival, with_seal};
+ghost use Rattle.std.specs.Prelude.{ℕ, drop, map, Ok};
+ghost use Rattle.sb_core.specs.LaneOrder.{IsLane};
+ghost use Rattle.sb_core.specs.Lanes.{in_epoch, next_epoch, with_arrival, with_seal};
 ghost use Rattle.sb_core.specs.Marks.{before_closing, first_is_closing};
 ghost use Rattle.sb_diary.specs.declared.event.DiaryEvent.TheVariants as line;
 ghost use Rattle.sb_kept.specs.Keeping.{IsPartFor, closed_mark};
+ghost use Rattle.sb_lane.specs.Changes.{StandsAt};
 ghost use Rattle.sb_lane.specs.LaneView.{LaneView, lane_of};
+ghost use Rattle.sb_lane.specs.Links.{down_of, links_of};
 ghost use Rattle.sb_lane.specs.Looks.{look_of};
 ghost use Rattle.sb_lane.specs.Placed.{conts_of};
 ghost use Rattle.sb_lane.specs.Taking.{take_first, finish_first};
 ghost use Rattle.sb_lane.specs.declared.answers.LaneClose.{LaneClose as AClose};
+ghost use Rattle.sb_hand.specs.LinkChanges.{DropsLink, FindsPlace, GetsLink, GetsPlace, LaneGoes, LinksStay};
 ghost use Rattle.sb_hand.specs.Marking as spec;
-ghost use Rattle.sb_hand.specs.Sets.{HasLane, Takes, Turns, Absorbs, BeginsAt};
+ghost use Rattle.sb_hand.specs.Sets.{HasLane, Takes, Turns, Absorbs, BeginsAt, StaysAt};
 ghost use Rattle.sb_hand.specs.declared.state.NodeState.{NodeState as ANode};
 
 use crate::closing::Closing;
@@ -28,8 +32,9 @@ use sb_work::{Claim, Part};
 pub(crate) fn take_at(nodes: &mut Vec<NodeState>, node: u32, lane: u32) -> Result<Bundle, NoMemory>
     requires { (at : LaneView) × HasLane node lane at nodes.old.items
         × (is_some (take_first (conts_of at.containers)) ≡ true) }
-    ensures { IfOk result (λ b. (at : LaneView) → HasLane node lane at nodes.old.items
+    ensures takes { IfOk result (λ b. (at : LaneView) → HasLane node lane at nodes.old.items
         → Takes node lane nodes.old.items nodes.new.items at b) }
+    ensures links { OnOk result (LaneGoes node lane LinksStay nodes.old.items nodes.new.items) }
 {
     let own = &mut nodes[node as usize];
     own.diary.reserve(1)?;
@@ -42,42 +47,85 @@ pub(crate) fn take_at(nodes: &mut Vec<NodeState>, node: u32, lane: u32) -> Resul
     Ok(bundle)
 }
 
-/// Puts a bundle into a lane.
-fn deliver_in(lane: &mut Lane, bundle: Bundle) -> Result<u64, NoMemory>
-    ensures room { OnOk result (lane.old.arrived < 2 ^ 64 - 1) }
+/// Puts a bundle into the container of its epoch, which stands at a place of a lane.
+fn deliver_there(lane: &mut Lane, place: u64, bundle: Bundle) -> Result<u64, NoMemory>
+    requires room { lane.old.arrived < 2 ^ 64 - 1 }
+    requires here { StandsAt bundle.epoch place lane.old.containers }
+    requires order { (bound : ℕ) × IsLane bound (lane_of lane.old) }
     ensures number { IfOk result (λ n. n ≡ lane.old.arrived + 1) }
     ensures ok { OnOk result
         (lane_of lane.new ≡ with_arrival bundle.epoch bundle.floor bundle.records (lane_of lane.old)) }
     ensures limit { OnOk result (lane.new.pending ≡ lane.old.pending) }
+    ensures links { OnOk result (LinksStay lane.old lane.new) }
 {
-    if lane.arrived() == u64::MAX {
-        return Err(NoMemory);
-    }
-    match lane.deliver(bundle) {
+    match lane.deliver_at(place, bundle) {
         Ok(number) => Ok(number),
         Err(_) => Err(NoMemory),
     }
 }
 
-/// Puts a bundle into a lane.
+/// The same, if the lane has a number for it.
+fn deliver_in(lane: &mut Lane, place: u64, bundle: Bundle) -> Result<u64, NoMemory>
+    requires here { StandsAt bundle.epoch place lane.old.containers }
+    requires order { (bound : ℕ) × IsLane bound (lane_of lane.old) }
+    ensures room { OnOk result (lane.old.arrived < 2 ^ 64 - 1) }
+    ensures number { IfOk result (λ n. n ≡ lane.old.arrived + 1) }
+    ensures ok { OnOk result
+        (lane_of lane.new ≡ with_arrival bundle.epoch bundle.floor bundle.records (lane_of lane.old)) }
+    ensures limit { OnOk result (lane.new.pending ≡ lane.old.pending) }
+    ensures links { OnOk result (LinksStay lane.old lane.new) }
+{
+    if lane.arrived() == u64::MAX {
+        return Err(NoMemory);
+    }
+    deliver_there(lane, place, bundle)
+}
+
+/// Puts a bundle into its epoch, the container of which is looked for: its place, and the number of the bundle.
+fn deliver_first(lane: &mut Lane, bundle: Bundle) -> Result<(u64, u64), NoMemory>
+    requires { lane.old.arrived < 2 ^ 64 - 1 → (bound : ℕ) × IsLane bound (record (lane_of lane.old) {
+      conts = in_epoch bundle.epoch bundle.floor (λ c. c) (conts_of lane.old.containers);
+    }) }
+    ensures room { OnOk result (lane.old.arrived < 2 ^ 64 - 1) }
+    ensures number { IfOk result (λ n. n.1 ≡ lane.old.arrived + 1) }
+    ensures ok { OnOk result
+        (lane_of lane.new ≡ with_arrival bundle.epoch bundle.floor bundle.records (lane_of lane.old)) }
+    ensures limit { OnOk result (lane.new.pending ≡ lane.old.pending) }
+    ensures links { IfOk result (λ n. FindsPlace bundle.epoch n.0 lane.old lane.new) }
+{
+    if lane.arrived() == u64::MAX {
+        return Err(NoMemory);
+    }
+    let place = lane.place(bundle.epoch, bundle.floor)?;
+    let number = deliver_there(lane, place, bundle)?;
+    Ok((place, number))
+}
+
+/// Puts a bundle into a lane, into the container of its epoch, which stands at this place.
 pub(crate) fn put_at(
     nodes: &mut Vec<NodeState>,
-    place: Down,
+    down: Down,
+    place: u64,
     bundle: Bundle,
 ) -> Result<(), NoMemory>
-    requires { (at : LaneView) × HasLane place.node place.lane at nodes.old.items }
-    ensures { OnOk result ((at : LaneView) → HasLane place.node place.lane at nodes.old.items
-        → (at.arrived < 2 ^ 64 - 1) × Turns place.node place.lane nodes.old.items nodes.new.items at
+    requires at { (at : LaneView) × HasLane down.node down.lane at nodes.old.items }
+    requires here { (at : LaneView) → HasLane down.node down.lane at nodes.old.items
+        → StandsAt bundle.epoch place at.containers }
+    requires order { (at : LaneView) → HasLane down.node down.lane at nodes.old.items
+        → (bound : ℕ) × IsLane bound (lane_of at) }
+    ensures puts { OnOk result ((at : LaneView) → HasLane down.node down.lane at nodes.old.items
+        → (at.arrived < 2 ^ 64 - 1) × Turns down.node down.lane nodes.old.items nodes.new.items at
         (with_arrival bundle.epoch bundle.floor bundle.records (lane_of at))
-        (line.Arrive place.lane bundle.epoch (at.arrived + 1) (length bundle.records))) }
+        (line.Arrive down.lane bundle.epoch (at.arrived + 1) (length bundle.records))) }
+    ensures links { OnOk result (LaneGoes down.node down.lane LinksStay nodes.old.items nodes.new.items) }
 {
-    let own = &mut nodes[place.node as usize];
+    let own = &mut nodes[down.node as usize];
     own.diary.reserve(1)?;
-    let into = &mut own.lanes[place.lane as usize];
+    let into = &mut own.lanes[down.lane as usize];
     let (epoch, length) = (bundle.epoch, bundle.records.as_slice().len() as u64);
-    let number = deliver_in(into, bundle)?;
+    let number = deliver_in(into, place, bundle)?;
     own.diary.push(DiaryEvent::Arrive {
-        lane: place.lane,
+        lane: down.lane,
         epoch,
         number,
         length,
@@ -85,12 +133,66 @@ pub(crate) fn put_at(
     Ok(())
 }
 
+/// Puts a bundle into a lane, in which the container of its epoch is looked for, and gives the place of that container.
+pub(crate) fn put_first(
+    nodes: &mut Vec<NodeState>,
+    down: Down,
+    bundle: Bundle,
+) -> Result<u64, NoMemory>
+    requires at { (at : LaneView) × HasLane down.node down.lane at nodes.old.items }
+    requires order { (at : LaneView) → HasLane down.node down.lane at nodes.old.items
+        → at.arrived < 2 ^ 64 - 1 → (bound : ℕ) × IsLane bound (record (lane_of at) {
+          conts = in_epoch bundle.epoch bundle.floor (λ c. c) (conts_of at.containers);
+        }) }
+    ensures puts { OnOk result ((at : LaneView) → HasLane down.node down.lane at nodes.old.items
+        → (at.arrived < 2 ^ 64 - 1) × Turns down.node down.lane nodes.old.items nodes.new.items at
+        (with_arrival bundle.epoch bundle.floor bundle.records (lane_of at))
+        (line.Arrive down.lane bundle.epoch (at.arrived + 1) (length bundle.records))) }
+    ensures links { IfOk result (λ place.
+        LaneGoes down.node down.lane (FindsPlace bundle.epoch place) nodes.old.items nodes.new.items) }
+{
+    let own = &mut nodes[down.node as usize];
+    own.diary.reserve(1)?;
+    let into = &mut own.lanes[down.lane as usize];
+    let (epoch, length) = (bundle.epoch, bundle.records.as_slice().len() as u64);
+    let (place, number) = deliver_first(into, bundle)?;
+    own.diary.push(DiaryEvent::Arrive {
+        lane: down.lane,
+        epoch,
+        number,
+        length,
+    });
+    Ok(place)
+}
+
+/// Where the container below stands that takes the output of an epoch, if it is known.
+pub(crate) fn down_at(nodes: &[NodeState], node: u32, epoch: u64) -> Option<u64>
+    requires { (at : LaneView) × HasLane node 0 at nodes.now }
+    ensures { (at : LaneView) → HasLane node 0 at nodes.now → result ≡ down_of epoch (links_of at.containers) }
+{
+    nodes[node as usize].lanes[0].down_of(epoch)
+}
+
+/// From now on it is known.
+pub(crate) fn link_at(nodes: &mut Vec<NodeState>, node: u32, epoch: u64, place: u64)
+    requires { (at : LaneView) × HasLane node 0 at nodes.old.items }
+    ensures stays { (at : LaneView) → HasLane node 0 at nodes.old.items
+        → StaysAt node 0 nodes.old.items nodes.new.items at }
+    ensures links { LaneGoes node 0 (GetsLink epoch place) nodes.old.items nodes.new.items }
+{
+    let own = &mut nodes[node as usize];
+    let of = &mut own.lanes[0];
+    of.link(epoch, place);
+}
+
 /// Seals the next epoch of a lane.
 pub(crate) fn seal_at(nodes: &mut Vec<NodeState>, place: Down, mark: u64) -> Result<(), NoMemory>
     requires { (at : LaneView) × HasLane place.node place.lane at nodes.old.items }
-    ensures { OnOk result ((at : LaneView) → HasLane place.node place.lane at nodes.old.items
+    ensures seals { OnOk result ((at : LaneView) → HasLane place.node place.lane at nodes.old.items
         → Turns place.node place.lane nodes.old.items nodes.new.items at (with_seal mark (lane_of at))
         (line.Seal place.lane (next_epoch (lane_of at)) mark)) }
+    ensures links { OnOk result (LaneGoes place.node place.lane (λ was. GetsPlace (length was.marks) was)
+        nodes.old.items nodes.new.items) }
 {
     let own = &mut nodes[place.node as usize];
     own.diary.reserve(1)?;
@@ -115,10 +217,11 @@ pub(crate) fn finish_at(
     length: u64,
 ) -> Result<(), NoMemory>
     requires { (at : LaneView) × HasLane node lane at nodes.old.items }
-    ensures { OnOk result ((at : LaneView) → HasLane node lane at nodes.old.items
+    ensures finishes { OnOk result ((at : LaneView) → HasLane node lane at nodes.old.items
         → Turns node lane nodes.old.items nodes.new.items at
         (record (lane_of at) { conts = finish_first epoch number (conts_of at.containers) })
         (line.Finish lane number length)) }
+    ensures links { OnOk result (LaneGoes node lane LinksStay nodes.old.items nodes.new.items) }
 {
     let own = &mut nodes[node as usize];
     own.diary.reserve(1)?;
@@ -141,10 +244,11 @@ pub(crate) fn end_at(
 ) -> Result<(), NoMemory>
     requires { (at : LaneView) × HasLane node lane at nodes.old.items
         × (first_is_closing (conts_of at.containers) ≡ true) × (at.ended < length at.marks) }
-    ensures { OnOk result ((at : LaneView) → HasLane node lane at nodes.old.items
+    ensures ends { OnOk result ((at : LaneView) → HasLane node lane at nodes.old.items
         → Turns node lane nodes.old.items nodes.new.items at
         (record (lane_of at) { conts = drop 1 (conts_of at.containers); ended = at.ended + 1 })
         (line.End lane epoch)) }
+    ensures links { OnOk result (LaneGoes node lane DropsLink nodes.old.items nodes.new.items) }
 {
     let own = &mut nodes[node as usize];
     own.diary.reserve(1)?;
@@ -163,9 +267,11 @@ pub(crate) fn finish_part(
     requires at { (at : LaneView) × HasLane claim.now.node claim.now.lane at nodes.old.items }
     requires takes { (own : ANode) → slice_get nodes.old.items claim.now.node ≡ Some own
         → IsPartFor own.kept part claim.now.lane claim.now.bundle.records }
-    ensures { OnOk result ((at : LaneView) → HasLane claim.now.node claim.now.lane at nodes.old.items
+    ensures absorbs { OnOk result ((at : LaneView) → HasLane claim.now.node claim.now.lane at nodes.old.items
         → Absorbs claim.now.node claim.now.lane nodes.old.items nodes.new.items at
         claim.now.bundle.epoch claim.now.bundle.number part) }
+    ensures links { OnOk result
+        (LaneGoes claim.now.node claim.now.lane LinksStay nodes.old.items nodes.new.items) }
 {
     let own = &mut nodes[claim.node as usize];
     own.diary.reserve(1)?;
@@ -225,6 +331,7 @@ pub(crate) fn begin_at(
     ensures names { IfOk result (λ c. (c.node ≡ node) × (c.lane ≡ lane) × (c.epoch ≡ epoch)) }
     ensures begins { IfOk result (λ c. (at : LaneView) → HasLane node lane at nodes.old.items
         → BeginsAt node lane nodes.old.items nodes.new.items at epoch c.serial c.floor c.mark c.rows.items) }
+    ensures links { OnOk result (LaneGoes node lane LinksStay nodes.old.items nodes.new.items) }
 {
     let own = &mut nodes[node as usize];
     if own.closings == u64::MAX {

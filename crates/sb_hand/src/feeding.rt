@@ -1,6 +1,6 @@
 //! What the feeder brings: bundles and watermarks of a stream.
 
-ghost use Rattle.std.specs.Prelude.{◌≡◌, ◌<◌, ◌+◌, [], ◌∷◌, OnOk, OnErr, IfOk, IfErr};
+ghost use Rattle.std.specs.Prelude.{◌≡◌, ◌<◌, ◌+◌, [], ◌∷◌, length, OnOk, OnErr, IfOk, IfErr};
 ghost use Rattle.sb_core.specs.declared.event.Event.TheVariants as event;
 ghost use Rattle.sb_core.specs.Lanes.{next_epoch, with_seal};
 ghost use Rattle.sb_diary.specs.declared.event.DiaryEvent.TheVariants as line;
@@ -9,6 +9,9 @@ ghost use Rattle.sb_lane.specs.Placed.{conts_of};
 ghost use Rattle.sb_lane.specs.Unfinished.{unfinished_of};
 ghost use Rattle.sb_pipeline.specs.Plans.{IsPlan};
 ghost use Rattle.sb_hand.specs.Feeding.{ArrivesIn, ComesBack, IsTurnedBack, MayArrive, MaySeal, TakesStream};
+ghost use Rattle.sb_hand.specs.LinkChanges.{GetsPlace, LaneGoes, LinksStay};
+ghost use Rattle.sb_hand.specs.Linking.{AreLinked};
+ghost use Rattle.sb_hand.specs.Searching.{SearchesStay};
 ghost use Rattle.sb_hand.specs.Sets.{HasLane, StaysAt, Turns};
 ghost use Rattle.sb_hand.specs.Showing.{CanStand, Does, settings_of};
 
@@ -26,6 +29,9 @@ fn arrive_in(nodes: &mut Vec<NodeState>, place: Down, bundle: Bundle) -> Result<
         → ArrivesIn place.node place.lane nodes.old.items nodes.new.items at bundle n) }
     ensures err { IfErr result (λ e. (at : LaneView) → HasLane place.node place.lane at nodes.old.items
         → ComesBack place.node place.lane nodes.old.items nodes.new.items at bundle e) }
+    ensures links { OnOk result
+        (LaneGoes place.node place.lane (GetsPlace bundle.epoch) nodes.old.items nodes.new.items) }
+    ensures stays { OnErr result (LaneGoes place.node place.lane LinksStay nodes.old.items nodes.new.items) }
 {
     let own = &mut nodes[place.node as usize];
     if own.diary.reserve(1).is_err() {
@@ -70,6 +76,9 @@ pub(crate) fn arrive(
     ensures back { IfErr result (λ e. IsTurnedBack plan.now stream nodes.old.items bundle e) }
     ensures same { OnErr result (Does plan.now size [] nodes.old.items [] nodes.new.items [] []) }
     ensures can { CanStand plan.now size nodes.old.items [] → CanStand plan.now size nodes.new.items [] }
+    ensures links { CanStand plan.now size nodes.old.items [] → AreLinked plan.now nodes.old.items
+        → AreLinked plan.now nodes.new.items }
+    ensures searches { SearchesStay nodes.old.items nodes.new.items }
 {
     let _ = size;
     match plan.source(stream) {
@@ -86,6 +95,9 @@ fn seal_in(nodes: &mut Vec<NodeState>, place: Down, mark: u64) -> Result<(), NoM
         (line.Seal place.lane (next_epoch (lane_of at)) mark)) }
     ensures err { OnErr result ((at : LaneView) → HasLane place.node place.lane at nodes.old.items
         → StaysAt place.node place.lane nodes.old.items nodes.new.items at) }
+    ensures links { OnOk result (LaneGoes place.node place.lane (λ was. GetsPlace (length was.marks) was)
+        nodes.old.items nodes.new.items) }
+    ensures stays { OnErr result (LaneGoes place.node place.lane LinksStay nodes.old.items nodes.new.items) }
 {
     let own = &mut nodes[place.node as usize];
     if own.diary.reserve(1).is_err() {
@@ -121,6 +133,9 @@ pub(crate) fn seal(
     ensures settings { settings_of nodes.new.items ≡ settings_of nodes.old.items }
     ensures same { OnErr result (Does plan.now size [] nodes.old.items [] nodes.new.items [] []) }
     ensures can { CanStand plan.now size nodes.old.items [] → CanStand plan.now size nodes.new.items [] }
+    ensures links { CanStand plan.now size nodes.old.items [] → AreLinked plan.now nodes.old.items
+        → AreLinked plan.now nodes.new.items }
+    ensures searches { SearchesStay nodes.old.items nodes.new.items }
 {
     let _ = size;
     match plan.source(stream) {

@@ -9,6 +9,7 @@ ghost use Rattle.sb_lane.specs.Placed.{conts_of};
 ghost use Rattle.sb_lane.specs.Unfinished.{unfinished_of};
 ghost use Rattle.sb_hand.specs.Feeding.{IsTurnedBack, MayArrive, MaySeal, TakesStream};
 ghost use Rattle.sb_hand.specs.Hands.{IsNewHand, KeepsAllButNodes, NoneLeft};
+ghost use Rattle.sb_hand.specs.Searching.{SearchesFew, SearchesStay};
 ghost use Rattle.sb_hand.specs.Sets.{HasLane};
 ghost use Rattle.sb_hand.specs.Showing.{Does, settings_of};
 ghost use Rattle.sb_hand.specs.Stepping.{Steps};
@@ -47,6 +48,7 @@ pub struct Hand {
 impl Model for Hand {
     ghost use Rattle.std.specs.Prelude.{◌≡◌, false, []};
     ghost use Rattle.sb_hand.specs.Hands.{HandView};
+    ghost use Rattle.sb_hand.specs.Linking.{AreLinked};
     ghost use Rattle.sb_hand.specs.Showing.{CanStand};
     ghost use Rattle.std.specs.Coded.{codes};
     ghost use Rattle.sb_pipeline.specs.contracts.transform.Step as step;
@@ -65,7 +67,8 @@ impl Model for Hand {
       spent = h.spent;
     } };
 
-    ghost invariant = { λ h. h.spent ≡ false → CanStand h.plan h.bundle h.nodes.items [] };
+    ghost invariant = { λ h. h.spent ≡ false
+        → CanStand h.plan h.bundle h.nodes.items [] × AreLinked h.plan h.nodes.items };
 }
 
 impl Hand {
@@ -135,6 +138,7 @@ impl Hand {
         ensures rest { KeepsAllButNodes self.old self.new }
         ensures back { IfErr result (λ e. IsTurnedBack self.old.plan stream self.old.nodes bundle e) }
         ensures same { OnErr result (Does self.old.plan self.old.bundle [] self.old.nodes [] self.new.nodes [] []) }
+        ensures searches { SearchesStay self.old.nodes self.new.nodes }
     {
         if self.spent {
             return Err(ArriveStop::Memory(bundle));
@@ -157,6 +161,7 @@ impl Hand {
         ensures settings { settings_of self.new.nodes ≡ settings_of self.old.nodes }
         ensures rest { KeepsAllButNodes self.old self.new }
         ensures same { OnErr result (Does self.old.plan self.old.bundle [] self.old.nodes [] self.new.nodes [] []) }
+        ensures searches { SearchesStay self.old.nodes self.new.nodes }
     {
         if self.spent {
             return Err(NoMemory);
@@ -183,6 +188,7 @@ impl Hand {
         ensures plan { self.new.plan ≡ self.old.plan }
         ensures bundle { self.new.bundle ≡ self.old.bundle }
         ensures pending { self.new.pending ≡ self.old.pending }
+        ensures searches { OnOk result (SearchesFew self.old.nodes self.new.nodes) }
         ensures spent { OnErr result (self.new.spent ≡ true) }
     {
         if self.spent {

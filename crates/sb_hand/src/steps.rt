@@ -1,7 +1,7 @@
 //! A step of a node: a bundle, or a whole closing.
 
 ghost use Rattle.std.specs.Prelude.{◌≡◌, ◌≤◌, [], true, length, All, Some, Ok, slice_get, is_some};
-ghost use Rattle.std.specs.Prelude.{IfOk, IfSome, IfNone};
+ghost use Rattle.std.specs.Prelude.{IfOk, OnOk, IfSome, IfNone};
 ghost use Rattle.sb_lane.specs.declared.answers.LaneClose.{LaneClose as AClose};
 ghost use Rattle.sb_lane.specs.Looks.{look_of};
 ghost use Rattle.sb_lane.specs.LaneView.{LaneView};
@@ -9,6 +9,7 @@ ghost use Rattle.sb_lane.specs.Placed.{conts_of};
 ghost use Rattle.sb_lane.specs.Taking.{take_first};
 ghost use Rattle.sb_pipeline.specs.Plans.{IsPlan};
 ghost use Rattle.sb_hand.specs.declared.state.NodeState.{NodeState as ANode};
+ghost use Rattle.sb_hand.specs.Linking.{AreLinked, KeepsLinks};
 ghost use Rattle.sb_hand.specs.Showing.{CanStand};
 ghost use Rattle.sb_hand.specs.Stepping.{NoneWaits, CannotClose, Steps};
 
@@ -63,9 +64,11 @@ fn close_step(
     requires plan { IsPlan plan.now }
     requires node { node ≤ length plan.now.steps }
     requires can { CanStand plan.now size nodes.old.items [] }
+    requires linked { AreLinked plan.now nodes.old.items }
     requires idle { (own : ANode) → slice_get nodes.old.items node ≡ Some own → All NoneWaits own.lanes.items }
-    ensures { IfOk result
+    ensures steps { IfOk result
         (Steps plan.now size node nodes.old.items tray.old.items nodes.new.items tray.new.items) }
+    ensures links { OnOk result (KeepsLinks plan.now nodes.old.items nodes.new.items) }
 {
     match closable_lane(nodes[node as usize].lanes.as_slice()) {
         Some((lane, epoch)) => {
@@ -88,8 +91,10 @@ pub(crate) fn step_node(
     requires plan { IsPlan plan.now }
     requires node { node ≤ length plan.now.steps }
     requires can { CanStand plan.now size nodes.old.items [] }
-    ensures { IfOk result
+    requires linked { AreLinked plan.now nodes.old.items }
+    ensures steps { IfOk result
         (Steps plan.now size node nodes.old.items tray.old.items nodes.new.items tray.new.items) }
+    ensures links { OnOk result (KeepsLinks plan.now nodes.old.items nodes.new.items) }
 {
     match waiting_lane(nodes[node as usize].lanes.as_slice()) {
         Some(lane) => {

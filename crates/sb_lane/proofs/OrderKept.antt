@@ -63,11 +63,11 @@ module _ (bound epoch floor : ℕ) (b : Bundle) where
       by_case false true rest = (refl, emptied (fresh epoch floor), unchanged (c ∷ cs))
       by_case false false rest = (refl, λ all. all, rest)
 
-pub place-kept : (bound epoch floor : ℕ) (lane : CoreLane) → IsLane bound lane → FitsEpoch epoch floor lane → IsLane bound (record lane { conts = in_epoch epoch floor (λ c. c) lane.conts })
-place-kept bound epoch floor lane ok fits =
-    let came = arrival-kept bound epoch floor [] lane ok fits tt in
-    let b : Bundle = record { number = lane.arrived + 1; epoch = epoch; floor = floor; records = [] } in
-    let sealed : lane.ended + length (drop lane.ended lane.marks) ≤ epoch = omega (arith, length-drop lane.ended lane.marks, ok.ended_in, fits.from) in
+-- it keeps the order where a bundle would
+pub place-within : (bound epoch floor : ℕ) (records : List Record) (lane : CoreLane) → IsLane bound lane → next_epoch lane ≤ epoch → IsLane bound (with_arrival epoch floor records lane) → IsLane bound (record lane { conts = in_epoch epoch floor (λ c. c) lane.conts })
+place-within bound epoch floor records lane ok from came =
+    let b : Bundle = record { number = lane.arrived + 1; epoch = epoch; floor = floor; records = records } in
+    let sealed : lane.ended + length (drop lane.ended lane.marks) ≤ epoch = omega (arith, length-drop lane.ended lane.marks, ok.ended_in, from) in
     record {
       ended_in = ok.ended_in;
       rising = ok.rising;
@@ -75,6 +75,9 @@ place-kept bound epoch floor lane ok fits =
       ready = still_ready bound epoch floor (λ c. c) (λ c. refl) (λ c. refl) (λ c. refl) (λ c. refl) lane.ended (last_of_first lane.ended lane.marks) (drop lane.ended lane.marks) lane.conts ok.containers sealed ok.ready;
       others = others_calm bound epoch floor (λ c. c) (λ c. refl) (λ c. refl) (λ c. refl) (λ c. refl) lane.ended (last_of_first lane.ended lane.marks) (drop lane.ended lane.marks) lane.conts ok.containers sealed ok.others;
     }
+
+pub place-kept : (bound epoch floor : ℕ) (lane : CoreLane) → IsLane bound lane → FitsEpoch epoch floor lane → IsLane bound (record lane { conts = in_epoch epoch floor (λ c. c) lane.conts })
+place-kept bound epoch floor lane ok fits = place-within bound epoch floor [] lane ok fits.from (arrival-kept bound epoch floor [] lane ok fits tt)
 
 -- ---- a bundle is taken, and finished: nothing becomes of a container that is closing
 ready-taken : (cs : List Cont) (q : Bundle × List Cont) → take_first cs ≡ Some q → IsReady cs → IsReady q.1

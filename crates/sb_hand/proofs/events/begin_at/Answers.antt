@@ -9,7 +9,8 @@ use Rattle.sb_lane.specs.LaneChanges.{Becomes}
 use Rattle.sb_lane.specs.Looks.{look_of}
 use Rattle.sb_hand.specs.declared.state.NodeState.{NodeState}
 use Rattle.sb_hand.specs.Marking.{mark_for}
-use Rattle.sb_hand.proofs.InPlaces.{lane-read, node-read, ok_of, own-there, sets-node, tells}
+use Rattle.sb_hand.specs.LinkChanges.{LinksStay}
+use Rattle.sb_hand.proofs.InPlaces.{goes, lane-read, node-read, ok_of, own-there, sets-node, tells}
 use Rattle.sb_hand.proofs.events.begin_at.Goals as goal
 
 pub mark_before-floor-requires : goal.mark_before-floor-requires
@@ -48,3 +49,8 @@ returns-clause-begins c = λ at h.
       closed = c.in_ok-rows.ensures.closed;
       closes = c.in_ok-rows.ensures.closes;
     }
+
+pub returns-clause-links : goal.returns-clause-links
+returns-clause-links c =
+    goes c.args.nodes.now.items c.args.node c.args.lane c.index_mut-own.result.now _ c.index_mut-of.result.now c.begin.new.self c.index_mut-own.ensures.value c.index_mut-of.ensures.value LinksStay refl
+    (record { links = c.begin.ensures.links; searches = c.begin.ensures.searches })

@@ -4,7 +4,8 @@ use Rattle.sb_lane.specs.LaneView.{LaneView, lane_of}
 use Rattle.sb_lane.specs.Placed.{conts_of}
 use Rattle.std.proofs.Common.{arith}
 use Rattle.sb_lane.specs.Taking.{finish_first}
-use Rattle.sb_hand.proofs.InPlaces.{lane-read, own-there, sets-node, tells}
+use Rattle.sb_hand.specs.LinkChanges.{LinksStay}
+use Rattle.sb_hand.proofs.InPlaces.{goes, lane-read, own-there, sets-node, tells}
 use Rattle.sb_hand.proofs.events.finish_part.Goals as goal
 
 pub absorb-requires : goal.absorb-requires
@@ -15,8 +16,8 @@ absorb-requires c = record {
       (c.args.claim.now.lane, c.args.claim.now.bundle.records, c.requires.takes c.index_mut-own.result.now own);
 }
 
-pub returns : goal.returns
-returns c = λ at h.
+pub returns-clause-absorbs : goal.returns-clause-absorbs
+returns-clause-absorbs c = λ at h.
     let r = lane-read c.args.nodes.now.items c.args.claim.now.node c.args.claim.now.lane c.index_mut-own.result.now c.index_mut-own.result.now c.index_mut-of.result.now at at h c.index_mut-own.ensures.value c.index_mut-of.ensures.value in
     record {
       now = c.finish.new.self;
@@ -30,3 +31,8 @@ returns c = λ at h.
       closed = c.in_ok-absorb.ensures.closed;
       adds = c.in_ok-absorb.ensures.adds c.args.claim.now.lane;
     }
+
+pub returns-clause-links : goal.returns-clause-links
+returns-clause-links c =
+    goes c.args.nodes.now.items c.args.claim.now.node c.args.claim.now.lane c.index_mut-own.result.now _ c.index_mut-of.result.now c.finish.new.self c.index_mut-own.ensures.value c.index_mut-of.ensures.value LinksStay refl
+    (record { links = c.finish.ensures.links; searches = c.finish.ensures.searches })

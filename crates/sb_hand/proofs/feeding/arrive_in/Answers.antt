@@ -5,7 +5,8 @@ use Rattle.sb_lane.specs.LaneView.{LaneView, lane_of}
 use Rattle.sb_lane.specs.Placed.{conts_of}
 use Rattle.sb_lane.specs.Unfinished.{unfinished_of}
 use Rattle.sb_hand.proofs.ComingBack.{lane-within, on-err, on-no_err, refused, retells, retells-same, stays, stays-before}
-use Rattle.sb_hand.proofs.InPlaces.{lane-read, tells, turns}
+use Rattle.sb_hand.specs.LinkChanges.{GetsPlace, LinksStay}
+use Rattle.sb_hand.proofs.InPlaces.{goes, goes-before, lane-read, tells, turns}
 use Rattle.sb_hand.proofs.feeding.arrive_in.Goals as goal
 
 pub returns-then-is_err-clause-err : goal.returns-then-is_err-clause-err
@@ -47,3 +48,21 @@ returns-in-Err-clause-err c = λ at h.
       stays = stays c.args.nodes.now.items c.args.place.node c.args.place.lane c.index_mut-own.result.now at h c.index_mut-own.ensures.value _ c.index_mut-into.result.now c.arrive.new.self r refl refl refl
           (retells _ _ _ (on-no_err _ c.reserve.result (sym c.is_err.ensures.value ∙ c.if-is_err.false) c.reserve.ensures.ok)) c.in-Err.ensures.same.lane c.in-Err.ensures.same.pending;
     }
+
+pub returns-then-is_err-clause-stays : goal.returns-then-is_err-clause-stays
+returns-then-is_err-clause-stays c = goes-before c.args.nodes.now.items c.args.place.node c.args.place.lane c.index_mut-own.result.now _ c.index_mut-own.ensures.value refl
+
+pub returns-then-arrived-ge18446744073709551615-clause-stays : goal.returns-then-arrived-ge18446744073709551615-clause-stays
+returns-then-arrived-ge18446744073709551615-clause-stays c =
+    goes c.args.nodes.now.items c.args.place.node c.args.place.lane c.index_mut-own.result.now _ c.index_mut-into.result.now c.index_mut-into.result.now c.index_mut-own.ensures.value c.index_mut-into.ensures.value LinksStay refl
+    (record { links = refl; searches = refl })
+
+pub returns-in-Ok-clause-links : goal.returns-in-Ok-clause-links
+returns-in-Ok-clause-links c =
+    goes c.args.nodes.now.items c.args.place.node c.args.place.lane c.index_mut-own.result.now _ c.index_mut-into.result.now c.arrive.new.self c.index_mut-own.ensures.value c.index_mut-into.ensures.value (GetsPlace c.args.bundle.epoch) refl
+    (record { place = c.in-Ok.ensures.links.place; links = c.in-Ok.ensures.links.links; searches = c.arrive.ensures.searches })
+
+pub returns-in-Err-clause-stays : goal.returns-in-Err-clause-stays
+returns-in-Err-clause-stays c =
+    goes c.args.nodes.now.items c.args.place.node c.args.place.lane c.index_mut-own.result.now _ c.index_mut-into.result.now c.arrive.new.self c.index_mut-own.ensures.value c.index_mut-into.ensures.value LinksStay refl
+    (record { links = c.in-Err.ensures.same.links; searches = c.arrive.ensures.searches })

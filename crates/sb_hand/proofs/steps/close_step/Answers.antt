@@ -6,6 +6,7 @@ use Rattle.sb_lane.specs.LaneView.{LaneView}
 use Rattle.sb_lane.specs.Placed.{conts_of}
 use Rattle.sb_hand.specs.declared.state.NodeState.{NodeState}
 use Rattle.sb_hand.specs.Stepping.{CannotClose}
+use Rattle.sb_hand.proofs.LinkedEvents.{keeps-none}
 use Rattle.sb_hand.proofs.Having.{node-there}
 use Rattle.sb_hand.proofs.steps.close_step.Goals as goal
 
@@ -28,8 +29,8 @@ close_node-requires-clause-looks c = λ at h.
     let at_is : s.0 ≡ at = same_Some s.0 at (sym s.1 ∙ ap (λ ls. slice_get ls c.in-Some.lane) c.as_slice.ensures.value ∙ ap (λ (n : NodeState). slice_get n.lanes.items c.in-Some.lane) (sym same) ∙ h.in_it) in
     (s.2, ap (λ (x : LaneView). look_of (conts_of x.containers)) (sym at_is) ∙ s.3, s.4)
 
-pub returns-in-None : goal.returns-in-None
-returns-in-None c =
+pub returns-in-None-clause-steps : goal.returns-in-None-clause-steps
+returns-in-None-clause-steps c =
     let own = node-there c.args.plan.now c.args.size c.args.nodes.now.items [] c.requires.can c.args.node c.requires.node c.index.result.now c.index.ensures in (
       record {
         own = c.index.result.now;
@@ -41,8 +42,8 @@ returns-in-None c =
       refl,
     )
 
-pub returns-in_ok-close_node-in-Some : goal.returns-in_ok-close_node-in-Some
-returns-in_ok-close_node-in-Some c =
+pub returns-in_ok-close_node-in-Some-clause-steps : goal.returns-in_ok-close_node-in-Some-clause-steps
+returns-in_ok-close_node-in-Some-clause-steps c =
     let own = node-there c.args.plan.now c.args.size c.args.nodes.now.items [] c.requires.can c.args.node c.requires.node c.index.result.now c.index.ensures in
     let s = c.in-Some.ensures.some in (
       c.in-Some.lane,
@@ -53,5 +54,8 @@ returns-in_ok-close_node-in-Some c =
         close = s.2;
         looks = s.3;
       },
-      c.in_ok-close_node-in-Some.ensures,
+      c.in_ok-close_node-in-Some.ensures.closes,
     )
+
+pub returns-in-None-clause-links : goal.returns-in-None-clause-links
+returns-in-None-clause-links c = keeps-none c.args.plan.now c.args.nodes.now.items c.requires.linked

@@ -24,8 +24,8 @@ close_step-requires-clause-idle c = λ x h.
     let same : c.index.result.now ≡ x = same_Some c.index.result.now x (sym own.there ∙ h) in
     subst (λ (ls : List LaneView). All NoneWaits ls) (c.as_slice.ensures.value ∙ ap (λ (n : NodeState). n.lanes.items) same) c.in-None.ensures.none
 
-pub returns-in_ok-work_off-in-Some : goal.returns-in_ok-work_off-in-Some
-returns-in_ok-work_off-in-Some c =
+pub returns-in_ok-work_off-in-Some-clause-steps : goal.returns-in_ok-work_off-in-Some-clause-steps
+returns-in_ok-work_off-in-Some-clause-steps c =
     let own = node-there c.args.plan.now c.args.size c.args.nodes.now.items [] c.requires.can c.args.node c.requires.node c.index.result.now c.index.ensures in
     let s = c.in-Some.ensures.some in (
       c.in-Some.lane,
@@ -34,6 +34,6 @@ returns-in_ok-work_off-in-Some c =
         has = record { own = c.index.result.now; there = own.there; in_it = ap (λ ls. slice_get ls c.in-Some.lane) (sym c.as_slice.ensures.value) ∙ s.1 };
         waits = s.2;
       },
-      c.in_ok-work_off-in-Some.ensures,
+      c.in_ok-work_off-in-Some.ensures.works,
       refl,
     )

@@ -4,6 +4,7 @@ use Rattle.sb_lane.specs.Placed.{conts_of}
 use Rattle.sb_lane.specs.Unfinished.{unfinished_of}
 use Rattle.sb_hand.specs.Feeding.{MayArrive, TakesStream}
 use Rattle.sb_hand.specs.Hands.{HandView}
+use Rattle.sb_hand.specs.Searching.{SearchesStay}
 use Rattle.sb_hand.proofs.hand.Hand.arrive.Goals as goal
 
 pub arrive-requires-clause-may : goal.arrive-requires-clause-may
@@ -20,3 +21,6 @@ pub returns-clause-fewer : goal.returns-clause-fewer
 returns-clause-fewer c =
     subst (λ (h : HandView). OnOk c.arrive.result ((into : TakesStream h.plan c.args.stream h.nodes) → unfinished_of (conts_of into.lane.containers) < into.lane.pending)) c.self.view_is
     c.arrive.ensures.fewer
+
+pub returns-clause-searches : goal.returns-clause-searches
+returns-clause-searches c = subst (λ (h : HandView). SearchesStay h.nodes c.arrive.new.nodes.items) c.self.view_is c.arrive.ensures.searches

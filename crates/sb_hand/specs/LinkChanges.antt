@@ -1,0 +1,39 @@
+-- What becomes of the links and searches of a lane of a node.
+use Rattle.std.specs.Prelude.{◌≡◌, ℕ, List, drop}
+use Rattle.sb_lane.specs.Changes.{StandsAt}
+use Rattle.sb_lane.specs.LaneView.{LaneView, one_search_more}
+use Rattle.sb_lane.specs.Links.{linked, links_of, with_place}
+use Rattle.sb_hand.specs.declared.state.NodeState.{NodeState}
+use Rattle.sb_hand.specs.Sets.{HasLane}
+
+-- lane l of node k becomes another so
+abbrev pub LaneGoes : ℕ → ℕ → (LaneView → LaneView → Type 0) → List NodeState → List NodeState → Type 0
+LaneGoes k l so old new = (was is : LaneView) → HasLane k l was old → HasLane k l is new → so was is
+
+-- the links are as before, and so are the searches
+pub record LinksStay (was is : LaneView) : Type 0 where
+  pub links : links_of is.containers ≡ links_of was.containers
+  pub searches : is.searches ≡ was.searches
+
+-- the oldest link is gone
+pub record DropsLink (was is : LaneView) : Type 0 where
+  pub links : links_of is.containers ≡ drop 1 (links_of was.containers)
+  pub searches : is.searches ≡ was.searches
+
+-- an epoch has a place, that it got now or had before
+pub record GetsPlace (epoch : ℕ) (was is : LaneView) : Type 0 where
+  pub place : ℕ
+  pub links : links_of is.containers ≡ with_place epoch place (links_of was.containers)
+  pub searches : is.searches ≡ was.searches
+
+-- it was looked for, and is this one
+pub record FindsPlace (epoch place : ℕ) (was is : LaneView) : Type 0 where
+  pub made : ℕ
+  pub links : links_of is.containers ≡ with_place epoch made (links_of was.containers)
+  pub stands : StandsAt epoch place is.containers
+  pub searches : is.searches ≡ one_search_more was.searches
+
+-- the link of an epoch is set
+pub record GetsLink (epoch down : ℕ) (was is : LaneView) : Type 0 where
+  pub links : links_of is.containers ≡ linked epoch down (links_of was.containers)
+  pub searches : is.searches ≡ was.searches
