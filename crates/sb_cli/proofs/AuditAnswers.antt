@@ -7,18 +7,19 @@ use Rattle.sb_cli.specs.declared.diary_input.DiaryHalt.TheVariants as halt
 use Rattle.sb_cli.specs.declared.diary_input.DiaryInput.{DiaryInput}
 use Rattle.sb_cli.specs.declared.ending.Ending.{Ending}
 use Rattle.sb_cli.specs.declared.status.Status.{Status}
-use Rattle.sb_cli.specs.declared.status.Status.TheVariants.{Done, Words, Plan, Line, Input, Output, Folder, Memory, Audit}
+use Rattle.sb_cli.specs.declared.status.Status.TheVariants.{Done, Words, Plan, Line, Input, Output, Folder, Memory, Tap, Audit}
 use Rattle.sb_cli.specs.Answers.{Audited, HasAudited, IsAuditAnswer}
 use Rattle.sb_cli.specs.AuditSteps.{AnswersHalt, WritesAudit}
 use Rattle.sb_cli.specs.DiaryReads.{IsReadUpTo, ReadsDiary}
-use Rattle.sb_cli.specs.Given.{lines_of}
+use Rattle.sb_feed.specs.Given.{lines_of}
 
 pub audit_answer : (left left' taken taken' : Option (List ℕ)) (input : DiaryInput) (why : DiaryHalt) (status : Status) (ending : Ending) → ReadsDiary left left' input
-    → input.halt ≡ why → AnswersHalt input.said taken taken' why status → ending.status ≡ status → ending.dropped ≡ [] → IsAuditAnswer left left' taken taken' ending
-audit_answer left left' taken taken' input why status ending reads is answers status_is none = record {
+    → input.halt ≡ why → AnswersHalt input.said taken taken' why status → ending.status ≡ status → ending.dropped ≡ [] → ending.diaries ≡ [] → IsAuditAnswer left left' taken taken' ending
+audit_answer left left' taken taken' input why status ending reads is answers status_is none untold = record {
   given = reads.given;
   audited = subst (HasAudited ls reads.given.ended taken taken') (sym status_is) (by_halt why status (subst (λ w. IsReadUpTo reads.text w reads.given.ended ls) is reads.read) (subst (λ s. AnswersHalt s taken taken' why status) reads.said answers));
   undropped = none;
+  untold = untold;
 }
   where
     ls : List (List ℕ)
@@ -34,6 +35,7 @@ audit_answer left left' taken taken' input why status ending reads is answers st
     by_status (Line refusal) read writes = absurd writes
     by_status (Audit fault) read writes = absurd writes
     by_status Folder read writes = absurd writes
+    by_status (Tap place) read writes = absurd writes
 
     by_halt : (why : DiaryHalt) (status : Status) → IsReadUpTo reads.text why reads.given.ended ls → AnswersHalt (end_of reads.text) taken taken' why status → HasAudited ls reads.given.ended taken taken' status
     by_halt halt.End status read answers = by_status status (record { legal = read.0; whole = read.1 }) answers

@@ -1,4 +1,3 @@
-pub mod Commands
 pub mod Reading
 pub mod Takings
 pub mod Printing
@@ -7,3 +6,8 @@ pub mod PlanNotes
 pub mod Wanting
 pub mod DiaryReading
 pub mod AuditAnswers
+pub mod RunEnding
+pub mod Blaming
+pub mod RunAnswers
+pub mod RunFaults
+pub mod Tellings

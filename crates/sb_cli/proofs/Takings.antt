@@ -22,7 +22,7 @@ use Rattle.sb_outside.specs.Readings.{Held, MayCome, reading, rest_of_lines}
 use Rattle.std.proofs.KnownBytes.{Consumes-nil, Consumes-trans}
 use Rattle.sb_cli.specs.declared.input.Input.{Input}
 use Rattle.sb_cli.specs.declared.kept.Kept.{Kept}
-use Rattle.sb_cli.specs.Given.{Given, items_of}
+use Rattle.sb_feed.specs.Given.{Given, items_of}
 use Rattle.sb_cli.specs.Keeping.{AreKept, Keeps}
 use Rattle.sb_cli.specs.Reads.{IsGoing, IsInputOf, ReadsAll, StopsAt, StopsReading, TakesItem}
 

@@ -4,7 +4,7 @@ use Rattle.std.specs.Io.KnownBytes.{Appends}
 use Rattle.sb_diary.specs.declared.audit.AuditEnd.{AuditEnd}
 use Rattle.sb_outside.specs.Sinks.{AppendsPrefix}
 use Rattle.sb_cli.specs.declared.status.Status.{Status}
-use Rattle.sb_cli.specs.declared.status.Status.TheVariants.{Done, Words, Plan, Line, Input, Output, Folder, Memory, Audit}
+use Rattle.sb_cli.specs.declared.status.Status.TheVariants.{Done, Words, Plan, Line, Input, Output, Folder, Memory, Tap, Audit}
 use Rattle.sb_cli.specs.declared.diary_input.DiaryHalt.{DiaryHalt}
 use Rattle.sb_cli.specs.declared.diary_input.DiaryHalt.TheVariants as halt
 use Rattle.sb_cli.specs.Statuses.{audit_text}
@@ -20,6 +20,7 @@ WritesAudit said taken taken' (Plan fault) = ⊥
 WritesAudit said taken taken' (Line refusal) = ⊥
 WritesAudit said taken taken' (Audit fault) = ⊥
 WritesAudit said taken taken' Folder = ⊥
+WritesAudit said taken taken' (Tap place) = ⊥
 
 -- what an audit answers where reading stopped: its line is written at the end of a legal text, and else nothing
 abbrev pub AnswersHalt : AuditEnd → Option (List ℕ) → Option (List ℕ) → DiaryHalt → Status → Type 0

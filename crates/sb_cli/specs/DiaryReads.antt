@@ -10,7 +10,7 @@ use Rattle.sb_outside.specs.Sources.{Rose}
 use Rattle.sb_cli.specs.declared.diary_input.DiaryHalt.{DiaryHalt}
 use Rattle.sb_cli.specs.declared.diary_input.DiaryHalt.TheVariants.{End, Refused, Fault, Memory}
 use Rattle.sb_cli.specs.declared.diary_input.DiaryInput.{DiaryInput}
-use Rattle.sb_cli.specs.Given.{Given, lines_of}
+use Rattle.sb_feed.specs.Given.{Given, lines_of}
 use Rattle.sb_cli.specs.Reads.{IsGoing}
 
 -- why a line is refused behind lines that say t: there is no room for it, or it is too long, or an auditor says why

@@ -10,12 +10,15 @@ use Rattle.sb_plan.specs.Failures.Failure.{NoFile}
 use Rattle.sb_plan.specs.PlanFiles.{plan_of}
 use Rattle.sb_plan.specs.declared.TheConstants.{MAX_PLAN_BYTES, MAX_TABLE_BYTES}
 use Rattle.sb_cli.specs.declared.status.Status.{Status}
-use Rattle.sb_cli.specs.declared.status.Status.TheVariants.{Done, Words, Plan, Line, Input, Output, Folder, Memory, Audit}
+use Rattle.sb_cli.specs.declared.status.Status.TheVariants.{Done, Words, Plan, Line, Input, Output, Folder, Memory, Tap, Audit}
 use Rattle.sb_diary.specs.declared.audit.AuditFault.{AuditFault}
+use Rattle.sb_emit.specs.Taps.{TapState}
 use Rattle.sb_cli.specs.DiaryReads.{IsRefusedAmong}
-use Rattle.sb_cli.specs.Given.{Given, lines_of, stop_at}
-use Rattle.sb_cli.specs.Words.{Asked}
-use Rattle.sb_cli.specs.Words.Asked.{Sum, Run, Slow, Diary}
+use Rattle.sb_cli.specs.Offered.{BlamesTap}
+use Rattle.sb_feed.specs.Given.{Given, lines_of, stop_at}
+use Rattle.sb_words.specs.Words.{Asked}
+use Rattle.sb_words.specs.Words.{Asked as ask}
+use Rattle.sb_words.specs.Words.Asked.{Sum, Run, Slow}
 
 -- how many reads and writes have failed, and which loads
 pub record Faults : Type 0 where
@@ -37,6 +40,7 @@ HasCause before now Words = ⊤
 HasCause before now (Plan fault) = ⊤
 HasCause before now (Line refusal) = ⊤
 HasCause before now Memory = ⊤
+HasCause before now (Tap place) = ⊤
 HasCause before now (Audit fault) = ⊤
 
 -- the load of the plan file
@@ -56,10 +60,10 @@ IsWantedFor folder name load = (load ≡ plan_load name) ⊎ IsTableOf folder na
 
 -- the load is wanted for what is asked for
 abbrev pub IsWanted : Option Files → Asked → Load → Type 0
-IsWanted folder (Sum size) load = ⊥
-IsWanted folder (Run name) load = IsWantedFor folder name load
+IsWanted folder (Sum size options) load = ⊥
+IsWanted folder (Run name options) load = IsWantedFor folder name load
 IsWanted folder (Slow name) load = IsWantedFor folder name load
-IsWanted folder Diary load = ⊥
+IsWanted folder ask.Audit load = ⊥
 
 -- one load failed, which was wanted
 abbrev pub BlamesFile : Option Files → Asked → List Load → List Load → Type 0
@@ -75,6 +79,7 @@ HidesNoFault before now Input = (now.writes ≡ before.writes) × (now.loads ≡
 HidesNoFault before now Output = now.loads ≡ before.loads
 HidesNoFault before now Folder = (now.reads ≡ before.reads) × (now.writes ≡ before.writes)
 HidesNoFault before now Memory = now.loads ≡ before.loads
+HidesNoFault before now (Tap place) = now ≡ before
 HidesNoFault before now (Audit fault) = now ≡ before
 
 -- the run was done, or there was no memory
@@ -88,8 +93,10 @@ pub record NothingFailsInAudit (left left' : Option (List ℕ)) (before now : Fa
   pub no_write_failed : Rose before.writes now.writes → ⊥
 
 -- no line of what the source gave is refused, and nothing failed
-pub record NothingFails (plan : Shape) (left left' : Option (List ℕ)) (before now : Faults) : Type 0 where
+pub record NothingFails
+    (plan : Shape) (left left' : Option (List ℕ)) (before now : Faults) (taps taps' : List TapState) : Type 0 where
   pub no_refusal : (given : Given left left') (refusal : Refusal) → stop_at plan given ≡ Refused refusal → ⊥
   pub no_read_failed : Rose before.reads now.reads → ⊥
   pub no_write_failed : Rose before.writes now.writes → ⊥
   pub no_load_failed : now.loads ≡ before.loads
+  pub no_tap_failed : (place : ℕ) → BlamesTap place taps taps' → ⊥

@@ -2,19 +2,27 @@
 use Rattle.std.specs.Prelude.{◌≡◌, ℕ, ◌+◌, List, take, Option, Some, Result, Ok, Err}
 use Rattle.sb_record.specs.declared.item.Item.{Item}
 use Rattle.sb_record.specs.declared.item.Record.{Record}
-use Rattle.sb_record.specs.declared.item.Stream.{Stream}
-use Rattle.sb_record.specs.Streams.{records_of}
+use Rattle.sb_record.specs.declared.item.TheConstants.{END_MARK}
 use Rattle.sb_outside.specs.Folders.{Files}
 use Rattle.sb_pipeline.specs.Plans.{IsPlan}
 use Rattle.sb_pipeline.specs.Shapes.{Shape, sum_shape}
-use Rattle.sb_pipeline.specs.Results as result
+use Rattle.sb_feed.specs.Due.{rows_below}
 use Rattle.sb_plan.specs.declared.fault.PlanFault.{PlanFault}
 use Rattle.sb_plan.specs.declared.TheConstants.{MAX_PLAN_BYTES}
 use Rattle.sb_plan.specs.Failures.{Failure, in_file}
 use Rattle.sb_plan.specs.Failures.Failure.{Fails}
 use Rattle.sb_plan.specs.PlanFiles.{plan_of}
-use Rattle.sb_cli.specs.Words.{Asked}
-use Rattle.sb_cli.specs.Words.Asked.{Sum, Run, Slow, Diary}
+use Rattle.sb_words.specs.Options.{defaults}
+use Rattle.sb_words.specs.Words.{Asked}
+use Rattle.sb_words.specs.Words.Asked.{Sum, Run, Slow, Audit}
+use Rattle.sb_words.specs.declared.options.Options.{Options}
+
+-- the options that are given: the plain program and an audit have none
+abbrev pub options_in : Asked → Options
+options_in (Sum size options) = options
+options_in (Run name options) = options
+options_in (Slow name) = defaults
+options_in Audit = defaults
 
 -- the plan in a file, or its first fault, or that the file or one that it names is not there. One byte more than a plan may have shows that it is too long
 abbrev pub plan_in : Files → List ℕ → Result Shape (Failure PlanFault)
@@ -26,40 +34,32 @@ GivesPlan folder name found = (files : Files) → folder ≡ Some files → plan
 
 -- this is the plan that is asked for
 abbrev pub IsPlanFor : Option Files → Asked → Shape → Type 0
-IsPlanFor folder (Sum size) plan = plan ≡ sum_shape size
-IsPlanFor folder (Run name) plan = IsPlan plan × GivesPlan folder name (Ok plan)
+IsPlanFor folder (Sum size options) plan = plan ≡ sum_shape size
+IsPlanFor folder (Run name options) plan = IsPlan plan × GivesPlan folder name (Ok plan)
 IsPlanFor folder (Slow name) plan = IsPlan plan × GivesPlan folder name (Ok plan)
-IsPlanFor folder Diary plan = ⊥
+IsPlanFor folder Audit plan = ⊥
 
 -- there is no such plan: this is the first fault of its file
 abbrev pub IsFaultFor : Option Files → Asked → PlanFault → Type 0
-IsFaultFor folder (Sum size) fault = ⊥
-IsFaultFor folder (Run name) fault = GivesPlan folder name (Err (Fails fault))
+IsFaultFor folder (Sum size options) fault = ⊥
+IsFaultFor folder (Run name options) fault = GivesPlan folder name (Err (Fails fault))
 IsFaultFor folder (Slow name) fault = GivesPlan folder name (Err (Fails fault))
-IsFaultFor folder Diary fault = ⊥
+IsFaultFor folder Audit fault = ⊥
 
 -- a file is asked for
 abbrev pub AsksForFile : Asked → Type 0
-AsksForFile (Sum size) = ⊥
-AsksForFile (Run name) = Unit {0}
+AsksForFile (Sum size options) = ⊥
+AsksForFile (Run name options) = Unit {0}
 AsksForFile (Slow name) = Unit {0}
-AsksForFile Diary = ⊥
+AsksForFile Audit = ⊥
 
 -- the folder tells its files, where one is asked for, and that gives this plan
 abbrev pub TellsPlan : Option Files → Asked → Shape → Type 0
-TellsPlan folder (Sum size) plan = plan ≡ sum_shape size
-TellsPlan folder (Run name) plan = (files : Files) × (folder ≡ Some files) × (plan_in files name ≡ Ok plan)
+TellsPlan folder (Sum size options) plan = plan ≡ sum_shape size
+TellsPlan folder (Run name options) plan = (files : Files) × (folder ≡ Some files) × (plan_in files name ≡ Ok plan)
 TellsPlan folder (Slow name) plan = (files : Files) × (folder ≡ Some files) × (plan_in files name ≡ Ok plan)
-TellsPlan folder Diary plan = ⊥
-
--- the records of each stream among the items
-abbrev pub streams_in : List Item → Stream → List Record
-streams_in items s = records_of s items
-
--- the rows with time below a watermark that a plan gives over the items
-abbrev pub rows_below : ℕ → Shape → List Item → List Record
-rows_below mark plan items = result.rows_below mark plan (streams_in items)
+TellsPlan folder Audit plan = ⊥
 
 -- the rows of all windows
 abbrev pub all_rows : Shape → List Item → List Record
-all_rows plan items = result.all_rows plan (streams_in items)
+all_rows plan items = rows_below END_MARK plan items

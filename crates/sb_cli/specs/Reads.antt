@@ -14,7 +14,7 @@ use Rattle.sb_outside.specs.Readings.{Reading, MayCome, rest_of_lines}
 use Rattle.sb_cli.specs.declared.input.Input.{Input}
 use Rattle.sb_cli.specs.Keeping.{AreKept}
 use Rattle.sb_pipeline.specs.Shapes.{Shape, streams_of}
-use Rattle.sb_cli.specs.Given.{Given, items_of, stop_at}
+use Rattle.sb_feed.specs.Given.{Given, items_of, stop_at}
 
 -- what is kept of the items that were accepted, their low watermark, and where reading stopped
 pub record IsInputOf

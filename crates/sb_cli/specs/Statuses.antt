@@ -3,6 +3,7 @@ use Rattle.std.specs.Prelude.{ℕ, Bool, ◌==◌, if◌then◌else◌, List, []
 use Rattle.sb_diary.specs.declared.audit.AuditEnd.{AuditEnd}
 use Rattle.sb_diary.specs.declared.audit.AuditFault.{AuditFault}
 use Rattle.sb_diary.specs.declared.audit.AuditFault.TheVariants as audit
+use Rattle.sb_diary.specs.Texts.{NodeDiary, diary_text}
 use Rattle.sb_record.specs.declared.item.Dropped.{Dropped}
 use Rattle.sb_record.specs.declared.intake.Refusal.{Refusal}
 use Rattle.sb_record.specs.declared.intake.Refusal.TheVariants.{TooMany, TooLong, Malformed, WrongStream, Late, Back}
@@ -15,7 +16,7 @@ use Rattle.sb_plan.specs.declared.fault.PlanCause.TheVariants as cause
 use Rattle.sb_plan.specs.declared.fault.PlanFault.{PlanFault}
 use Rattle.sb_plan.specs.Keys.{key_text}
 use Rattle.sb_cli.specs.declared.status.Status.{Status}
-use Rattle.sb_cli.specs.declared.status.Status.TheVariants.{Done, Words, Plan, Line, Input, Output, Folder, Memory, Audit}
+use Rattle.sb_cli.specs.declared.status.Status.TheVariants.{Done, Words, Plan, Line, Input, Output, Folder, Memory, Tap, Audit}
 
 -- the exit code
 abbrev pub code_of : Status → ℕ
@@ -27,6 +28,7 @@ code_of Input = 4
 code_of Output = 5
 code_of Folder = 6
 code_of Memory = 7
+code_of (Tap place) = 8
 code_of (Audit fault) = 9
 
 -- the status of a run whose output went well
@@ -104,15 +106,16 @@ note_text Input = codes "input failed" ++ 10 ∷ []
 note_text Output = codes "output failed" ++ 10 ∷ []
 note_text Folder = codes "file failed" ++ 10 ∷ []
 note_text Memory = codes "out of memory" ++ 10 ∷ []
+note_text (Tap place) = codes "tap " ++ decimal place ++ codes " failed" ++ 10 ∷ []
 note_text (Audit fault) = audit_fault_text fault ++ 10 ∷ []
 
 -- what a user is told of a late record that was dropped, as a line
 abbrev pub dropped_text : Dropped → List ℕ
 dropped_text d = with_times (at_line d.line ++ codes "dropped") d.time d.mark ++ 10 ∷ []
 
--- what a user is told: of each late record that was dropped, in order, and then of how the run ended
-abbrev pub notes_text : List Dropped → Status → List ℕ
-notes_text dropped status = flat_map dropped_text dropped ++ note_text status
+-- what a user is told: of each late record that was dropped, in order, then the diaries, and then how the run ended
+abbrev pub notes_text : List Dropped → List NodeDiary → Status → List ℕ
+notes_text dropped diaries status = flat_map dropped_text dropped ++ diary_text diaries ++ note_text status
 
 -- `settled` if nothing in the diaries is left open, else `running`
 abbrev pub settled_text : Bool → List ℕ

@@ -1,30 +1,28 @@
-//! The answer to a request: an input is read whole, and then its rows are written.
+//! The answer to a request for rows: its plan, and what the engine or the plain program answers to it.
 
-ghost use Rattle.std.specs.Prelude.{◌≡◌, ◌<◌, All, List, Some};
-ghost use Rattle.sb_record.specs.declared.item.Item.{Item};
+ghost use Rattle.std.specs.Prelude.{◌≡◌, ◌<◌, ◌^◌, false, IsTrue, List, ℕ, Some, length, map};
 ghost use Rattle.sb_outside.specs.Folders.{Files, Load};
-ghost use Rattle.sb_outside.specs.Sources.{Rose};
-ghost use Rattle.sb_pipeline.specs.Plans.{IsPlan};
-ghost use Rattle.sb_pipeline.specs.Shapes.{Shape, sum_shape};
+ghost use Rattle.sb_pipeline.specs.Shapes.{sum_shape};
 ghost use Rattle.sb_plan.specs.PlanFiles.{AnswersPlan};
 ghost use Rattle.sb_plan.specs.Wants.{BlamesLoad};
-ghost use Rattle.sb_cli.specs.Answers as spec;
-ghost use Rattle.sb_cli.specs.Answers.{IsAnswer, IsAnswerOf, IsRead, IsUnread, IsWritten, HasWritten, due_rows};
+ghost use Rattle.sb_words.specs.Options.{AreInRange};
+ghost use Rattle.sb_words.specs.Words.{IsSize};
+ghost use Rattle.sb_words.specs.Words.Asked.{Run, Slow};
+ghost use Rattle.sb_cli.specs.Answers.{IsAnswer, IsAnswerOf, IsRead, IsUnread};
 ghost use Rattle.sb_cli.specs.Faults.{BlamesFile, HasCause, HidesNoFault, IsWantedFor, faults_of};
+ghost use Rattle.sb_cli.specs.Offered.{BlamesTap, IsNoTap, IsOffered, IsOfferedOf};
 ghost use Rattle.sb_cli.specs.Pipelines.{plan_in};
-ghost use Rattle.sb_cli.specs.Words.{IsSize};
-ghost use Rattle.sb_cli.specs.Words.Asked.{Run};
 
 use crate::ending::Ending;
-use crate::input::{Input, read_input};
-use crate::kept::Kept;
-use crate::output::write_rows;
+use crate::engine::answer_run;
+use crate::plain::answer_plain;
 use crate::status::Status;
-use sb_outside::{Folder, FolderFault, Sink, SinkFault, Source};
+use sb_emit::Tap;
+use sb_outside::{Folder, FolderFault, Sink, Source};
 use sb_pipeline::{Plan, sum_plan};
 use sb_plan::{MAX_PLAN_BYTES, PlanStop, plan_of};
-use sb_record::{END_MARK, NoMemory, Record, Stop};
-use sb_slow::rows_of_streams;
+use sb_record::NoMemory;
+use sb_words::Options;
 use std::alloc::Global;
 
 /// The plan in a file.
@@ -46,22 +44,32 @@ fn load_plan<F: Folder>(alloc: Global, name: &str, folder: &mut F) -> Result<Pla
 pub(crate) fn answer_sum<S: Source, K: Sink>(
     alloc: Global,
     size: u64,
+    options: Options,
     source: &mut S,
     out: &mut K,
+    taps: &mut Vec<Box<dyn Tap>>,
 ) -> Ending
-    requires { IsSize size }
-    ensures answer { IsAnswerOf (sum_shape size) (S.left source.old) (S.left source.new)
+    requires size { IsSize size }
+    requires range { AreInRange options }
+    requires few { length taps.old.items < 2 ^ 32 }
+    ensures answer { IsAnswerOf (sum_shape size) options (S.left source.old) (S.left source.new)
         (K.taken out.old) (K.taken out.new) result }
+    ensures offered { IsTrue options.taps → IsOfferedOf (sum_shape size) (S.left source.old) (S.left source.new)
+        (K.taken out.old) (K.taken out.new)
+        (map (λ t. tap_state t) taps.old.items) (map (λ t. tap_state t) taps.new.items) result.status }
+    ensures unoffered { options.taps ≡ false → (taps.new ≡ taps.old) × IsNoTap result.status }
     ensures read { IsRead result.status }
     ensures cause { (loads : List Load) → HasCause
         (faults_of (S.faults source.old) (K.sink_state out.old) loads)
         (faults_of (S.faults source.new) (K.sink_state out.new) loads) result.status }
+    ensures blames_tap { (place : ℕ) → result.status ≡ Status.Tap place → BlamesTap place
+        (map (λ t. tap_state t) taps.old.items) (map (λ t. tap_state t) taps.new.items) }
     ensures no_fault_hidden { (loads : List Load) → HidesNoFault
         (faults_of (S.faults source.old) (K.sink_state out.old) loads)
         (faults_of (S.faults source.new) (K.sink_state out.new) loads) result.status }
 {
     match sum_plan(alloc, size) {
-        Ok(plan) => answer_plan(alloc, &plan, source, out),
+        Ok(plan) => answer_run(alloc, plan, options, source, out, taps),
         Err(NoMemory) => Ending::of(alloc, Status::Memory),
     }
 }
@@ -70,84 +78,68 @@ pub(crate) fn answer_sum<S: Source, K: Sink>(
 pub(crate) fn answer_file<S: Source, K: Sink, F: Folder>(
     alloc: Global,
     name: &str,
+    options: Options,
     source: &mut S,
     out: &mut K,
     folder: &mut F,
+    taps: &mut Vec<Box<dyn Tap>>,
 ) -> Ending
-    ensures answer { IsAnswer (F.files folder.old) (Run name.now) (S.left source.old) (S.left source.new)
+    requires range { AreInRange options }
+    requires few { length taps.old.items < 2 ^ 32 }
+    ensures answer { IsAnswer (F.files folder.old) (Run name.now options) (S.left source.old) (S.left source.new)
         (K.taken out.old) (K.taken out.new) result }
-    ensures unread { IsUnread result.status → (source.new ≡ source.old) × (out.new ≡ out.old) }
+    ensures offered { IsTrue options.taps → IsOffered (F.files folder.old) (Run name.now options)
+        (S.left source.old) (S.left source.new) (K.taken out.old) (K.taken out.new)
+        (map (λ t. tap_state t) taps.old.items) (map (λ t. tap_state t) taps.new.items) result.status }
+    ensures unoffered { options.taps ≡ false → (taps.new ≡ taps.old) × IsNoTap result.status }
+    ensures unread { IsUnread result.status
+        → (source.new ≡ source.old) × (out.new ≡ out.old) × (taps.new ≡ taps.old) }
     ensures same { F.files folder.new ≡ F.files folder.old }
     ensures cause { HasCause
         (faults_of (S.faults source.old) (K.sink_state out.old) (F.failed folder.old))
         (faults_of (S.faults source.new) (K.sink_state out.new) (F.failed folder.new)) result.status }
     ensures blames { result.status ≡ Status.Folder
-        → BlamesFile (F.files folder.old) (Run name.now) (F.failed folder.old) (F.failed folder.new) }
+        → BlamesFile (F.files folder.old) (Run name.now options) (F.failed folder.old) (F.failed folder.new) }
+    ensures blames_tap { (place : ℕ) → result.status ≡ Status.Tap place → BlamesTap place
+        (map (λ t. tap_state t) taps.old.items) (map (λ t. tap_state t) taps.new.items) }
     ensures no_fault_hidden { HidesNoFault
         (faults_of (S.faults source.old) (K.sink_state out.old) (F.failed folder.old))
         (faults_of (S.faults source.new) (K.sink_state out.new) (F.failed folder.new)) result.status }
 {
     match load_plan(alloc, name, folder) {
-        Ok(plan) => answer_plan(alloc, &plan, source, out),
+        Ok(plan) => answer_run(alloc, plan, options, source, out, taps),
         Err(PlanStop::Fault(fault)) => Ending::of(alloc, Status::Plan(fault)),
         Err(PlanStop::Folder) => Ending::of(alloc, Status::Folder),
         Err(PlanStop::Memory) => Ending::of(alloc, Status::Memory),
     }
 }
 
-/// Answers with the rows of a plan.
-fn answer_plan<S: Source, K: Sink>(
+/// Answers with the rows of the plan in a file, by the plain program.
+pub(crate) fn answer_slow<S: Source, K: Sink, F: Folder>(
     alloc: Global,
-    plan: &Plan,
+    name: &str,
     source: &mut S,
     out: &mut K,
+    folder: &mut F,
 ) -> Ending
-    ensures answer { IsAnswerOf plan.now (S.left source.old) (S.left source.new)
+    ensures answer { IsAnswer (F.files folder.old) (Slow name.now) (S.left source.old) (S.left source.new)
         (K.taken out.old) (K.taken out.new) result }
-    ensures plan { IsPlan plan.now }
-    ensures read { IsRead result.status }
-    ensures cause { (loads : List Load) → HasCause
-        (faults_of (S.faults source.old) (K.sink_state out.old) loads)
-        (faults_of (S.faults source.new) (K.sink_state out.new) loads) result.status }
-    ensures no_fault_hidden { (loads : List Load) → HidesNoFault
-        (faults_of (S.faults source.old) (K.sink_state out.old) loads)
-        (faults_of (S.faults source.new) (K.sink_state out.new) loads) result.status }
+    ensures no_tap { IsNoTap result.status }
+    ensures unread { IsUnread result.status → (source.new ≡ source.old) × (out.new ≡ out.old) }
+    ensures same { F.files folder.new ≡ F.files folder.old }
+    ensures cause { HasCause
+        (faults_of (S.faults source.old) (K.sink_state out.old) (F.failed folder.old))
+        (faults_of (S.faults source.new) (K.sink_state out.new) (F.failed folder.new)) result.status }
+    ensures blames { result.status ≡ Status.Folder
+        → BlamesFile (F.files folder.old) (Slow name.now) (F.failed folder.old) (F.failed folder.new) }
+    ensures no_fault_hidden { HidesNoFault
+        (faults_of (S.faults source.old) (K.sink_state out.old) (F.failed folder.old))
+        (faults_of (S.faults source.new) (K.sink_state out.new) (F.failed folder.new)) result.status }
 {
-    let Ok(input) = read_input(alloc, plan, source) else {
-        return Ending::of(alloc, Status::Memory);
-    };
-    let below = due_mark(&input);
-    let Input { kept, stop, .. } = input;
-    let Kept { a, b, dropped } = kept;
-    let status = match rows_of_streams(alloc, plan, a.into_vec(), b.into_vec(), below) {
-        Ok(rows) => write_due(&rows, stop, out),
-        Err(NoMemory) => Status::Memory,
-    };
-    Ending { status, dropped }
-}
-
-/// The watermark below which rows are due.
-fn due_mark(input: &Input) -> u64
-    ensures { result ≡ spec.due_mark input.now.stop input.now.low }
-{
-    match input.stop {
-        Stop::End => END_MARK,
-        Stop::Refused(_) | Stop::Fault => input.low,
-    }
-}
-
-/// Writes the rows that are due where reading stopped.
-fn write_due<K: Sink>(rows: &[Record], stop: Stop, out: &mut K) -> Status
-    requires { All (λ r. r.time < END_MARK) rows.now }
-    ensures written { (plan : Shape) (items : List Item) → rows.now ≡ due_rows plan stop items
-        → HasWritten plan stop items (K.taken out.old) (K.taken out.new) result }
-    ensures cause { result ≡ Status.Output → Rose (K.sink_state out.old).faults (K.sink_state out.new).faults }
-    ensures told { IsWritten result → (K.sink_state out.new).faults ≡ (K.sink_state out.old).faults }
-    ensures fault { result ≡ Status.Input → stop ≡ Stop.Fault }
-{
-    match write_rows(out, rows) {
-        Ok(()) => Status::of_stop(stop),
-        Err(SinkFault::Failed) => Status::Output,
-        Err(SinkFault::Memory) => Status::Memory,
+    match load_plan(alloc, name, folder) {
+        Ok(plan) => answer_plain(alloc, &plan, source, out),
+        Err(PlanStop::Fault(fault)) => Ending::of(alloc, Status::Plan(fault)),
+        Err(PlanStop::Folder) => Ending::of(alloc, Status::Folder),
+        Err(PlanStop::Memory) => Ending::of(alloc, Status::Memory),
     }
 }

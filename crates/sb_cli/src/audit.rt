@@ -6,6 +6,7 @@ ghost use Rattle.sb_outside.specs.Sinks.{WritesAll};
 ghost use Rattle.sb_outside.specs.Sources.{Rose};
 ghost use Rattle.sb_cli.specs.Answers.{IsAuditAnswer, IsRead, IsWritten};
 ghost use Rattle.sb_cli.specs.Faults.{HasCause, HidesNoFault, faults_of};
+ghost use Rattle.sb_cli.specs.Offered.{IsNoTap};
 ghost use Rattle.sb_cli.specs.AuditSteps.{WritesAudit};
 
 use crate::diary_input::{DiaryHalt, read_diary};
@@ -22,6 +23,7 @@ pub(crate) fn answer_audit<S: Source, K: Sink>(alloc: Global, source: &mut S, ou
     ensures answer { IsAuditAnswer (S.left source.old) (S.left source.new)
         (K.taken out.old) (K.taken out.new) result }
     ensures read { IsRead result.status }
+    ensures no_tap { IsNoTap result.status }
     ensures cause { (loads : List Load) → HasCause
         (faults_of (S.faults source.old) (K.sink_state out.old) loads)
         (faults_of (S.faults source.new) (K.sink_state out.new) loads) result.status }
@@ -41,6 +43,7 @@ pub(crate) fn answer_audit<S: Source, K: Sink>(alloc: Global, source: &mut S, ou
 /// Writes what an audit says.
 fn write_said<K: Sink>(out: &mut K, said: &AuditEnd) -> Status
     ensures written { WritesAudit said.now (K.taken out.old) (K.taken out.new) result }
+    ensures no_tap { IsNoTap result }
     ensures cause { result ≡ Status.Output → Rose (K.sink_state out.old).faults (K.sink_state out.new).faults }
     ensures told { IsWritten result → (K.sink_state out.new).faults ≡ (K.sink_state out.old).faults }
 {

@@ -1,26 +1,32 @@
 //! The one call that the program makes.
 
-ghost use Rattle.std.specs.Prelude.{◌≡◌, ℕ, List, []};
+ghost use Rattle.std.specs.Prelude.{◌≡◌, ◌<◌, ◌^◌, false, IsTrue, ℕ, List, [], length, map};
 ghost use Rattle.sb_record.specs.declared.item.Dropped.{Dropped};
 ghost use Rattle.sb_outside.specs.Sinks.{SinkCause, WritesAll};
+ghost use Rattle.sb_diary.specs.Texts.{NodeDiary};
 ghost use Rattle.sb_pipeline.specs.Shapes.{Shape};
 ghost use Rattle.sb_cli.specs.Answers.{IsAnswer, IsUnread, ending_of};
 ghost use Rattle.sb_cli.specs.Faults.{BlamesFile, HasCause, HidesNoFault, IsDoneOrMemory, NothingFails, NothingFailsInAudit};
 ghost use Rattle.sb_cli.specs.Faults.{faults_of};
 ghost use Rattle.sb_cli.specs.Notes.{HasNoted};
-ghost use Rattle.sb_cli.specs.Pipelines.{TellsPlan};
+ghost use Rattle.sb_cli.specs.Offered.{BlamesTap, IsNoTap, IsOffered};
+ghost use Rattle.sb_cli.specs.Pipelines.{TellsPlan, options_in};
 ghost use Rattle.sb_cli.specs.Statuses.{note_text, notes_text};
-ghost use Rattle.sb_cli.specs.Words.{Asked, IsCommand, IsNoCommand, texts};
-ghost use Rattle.sb_cli.specs.Words.Asked.{Sum, Diary};
+ghost use Rattle.sb_words.specs.declared.options.Options.{Options};
+ghost use Rattle.sb_words.specs.Texts.{texts};
+ghost use Rattle.sb_words.specs.Words.{Asked, IsCommand, IsNoCommand};
+ghost use Rattle.sb_words.specs.Words.Asked.{Sum, Audit};
 
-use crate::answer::{answer_file, answer_sum};
+use crate::answer::{answer_file, answer_slow, answer_sum};
 use crate::audit::answer_audit;
 use crate::ending::Ending;
 use crate::note::note_of;
 use crate::output::write_dropped;
 use crate::status::Status;
-use crate::words::{Request, read_words};
+use sb_emit::Tap;
 use sb_outside::{Folder, Sink, SinkFault, Source, write_all_of};
+use sb_record::NoMemory;
+use sb_words::{Request, read_words};
 use std::alloc::Global;
 
 /// Does what the words of a command line ask for: reads a plan and its tables from `folder` and records and watermarks
@@ -39,13 +45,25 @@ pub fn streambox<S: Source, K: Sink, N: Sink, F: Folder>(
     out: &mut K,
     notes: &mut N,
     folder: &mut F,
+    taps: &mut Vec<Box<dyn Tap>>,
 ) -> Status
+    requires { length taps.old.items < 2 ^ 32 }
+
     // What was written and what the user was told, by how the run ended, over the items that were accepted.
-    ensures answer { (wanted : Asked) → IsCommand wanted (texts words.now) → (dropped : List Dropped)
+    ensures answer { (wanted : Asked) → IsCommand wanted (texts words.now)
+        → (dropped : List Dropped) × (diaries : List NodeDiary)
         × IsAnswer (F.files folder.old) wanted (S.left input.old) (S.left input.new)
-        (K.taken out.old) (K.taken out.new) (ending_of result dropped)
+        (K.taken out.old) (K.taken out.new) (ending_of result dropped diaries)
         × HasNoted (N.taken notes.old) (N.taken notes.new)
-        (N.sink_state notes.old) (N.sink_state notes.new) (notes_text dropped result) }
+        (N.sink_state notes.old) (N.sink_state notes.new) (notes_text dropped diaries result) }
+
+    // What the taps were offered with `--taps`; without it they are not called.
+    ensures offered { (wanted : Asked) → IsCommand wanted (texts words.now) → IsTrue (options_in wanted).taps
+        → IsOffered (F.files folder.old) wanted (S.left input.old) (S.left input.new)
+        (K.taken out.old) (K.taken out.new)
+        (map (λ t. tap_state t) taps.old.items) (map (λ t. tap_state t) taps.new.items) result }
+    ensures unoffered { (wanted : Asked) → IsCommand wanted (texts words.now) → (options_in wanted).taps ≡ false
+        → (taps.new ≡ taps.old) × IsNoTap result }
 
     // Words that are no command.
     ensures no_command { IsNoCommand (texts words.now) → result ≡ Status.Words }
@@ -53,15 +71,17 @@ pub fn streambox<S: Source, K: Sink, N: Sink, F: Folder>(
         → HasNoted (N.taken notes.old) (N.taken notes.new)
         (N.sink_state notes.old) (N.sink_state notes.new) (note_text Status.Words) }
     ensures untouched { IsNoCommand (texts words.now)
-        → (input.new ≡ input.old) × (out.new ≡ out.old) × (folder.new ≡ folder.old) }
+        → (input.new ≡ input.old) × (out.new ≡ out.old) × (folder.new ≡ folder.old) × (taps.new ≡ taps.old) }
 
     // If the words or the plan are refused, or a file can't be loaded.
-    ensures unread { IsUnread result → (input.new ≡ input.old) × (out.new ≡ out.old) }
+    ensures unread { IsUnread result
+        → (input.new ≡ input.old) × (out.new ≡ out.old) × (taps.new ≡ taps.old) }
 
     // Files are loaded if a plan file is asked for, and none is changed.
     ensures same { F.files folder.new ≡ F.files folder.old }
-    ensures sum_loads_nothing { (size : ℕ) → IsCommand (Sum size) (texts words.now) → folder.new ≡ folder.old }
-    ensures audit_loads_nothing { IsCommand Diary (texts words.now) → folder.new ≡ folder.old }
+    ensures sum_loads_nothing { (size : ℕ) (options : Options)
+        → IsCommand (Sum size options) (texts words.now) → folder.new ≡ folder.old }
+    ensures audit_loads_nothing { IsCommand Audit (texts words.now) → folder.new ≡ folder.old }
 
     // Faults come from where they say: a read, a write, or the load of a file that is wanted at its turn.
     ensures cause { HasCause
@@ -69,6 +89,8 @@ pub fn streambox<S: Source, K: Sink, N: Sink, F: Folder>(
         (faults_of (S.faults input.new) (K.sink_state out.new) (F.failed folder.new)) result }
     ensures blames { (wanted : Asked) → IsCommand wanted (texts words.now) → result ≡ Status.Folder
         → BlamesFile (F.files folder.old) wanted (F.failed folder.old) (F.failed folder.new) }
+    ensures blames_tap { (place : ℕ) → result ≡ Status.Tap place → BlamesTap place
+        (map (λ t. tap_state t) taps.old.items) (map (λ t. tap_state t) taps.new.items) }
 
     // None is passed over, and a run in which nothing fails is done.
     ensures no_fault_hidden { HidesNoFault
@@ -79,14 +101,15 @@ pub fn streambox<S: Source, K: Sink, N: Sink, F: Folder>(
         → NothingFails plan (S.left input.old) (S.left input.new)
         (faults_of (S.faults input.old) (K.sink_state out.old) (F.failed folder.old))
         (faults_of (S.faults input.new) (K.sink_state out.new) (F.failed folder.new))
+        (map (λ t. tap_state t) taps.old.items) (map (λ t. tap_state t) taps.new.items)
         → IsDoneOrMemory result }
-    ensures audit_complete { IsCommand Diary (texts words.now)
+    ensures audit_complete { IsCommand Audit (texts words.now)
         → NothingFailsInAudit (S.left input.old) (S.left input.new)
         (faults_of (S.faults input.old) (K.sink_state out.old) (F.failed folder.old))
         (faults_of (S.faults input.new) (K.sink_state out.new) (F.failed folder.new))
         → IsDoneOrMemory result }
 {
-    let ending = respond(alloc, words, input, out, folder);
+    let ending = respond(alloc, words, input, out, folder, taps);
     tell(notes, &ending);
     ending.status
 }
@@ -98,50 +121,65 @@ fn respond<S: Source, K: Sink, F: Folder>(
     input: &mut S,
     out: &mut K,
     folder: &mut F,
+    taps: &mut Vec<Box<dyn Tap>>,
 ) -> Ending
+    requires { length taps.old.items < 2 ^ 32 }
     ensures answer { (wanted : Asked) → IsCommand wanted (texts words.now)
         → IsAnswer (F.files folder.old) wanted (S.left input.old) (S.left input.new)
         (K.taken out.old) (K.taken out.new) result }
+    ensures offered { (wanted : Asked) → IsCommand wanted (texts words.now) → IsTrue (options_in wanted).taps
+        → IsOffered (F.files folder.old) wanted (S.left input.old) (S.left input.new)
+        (K.taken out.old) (K.taken out.new)
+        (map (λ t. tap_state t) taps.old.items) (map (λ t. tap_state t) taps.new.items) result.status }
+    ensures unoffered { (wanted : Asked) → IsCommand wanted (texts words.now) → (options_in wanted).taps ≡ false
+        → (taps.new ≡ taps.old) × IsNoTap result.status }
     ensures no_command { IsNoCommand (texts words.now)
-        → (result.status ≡ Status.Words) × (result.dropped ≡ [])
-        × (input.new ≡ input.old) × (out.new ≡ out.old) × (folder.new ≡ folder.old) }
-    ensures unread { IsUnread result.status → (input.new ≡ input.old) × (out.new ≡ out.old) }
+        → (result.status ≡ Status.Words) × (result.dropped ≡ []) × (result.diaries ≡ [])
+        × (input.new ≡ input.old) × (out.new ≡ out.old) × (folder.new ≡ folder.old) × (taps.new ≡ taps.old) }
+    ensures unread { IsUnread result.status
+        → (input.new ≡ input.old) × (out.new ≡ out.old) × (taps.new ≡ taps.old) }
     ensures same { F.files folder.new ≡ F.files folder.old }
-    ensures sum_loads_nothing { (size : ℕ) → IsCommand (Sum size) (texts words.now) → folder.new ≡ folder.old }
-    ensures audit_loads_nothing { IsCommand Diary (texts words.now) → folder.new ≡ folder.old }
+    ensures sum_loads_nothing { (size : ℕ) (options : Options)
+        → IsCommand (Sum size options) (texts words.now) → folder.new ≡ folder.old }
+    ensures audit_loads_nothing { IsCommand Audit (texts words.now) → folder.new ≡ folder.old }
     ensures cause { HasCause
         (faults_of (S.faults input.old) (K.sink_state out.old) (F.failed folder.old))
         (faults_of (S.faults input.new) (K.sink_state out.new) (F.failed folder.new)) result.status }
     ensures blames { (wanted : Asked) → IsCommand wanted (texts words.now) → result.status ≡ Status.Folder
         → BlamesFile (F.files folder.old) wanted (F.failed folder.old) (F.failed folder.new) }
+    ensures blames_tap { (place : ℕ) → result.status ≡ Status.Tap place → BlamesTap place
+        (map (λ t. tap_state t) taps.old.items) (map (λ t. tap_state t) taps.new.items) }
     ensures no_fault_hidden { HidesNoFault
         (faults_of (S.faults input.old) (K.sink_state out.old) (F.failed folder.old))
         (faults_of (S.faults input.new) (K.sink_state out.new) (F.failed folder.new)) result.status }
 {
-    match read_words(words) {
-        Some(Request::Sum(size)) => answer_sum(alloc, size, input, out),
-        Some(Request::Audit) => answer_audit(alloc, input, out),
-        Some(Request::Run(name) | Request::Slow(name)) => {
-            answer_file(alloc, name, input, out, folder)
+    match read_words(alloc, words) {
+        Ok(Some(Request::Sum(size, options))) => answer_sum(alloc, size, options, input, out, taps),
+        Ok(Some(Request::Audit)) => answer_audit(alloc, input, out),
+        Ok(Some(Request::Run(name, options))) => {
+            answer_file(alloc, name, options, input, out, folder, taps)
         }
-        None => Ending::of(alloc, Status::Words),
+        Ok(Some(Request::Slow(name))) => answer_slow(alloc, name, input, out, folder),
+        Ok(None) => Ending::of(alloc, Status::Words),
+        Err(NoMemory) => Ending::of(alloc, Status::Memory),
     }
 }
 
-/// Tells the user what was dropped and how the run ended, as far as the notes take it.
+/// Tells the user what was dropped, the diaries and how the run ended, as far as the notes take it.
 fn tell<N: Sink>(notes: &mut N, ending: &Ending)
-    ensures { HasNoted (N.taken notes.old) (N.taken notes.new)
-        (N.sink_state notes.old) (N.sink_state notes.new) (notes_text ending.now.dropped ending.now.status) }
+    ensures { HasNoted (N.taken notes.old) (N.taken notes.new) (N.sink_state notes.old) (N.sink_state notes.new)
+        (notes_text ending.now.dropped ending.now.diaries ending.now.status) }
 {
     let _ = write_notes(notes, ending);
 }
 
-/// Writes a line for each late record that was dropped, and one for how the run ended.
+/// Writes a line for each late record that was dropped, then the diaries, and then one for how the run ended.
 fn write_notes<N: Sink>(notes: &mut N, ending: &Ending) -> Result<(), SinkFault>
     ensures bytes { WritesAll (N.taken notes.old) (N.taken notes.new)
-        (notes_text ending.now.dropped ending.now.status) result }
+        (notes_text ending.now.dropped ending.now.diaries ending.now.status) result }
     ensures cause { SinkCause (N.sink_state notes.old) (N.sink_state notes.new) result }
 {
     write_dropped(notes, ending.dropped.as_slice())?;
+    ending.diaries.write(notes)?;
     write_all_of(notes, note_of(ending.status).as_slice())
 }

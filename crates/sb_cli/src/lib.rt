@@ -8,13 +8,20 @@ mod answer;
 mod audit;
 #[cfg(test)]
 mod audit_tests;
+mod batch;
 mod command;
+mod diaries;
 mod diary_input;
 mod ending;
+mod engine;
+#[cfg(test)]
+mod engine_tests;
 mod input;
 mod kept;
+mod lent;
 mod note;
 mod output;
+mod plain;
 #[cfg(test)]
 mod plan_tests;
 #[cfg(test)]
@@ -24,7 +31,6 @@ mod settings_tests;
 mod status;
 #[cfg(test)]
 mod tests;
-mod words;
 
 pub use command::streambox;
 pub use status::Status;

@@ -1,6 +1,6 @@
 //! What a user is told of how a run ended.
 
-ghost use Rattle.std.specs.Prelude.{◌≡◌, ◌≤◌, ◌+◌, ◌++◌, length};
+ghost use Rattle.std.specs.Prelude.{◌≡◌, ◌≤◌, ◌+◌, ◌++◌, codes, decimal, length};
 ghost use Rattle.sb_plan.specs.Keys.{key_text};
 ghost use Rattle.sb_cli.specs.Statuses as spec;
 
@@ -107,6 +107,18 @@ fn audit_note(fault: AuditFault) -> Note
     }
 }
 
+/// Which tap has failed.
+fn tap_note(place: u32) -> Note
+    ensures text { result ≡ codes "tap " ++ decimal place ++ codes " failed" }
+    ensures short { length result ≤ 127 }
+{
+    let mut note = Note::new();
+    note.push(b"tap ");
+    note.push_number(u64::from(place));
+    note.push(b" failed");
+    note
+}
+
 /// `plan: `, and the transform where it is one.
 fn at_transform(place: u32) -> Note
     ensures text { result ≡ spec.at_transform place }
@@ -194,6 +206,7 @@ pub(crate) fn note_of(status: Status) -> Note
         Status::Line(refusal) => refusal_note(refusal),
         Status::Plan(fault) => plan_note(fault),
         Status::Audit(fault) => audit_note(fault),
+        Status::Tap { place } => tap_note(place),
         _ => Note::new(),
     };
     match status {

@@ -11,13 +11,13 @@ use sb_outside::{Sink, SinkFault, write_all_of};
 use sb_record::{Dropped, END_MARK, Record, TextBuf, row_bytes};
 
 /// How many bytes of text are gathered before they are written.
-const BATCH: usize = 8192;
+pub(crate) const BATCH: usize = 8192;
 
-/// The most bytes of a row or a line of notes.
-const MAX_TEXT: usize = 128;
+/// The most bytes of a row or a line of notes, with its end.
+pub(crate) const MAX_TEXT: usize = 129;
 
 /// Writes what is gathered, if another text may not fit.
-fn make_room<K: Sink>(out: &mut K, batch: &mut TextBuf<BATCH>) -> Result<(), SinkFault>
+pub(crate) fn make_room<K: Sink>(out: &mut K, batch: &mut TextBuf<BATCH>) -> Result<(), SinkFault>
     ensures moves { Moves (K.taken out.old) (K.taken out.new) batch.old batch.new result }
     ensures room { OnOk result (length batch.new + MAX_TEXT ≤ BATCH) }
     ensures cause { SinkCause (K.sink_state out.old) (K.sink_state out.new) result }
@@ -31,7 +31,7 @@ fn make_room<K: Sink>(out: &mut K, batch: &mut TextBuf<BATCH>) -> Result<(), Sin
 }
 
 /// Writes the text of rows, whose times are below [`END_MARK`], and takes no memory for it.
-fn write_text<K: Sink>(out: &mut K, rows: &[Record]) -> Result<(), SinkFault>
+pub(crate) fn write_text<K: Sink>(out: &mut K, rows: &[Record]) -> Result<(), SinkFault>
     requires { All (λ r. r.time < END_MARK) rows.now }
     ensures bytes { WritesAll (K.taken out.old) (K.taken out.new) (text_of rows.now) result }
     ensures cause { SinkCause (K.sink_state out.old) (K.sink_state out.new) result }

@@ -51,7 +51,10 @@ pub(crate) fn run(
     );
     let mut out = MemSink::new(alloc, Vec::new(alloc), Vec::new(alloc));
     let mut notes = MemSink::new(alloc, Vec::new(alloc), Vec::new(alloc));
-    let status = streambox(alloc, &words, &mut input, &mut out, &mut notes, folder);
+    let mut taps = Vec::new(alloc);
+    let status = streambox(
+        alloc, &words, &mut input, &mut out, &mut notes, folder, &mut taps,
+    );
     Ok(Ran {
         status,
         rows: Vec::from_slice(alloc, out.taken())?,

@@ -301,7 +301,16 @@ fn what_was_dropped_is_told_before_a_failed_read(rt: HostRuntime) -> Result<(), 
     let mut input = MemSource::new(text, Vec::new(alloc), vec![in alloc; 2]?);
     let mut out = MemSink::new(alloc, Vec::new(alloc), Vec::new(alloc));
     let mut notes = MemSink::new(alloc, Vec::new(alloc), Vec::new(alloc));
-    let status = streambox(alloc, &words, &mut input, &mut out, &mut notes, &mut folder);
+    let mut taps = Vec::new(alloc);
+    let status = streambox(
+        alloc,
+        &words,
+        &mut input,
+        &mut out,
+        &mut notes,
+        &mut folder,
+        &mut taps,
+    );
     assert_eq!(rt; status.code(), 4);
     assert_eq!(rt; out.taken().len(), 0);
     assert_eq!(rt;

@@ -1,11 +1,13 @@
 //! How a run ends.
 
 ghost use Rattle.std.specs.Prelude.{◌≡◌};
+ghost use Rattle.sb_cli.specs.RunSteps.{status_at};
 ghost use Rattle.sb_cli.specs.Statuses as spec;
 
 use sb_diary::AuditFault;
 use sb_plan::PlanFault;
 use sb_record::{Refusal, Stop};
+use sb_run::RunEnd;
 
 /// How a run ends.
 #[derive(Clone, Copy, Debug, PartialEq, Eq)]
@@ -26,6 +28,8 @@ pub enum Status {
     Folder,
     /// There was no memory.
     Memory,
+    /// A tap failed: its place, from 0, in the list as the row was offered.
+    Tap { place: u32 },
     /// A line of a diary text is refused: the first one that is.
     Audit(AuditFault),
 }
@@ -44,6 +48,7 @@ impl Status {
             Status::Output => 5,
             Status::Folder => 6,
             Status::Memory => 7,
+            Status::Tap { .. } => 8,
             Status::Audit(_) => 9,
         }
     }
@@ -56,6 +61,20 @@ impl Status {
             Stop::End => Status::Done,
             Stop::Refused(refusal) => Status::Line(refusal),
             Stop::Fault => Status::Input,
+        }
+    }
+
+    /// How a run of the engine ends whose rows were passed on.
+    pub(crate) fn of_end(end: &RunEnd) -> Status
+        ensures { result ≡ status_at end.now }
+    {
+        match end {
+            RunEnd::Done(_) => Status::Done,
+            RunEnd::Refused(refusal) => Status::Line(*refusal),
+            RunEnd::Input => Status::Input,
+            RunEnd::Output => Status::Output,
+            RunEnd::Tap { place } => Status::Tap { place: *place },
+            RunEnd::Memory => Status::Memory,
         }
     }
 }

@@ -25,7 +25,7 @@ fn pieces_of(alloc: Global, size: usize) -> Result<Vec<usize>, AllocError>
     vec![in alloc; size; 200]
 }
 
-fn strings_of(alloc: Global, words: &[&str]) -> Result<Vec<String>, AllocError> {
+pub(crate) fn strings_of(alloc: Global, words: &[&str]) -> Result<Vec<String>, AllocError> {
     let mut strings = Vec::new(alloc);
     for word in words {
         strings.push(String::from_str(alloc, word)?)?;
@@ -42,7 +42,16 @@ pub(crate) fn run(
     let words = strings_of(alloc, words)?;
     let mut notes = MemSink::new(alloc, Vec::new(alloc), Vec::new(alloc));
     let mut folder = MemFolder::new(alloc, BTreeMap::new(alloc), Vec::new(alloc));
-    let status = streambox(alloc, &words, input, out, &mut notes, &mut folder);
+    let mut taps = Vec::new(alloc);
+    let status = streambox(
+        alloc,
+        &words,
+        input,
+        out,
+        &mut notes,
+        &mut folder,
+        &mut taps,
+    );
     Ok(Ran {
         status,
         rows: Vec::from_slice(alloc, out.taken())?,
@@ -68,7 +77,7 @@ pub(crate) fn run_in_pieces(
 /// Lines of an input, the rows of sums over windows of 10, the status and the note.
 type Case = (&'static [u8], &'static str, u8, &'static str);
 
-const FIRST: &[u8] = b"r,a,3,1,5\nr,a,7,1,2\nw,a,10\nr,a,12,1,4\n";
+pub(crate) const FIRST: &[u8] = b"r,a,3,1,5\nr,a,7,1,2\nw,a,10\nr,a,12,1,4\n";
 
 /// Lines that are all accepted.
 const ACCEPTED: [Case; 8] = [
@@ -298,16 +307,18 @@ fn a_failed_write_leaves_a_prefix_of_the_rows(rt: HostRuntime) -> Result<(), Fai
 /// The numbers of the calls of the sink that fail, a text, what the sink has taken, and the status.
 type Written = (&'static [u64], &'static [u8], &'static str, Status);
 
-/// Sinks that fail in mid-stream and at the end: the rows of a text fit into one write, so the second call is the last.
+/// Sinks that fail in mid-stream and at the end: the rows of a window fit into one write, and the call behind the last
+/// window is the last.
 #[test]
 fn a_fault_at_the_end_is_a_fault_of_output(rt: HostRuntime) -> Result<(), Fail> {
     let alloc = rt.alloc();
     let refused = Status::Line(Refusal::Malformed { line: 4 });
-    let cases: [Written; 6] = [
+    let cases: [Written; 7] = [
         (&[], FIRST, "10,1,7\n20,1,4\n", Status::Done),
         (&[1], FIRST, "", Status::Output),
-        (&[2], FIRST, "10,1,7\n20,1,4\n", Status::Output),
-        (&[3], FIRST, "10,1,7\n20,1,4\n", Status::Done),
+        (&[2], FIRST, "10,1,7\n", Status::Output),
+        (&[3], FIRST, "10,1,7\n20,1,4\n", Status::Output),
+        (&[4], FIRST, "10,1,7\n20,1,4\n", Status::Done),
         (
             &[3],
             b"r,a,3,1,5\nw,a,10\nr,a,12,1,4\nx\n",
@@ -341,7 +352,16 @@ fn notes_that_fail_change_no_status(rt: HostRuntime) -> Result<(), Fail> {
     let mut notes = MemSink::new(alloc, vec![in alloc; 6]?, vec![in alloc; 2]?);
     let words = strings_of(alloc, &["sum", "10"])?;
     let mut folder = MemFolder::new(alloc, BTreeMap::new(alloc), Vec::new(alloc));
-    let status = streambox(alloc, &words, &mut input, &mut out, &mut notes, &mut folder);
+    let mut taps = Vec::new(alloc);
+    let status = streambox(
+        alloc,
+        &words,
+        &mut input,
+        &mut out,
+        &mut notes,
+        &mut folder,
+        &mut taps,
+    );
     assert_eq!(rt; status, Status::Line(Refusal::Malformed { line: 1 }));
     assert_eq!(rt; notes.taken(), b"line 1".as_slice());
     Ok(())

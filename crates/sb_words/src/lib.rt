@@ -7,14 +7,14 @@
 //! | `slow PLAN` | the same rows, by the plain program |
 //! | `audit` | what the diary text on the input says, if it is legal |
 //!
-//! A PLAN has at least one byte and does not begin with `-`. The options stand behind the argument in any order, each
-//! at most once. An option and its value are two words.
+//! A PLAN has at least one byte and does not begin with `-`. The options stand behind the argument in any order, each at
+//! most once. An option and its value are two words.
 //!
 //! | Option | Range | Without it | What it sets |
 //! |---|---|---|---|
 //! | `--workers N` | 1 to [`MAX_WORKERS`] | [`DEFAULT_WORKERS`] | how many threads work |
 //! | `--bundle B` | 1 to [`sb_bundle::MAX_BUNDLE`] | [`DEFAULT_BUNDLE`] | the most records of a bundle |
-//! | `--pending P` | 1 to [`MAX_PENDING`] | [`DEFAULT_PENDING`] | the most bundles waiting or out in a source's lane |
+//! | `--pending P` | 1 to [`MAX_PENDING`] | [`DEFAULT_PENDING`] | the most bundles that wait or are out in a source's lane |
 //! | `--diary` | | no | whether diaries are kept and written |
 //! | `--taps` | | no | whether rows are offered to the taps |
 //!

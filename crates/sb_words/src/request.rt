@@ -29,16 +29,19 @@ pub enum Request<'a> {
 ///
 /// # Errors
 ///
-/// [`NoMemory`] if `clap` runs out of memory.
+/// [`NoMemory`] if `clap` runs out of memory, which it is asked for only where the words are a command.
 pub fn read_words(alloc: Global, words: &[String]) -> Result<Option<Request<'_>>, NoMemory>
     ensures exact { IfOk result (λ answer. (wanted : Asked)
         → (option_map asked answer ≡ Some wanted) ↔ IsCommand wanted (texts words.now)) }
     ensures refused { IfOk result (λ answer. (answer ≡ None) ↔ IsNoCommand (texts words.now)) }
     ensures valid { IfOk result (λ answer. IfSome answer (λ request. IsValid (asked request))) }
+    ensures outside { IsNoCommand (texts words.now) → result ≡ Ok None }
 {
-    let read = read_by_clap(alloc, words)?;
     match command_of(words) {
-        Some(_) => Ok(read),
+        Some(_) => {
+            let read = read_by_clap(alloc, words)?;
+            Ok(read)
+        }
         None => Ok(None),
     }
 }

@@ -9,10 +9,13 @@ use Rattle.sb_record.specs.Rows.{text_of}
 use Rattle.sb_outside.specs.Folders.{Files}
 use Rattle.sb_outside.specs.Lines.{lines}
 use Rattle.sb_pipeline.specs.Shapes.{sum_shape}
-use Rattle.sb_cli.specs.Answers.{IsAnswer, IsAnswerOf, due_rows, ending_of}
-use Rattle.sb_cli.specs.Given.{items_of}
+use Rattle.sb_diary.specs.Texts.{NodeDiary}
+use Rattle.sb_feed.specs.Due.{due_rows}
+use Rattle.sb_feed.specs.Given.{items_of}
+use Rattle.sb_words.specs.declared.options.Options.{Options}
+use Rattle.sb_cli.specs.Answers.{IsAnswer, IsAnswerOf, ending_of}
 use Rattle.sb_cli.specs.Pipelines.{all_rows}
-use Rattle.sb_cli.specs.Words.Asked.{Sum}
+use Rattle.sb_words.specs.Words.Asked.{Sum}
 use Rattle.sb_cli.specs.declared.status.Status.{Status}
 use Rattle.sb_cli.specs.declared.status.Status.TheVariants.{Done}
 use Rattle.uses.specs.Sums.{accepted_by, sums_of}
@@ -29,13 +32,13 @@ all_given None text bytes given end = absurd given
 all_given (Some rest) text bytes given end = sym (given ∙ ap (λ l. bytes ++ l) end ∙ append-nil bytes)
 
 -- a sink that was empty has the text of the sums where the run is done
-sums_at_done : (size : ℕ) (text : List ℕ) (folder : Option Files) (left' : Option (List ℕ)) (taken' : List ℕ) (dropped : List Dropped)
-    → IsAnswer folder (Sum size) (Some text) left' (Some []) (Some taken') (ending_of Done dropped) → taken' ≡ text_of (sums_of size text)
-sums_at_done size text folder left' taken' dropped (inl none) = absurd none.no_plan
-sums_at_done size text folder left' taken' dropped (inr found) =
+sums_at_done : (size : ℕ) (options : Options) (text : List ℕ) (folder : Option Files) (left' : Option (List ℕ)) (taken' : List ℕ) (dropped : List Dropped) (diaries : List NodeDiary)
+    → IsAnswer folder (Sum size options) (Some text) left' (Some []) (Some taken') (ending_of Done dropped diaries) → taken' ≡ text_of (sums_of size text)
+sums_at_done size options text folder left' taken' dropped diaries (inl none) = absurd none.no_plan
+sums_at_done size options text folder left' taken' dropped diaries (inr found) =
     let plan = sum_shape size in
-    let answer : IsAnswerOf plan (Some text) left' (Some []) (Some taken') (ending_of Done dropped) =
-    subst (λ p. IsAnswerOf p (Some text) left' (Some []) (Some taken') (ending_of Done dropped)) found.1 found.2 in
+    let answer : IsAnswerOf plan options (Some text) left' (Some []) (Some taken') (ending_of Done dropped diaries) =
+    subst (λ p. IsAnswerOf p options (Some text) left' (Some []) (Some taken') (ending_of Done dropped diaries)) found.1 found.2 in
     let given = answer.given in
     let at_end : given.ended ≡ true = ended_at_end given.ended (accepted_by plan (lines given.ended given.bytes)).refused answer.written.0 in
     let all : given.bytes ≡ text = all_given left' text given.bytes given.were_left (given.at_end at_end) in
@@ -44,10 +47,10 @@ sums_at_done size text folder left' taken' dropped (inr found) =
     ∙ ap (λ ended. text_of (all_rows plan (accepted_by plan (lines ended given.bytes)).items)) at_end
     ∙ ap (λ bytes. text_of (sums_of size bytes)) all
 
-pub sums_written : (size : ℕ) (text : List ℕ) (folder : Option Files) (left left' : Option (List ℕ)) (taken taken' : List ℕ) (status : Status) (dropped : List Dropped)
-    → IsAnswer folder (Sum size) left left' (Some taken) (Some taken') (ending_of status dropped)
+pub sums_written : (size : ℕ) (options : Options) (text : List ℕ) (folder : Option Files) (left left' : Option (List ℕ)) (taken taken' : List ℕ) (status : Status) (dropped : List Dropped) (diaries : List NodeDiary)
+    → IsAnswer folder (Sum size options) left left' (Some taken) (Some taken') (ending_of status dropped diaries)
     → left ≡ Some text → taken ≡ [] → status ≡ Done → taken' ≡ text_of (sums_of size text)
-sums_written size text folder left left' taken taken' status dropped is told empty done =
-    let at_done = subst (λ s. IsAnswer folder (Sum size) left left' (Some taken) (Some taken') (ending_of s dropped)) done is in
-    let from_empty = subst (λ t. IsAnswer folder (Sum size) left left' (Some t) (Some taken') (ending_of Done dropped)) empty at_done in
-    sums_at_done size text folder left' taken' dropped (subst (λ l. IsAnswer folder (Sum size) l left' (Some []) (Some taken') (ending_of Done dropped)) told from_empty)
+sums_written size options text folder left left' taken taken' status dropped diaries is told empty done =
+    let at_done = subst (λ s. IsAnswer folder (Sum size options) left left' (Some taken) (Some taken') (ending_of s dropped diaries)) done is in
+    let from_empty = subst (λ t. IsAnswer folder (Sum size options) left left' (Some t) (Some taken') (ending_of Done dropped diaries)) empty at_done in
+    sums_at_done size options text folder left' taken' dropped diaries (subst (λ l. IsAnswer folder (Sum size options) l left' (Some []) (Some taken') (ending_of Done dropped diaries)) told from_empty)

@@ -1,8 +1,10 @@
 //! A source of one's own: two sources, one behind the other, as two logs that are read as one.
 
 ghost use Rattle.std.specs.Prelude.{ℕ, ◌++◌, IfOk};
-ghost use Rattle.sb_cli.specs.Words.{IsCommand, texts};
-ghost use Rattle.sb_cli.specs.Words.Asked.{Sum};
+ghost use Rattle.sb_words.specs.declared.options.Options.{Options};
+ghost use Rattle.sb_words.specs.Texts.{texts};
+ghost use Rattle.sb_words.specs.Words.{IsCommand};
+ghost use Rattle.sb_words.specs.Words.Asked.{Sum};
 ghost use Rattle.uses.specs.Sums.{GivesSums};
 
 use crate::in_memory::{Answer, answer_to_source};
@@ -40,7 +42,7 @@ pub fn answer_to_both(
     first: Vec<u8>,
     second: Vec<u8>,
 ) -> Result<Answer, AllocError>
-    ensures { (size : ℕ) → IsCommand (Sum size) (texts words.now)
+    ensures { (size : ℕ) (options : Options) → IsCommand (Sum size options) (texts words.now)
         → IfOk result (GivesSums size (first.items ++ second.items)) }
 {
     let mut input = EndToEnd {

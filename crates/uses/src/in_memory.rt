@@ -1,8 +1,10 @@
 //! The whole program over memory: words, an input, and the rows as bytes.
 
 ghost use Rattle.std.specs.Prelude.{◌≡◌, ℕ, List, Some, IfOk};
-ghost use Rattle.sb_cli.specs.Words.{IsCommand, texts};
-ghost use Rattle.sb_cli.specs.Words.Asked.{Sum};
+ghost use Rattle.sb_words.specs.declared.options.Options.{Options};
+ghost use Rattle.sb_words.specs.Texts.{texts};
+ghost use Rattle.sb_words.specs.Words.{IsCommand};
+ghost use Rattle.sb_words.specs.Words.Asked.{Sum};
 ghost use Rattle.uses.specs.Sums.{GivesSums};
 
 use sb_cli::{Status, streambox};
@@ -17,26 +19,37 @@ pub struct Answer {
     pub rows: Vec<u8>,
 }
 
-/// What the program gives for words and an input, without files. The contract speaks of the words `sum SIZE`.
+/// What the program gives for words and an input, without files. The contract speaks of the words `sum SIZE` with any
+/// options.
 pub fn answer_to_source<S: Source>(
     alloc: Global,
     words: &[String],
     input: &mut S,
 ) -> Result<Answer, AllocError>
-    ensures { (size : ℕ) (text : List ℕ) → IsCommand (Sum size) (texts words.now)
+    ensures { (size : ℕ) (options : Options) (text : List ℕ)
+        → IsCommand (Sum size options) (texts words.now)
         → S.left input.old ≡ Some text → IfOk result (GivesSums size text) }
 {
     let mut out = MemSink::new(alloc, Vec::new(alloc), Vec::new(alloc));
     let mut notes = MemSink::new(alloc, Vec::new(alloc), Vec::new(alloc));
     let mut folder = MemFolder::new(alloc, BTreeMap::new(alloc), Vec::new(alloc));
-    let status = streambox(alloc, words, input, &mut out, &mut notes, &mut folder);
+    let mut taps = Vec::new(alloc);
+    let status = streambox(
+        alloc,
+        words,
+        input,
+        &mut out,
+        &mut notes,
+        &mut folder,
+        &mut taps,
+    );
     let rows = Vec::from_slice(alloc, out.taken())?;
     Ok(Answer { status, rows })
 }
 
 /// The same for a text.
 pub fn answer_to_text(alloc: Global, words: &[String], text: Vec<u8>) -> Result<Answer, AllocError>
-    ensures { (size : ℕ) → IsCommand (Sum size) (texts words.now)
+    ensures { (size : ℕ) (options : Options) → IsCommand (Sum size options) (texts words.now)
         → IfOk result (GivesSums size text.items) }
 {
     let mut input = MemSource::new(text, Vec::new(alloc), Vec::new(alloc));

@@ -5,11 +5,11 @@ use Rattle.sb_cli.proofs.answer.answer_file.Goals as goal
 pub returns-in-Ok-clause-cause : goal.returns-in-Ok-clause-cause
 returns-in-Ok-clause-cause g c =
     let before = faults_of (g.S.Source.faults c.args.source.now) (g.K.Sink.sink_state c.args.out.now) (g.F.Folder.failed c.args.folder.now) in
-    subst (λ loads. HasCause before (faults_of (g.S.Source.faults c.answer_plan.new.source) (g.K.Sink.sink_state c.answer_plan.new.out) loads) c.answer_plan.result.status)
-    (sym c.in-Ok.ensures.cause) (c.answer_plan.ensures.cause (g.F.Folder.failed c.args.folder.now))
+    subst (λ loads. HasCause before (faults_of (g.S.Source.faults c.answer_run.new.source) (g.K.Sink.sink_state c.answer_run.new.out) loads) c.answer_run.result.status)
+    (sym c.in-Ok.ensures.cause) (c.answer_run.ensures.cause (g.F.Folder.failed c.args.folder.now))
 
 pub returns-in-Ok-clause-no_fault_hidden : goal.returns-in-Ok-clause-no_fault_hidden
 returns-in-Ok-clause-no_fault_hidden g c =
     let before = faults_of (g.S.Source.faults c.args.source.now) (g.K.Sink.sink_state c.args.out.now) (g.F.Folder.failed c.args.folder.now) in
-    subst (λ loads. HidesNoFault before (faults_of (g.S.Source.faults c.answer_plan.new.source) (g.K.Sink.sink_state c.answer_plan.new.out) loads) c.answer_plan.result.status)
-    (sym c.in-Ok.ensures.cause) (c.answer_plan.ensures.no_fault_hidden (g.F.Folder.failed c.args.folder.now))
+    subst (λ loads. HidesNoFault before (faults_of (g.S.Source.faults c.answer_run.new.source) (g.K.Sink.sink_state c.answer_run.new.out) loads) c.answer_run.result.status)
+    (sym c.in-Ok.ensures.cause) (c.answer_run.ensures.no_fault_hidden (g.F.Folder.failed c.args.folder.now))

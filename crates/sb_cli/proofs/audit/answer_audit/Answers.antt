@@ -7,22 +7,22 @@ use Rattle.sb_cli.proofs.audit.answer_audit.Goals as goal
 pub returns-in-End-clause-answer : goal.returns-in-End-clause-answer
 returns-in-End-clause-answer g c =
     audit_answer (g.S.Source.left c.args.source.now) (g.S.Source.left c.read_diary-input.new.source) (g.K.Sink.taken c.args.out.now) (g.K.Sink.taken c.write_said.new.out)
-    c.read_diary-input.result halt.End c.write_said.result c.of.result c.read_diary-input.ensures.reads c.in-End.is c.write_said.ensures.written c.of.ensures.status c.of.ensures.dropped
+    c.read_diary-input.result halt.End c.write_said.result c.of.result c.read_diary-input.ensures.reads c.in-End.is c.write_said.ensures.written c.of.ensures.status c.of.ensures.dropped c.of.ensures.diaries
 
 pub returns-in-Refused-clause-answer : goal.returns-in-Refused-clause-answer
 returns-in-Refused-clause-answer g c =
     let taken = g.K.Sink.taken c.args.out.now in
     audit_answer (g.S.Source.left c.args.source.now) (g.S.Source.left c.read_diary-input.new.source) taken taken
-    c.read_diary-input.result (halt.Refused c.in-Refused.fault) (Audit c.in-Refused.fault) c.of-in-Refused.result c.read_diary-input.ensures.reads c.in-Refused.is (refl, refl) c.of-in-Refused.ensures.status c.of-in-Refused.ensures.dropped
+    c.read_diary-input.result (halt.Refused c.in-Refused.fault) (Audit c.in-Refused.fault) c.of-in-Refused.result c.read_diary-input.ensures.reads c.in-Refused.is (refl, refl) c.of-in-Refused.ensures.status c.of-in-Refused.ensures.dropped c.of-in-Refused.ensures.diaries
 
 pub returns-in-Fault-clause-answer : goal.returns-in-Fault-clause-answer
 returns-in-Fault-clause-answer g c =
     let taken = g.K.Sink.taken c.args.out.now in
     audit_answer (g.S.Source.left c.args.source.now) (g.S.Source.left c.read_diary-input.new.source) taken taken
-    c.read_diary-input.result halt.Fault Input c.of-in-Fault.result c.read_diary-input.ensures.reads c.in-Fault.is (refl, refl) c.of-in-Fault.ensures.status c.of-in-Fault.ensures.dropped
+    c.read_diary-input.result halt.Fault Input c.of-in-Fault.result c.read_diary-input.ensures.reads c.in-Fault.is (refl, refl) c.of-in-Fault.ensures.status c.of-in-Fault.ensures.dropped c.of-in-Fault.ensures.diaries
 
 pub returns-in-Memory-clause-answer : goal.returns-in-Memory-clause-answer
 returns-in-Memory-clause-answer g c =
     let taken = g.K.Sink.taken c.args.out.now in
     audit_answer (g.S.Source.left c.args.source.now) (g.S.Source.left c.read_diary-input.new.source) taken taken
-    c.read_diary-input.result halt.Memory Memory c.of-in-Memory.result c.read_diary-input.ensures.reads c.in-Memory.is (refl, refl) c.of-in-Memory.ensures.status c.of-in-Memory.ensures.dropped
+    c.read_diary-input.result halt.Memory Memory c.of-in-Memory.result c.read_diary-input.ensures.reads c.in-Memory.is (refl, refl) c.of-in-Memory.ensures.status c.of-in-Memory.ensures.dropped c.of-in-Memory.ensures.diaries

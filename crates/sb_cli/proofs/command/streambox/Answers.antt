@@ -1,5 +1,5 @@
 use Rattle.sb_cli.specs.Faults.{faults_of}
-use Rattle.sb_cli.specs.Words.Asked.{Diary}
+use Rattle.sb_words.specs.Words.Asked.{Audit}
 use Rattle.sb_cli.proofs.Answering.{audit_is_complete, is_complete}
 use Rattle.sb_cli.proofs.command.streambox.Goals as goal
 
@@ -9,7 +9,8 @@ returns-clause-complete g c = λ wanted plan is tells fine.
     (g.K.Sink.taken c.args.out.now) (g.K.Sink.taken c.respond-ending.new.out)
     (faults_of (g.S.Source.faults c.args.input.now) (g.K.Sink.sink_state c.args.out.now) (g.F.Folder.failed c.args.folder.now))
     (faults_of (g.S.Source.faults c.respond-ending.new.input) (g.K.Sink.sink_state c.respond-ending.new.out) (g.F.Folder.failed c.respond-ending.new.folder))
-    c.respond-ending.result (c.respond-ending.ensures.answer wanted is) c.respond-ending.ensures.cause (c.respond-ending.ensures.blames wanted is) tells fine
+    _ _
+    c.respond-ending.result (c.respond-ending.ensures.answer wanted is) c.respond-ending.ensures.cause (c.respond-ending.ensures.blames wanted is) c.respond-ending.ensures.blames_tap tells fine
 
 pub returns-clause-audit_complete : goal.returns-clause-audit_complete
 returns-clause-audit_complete g c = λ is fine.
@@ -17,4 +18,4 @@ returns-clause-audit_complete g c = λ is fine.
     (g.K.Sink.taken c.args.out.now) (g.K.Sink.taken c.respond-ending.new.out)
     (faults_of (g.S.Source.faults c.args.input.now) (g.K.Sink.sink_state c.args.out.now) (g.F.Folder.failed c.args.folder.now))
     (faults_of (g.S.Source.faults c.respond-ending.new.input) (g.K.Sink.sink_state c.respond-ending.new.out) (g.F.Folder.failed c.respond-ending.new.folder))
-    c.respond-ending.result (c.respond-ending.ensures.answer Diary is) c.respond-ending.ensures.cause fine
+    c.respond-ending.result (c.respond-ending.ensures.answer Audit is) c.respond-ending.ensures.cause fine

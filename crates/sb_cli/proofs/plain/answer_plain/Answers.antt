@@ -7,16 +7,18 @@ use Rattle.sb_record.specs.Streams.{records_of}
 use Rattle.sb_record.proofs.InputLemmas.{accepted-in_range, records-in_range}
 use Rattle.sb_outside.specs.Lines.{lines}
 use Rattle.sb_pipeline.specs.Shapes.{streams_of}
-use Rattle.sb_cli.specs.Answers.{HasWritten, due_rows}
-use Rattle.sb_cli.specs.Given.{items_of, stop_at}
-use Rattle.sb_cli.proofs.Answering.{all_listed, memory_answer, nothing_written, rows_are_due}
-use Rattle.sb_cli.proofs.answer.answer_plan.Goals as goal
-use Rattle.sb_cli.proofs.answer.answer_plan.Goals.{in-Ok-rows_of_streams, in-Err}
+use Rattle.sb_feed.specs.Due.{due_rows}
+use Rattle.sb_feed.specs.Given.{items_of, stop_at}
+use Rattle.sb_words.specs.Options.{defaults}
+use Rattle.sb_cli.specs.PlainSteps.{WritesDue}
+use Rattle.sb_cli.proofs.Answering.{all_listed, due_written, memory_answer, none_told, nothing_written, rows_are_due}
+use Rattle.sb_cli.proofs.plain.answer_plain.Goals as goal
+use Rattle.sb_cli.proofs.plain.answer_plain.Goals.{in-Ok-rows_of_streams, in-Err}
 
 pub returns-in_default-clause-answer : goal.returns-in_default-clause-answer
 returns-in_default-clause-answer g c =
-    memory_answer c.args.plan.now (g.S.Source.left c.args.source.now) (g.S.Source.left c.read_input.new.source) (g.K.Sink.taken c.args.out.now)
-    c.of.result c.in_default.ensures.reads c.of.ensures.status c.of.ensures.dropped
+    memory_answer c.args.plan.now defaults (g.S.Source.left c.args.source.now) (g.S.Source.left c.read_input.new.source) (g.K.Sink.taken c.args.out.now)
+    c.of.result c.in_default.ensures.reads c.of.ensures.status c.of.ensures.dropped c.of.ensures.diaries
 
 pub rows_of_streams-requires : goal.rows_of_streams-requires
 rows_of_streams-requires g c =
@@ -39,17 +41,21 @@ returns-clause-answer g c =
     let (given, is) = c.in-Ok.ensures.reads in
     let items = items_of plan given in
     let taken = g.K.Sink.taken c.args.out.now in
-    let written : HasWritten plan (stop_at plan given) items taken (g.K.Sink.taken c.match-rows_of_streams.out) c.match-rows_of_streams.status = elim c.match-rows_of_streams.branch [
+    let taken' = g.K.Sink.taken c.match-rows_of_streams.out in
+    let status = c.match-rows_of_streams.status in
+    let written : WritesDue (due_rows plan (stop_at plan given) items) (stop_at plan given) taken taken' status = elim c.match-rows_of_streams.branch [
       | in-Ok-rows_of_streams w ↦
           let due : w.deref.result.now ≡ due_rows plan input.stop items =
           w.deref.ensures.value
           ∙ rows_are_due plan c.due_mark-below.result input.low input.stop items c.into_vec.result.items c.into_vec-2.result.items w.in-Ok-rows_of_streams.rows.items w.in-Ok-rows_of_streams.ensures.rows
           (c.into_vec.ensures ∙ is.kept.a) (c.into_vec-2.ensures ∙ is.kept.b) c.due_mark-below.ensures is.low in
-          rw (w.out-is, w.status-is) (subst (λ s. HasWritten plan s items taken (g.K.Sink.taken w.write_due-status.new.out) w.write_due-status.result) is.stop (w.write_due-status.ensures.written plan items due))
+          rw (w.out-is, w.status-is) (subst (λ s. WritesDue (due_rows plan s items) s taken (g.K.Sink.taken w.write_due-status.new.out) w.write_due-status.result) is.stop (rw due at w.write_due-status.ensures.written))
       | in-Err w ↦ rw (w.out-is, w.status-is) (nothing_written taken (due_rows plan (stop_at plan given) items))
     ] in
-    record {
+    rw c.none.ensures
+    (record {
       given = given;
-      written = written;
-      lists = all_listed plan (stop_at plan given) items taken (g.K.Sink.taken c.match-rows_of_streams.out) input.kept.dropped c.match-rows_of_streams.status written is.kept.dropped;
-    }
+      written = due_written plan given taken taken' status written;
+      lists = all_listed items input.kept.dropped (due_rows plan (stop_at plan given) items) (stop_at plan given) taken taken' status written is.kept.dropped;
+      tells = none_told plan items (due_rows plan (stop_at plan given) items) (stop_at plan given) taken taken' status written;
+    })

@@ -1,0 +1,38 @@
+use Rattle.sb_cli.proofs.RunAnswers.{run_answer, run_blames, run_can_tell, run_offered}
+use Rattle.sb_cli.proofs.RunFaults.{run_cause, run_hides_none, run_read}
+use Rattle.sb_cli.proofs.engine.answer_past.Goals as goal
+
+pub tell-requires : goal.tell-requires
+tell-requires g c =
+    let ends = rw (c.sizes_of.ensures, c.new-dropped.ensures.items) at c.run_to-end.ensures.ends in
+    run_can_tell c.args.plan c.args.options _ _ _ _ _ _ _ _ c.finish_after.ensures.bytes c.run_to-end.result ends
+
+pub returns-clause-answer : goal.returns-clause-answer
+returns-clause-answer g c =
+    let ends = rw (c.sizes_of.ensures, c.new-dropped.ensures.items) at c.run_to-end.ensures.ends in
+    rw (c.new.ensures, c.tell.ensures, c.status_behind-status.ensures)
+    (run_answer c.args.plan c.args.options _ _ _ _ _ _ _ _ c.finish_after.ensures.bytes c.run_to-end.result c.finish_after.result ends)
+
+pub returns-clause-offered : goal.returns-clause-offered
+returns-clause-offered g c =
+    let ends = rw (c.sizes_of.ensures, c.new-dropped.ensures.items) at c.run_to-end.ensures.ends in
+    rw c.status_behind-status.ensures
+    (run_offered c.args.plan c.args.options _ _ _ _ _ _ _ _ c.finish_after.ensures.bytes c.run_to-end.result c.finish_after.result ends)
+
+pub returns-clause-read : goal.returns-clause-read
+returns-clause-read g c = rw c.status_behind-status.ensures (run_read c.run_to-end.result c.finish_after.result)
+
+pub returns-clause-cause : goal.returns-clause-cause
+returns-clause-cause g c = λ loads.
+    rw c.status_behind-status.ensures
+    (run_cause _ _ _ _ _ c.run_to-end.result c.finish_after.result loads c.run_to-end.ensures.input c.run_to-end.ensures.output c.finish_after.ensures.cause)
+
+pub returns-clause-blames_tap : goal.returns-clause-blames_tap
+returns-clause-blames_tap g c = λ place is.
+    let ends = rw (c.sizes_of.ensures, c.new-dropped.ensures.items) at c.run_to-end.ensures.ends in
+    run_blames c.args.plan c.args.options _ _ _ _ _ _ _ _ c.finish_after.ensures.bytes c.run_to-end.result c.finish_after.result place ends (rw c.status_behind-status.ensures at is)
+
+pub returns-clause-no_fault_hidden : goal.returns-clause-no_fault_hidden
+returns-clause-no_fault_hidden g c = λ loads.
+    rw c.status_behind-status.ensures
+    (run_hides_none _ _ _ _ _ c.run_to-end.result c.finish_after.result loads c.run_to-end.ensures.input c.run_to-end.ensures.output c.finish_after.ensures.cause c.finish_after.ensures.told)

@@ -1,0 +1,84 @@
+-- What the taps of a run were offered, and which of them has failed.
+use Rattle.std.specs.Prelude.{◌≡◌, ◌⊎◌, ℕ, List, [], ◌∷◌, ◌++◌, Option, ⊤}
+use Rattle.sb_record.specs.declared.intake.Stop.{Stop}
+use Rattle.sb_record.specs.declared.intake.Stop.TheVariants.{End, Refused, Fault}
+use Rattle.sb_record.specs.declared.item.Item.{Item}
+use Rattle.sb_record.specs.declared.item.Record.{Record}
+use Rattle.sb_record.specs.Rows.{text_of}
+use Rattle.sb_outside.specs.Folders.{Files}
+use Rattle.sb_outside.specs.Sinks.{AppendsPrefix}
+use Rattle.sb_outside.specs.Sources.{Rose}
+use Rattle.sb_pipeline.specs.Shapes.{Shape}
+use Rattle.sb_emit.specs.Taps.{TapState}
+use Rattle.sb_feed.specs.Due.{AreFirstRows, due_rows}
+use Rattle.sb_feed.specs.Given.{Given, items_of, stop_at}
+use Rattle.sb_feed.specs.TapLists.{LeavesThoseThatStay, SawRows, StopsIn}
+use Rattle.sb_words.specs.Words.{Asked}
+use Rattle.sb_cli.specs.declared.status.Status.{Status}
+use Rattle.sb_cli.specs.declared.status.Status.TheVariants.{Done, Words, Plan, Line, Input, Output, Folder, Memory, Tap, Audit}
+use Rattle.sb_cli.specs.Answers.{HasNoPlan}
+use Rattle.sb_cli.specs.Pipelines.{IsPlanFor}
+
+-- the first rows were written, or a part of them, and were offered up to the one at which the tap at this place failed
+pub record StoppedAt (plan : Shape) (items : List Item) (taken taken' : Option (List ℕ)) (place : ℕ)
+    (taps taps' : List TapState) : Type 0 where
+  pub rows : List Record
+  pub first : AreFirstRows plan items rows
+  pub wrote : AppendsPrefix taken taken' (text_of rows)
+  pub stops : StopsIn rows place taps taps'
+
+-- what the taps were offered, by how the run ended: the rows that are due, each one by one; nothing is said of a run in
+-- which a write failed, or that was out of memory
+abbrev pub HasOffered : Shape → Stop → List Item → Option (List ℕ) → Option (List ℕ)
+    → List TapState → List TapState → Status → Type 0
+HasOffered plan stop items taken taken' taps taps' Done =
+    (stop ≡ End) × LeavesThoseThatStay (due_rows plan stop items) taps taps'
+HasOffered plan stop items taken taken' taps taps' (Line refusal) =
+    (stop ≡ Refused refusal) × LeavesThoseThatStay (due_rows plan stop items) taps taps'
+HasOffered plan stop items taken taken' taps taps' Input =
+    (stop ≡ Fault) × LeavesThoseThatStay (due_rows plan stop items) taps taps'
+HasOffered plan stop items taken taken' taps taps' (Tap place) = StoppedAt plan items taken taken' place taps taps'
+HasOffered plan stop items taken taken' taps taps' Output = ⊤
+HasOffered plan stop items taken taken' taps taps' Memory = ⊤
+HasOffered plan stop items taken taken' taps taps' Words = ⊥
+HasOffered plan stop items taken taken' taps taps' (Plan fault) = ⊥
+HasOffered plan stop items taken taken' taps taps' Folder = ⊥
+HasOffered plan stop items taken taken' taps taps' (Audit fault) = ⊥
+
+-- what the taps were offered of what the source gave, for a plan
+pub record IsOfferedOf (plan : Shape) (left left' taken taken' : Option (List ℕ)) (taps taps' : List TapState)
+    (status : Status) : Type 0 where
+  pub given : Given left left'
+  pub offered : HasOffered plan (stop_at plan given) (items_of plan given) taken taken' taps taps' status
+
+-- what the taps were offered where a plan is asked for: nothing if there is none
+abbrev pub IsOffered : Option Files → Asked → Option (List ℕ) → Option (List ℕ) → Option (List ℕ) → Option (List ℕ)
+    → List TapState → List TapState → Status → Type 0
+IsOffered folder wanted left left' taken taken' taps taps' status =
+    (HasNoPlan folder wanted status × (taps' ≡ taps))
+    ⊎ ((plan : Shape) × IsPlanFor folder wanted plan × IsOfferedOf plan left left' taken taken' taps taps' status)
+
+-- the tap at this place of the list, as a row was offered, has failed: it is one of those that were handed in, and its
+-- count is above the one that it had then
+pub record BlamesTap (place : ℕ) (taps taps' : List TapState) : Type 0 where
+  pub rows : List Record
+  pub stops : StopsIn rows place taps taps'
+  pub before : List TapState
+  pub handed : TapState
+  pub behind : List TapState
+  pub was_there : taps ≡ before ++ handed ∷ behind
+  pub saw : SawRows stops.earlier handed stops.stops.tap
+  pub rose : Rose handed.faults stops.stops.refused.faults
+
+-- no tap has failed
+abbrev pub IsNoTap : Status → Type 0
+IsNoTap (Tap place) = ⊥
+IsNoTap Done = ⊤
+IsNoTap Words = ⊤
+IsNoTap (Plan fault) = ⊤
+IsNoTap (Line refusal) = ⊤
+IsNoTap Input = ⊤
+IsNoTap Output = ⊤
+IsNoTap Folder = ⊤
+IsNoTap Memory = ⊤
+IsNoTap (Audit fault) = ⊤

@@ -1,0 +1,171 @@
+//! The answer of the engine to a plan: rows are written and offered as watermarks close them.
+
+ghost use Rattle.std.specs.Prelude.{◌≡◌, ◌<◌, ◌^◌, true, false, IsTrue, List, ℕ, [], length, map, OnOk};
+ghost use Rattle.std.specs.Io.KnownBytes.{Keeps};
+ghost use Rattle.sb_outside.specs.Folders.{Load};
+ghost use Rattle.sb_outside.specs.Sinks.{SinkCause};
+ghost use Rattle.sb_run.specs.RunEnds as run;
+ghost use Rattle.sb_words.specs.Options.{AreInRange};
+ghost use Rattle.sb_cli.specs.Answers.{IsAnswerOf, IsRead, Wrote, WrotePrefix};
+ghost use Rattle.sb_cli.specs.Faults.{HasCause, HidesNoFault, faults_of};
+ghost use Rattle.sb_cli.specs.Offered.{BlamesTap, IsNoTap, IsOfferedOf};
+ghost use Rattle.sb_cli.specs.RunSteps.{CanTellAt, sizes_from, diaries_told, status_after};
+
+use crate::diaries::Diaries;
+use crate::ending::Ending;
+use crate::lent::Lent;
+use crate::status::Status;
+use sb_emit::Tap;
+use sb_outside::{Sink, SinkFault, Source};
+use sb_pipeline::Plan;
+use sb_record::{Dropped, Sequence};
+use sb_run::{RunEnd, Sizes, execute_alone};
+use sb_words::Options;
+use std::alloc::Global;
+
+/// Answers with the rows of a plan, and offers each to the taps if the options say so.
+pub(crate) fn answer_run<S: Source, K: Sink>(
+    alloc: Global,
+    plan: Plan,
+    options: Options,
+    source: &mut S,
+    out: &mut K,
+    taps: &mut Vec<Box<dyn Tap>>,
+) -> Ending
+    requires range { AreInRange options }
+    requires few { length taps.old.items < 2 ^ 32 }
+    ensures answer { IsAnswerOf plan options (S.left source.old) (S.left source.new)
+        (K.taken out.old) (K.taken out.new) result }
+    ensures offered { IsTrue options.taps → IsOfferedOf plan (S.left source.old) (S.left source.new)
+        (K.taken out.old) (K.taken out.new)
+        (map (λ t. tap_state t) taps.old.items) (map (λ t. tap_state t) taps.new.items) result.status }
+    ensures unoffered { options.taps ≡ false → (taps.new ≡ taps.old) × IsNoTap result.status }
+    ensures read { IsRead result.status }
+    ensures cause { (loads : List Load) → HasCause
+        (faults_of (S.faults source.old) (K.sink_state out.old) loads)
+        (faults_of (S.faults source.new) (K.sink_state out.new) loads) result.status }
+    ensures blames_tap { (place : ℕ) → result.status ≡ Status.Tap place → BlamesTap place
+        (map (λ t. tap_state t) taps.old.items) (map (λ t. tap_state t) taps.new.items) }
+    ensures no_fault_hidden { (loads : List Load) → HidesNoFault
+        (faults_of (S.faults source.old) (K.sink_state out.old) loads)
+        (faults_of (S.faults source.new) (K.sink_state out.new) loads) result.status }
+{
+    if options.taps {
+        answer_past(alloc, plan, options, source, out, taps)
+    } else {
+        let mut none = Vec::new(alloc);
+        answer_past(alloc, plan, options, source, out, &mut none)
+    }
+}
+
+/// Answers with the rows of a plan, past the taps.
+fn answer_past<S: Source, K: Sink>(
+    alloc: Global,
+    plan: Plan,
+    options: Options,
+    source: &mut S,
+    out: &mut K,
+    taps: &mut Vec<Box<dyn Tap>>,
+) -> Ending
+    requires range { AreInRange options }
+    requires few { length taps.old.items < 2 ^ 32 }
+    ensures answer { IsAnswerOf plan options (S.left source.old) (S.left source.new)
+        (K.taken out.old) (K.taken out.new) result }
+    ensures offered { IsOfferedOf plan (S.left source.old) (S.left source.new) (K.taken out.old) (K.taken out.new)
+        (map (λ t. tap_state t) taps.old.items) (map (λ t. tap_state t) taps.new.items) result.status }
+    ensures read { IsRead result.status }
+    ensures cause { (loads : List Load) → HasCause
+        (faults_of (S.faults source.old) (K.sink_state out.old) loads)
+        (faults_of (S.faults source.new) (K.sink_state out.new) loads) result.status }
+    ensures blames_tap { (place : ℕ) → result.status ≡ Status.Tap place → BlamesTap place
+        (map (λ t. tap_state t) taps.old.items) (map (λ t. tap_state t) taps.new.items) }
+    ensures no_fault_hidden { (loads : List Load) → HidesNoFault
+        (faults_of (S.faults source.old) (K.sink_state out.old) loads)
+        (faults_of (S.faults source.new) (K.sink_state out.new) loads) result.status }
+{
+    let mut dropped = Vec::new(alloc);
+    let end = run_to(
+        alloc,
+        plan,
+        sizes_of(&options),
+        source,
+        out,
+        taps,
+        &mut dropped,
+    );
+    let status = status_behind(&end, finish_after(out, &end));
+    Ending {
+        status,
+        dropped: Sequence::new(dropped),
+        diaries: tell(end, status, options.diary),
+    }
+}
+
+/// The sizes of a run with these options.
+fn sizes_of(options: &Options) -> Sizes
+    ensures { result ≡ sizes_from options.now }
+{
+    Sizes {
+        bundle: options.bundle,
+        pending: options.pending,
+        keeps_diaries: options.diary,
+    }
+}
+
+/// Runs a plan over an input, and writes its rows to a sink.
+fn run_to<S: Source, K: Sink>(
+    alloc: Global,
+    plan: Plan,
+    sizes: Sizes,
+    source: &mut S,
+    out: &mut K,
+    taps: &mut Vec<Box<dyn Tap>>,
+    dropped: &mut Vec<Dropped>,
+) -> RunEnd
+    requires sizes { run.AreSizes sizes }
+    requires few { length taps.old.items < 2 ^ 32 }
+    ensures ends { run.Ends plan sizes (S.left source.old) (S.left source.new)
+        (λ taken rows taken'. Wrote taken taken' rows) (λ taken rows taken'. WrotePrefix taken taken' rows)
+        (K.taken out.old) (K.taken out.new)
+        (map (λ t. tap_state t) taps.old.items) (map (λ t. tap_state t) taps.new.items)
+        dropped.old.items dropped.new.items result }
+    ensures input { run.InputCause (S.faults source.old) (S.faults source.new) result }
+    ensures output { run.OutputCause (K.sink_state out.old) (K.sink_state out.new) result }
+{
+    let mut lent = Lent { sink: &mut *out };
+    execute_alone(alloc, plan, sizes, source, &mut lent, taps, dropped)
+}
+
+/// Has the sink pass on all rows, unless writing failed or there was no memory.
+fn finish_after<K: Sink>(out: &mut K, end: &RunEnd) -> Result<(), SinkFault>
+    ensures bytes { Keeps (K.taken out.old) (K.taken out.new) }
+    ensures cause { SinkCause (K.sink_state out.old) (K.sink_state out.new) result }
+    ensures told { OnOk result (run.IsWritten end.now → (K.sink_state out.new).refuses ≡ false) }
+{
+    match end {
+        RunEnd::Done(_) | RunEnd::Refused(_) | RunEnd::Input | RunEnd::Tap { .. } => out.finish(),
+        RunEnd::Output | RunEnd::Memory => Ok(()),
+    }
+}
+
+/// How a run of the engine ends, once its sink was asked to pass on all rows.
+fn status_behind(end: &RunEnd, passed: Result<(), SinkFault>) -> Status
+    ensures { result ≡ status_after end.now passed }
+{
+    match passed {
+        Ok(()) => Status::of_end(end),
+        Err(SinkFault::Failed) => Status::Output,
+        Err(SinkFault::Memory) => Status::Memory,
+    }
+}
+
+/// The diaries that are told of a run that ended so.
+fn tell(end: RunEnd, status: Status, keeps: bool) -> Diaries
+    requires { CanTellAt keeps end }
+    ensures { result ≡ diaries_told keeps end status }
+{
+    match (status, end) {
+        (Status::Done, RunEnd::Done(hand)) if keeps => Diaries::of(hand),
+        _ => Diaries::none(),
+    }
+}
