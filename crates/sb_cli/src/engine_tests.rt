@@ -46,12 +46,6 @@ fn sink_of(alloc: Global, failing: &[u64]) -> Result<MemSink, AllocError> {
     Ok(MemSink::new(alloc, Vec::new(alloc), failing))
 }
 
-/// A tap that counts rows, and whose calls of these numbers fail.
-fn counting(alloc: Global, failing: &[u64]) -> Result<Box<dyn Tap>, AllocError> {
-    let failing = Vec::from_slice(alloc, failing)?;
-    Ok(Box::new(alloc, CountTap::new(failing))?)
-}
-
 /// Words, the rows over the first text, the exit code and the notes.
 type Case = (&'static [&'static str], &'static str, u8, &'static str);
 
@@ -86,17 +80,13 @@ const OPTIONS: [Case; 7] = [
         "",
     ),
     (
-        &[
-            "sum", "10", "--diary", "--bundle", "1", "--workers", "1",
-        ],
+        &["sum", "10", "--diary", "--bundle", "1", "--workers", "1"],
         FIRST_ROWS,
         0,
         DIARY,
     ),
     (
-        &[
-            "sum", "10", "--workers", "1", "--bundle", "1", "--diary",
-        ],
+        &["sum", "10", "--workers", "1", "--bundle", "1", "--diary"],
         FIRST_ROWS,
         0,
         DIARY,
@@ -158,7 +148,18 @@ const FAULTS: [Fault; 8] = [
         "input failed\n",
         1,
     ),
-    (FIRST, &[26], &[2], &[], &[], &[], "", 4, "input failed\n", 1),
+    (
+        FIRST,
+        &[26],
+        &[2],
+        &[],
+        &[],
+        &[],
+        "",
+        4,
+        "input failed\n",
+        1,
+    ),
     (FIRST, &[], &[], &[], &[1], &[], "", 5, "output failed\n", 0),
     (
         FIRST,
@@ -301,7 +302,8 @@ fn taps_see_each_row(rt: HostRuntime) -> Result<(), Fail> {
         if before {
             taps.push(Box::new(alloc, HeadTap::new(1, sink_of(alloc, &[])?))?)?;
         }
-        taps.push(counting(alloc, failing)?)?;
+        let failing_calls = Vec::from_slice(alloc, failing)?;
+        taps.push(Box::new(alloc, CountTap::new(failing_calls))?)?;
         let mut input = source_of(alloc, FIRST)?;
         let mut out = sink_of(alloc, &[])?;
         let mut notes = sink_of(alloc, &[])?;

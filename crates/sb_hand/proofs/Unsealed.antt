@@ -3,6 +3,7 @@ use Rattle.std.proofs.Common.{◌≡◌, ℕ, ◌+◌, ◌≤◌, ◌<◌, Bool,
 use Rattle.std.specs.Prelude.{sum_by}
 use Rattle.std.proofs.lemmas.List.Sums.{sum_by-cons}
 use Rattle.std.proofs.lemmas.List.{length-drop}
+use Rattle.std.proofs.lemmas.Option.{same_Some}
 use Rattle.sb_bundle.specs.declared.bundle.Bundle.{Bundle}
 use Rattle.sb_record.specs.Reading.{◌>>=◌}
 use Rattle.sb_core.specs.declared.moment.Cont.{Cont}
@@ -27,9 +28,6 @@ same-head c d cs e = cons d cs ∙ ap (λ (m : Option ℕ). unsealed_in (record 
 same-tail : (c : Cont) (cs ds : List Cont) → unsealed_of ds ≡ unsealed_of cs → unsealed_of (c ∷ ds) ≡ unsealed_of (c ∷ cs)
 same-tail c cs ds e = cons c ds ∙ ap (λ n. unsealed_in c + n) e ∙ sym (cons c cs)
 
-some_is : {X : Type 0} (x y : X) → Some x ≡ Some y → x ≡ y
-some_is x y e = cc
-
 pub taken : (cs : List Cont) (q : Bundle × List Cont) → take_first cs ≡ Some q → unsealed_of q.1 ≡ unsealed_of cs
 taken [] q h = cc
 taken (c ∷ cs) q h = by_case c.waiting refl h (taken cs)
@@ -37,13 +35,13 @@ taken (c ∷ cs) q h = by_case c.waiting refl h (taken cs)
     later : (o : Option (Bundle × List Cont)) → (o >>= λ r. Some (r.0, c ∷ r.1)) ≡ Some q → ((r : Bundle × List Cont) → o ≡ Some r → unsealed_of r.1 ≡ unsealed_of cs) → unsealed_of q.1 ≡ unsealed_of (c ∷ cs)
     later None h ih = cc
     later (Some r) h ih =
-        let e : (r.0, c ∷ r.1) ≡ q = some_is (r.0, c ∷ r.1) q h in
+        let e : (r.0, c ∷ r.1) ≡ q = same_Some (r.0, c ∷ r.1) q h in
         ap (λ (z : Bundle × List Cont). unsealed_of z.1) (sym e) ∙ same-tail c cs r.1 (ih r refl)
 
     by_case : (w : List Bundle) → c.waiting ≡ w → first_taken c.waiting c cs (take_first cs) ≡ Some q → ((r : Bundle × List Cont) → take_first cs ≡ Some r → unsealed_of r.1 ≡ unsealed_of cs) → unsealed_of q.1 ≡ unsealed_of (c ∷ cs)
     by_case [] e h ih = later (take_first cs) (sym (ap (λ l. first_taken l c cs (take_first cs)) e) ∙ h) ih
     by_case (b ∷ bs) e h ih =
-        let g : (b, record c { waiting = bs; out = c.out ++ b.number ∷ [] } ∷ cs) ≡ q = some_is (b, record c { waiting = bs; out = c.out ++ b.number ∷ [] } ∷ cs) q (sym (ap (λ l. first_taken l c cs (take_first cs)) e) ∙ h) in
+        let g : (b, record c { waiting = bs; out = c.out ++ b.number ∷ [] } ∷ cs) ≡ q = same_Some (b, record c { waiting = bs; out = c.out ++ b.number ∷ [] } ∷ cs) q (sym (ap (λ l. first_taken l c cs (take_first cs)) e) ∙ h) in
         ap (λ (z : Bundle × List Cont). unsealed_of z.1) (sym g) ∙ same-head c (record c { waiting = bs; out = c.out ++ b.number ∷ [] }) cs refl
 
 pub finished : (epoch number : ℕ) (cs : List Cont) → unsealed_of (finish_first epoch number cs) ≡ unsealed_of cs

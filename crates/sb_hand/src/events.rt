@@ -173,7 +173,7 @@ pub(crate) fn down_at(nodes: &[NodeState], node: u32, epoch: u64) -> Option<u64>
     nodes[node as usize].lanes[0].down_of(epoch)
 }
 
-/// From now on it is known.
+/// Links the container of an epoch, if it is there, to a place below.
 pub(crate) fn link_at(nodes: &mut Vec<NodeState>, node: u32, epoch: u64, place: u64)
     requires { (at : LaneView) × HasLane node 0 at nodes.old.items }
     ensures stays { (at : LaneView) → HasLane node 0 at nodes.old.items

@@ -234,7 +234,8 @@ impl Hand {
     }
 
     /// How often a lane of a transform or of the sink has looked for the container of an epoch. The count stays at its
-    /// greatest value.
+    /// greatest value. A call raises it by at most as much as it raises the number of the lane's watermarks and of its
+    /// containers that are not sealed, together.
     pub fn searches(&self, node: u32, lane: u32) -> u64
         requires { (at : LaneView) × HasLane node lane at self.now.nodes }
         ensures { (at : LaneView) → HasLane node lane at self.now.nodes → result ≡ at.searches }

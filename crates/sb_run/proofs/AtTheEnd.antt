@@ -32,6 +32,7 @@ use Rattle.sb_feed.specs.Given.{Given, items_of}
 use Rattle.sb_feed.proofs.FirstRows.{pushed}
 use Rattle.sb_feed.proofs.ItemSteps.{fed_stream}
 use Rattle.sb_feed.proofs.LaterItems.{following, said_by, tested_is_timely}
+use Rattle.sb_run.proofs.Standing.{last_more}
 
 -- ---- a stream that the plan does not use has no item
 one_quiet : (streams : Streams) (items : List Item) (s : Stream) (i : Item) → uses streams s ≡ false → IsTimely streams items i → call_in s i ≡ []
@@ -111,10 +112,6 @@ marks_then A (item.Skip ∷ items) = marks_then A items
 marks_then B (item.Skip ∷ items) = marks_then B items
 marks_then A (item.Late n t m ∷ items) = marks_then A items
 marks_then B (item.Late n t m ∷ items) = marks_then B items
-
-last_more : (n t : ℕ) (xs : List ℕ) → last_or n (xs ++ t ∷ []) ≡ t
-last_more n t [] = refl
-last_more n t (x ∷ xs) = last_more x t xs
 
 joined_is : (bs : List Bundle) → joined (parts_of bs) ≡ flat_map (λ b. b.records) bs
 joined_is [] = refl

@@ -1,6 +1,6 @@
 -- The ends of a run.
 use Rattle.std.proofs.Common.{◌≡◌, ℕ, true, false, List, [], ◌∷◌, ◌++◌, length, map, Option, Some, Result, Ok, Err, refl, sym, ap, subst, ◌∙◌, append-nil, arith}
-use Rattle.std.specs.Prelude.{is_some}
+use Rattle.std.specs.Prelude.{is_some, ⊤}
 use Rattle.sb_record.specs.declared.intake.Stop.{Stop}
 use Rattle.sb_record.specs.declared.intake.Stop.TheVariants as at
 use Rattle.sb_record.specs.declared.item.Dropped.{Dropped}
@@ -32,17 +32,17 @@ use Rattle.sb_feed.specs.declared.cutters.Cutters.{Cutters}
 use Rattle.sb_feed.specs.declared.give.GiveStop.{GiveStop}
 use Rattle.sb_feed.specs.declared.give.GiveStop.TheVariants as stop
 use Rattle.sb_feed.specs.Calls.{calls_of}
-use Rattle.sb_feed.specs.Due.{rows_below, streams_in}
+use Rattle.sb_feed.specs.Due.{due_rows, rows_below, streams_in}
 use Rattle.sb_feed.specs.FedByItems.{IsFedBy, end_items}
 use Rattle.sb_feed.specs.Feeds.{Fed, bundles_in, fed_of}
 use Rattle.sb_feed.specs.Given.{items_of}
-use Rattle.sb_feed.specs.InputFeeds.{Feeds}
-use Rattle.sb_feed.specs.TapLists.{LeavesThoseThatStay}
+use Rattle.sb_feed.specs.InputFeeds.{Feeds, FeedsAll, FeedsSome}
+use Rattle.sb_feed.specs.TapLists.{LeavesThoseThatStay, StopsIn}
 use Rattle.sb_feed.proofs.FirstRows.{fed_covers, rows_same}
 use Rattle.sb_run.specs.declared.sizes.Sizes.{Sizes}
 use Rattle.sb_run.specs.Ending.{end_by}
 use Rattle.sb_run.specs.Rested.{IsRested, feed_of}
-use Rattle.sb_run.specs.RunEnds.{Ends, IsDoneHand}
+use Rattle.sb_run.specs.RunEnds.{EndsAt, EndsEarly, Ends, IsDoneHand}
 use Rattle.sb_run.proofs.AtTheEnd.{IsQuiet, bundles_at_end, fed_at_end, floor_at_end, items_are_quiet, marks_at_end, pushed_at_end}
 use Rattle.sb_run.proofs.SoFar.{at_rest, floor_of_source, low_of, rested_rows}
 
@@ -101,41 +101,41 @@ module _ (h : HandView) (size : ℕ) (items : List Item) (f : Fed) (c : Cutters)
 -- ---- all ends
 module _ {O : Type 0} (h : HandView) (sizes : Sizes) (left left' : Option (List ℕ)) (after part : O → List Record → O → Type 0) (o p : O)
     (taps taps' : List TapState) (dropped dropped' : List Dropped) (bundle : h.bundle ≡ sizes.bundle) where
+  -- reading stopped there, and the rows that came out are those that are due
+  abbrev ends_at : (stopped : Stop) (e : FeedsAll h.plan sizes.bundle left left' (IsRested h) after o p taps taps' dropped dropped' stopped)
+      → e.gives.rows ≡ due_rows h.plan stopped (items_of h.plan e.given) → EndsAt stopped h.plan left left' after o p taps taps' dropped dropped'
+  ends_at stopped e due = record {
+    given = e.given;
+    stopped = sym e.stopped;
+    wrote = subst (λ l. after o l p) due e.gives.wrote;
+    offered = subst (λ l. LeavesThoseThatStay l taps taps') due e.gives.offered;
+    listed = e.listed;
+  }
+
+  -- before the end nothing is fed behind the items
+  low_at : (stopped : Stop) (e : FeedsAll h.plan sizes.bundle left left' (IsRested h) after o p taps taps' dropped dropped' stopped)
+      → end_items (streams_of h.plan) stopped ≡ []
+      → e.gives.rows ≡ rows_below (low_watermark (streams_of h.plan) (items_of h.plan e.given)) h.plan (items_of h.plan e.given)
+  low_at stopped e none =
+      let items = items_of h.plan e.given in
+      due_low h sizes.bundle items e.f e.cutters e.gives.rows e.gives.stand (subst (λ l. IsFedBy sizes.bundle l e.f e.cutters) (ap (λ l. items ++ l) none ∙ append-nil items) e.fed)
+
+  ends_early : (why : GiveStop) (e : FeedsSome h.plan left left' part o p taps taps' dropped dropped' why) (Offered : List Record → Type 0) → Offered e.rows
+      → EndsEarly h.plan left left' part o p Offered dropped dropped'
+  ends_early why e Offered is =
+      record { given = e.given; rows = e.rows; first = e.first; wrote = e.wrote; offered = is; late = e.late; first_late = e.first_late; listed = e.listed }
+
   pub ends_here : (fed : Result Stop GiveStop) → (h.spent ≡ false → settings_of h.nodes ≡ settings_at sizes.keeps_diaries sizes.pending h.plan)
       → Feeds h.plan sizes.bundle left left' (IsRested h) after part o p taps taps' dropped dropped' fed
       → Ends h.plan sizes left left' after part o p taps taps' dropped dropped' (end_by h fed)
   ends_here (Ok at.End) settings e =
       let items = items_of h.plan e.given in
       let quiet = items_are_quiet h.plan e.given in (
-        record {
-          given = e.given;
-          stopped = sym e.stopped;
-          wrote = subst (λ l. after o l p) (due_all h sizes.bundle items e.f e.cutters e.gives.rows e.gives.stand e.fed quiet) e.gives.wrote;
-          offered = subst (λ l. LeavesThoseThatStay l taps taps') (due_all h sizes.bundle items e.f e.cutters e.gives.rows e.gives.stand e.fed quiet) e.gives.offered;
-          listed = e.listed;
-        },
+        ends_at at.End e (due_all h sizes.bundle items e.f e.cutters e.gives.rows e.gives.stand e.fed quiet),
         done_hand h sizes.bundle items e.f e.cutters e.gives.rows e.gives.stand e.fed quiet sizes bundle refl (settings e.gives.stand.whole.unspent),
       )
-  ends_here (Ok (at.Refused refusal)) settings e =
-      let items = items_of h.plan e.given in
-      let due = due_low h sizes.bundle items e.f e.cutters e.gives.rows e.gives.stand (subst (λ l. IsFedBy sizes.bundle l e.f e.cutters) (append-nil items) e.fed) in
-      record {
-        given = e.given;
-        stopped = sym e.stopped;
-        wrote = subst (λ l. after o l p) due e.gives.wrote;
-        offered = subst (λ l. LeavesThoseThatStay l taps taps') due e.gives.offered;
-        listed = e.listed;
-      }
-  ends_here (Ok at.Fault) settings e =
-      let items = items_of h.plan e.given in
-      let due = due_low h sizes.bundle items e.f e.cutters e.gives.rows e.gives.stand (subst (λ l. IsFedBy sizes.bundle l e.f e.cutters) (append-nil items) e.fed) in
-      record {
-        given = e.given;
-        stopped = sym e.stopped;
-        wrote = subst (λ l. after o l p) due e.gives.wrote;
-        offered = subst (λ l. LeavesThoseThatStay l taps taps') due e.gives.offered;
-        listed = e.listed;
-      }
-  ends_here (Err stop.Output) settings e = record { given = e.given; rows = e.rows; first = e.first; wrote = e.wrote; offered = tt; late = e.late; first_late = e.first_late; listed = e.listed }
-  ends_here (Err (stop.Tap place)) settings e = record { given = e.given; rows = e.rows; first = e.first; wrote = e.wrote; offered = e.at; late = e.late; first_late = e.first_late; listed = e.listed }
-  ends_here (Err stop.Memory) settings e = record { given = e.given; rows = e.rows; first = e.first; wrote = e.wrote; offered = tt; late = e.late; first_late = e.first_late; listed = e.listed }
+  ends_here (Ok (at.Refused refusal)) settings e = ends_at (at.Refused refusal) e (low_at (at.Refused refusal) e refl)
+  ends_here (Ok at.Fault) settings e = ends_at at.Fault e (low_at at.Fault e refl)
+  ends_here (Err stop.Output) settings e = ends_early stop.Output e (λ rows. ⊤) tt
+  ends_here (Err (stop.Tap place)) settings e = ends_early (stop.Tap place) e (λ rows. StopsIn rows place taps taps') e.at
+  ends_here (Err stop.Memory) settings e = ends_early stop.Memory e (λ rows. ⊤) tt

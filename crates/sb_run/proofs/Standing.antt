@@ -158,7 +158,8 @@ feed-seals s t f = λ i. record { bundles = λ u. bundles s u i; marks = λ u. m
     marks B A = refl
     marks B B = refl
 
-last_more : (n t : ℕ) (xs : List ℕ) → last_or n (xs ++ t ∷ []) ≡ t
+-- the last of a list with one more
+pub last_more : (n t : ℕ) (xs : List ℕ) → last_or n (xs ++ t ∷ []) ≡ t
 last_more n t [] = refl
 last_more n t (x ∷ xs) = last_more x t xs
 
