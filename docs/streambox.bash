@@ -16,6 +16,8 @@ _streambox() {
   elif ((place == 2)) && [[ $before == run || $before == slow ]]; then
     compopt -o filenames
     mapfile -t COMPREPLY < <(compgen -f -X '!*.toml' -- "$word"; compgen -d -- "$word")
+  elif ((place > 2)) && [[ ${COMP_WORDS[COMP_CWORD - place + 1]} =~ ^(sum|run)$ && $before != --bundle && $before != --pending && $before != --workers ]]; then
+    mapfile -t COMPREPLY < <(compgen -W '--bundle --pending --workers --diary --taps' -- "$word")
   fi
 }
 complete -F _streambox streambox ./streambox

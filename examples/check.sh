@@ -4,8 +4,9 @@
 #
 # Of the guide it tries, by `run` and by `slow`, each plan that stands with an input, rows and, if it has any, notes, and each fault of the
 # tables `| What is wrong | Plan | Answer |`. Three faults have no plan there, since it would be too long: these are
-# made here. Each folder of runs/ is a run: its words (args), its input, its rows, its note and its exit code. Not tried
-# are the exit codes 7 and 70, and what the guide says in sentences. The last line counts what was as expected.
+# made here. Each folder with a plan is run with bundles of several sizes, too, and its diaries are audited. Each folder
+# of runs/ is a run: its words (args), its input, its rows, its note and its exit code. Not tried are the exit codes 7, 8
+# and 70, and what the guide says in sentences. The last line counts what was as expected.
 # shellcheck disable=SC2016 # Backquotes are those of the guide.
 set -euo pipefail
 shopt -s nullglob
@@ -102,15 +103,31 @@ or_empty() {
 }
 
 check_folders() {
-  local plan command
+  local plan command size
   folders=0
   for plan in */plan.toml; do
     for command in run slow; do
       (cd "${plan%/*}" && gives rows.txt "$(or_empty notes.txt)" "$command" plan.toml < input.txt)
     done
+    for size in 1 3 1024; do
+      (cd "${plan%/*}" && tells_its_diary "$size" rows.txt "$(or_empty notes.txt)")
+    done
     folders=$((folders + 1))
   done
   some "$folders" 'folders with a plan'
+}
+
+# tells_its_diary SIZE ROWS NOTES: with bundles of this size the plan there gives the same rows and notes, and the diary
+# behind the notes is settled.
+tells_its_diary() {
+  local size=$1 rows=$2 notes=$3 lines said
+  "$program" run plan.toml --bundle "$size" --diary < input.txt > "$scratch/rows" 2> "$scratch/note" ||
+    fail "bundles of $size: exit code $?"
+  cmp "$scratch/rows" "$rows" || fail "bundles of $size: other rows than $rows"
+  lines=$(wc -l < "$notes")
+  head -n "$lines" "$scratch/note" | cmp - "$notes" || fail "bundles of $size: other notes than $notes"
+  said=$(tail -n "+$((lines + 1))" "$scratch/note" | "$program" audit)
+  [[ $said == *' settled' ]] || fail "bundles of $size: the diary is $said"
 }
 
 # Runs the commands of each example's README, if it has one, in a copy without the files that they make: they print what
