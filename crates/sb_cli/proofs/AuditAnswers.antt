@@ -1,7 +1,6 @@
 -- What an audit answers, by why reading stopped.
 use Rattle.std.proofs.Common.{◌≡◌, ℕ, List, [], Option, inl, inr, sym, subst}
 use Rattle.sb_diary.specs.Audits.{end_of}
-use Rattle.sb_diary.specs.declared.audit.AuditEnd.{AuditEnd}
 use Rattle.sb_cli.specs.declared.diary_input.DiaryHalt.{DiaryHalt}
 use Rattle.sb_cli.specs.declared.diary_input.DiaryHalt.TheVariants as halt
 use Rattle.sb_cli.specs.declared.diary_input.DiaryInput.{DiaryInput}

@@ -1,10 +1,9 @@
 -- Which tap has failed: one of those that were handed in.
-use Rattle.std.proofs.Common.{◌≡◌, ℕ, ◌+◌, ◌≤◌, Bool, true, false, cond, Option, List, [], ◌∷◌, ◌++◌, refl, sym, ap, subst, ◌∙◌, arith}
+use Rattle.std.proofs.Common.{◌≡◌, ℕ, ◌≤◌, Bool, true, false, cond, Option, List, [], ◌∷◌, ◌++◌, refl, ap, subst, arith}
 use Rattle.std.specs.List.{AllZip, filter}
 use Rattle.sb_record.specs.declared.item.Record.{Record}
 use Rattle.sb_outside.specs.Sources.{Rose}
 use Rattle.sb_emit.specs.Taps.{TapState}
-use Rattle.sb_emit.specs.declared.tap.TapFault.TheVariants as fault
 use Rattle.sb_feed.specs.TapLists.{SawRows, StopsIn, stays_for}
 use Rattle.sb_pipeline.specs.Shapes.{Shape}
 use Rattle.sb_cli.specs.declared.status.Status.{Status}

@@ -1,8 +1,8 @@
 -- How far the reading of a diary text has come, and what one line more says of where it stops.
-use Rattle.std.proofs.Common.{◌≡◌, ℕ, ◌+◌, ◌<◌, ◌≤◌, ◌++◌, List, [], ◌∷◌, Bool, true, false, length, Some, None, Option, refl, sym, ap, subst, ◌∙◌, arith, append-nil, append_assoc}
-use Rattle.std.specs.Prelude.{IfSome, nat_lt, if◌then◌else◌}
+use Rattle.std.proofs.Common.{◌≡◌, ℕ, ◌+◌, ◌≤◌, ◌++◌, List, [], ◌∷◌, Bool, true, false, length, Some, None, Option, refl, sym, ap, subst, ◌∙◌, arith, append-nil, append_assoc}
+use Rattle.std.specs.Prelude.{nat_lt, if◌then◌else◌}
 use Rattle.std.proofs.lemmas.Bool.{ltb-true}
-use Rattle.std.specs.Io.KnownBytes.{Consumes, IsAtEnd}
+use Rattle.std.specs.Io.KnownBytes.{Consumes}
 use Rattle.std.proofs.KnownBytes.{Consumes-nil, Consumes-trans}
 use Rattle.sb_record.specs.declared.intake.TheConstants.{MAX_LINES}
 use Rattle.sb_diary.specs.declared.audit.AuditEnd.{AuditEnd}
@@ -20,7 +20,6 @@ use Rattle.sb_outside.specs.Readings.{Held, Reading, Advances, MayCome, reading,
 use Rattle.sb_cli.specs.declared.diary_input.DiaryHalt.{DiaryHalt}
 use Rattle.sb_cli.specs.declared.diary_input.DiaryHalt.TheVariants.{End, Refused, Fault, Memory}
 use Rattle.sb_cli.specs.DiaryReads.{GaveLine, GaveRest, IsReadUpTo, IsRefusedLine, ReadsDiary, StopsDiaryAt}
-use Rattle.sb_feed.specs.Given.{Given}
 use Rattle.sb_cli.specs.Reads.{IsGoing}
 use Rattle.sb_cli.proofs.Reading.{ended_by, ended_there, goes_on, may_end}
 

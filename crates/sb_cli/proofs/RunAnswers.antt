@@ -1,6 +1,5 @@
 -- From how a run of the engine ended to its answer.
 use Rattle.std.proofs.Common.{◌≡◌, ℕ, ◌+◌, ◌≤◌, Bool, true, false, List, [], ◌∷◌, ◌++◌, Option, Some, Result, Ok, Err, length, refl, sym, ap, subst, ◌∙◌, arith, append-nil, length-append, zero, suc, slice_get, map}
-use Rattle.std.specs.Prelude.{OnOk}
 use Rattle.std.specs.Io.KnownBytes.{Keeps}
 use Rattle.std.specs.Option.{option_map}
 use Rattle.std.proofs.lemmas.Option.{same_Some, slice_get-map}
@@ -10,8 +9,7 @@ use Rattle.sb_record.specs.declared.intake.Stop.TheVariants as at
 use Rattle.sb_record.specs.declared.item.Dropped.{Dropped}
 use Rattle.sb_record.specs.declared.item.Item.{Item}
 use Rattle.sb_record.specs.declared.item.Record.{Record}
-use Rattle.sb_record.specs.declared.item.TheConstants.{END_MARK, MAX_TIME}
-use Rattle.sb_record.specs.Records.{at_least, before, sorted}
+use Rattle.sb_record.specs.declared.item.TheConstants.{END_MARK}
 use Rattle.sb_record.specs.Rows.{text_of}
 use Rattle.sb_record.specs.Streams.{low_watermark}
 use Rattle.sb_record.proofs.Earlier.{sorted_before-front}
@@ -20,32 +18,29 @@ use Rattle.sb_outside.specs.Lines.{lines}
 use Rattle.sb_outside.proofs.Appending.{appends_kept}
 use Rattle.sb_outside.specs.declared.sink.SinkFault.{SinkFault}
 use Rattle.sb_outside.specs.declared.sink.SinkFault.TheVariants as fault
-use Rattle.sb_pipeline.specs.Operators.{lanes_of, operator_at, operator_of}
+use Rattle.sb_pipeline.specs.Operators.{operator_of}
 use Rattle.sb_pipeline.specs.Operators.Operator.{Sink}
 use Rattle.sb_pipeline.specs.Results.{output_of}
 use Rattle.sb_pipeline.specs.Shapes.{Shape, streams_of}
 use Rattle.sb_pipeline.specs.declared.transform.Step.{Step}
 use Rattle.sb_emit.specs.Taps.{TapState}
 use Rattle.sb_emit.specs.TextLaws.{part_of_more}
-use Rattle.sb_hand.specs.declared.state.NodeState.{NodeState}
 use Rattle.sb_hand.specs.Hands.{HandView, settings_at, settings_for}
-use Rattle.sb_hand.specs.Showing.{Settings, diaries_of, settings_of}
+use Rattle.sb_hand.specs.Showing.{Settings, diaries_of}
 use Rattle.sb_feed.specs.Due.{AreFirstDropped, AreFirstRows, due_rows, rows_below, streams_in}
 use Rattle.sb_feed.specs.Given.{Given, items_of, stop_at}
-use Rattle.sb_feed.specs.TapLists.{LeavesThoseThatStay, StopsIn}
+use Rattle.sb_feed.specs.TapLists.{LeavesThoseThatStay}
 use Rattle.sb_run.specs.declared.run_end.RunEnd.{RunEnd}
 use Rattle.sb_run.specs.declared.run_end.RunEnd.TheVariants as run
-use Rattle.sb_run.specs.declared.sizes.Sizes.{Sizes}
 use Rattle.sb_run.specs.RunEnds.{Ends, EndsAt, EndsEarly, IsDoneHand}
 use Rattle.sb_words.specs.declared.options.Options.{Options}
-use Rattle.sb_cli.specs.declared.ending.Ending.{Ending}
 use Rattle.sb_cli.specs.declared.status.Status.{Status}
 use Rattle.sb_cli.specs.declared.status.Status.TheVariants.{Done, Words, Plan, Line, Input, Output, Folder, Memory, Tap, Audit}
 use Rattle.sb_cli.specs.Answers.{IsAnswerOf, Wrote, WrotePrefix, ending_of}
 use Rattle.sb_cli.specs.Offered.{BlamesTap, IsOfferedOf}
 use Rattle.sb_cli.specs.Pipelines.{all_rows}
 use Rattle.sb_cli.specs.RunSteps.{CanTellAt, diaries_told, kept_at, sizes_from, status_after}
-use Rattle.sb_cli.specs.Telling.{CanTell, diaries_of_hand}
+use Rattle.sb_cli.specs.Telling.{diaries_of_hand}
 use Rattle.sb_cli.specs.Told.{AreDiaries, AreToldIf, node_diaries}
 use Rattle.sb_cli.proofs.Blaming.{stops_blames}
 

@@ -1,5 +1,5 @@
 -- The faults that a run of the engine tells.
-use Rattle.std.proofs.Common.{◌≡◌, ℕ, ◌+◌, ◌≤◌, Bool, true, false, List, Result, Ok, Err, refl, sym, ap, ◌∙◌, arith}
+use Rattle.std.proofs.Common.{◌≡◌, ℕ, ◌≤◌, Bool, true, false, List, Result, Ok, Err, refl, ◌∙◌, arith}
 use Rattle.std.specs.Prelude.{OnOk}
 use Rattle.sb_outside.specs.Folders.{Load}
 use Rattle.sb_outside.specs.Sinks.{SinkCause, SinkState}
@@ -9,8 +9,7 @@ use Rattle.sb_outside.specs.declared.sink.SinkFault.TheVariants as fault
 use Rattle.sb_run.specs.declared.run_end.RunEnd.{RunEnd}
 use Rattle.sb_run.specs.declared.run_end.RunEnd.TheVariants as run
 use Rattle.sb_run.specs.RunEnds.{InputCause, IsWritten, OutputCause}
-use Rattle.sb_cli.specs.declared.status.Status.{Status}
-use Rattle.sb_cli.specs.Faults.{Faults, HasCause, HidesNoFault, faults_of}
+use Rattle.sb_cli.specs.Faults.{HasCause, HidesNoFault, faults_of}
 use Rattle.sb_cli.specs.RunSteps.{status_after}
 use Rattle.sb_cli.specs.Answers.{IsRead}
 

@@ -14,7 +14,7 @@ use Rattle.sb_record.specs.declared.intake.Stop.TheVariants.{End, Refused, Fault
 use Rattle.sb_record.specs.Progress.{Progress}
 use Rattle.sb_record.specs.Intake.{tested, after, low}
 use Rattle.sb_record.specs.Inputs.{Accepted, progress_of, accepted, accepted_if, accepted_after, stop_of}
-use Rattle.sb_record.specs.Streams.{low_watermark, record_in, records_of, dropped_in, dropped_of}
+use Rattle.sb_record.specs.Streams.{low_watermark, record_in, dropped_in}
 use Rattle.sb_record.proofs.InputLemmas.{progress-more}
 use Rattle.sb_outside.specs.Lines.{lines}
 use Rattle.sb_pipeline.specs.Shapes.{Shape, streams_of}

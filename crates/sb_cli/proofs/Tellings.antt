@@ -1,5 +1,5 @@
 -- How far the diaries of all nodes are written.
-use Rattle.std.proofs.Common.{◌≡◌, ℕ, ◌+◌, ◌<◌, ◌≤◌, ◌++◌, List, [], ◌∷◌, length, take, drop, get_or, Option, Some, Result, Ok, Err, refl, sym, ap, subst, ◌∙◌, append_assoc, append-nil, arith, add-one, zero, suc, slice_get}
+use Rattle.std.proofs.Common.{◌≡◌, ℕ, ◌+◌, ◌<◌, ◌≤◌, ◌++◌, List, [], ◌∷◌, length, drop, Option, Some, Ok, refl, sym, ap, subst, ◌∙◌, append_assoc, append-nil, add-one, zero, suc, slice_get}
 use Rattle.std.specs.List.{flat_map}
 use Rattle.std.specs.Prelude.{map}
 use Rattle.std.specs.Io.KnownBytes.{Appends}
@@ -17,8 +17,8 @@ use Rattle.sb_outside.proofs.SinkCauses.{calls_then, no_call}
 use Rattle.sb_outside.specs.Sinks.{AppendsPrefix, SinkCause, SinkState}
 use Rattle.sb_diary.specs.declared.event.DiaryEvent.{DiaryEvent}
 use Rattle.sb_diary.specs.declared.text.DiaryLine.{DiaryLine}
-use Rattle.sb_diary.specs.declared.text.DiaryLine.TheVariants.{Head, Event}
-use Rattle.sb_diary.specs.Texts.{NodeDiary, diary_text, lines_from, text_of}
+use Rattle.sb_diary.specs.declared.text.DiaryLine.TheVariants.{Event}
+use Rattle.sb_diary.specs.Texts.{lines_from, text_of}
 use Rattle.sb_pipeline.specs.Operators.{lanes_of, operator_at}
 use Rattle.sb_pipeline.specs.Shapes.{Shape}
 use Rattle.sb_tally.specs.Written.{diary_at}

@@ -3,7 +3,7 @@ use Rattle.std.specs.Prelude.{◌≡◌, ℕ, Bool, true, false, List, [], ◌�
 use Rattle.std.specs.Io.KnownBytes.{Consumes, IsAtEnd}
 use Rattle.sb_diary.specs.declared.audit.AuditFault.{AuditFault}
 use Rattle.sb_diary.specs.declared.audit.AuditFault.TheVariants.{TooMany, TooLong, Malformed, NotLegal}
-use Rattle.sb_diary.specs.Audits.{TextAudit, Auditing, AreLegalTexts, IsFaultAt, IsLegalText, IsNumbered, begun, end_of, lines_in}
+use Rattle.sb_diary.specs.Audits.{TextAudit, Auditing, AreLegalTexts, IsFaultAt, IsLegalText, IsNumbered, begun, end_of}
 use Rattle.sb_outside.specs.Lines.{is_too_long}
 use Rattle.sb_outside.specs.Readings.{Reading, MayCome, rest_of_lines}
 use Rattle.sb_outside.specs.Sources.{Rose}

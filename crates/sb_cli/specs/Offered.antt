@@ -1,5 +1,5 @@
 -- What the taps of a run were offered, and which of them has failed.
-use Rattle.std.specs.Prelude.{◌≡◌, ◌⊎◌, ℕ, List, [], ◌∷◌, ◌++◌, Option, ⊤}
+use Rattle.std.specs.Prelude.{◌≡◌, ◌⊎◌, ℕ, List, ◌∷◌, ◌++◌, Option, ⊤}
 use Rattle.sb_record.specs.declared.intake.Stop.{Stop}
 use Rattle.sb_record.specs.declared.intake.Stop.TheVariants.{End, Refused, Fault}
 use Rattle.sb_record.specs.declared.item.Item.{Item}

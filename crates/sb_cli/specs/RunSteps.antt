@@ -1,5 +1,5 @@
 -- From the end of a run of the engine to its answer.
-use Rattle.std.specs.Prelude.{◌≡◌, ℕ, Bool, true, false, List, [], Result, Ok, Err, ⊤}
+use Rattle.std.specs.Prelude.{Bool, true, false, List, [], Result, Ok, Err, ⊤}
 use Rattle.sb_outside.specs.declared.sink.SinkFault.{SinkFault}
 use Rattle.sb_outside.specs.declared.sink.SinkFault.TheVariants as fault
 use Rattle.sb_diary.specs.Texts.{NodeDiary}

@@ -30,14 +30,15 @@ use sb_words::{Request, read_words};
 use std::alloc::Global;
 
 /// Does what the words of a command line ask for: reads a plan and its tables from `folder` and records and watermarks
-/// from `input`, and writes rows to `out`, and to `notes` a line for each late record that the plan drops, and at most
-/// one more.
+/// from `input`, and writes rows to `out`, and to `notes` a line for each late record that the plan drops, the diaries
+/// of a run that is done if they are asked for, and at most one line more. With `--taps` each row that was written is
+/// offered to `taps`, fewer than 2^32, and those that have enough are dropped.
 ///
 /// What is said of bytes holds of sources and sinks whose bytes are known, and what is said of files of a folder whose
 /// files are known. The words come first, then the plan, then the input: if the words are no command, or the plan is
 /// refused or can't be loaded, the input is not read and no row is written. A run that ends as `Done` has read its input
 /// to the end, and `out` has taken exactly the rows of the pipeline over all accepted records, and has passed them on.
-/// What becomes of the note does not change the status.
+/// What becomes of the notes does not change the status.
 pub fn streambox<S: Source, K: Sink, N: Sink, F: Folder>(
     alloc: Global,
     words: &[String],

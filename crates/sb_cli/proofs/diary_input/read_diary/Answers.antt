@@ -1,4 +1,3 @@
-use Rattle.std.proofs.Common.{rules}
 use Rattle.sb_cli.proofs.DiaryReading.{diary-more, diary-starts, diary-stops}
 use Rattle.sb_cli.proofs.diary_input.read_diary.Goals as goal
 

@@ -1,4 +1,4 @@
-use Rattle.std.proofs.Common.{refl, sym, subst}
+use Rattle.std.proofs.Common.{refl, subst}
 use Rattle.sb_outside.specs.Readings.{reading}
 use Rattle.sb_diary.specs.Audits.{IsLegalText, IsStopAt}
 use Rattle.sb_cli.specs.DiaryReads.{StopsDiaryAt}
