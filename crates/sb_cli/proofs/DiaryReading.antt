@@ -20,8 +20,8 @@ use Rattle.sb_outside.specs.Readings.{Held, Reading, Advances, MayCome, reading,
 use Rattle.sb_cli.specs.declared.diary_input.DiaryHalt.{DiaryHalt}
 use Rattle.sb_cli.specs.declared.diary_input.DiaryHalt.TheVariants.{End, Refused, Fault, Memory}
 use Rattle.sb_cli.specs.DiaryReads.{GaveLine, GaveRest, IsReadUpTo, IsRefusedLine, ReadsDiary, StopsDiaryAt}
-use Rattle.sb_cli.specs.Reads.{IsGoing}
-use Rattle.sb_cli.proofs.Reading.{ended_by, ended_there, goes_on, may_end}
+use Rattle.sb_feed.specs.Reads.{IsGoing}
+use Rattle.sb_feed.proofs.ReadSteps.{ended_by, ended_there, goes_on, may_end}
 
 module _ {S : Type 0} (left : S → Option (List ℕ)) (faults : S → ℕ) where
   -- a line was given

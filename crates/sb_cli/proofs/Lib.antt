@@ -1,5 +1,4 @@
-pub mod Reading
-pub mod Takings
+pub mod KeptItems
 pub mod Printing
 pub mod Answering
 pub mod PlanNotes

@@ -11,7 +11,7 @@ use Rattle.sb_cli.specs.declared.diary_input.DiaryHalt.{DiaryHalt}
 use Rattle.sb_cli.specs.declared.diary_input.DiaryHalt.TheVariants.{End, Refused, Fault, Memory}
 use Rattle.sb_cli.specs.declared.diary_input.DiaryInput.{DiaryInput}
 use Rattle.sb_feed.specs.Given.{Given, lines_of}
-use Rattle.sb_cli.specs.Reads.{IsGoing}
+use Rattle.sb_feed.specs.Reads.{IsGoing}
 
 -- why a line is refused behind lines that say t: there is no room for it, or it is too long, or an auditor says why
 abbrev pub IsRefusedLine : TextAudit → List ℕ → AuditFault → Type 0

@@ -3,7 +3,7 @@
 ghost use Rattle.std.specs.Prelude.{◌≡◌, None, OnOk, IfErr};
 ghost use Rattle.sb_outside.specs.Readings.{reading};
 ghost use Rattle.sb_cli.specs.DiaryReads.{DiaryFaultCause, ReadsDiary, TakesDiaryLine};
-ghost use Rattle.sb_cli.specs.Reads.{IsGoing};
+ghost use Rattle.sb_feed.specs.Reads.{IsGoing};
 
 use sb_diary::{AuditEnd, AuditFault, AuditStop, Auditor};
 use sb_outside::{LineBuffer, Source, Step};

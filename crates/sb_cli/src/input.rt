@@ -1,14 +1,15 @@
 //! Reading an input: what is kept of the items of its lines, up to where reading stops.
 
-ghost use Rattle.std.specs.Prelude.{◌≡◌, ◌≤◌, ◌<◌, ◌+◌, IfOk, IfErr, OnOk};
-ghost use Rattle.sb_outside.specs.Readings.{reading};
+ghost use Rattle.std.specs.Prelude.{IfOk};
 ghost use Rattle.sb_pipeline.specs.Plans.{IsPlan};
-ghost use Rattle.sb_cli.specs.Reads.{ReadsAll, IsGoing, TakesNext, FaultCause};
+ghost use Rattle.sb_feed.specs.Reads.{FaultCause};
+ghost use Rattle.sb_cli.specs.Reads.{ReadsAll};
 
 use crate::kept::Kept;
-use sb_outside::{LineBuffer, Source, Step};
+use sb_feed::next_item;
+use sb_outside::{LineBuffer, Source};
 use sb_pipeline::Plan;
-use sb_record::{Intake, Item, MAX_LINES, NoMemory, Stop};
+use sb_record::{Intake, NoMemory, Stop};
 use std::alloc::Global;
 
 /// What was read of an input.
@@ -20,30 +21,6 @@ pub(crate) struct Input {
     pub low: u64,
     /// Where reading stopped.
     pub stop: Stop,
-}
-
-/// The item of the next line, or where reading stops.
-fn next_item<S: Source>(
-    source: &mut S,
-    lines: &mut LineBuffer,
-    intake: &mut Intake,
-) -> Result<Item, Stop>
-    requires { IsGoing lines.old.halt (S.left source.old) }
-    ensures takes { TakesNext S.left (reading source.old lines.old) (reading source.new lines.new)
-        intake.old intake.new result }
-    ensures same { OnOk result (S.faults source.new ≡ S.faults source.old) }
-    ensures cause { IfErr result (λ stop. FaultCause (S.faults source.old) (S.faults source.new) stop) }
-    ensures room { OnOk result (intake.old.lines < MAX_LINES) }
-{
-    match lines.advance(source) {
-        Step::Line => match intake.accept(lines.line()) {
-            Ok(item) => Ok(item),
-            Err(refusal) => Err(Stop::Refused(refusal)),
-        },
-        Step::End => Err(Stop::End),
-        Step::TooLong => Err(Stop::Refused(intake.too_long())),
-        Step::Fault => Err(Stop::Fault),
-    }
 }
 
 /// What is kept of the items of an input, up to where reading stops, by the plan's rules for lines.

@@ -1,14 +1,14 @@
 use Rattle.std.proofs.Common.{◌-◌, List}
 use Rattle.sb_record.specs.declared.item.Item.{Item}
+use Rattle.sb_feed.proofs.ReadSoFar.{ReadSoFar}
 use Rattle.sb_cli.specs.Keeping.{AreKept}
-use Rattle.sb_cli.proofs.Takings.{Taking}
 use Rattle.sb_cli.proofs.input.read_input.Given as goal
 
 abbrev pub invariant-items : goal.invariant-items
 invariant-items g l =
     record {
       items : List Item;
-      taking : Taking l.fn.plan (g.S.Source.left l.initial.source) (g.S.Source.left l.source) l.lines l.intake items (g.S.Source.faults l.initial.source) (g.S.Source.faults l.source);
+      read : ReadSoFar l.fn.plan (g.S.Source.left l.initial.source) (g.S.Source.left l.source) l.lines l.intake items (g.S.Source.faults l.initial.source) (g.S.Source.faults l.source);
       kept : AreKept l.kept items;
     }
 
