@@ -1,5 +1,5 @@
 -- What is kept of the items that were read of an input.
-use Rattle.std.proofs.Common.{◌≡◌, ℕ, List, [], ◌∷◌, ◌++◌, Option, Ok, Err, refl, sym, ap, subst, ◌∙◌, append-nil}
+use Rattle.std.proofs.Common.{◌≡◌, ℕ, List, [], ◌∷◌, ◌++◌, Option, Ok, Err, sym, ap, subst, ◌∙◌, append-nil}
 use Rattle.std.specs.List.{flat_map}
 use Rattle.std.specs.Prelude.{IsErr, Result}
 use Rattle.std.proofs.lemmas.List.Concat.{flat_map-append}
@@ -11,7 +11,7 @@ use Rattle.sb_record.specs.Intake.{low}
 use Rattle.sb_record.specs.Streams.{low_watermark, record_in, dropped_in}
 use Rattle.sb_pipeline.specs.Shapes.{Shape, streams_of}
 use Rattle.sb_outside.specs.Readings.{Held, reading}
-use Rattle.sb_feed.specs.Given.{Given, items_of}
+use Rattle.sb_feed.specs.Given.{Given}
 use Rattle.sb_feed.specs.Reads.{StopsReading}
 use Rattle.sb_feed.proofs.ReadSoFar.{ReadSoFar, reading_stops}
 use Rattle.sb_cli.specs.declared.input.Input.{Input}
