@@ -4,6 +4,7 @@ pub mod ClosingLinks
 pub mod ComingBack
 pub mod Composing
 pub mod Doing
+pub mod Examples
 pub mod FeedLinks
 pub mod FeedingNothing
 pub mod Feeds

@@ -13,6 +13,8 @@ mod making;
 mod settling;
 mod state;
 mod steps;
+#[cfg(test)]
+mod tests;
 
 pub use did::Did;
 pub use hand::{Hand, MAX_PENDING};
