@@ -1,10 +1,10 @@
-//! Whole runs of the engine: options, diaries, taps, and reads, writes and loads that fail.
+//! Whole runs of the engine: options, diaries and taps.
 
 ghost use Rattle.std.specs.Prelude.{◌<◌, ◌^◌, length};
 
 use crate::streambox;
 use crate::tests::{FIRST, strings_of};
-use sb_emit::{CountTap, HeadTap, Tap};
+use sb_emit::{HeadTap, Tap};
 use sb_outside::{MemFolder, MemSink, MemSource, StdSink};
 use std::alloc::{AllocError, Global};
 use std::collections::BTreeMap;
@@ -115,118 +115,6 @@ fn options_in_any_order(rt: HostRuntime) -> Result<(), Fail> {
     Ok(())
 }
 
-/// Lines of which the last is refused, the rows and the note.
-const LATE: &[u8] = b"r,a,3,1,5\nw,a,10\nr,a,12,1,4\nr,a,9,1,1\n";
-
-/// Reads, writes and notes that fail: the text; how many bytes a read gives, and which read fails; how many bytes a
-/// write takes, and which write fails; which write of the notes fails; the rows, the exit code, the notes, and how often
-/// reads have failed.
-type Fault = (
-    &'static [u8],
-    &'static [usize],
-    &'static [u64],
-    &'static [usize],
-    &'static [u64],
-    &'static [u64],
-    &'static str,
-    u8,
-    &'static str,
-    u64,
-);
-
-const FAULTS: [Fault; 8] = [
-    (FIRST, &[], &[1], &[], &[], &[], "", 4, "input failed\n", 1),
-    (
-        FIRST,
-        &[27],
-        &[2],
-        &[],
-        &[],
-        &[],
-        "10,1,7\n",
-        4,
-        "input failed\n",
-        1,
-    ),
-    (
-        FIRST,
-        &[26],
-        &[2],
-        &[],
-        &[],
-        &[],
-        "",
-        4,
-        "input failed\n",
-        1,
-    ),
-    (FIRST, &[], &[], &[], &[1], &[], "", 5, "output failed\n", 0),
-    (
-        FIRST,
-        &[],
-        &[],
-        &[4],
-        &[2],
-        &[],
-        "10,1",
-        5,
-        "output failed\n",
-        0,
-    ),
-    (
-        FIRST,
-        &[],
-        &[],
-        &[],
-        &[2],
-        &[],
-        "10,1,7\n",
-        5,
-        "output failed\n",
-        0,
-    ),
-    (LATE, &[], &[], &[], &[], &[1], "10,1,5\n", 3, "", 0),
-    // The rows are written before the next read.
-    (
-        FIRST,
-        &[27],
-        &[2],
-        &[],
-        &[1],
-        &[],
-        "",
-        5,
-        "output failed\n",
-        0,
-    ),
-];
-
-#[test]
-fn one_fault_is_told(rt: HostRuntime) -> Result<(), Fail> {
-    let alloc = rt.alloc();
-    for (text, gives, unread, takes, unwritten, untold, rows, code, told, faults) in FAULTS {
-        let mut input = MemSource::new(
-            Vec::from_slice(alloc, text)?,
-            Vec::from_slice(alloc, gives)?,
-            Vec::from_slice(alloc, unread)?,
-        );
-        let mut out = MemSink::new(
-            alloc,
-            Vec::from_slice(alloc, takes)?,
-            Vec::from_slice(alloc, unwritten)?,
-        );
-        let mut notes = sink_of(alloc, untold)?;
-        let mut taps = Vec::new(alloc);
-        let words = ["sum", "10"];
-        let ended = code_of(alloc, &words, &mut input, &mut out, &mut notes, &mut taps)?;
-        assert_eq!(rt; ended, code, "{told} {rows}");
-        assert_eq!(rt; out.taken(), rows.as_bytes(), "{told} {rows}");
-        assert_eq!(rt; notes.taken(), told.as_bytes(), "{told} {rows}");
-        assert_eq!(rt; input.faults(), faults, "{told} {rows}");
-    }
-    Ok(())
-}
-
 /// The name of the file that a tap writes.
 const HEAD: &str = "sb_cli_head";
 
@@ -246,73 +134,5 @@ fn a_tap_that_has_enough_goes(rt: HostRuntime) -> Result<(), Fail> {
     assert_eq!(rt; taps.len(), 0);
     assert_eq!(rt; fs::read(&rt, HEAD)?.as_slice(), b"10,1,7\n".as_slice());
     fs::remove_file(&rt, HEAD)?;
-    Ok(())
-}
-
-/// Options, whether a tap stands before that wants one row, which call of the tap behind it fails, the rows, the exit
-/// code, the notes, and how many rows that tap has seen.
-type Tapped = (
-    &'static [&'static str],
-    bool,
-    &'static [u64],
-    &'static str,
-    u8,
-    &'static str,
-    u64,
-);
-
-const TAPPED: [Tapped; 5] = [
-    (&["sum", "10"], false, &[1], FIRST_ROWS, 0, "", 0),
-    (&["sum", "10", "--taps"], false, &[], FIRST_ROWS, 0, "", 2),
-    (
-        &["sum", "10", "--taps", "--workers", "1"],
-        false,
-        &[1],
-        "10,1,7\n",
-        8,
-        "tap 0 failed\n",
-        0,
-    ),
-    (
-        &["sum", "10", "--taps"],
-        false,
-        &[2],
-        FIRST_ROWS,
-        8,
-        "tap 0 failed\n",
-        1,
-    ),
-    // The tap before it has gone.
-    (
-        &["sum", "10", "--taps"],
-        true,
-        &[2],
-        FIRST_ROWS,
-        8,
-        "tap 0 failed\n",
-        1,
-    ),
-];
-
-#[test]
-fn taps_see_each_row(rt: HostRuntime) -> Result<(), Fail> {
-    let alloc = rt.alloc();
-    for (words, before, failing, rows, code, told, seen) in TAPPED {
-        let mut taps: Taps = Vec::new(alloc);
-        if before {
-            taps.push(Box::new(alloc, HeadTap::new(1, sink_of(alloc, &[])?))?)?;
-        }
-        let failing_calls = Vec::from_slice(alloc, failing)?;
-        taps.push(Box::new(alloc, CountTap::new(failing_calls))?)?;
-        let mut input = source_of(alloc, FIRST)?;
-        let mut out = sink_of(alloc, &[])?;
-        let mut notes = sink_of(alloc, &[])?;
-        let ended = code_of(alloc, words, &mut input, &mut out, &mut notes, &mut taps)?;
-        assert_eq!(rt; ended, code, "{words:?} {failing:?}");
-        assert_eq!(rt; out.taken(), rows.as_bytes(), "{words:?} {failing:?}");
-        assert_eq!(rt; notes.taken(), told.as_bytes(), "{words:?} {failing:?}");
-        assert_eq!(rt; taps.len(), 1, "{words:?} {failing:?}");
-        assert_eq!(rt; taps[0].seen(), seen, "{words:?} {failing:?}");
-    }
     Ok(())
 }
