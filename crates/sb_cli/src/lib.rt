@@ -31,6 +31,8 @@ mod settings_tests;
 mod status;
 #[cfg(test)]
 mod tests;
+#[cfg(test)]
+mod width_tests;
 
 pub use command::streambox;
 pub use status::Status;
