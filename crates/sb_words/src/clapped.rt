@@ -1,6 +1,6 @@
 //! The command as `clap` has it, and what `clap` reads in words.
 
-ghost use Rattle.std.specs.Prelude.{◌≡◌, ◌≢◌, false, codes, IfOk, Some};
+ghost use Rattle.std.specs.Prelude.{◌≡◌, ◌≢◌, false, codes, IfOk, None, OnErr, OnOk, Some};
 ghost use Rattle.std.specs.Option.{option_map};
 ghost use Rattle.clap.specs.Words.{kind_of, new_app, rule_of};
 ghost use Rattle.sb_words.specs.Clapped.{IsAs};
@@ -92,7 +92,9 @@ pub(crate) fn read_by_clap(alloc: Global, words: &[String]) -> Result<Option<Req
 
 /// What an error of `clap` comes to: want of memory, or words that it refuses.
 fn refusal<'a>(error: &Error) -> Result<Option<Request<'a>>, NoMemory>
-    ensures { IfOk result (λ read. kind_of error.now ≢ ErrorKind.OutOfMemory) }
+    ensures none { IfOk result (λ read. read ≡ None) }
+    ensures other { OnOk result (kind_of error.now ≢ ErrorKind.OutOfMemory) }
+    ensures memory { OnErr result (kind_of error.now ≡ ErrorKind.OutOfMemory) }
 {
     if error.kind() == ErrorKind::OutOfMemory {
         Err(NoMemory)

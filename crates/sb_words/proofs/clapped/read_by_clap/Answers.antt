@@ -20,4 +20,4 @@ returns-in-Err c =
     let built = c.in_ok-command.ensures.is in
     IfOk-weaker c.refusal.result _ _
     (λ read other wanted is. absurd (other (c.in-Err.ensures.passes (ap (λ (app : App). takes app words) built ∙ command_taken wanted words is))))
-    c.refusal.ensures
+    c.refusal.ensures.other
