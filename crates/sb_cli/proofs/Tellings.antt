@@ -10,7 +10,7 @@ use Rattle.std.proofs.Math.Seq.{drop-cons}
 use Rattle.std.proofs.lemmas.List.Concat.{flat_map-append}
 use Rattle.std.proofs.lemmas.Option.{same_Some}
 use Rattle.sb_diary.specs.Diaries.{Written}
-use Rattle.sb_hand.specs.declared.state.NodeState.{NodeState}
+use Rattle.sb_node.specs.declared.state.NodeState.{NodeState}
 use Rattle.sb_hand.specs.Showing.{diaries_of}
 use Rattle.sb_outside.proofs.Appending.{prefix_later, prefix_of_more}
 use Rattle.sb_outside.proofs.SinkCauses.{calls_then, no_call}

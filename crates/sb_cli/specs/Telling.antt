@@ -5,7 +5,7 @@ use Rattle.sb_diary.specs.declared.text.DiaryLine.TheVariants.{Head, Event}
 use Rattle.sb_diary.specs.Texts.{NodeDiary, text_of}
 use Rattle.sb_pipeline.specs.Operators.{lanes_of, operator_at}
 use Rattle.sb_tally.specs.Written.{diary_at}
-use Rattle.sb_hand.specs.declared.state.NodeState.{NodeState}
+use Rattle.sb_node.specs.declared.state.NodeState.{NodeState}
 use Rattle.sb_hand.specs.Hands.{HandView}
 use Rattle.sb_hand.specs.Showing.{diaries_of}
 use Rattle.sb_cli.specs.Told.{node_diaries}

@@ -33,10 +33,10 @@ use Rattle.sb_lane.specs.declared.answers.LaneClose.{LaneClose}
 use Rattle.sb_lane.specs.Looks.{look_of}
 use Rattle.sb_lane.specs.LaneView.{LaneView, lane_of}
 use Rattle.sb_lane.specs.Placed.{conts_of}
-use Rattle.sb_hand.specs.declared.state.NodeState.{NodeState}
+use Rattle.sb_node.specs.declared.state.NodeState.{NodeState}
 use Rattle.sb_kept.specs.declared.kept.Kept.{Kept}
 use Rattle.sb_kept.specs.Keeping.{IsMadeFor, IsSpent, ShowsKept, closed_mark, given_by, gives}
-use Rattle.sb_hand.specs.Marking.{mark_for}
+use Rattle.sb_node.specs.Marking.{mark_for}
 use Rattle.sb_hand.specs.Sets.{HasLane, BeginsAt}
 use Rattle.sb_hand.specs.Showing.{ShowsNode, Stands, Reaches, Does, diaries_of}
 use Rattle.sb_hand.proofs.Calm.{node_is}

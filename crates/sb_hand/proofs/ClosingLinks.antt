@@ -25,9 +25,10 @@ use Rattle.sb_lane.specs.LaneView.{LaneView, lane_of}
 use Rattle.sb_lane.specs.Links.{link_in}
 use Rattle.sb_lane.specs.Placed.{conts_of}
 use Rattle.sb_lane.proofs.OrderKept.{next-fits, place-kept}
-use Rattle.sb_hand.specs.declared.closing.Closing.{Closing}
-use Rattle.sb_hand.specs.declared.state.NodeState.{NodeState}
-use Rattle.sb_hand.specs.LinkChanges.{FindsPlace, LaneGoes, LinksStay}
+use Rattle.sb_node.specs.declared.closing.Closing.{Closing}
+use Rattle.sb_node.specs.declared.state.NodeState.{NodeState}
+use Rattle.sb_node.specs.LinkChanges.{FindsPlace, LinksStay}
+use Rattle.sb_hand.specs.LaneGoing.{LaneGoes}
 use Rattle.sb_hand.specs.Linking.{AreLinked, KeepsLinks, NoneBelow, StandsBelow}
 use Rattle.sb_hand.specs.Runs.{close_of}
 use Rattle.sb_hand.specs.Sets.{BeginsAt, HasLane, Turns}

@@ -9,10 +9,10 @@ use Rattle.sb_core.specs.declared.held.Held.{Held}
 use Rattle.sb_core.specs.declared.event.Event.{Event}
 use Rattle.sb_core.specs.Events.{after, run}
 use Rattle.sb_core.specs.declared.event.Event.TheVariants.{Deliver}
-use Rattle.sb_hand.specs.declared.closing.Closing.{Closing}
+use Rattle.sb_node.specs.declared.closing.Closing.{Closing}
 use Rattle.sb_hand.proofs.LeftToDo.{lowers-then, lowers-none}
 use Rattle.sb_hand.specs.Runs.{close_of, deliveries, Delivers}
-use Rattle.sb_hand.specs.declared.state.NodeState.{NodeState}
+use Rattle.sb_node.specs.declared.state.NodeState.{NodeState}
 use Rattle.std.proofs.lemmas.Option.{same_Some}
 use Rattle.sb_diary.specs.declared.event.DiaryEvent.{DiaryEvent}
 use Rattle.sb_tally.specs.Keeping.{diaries_after, if_some, diaries_by}

@@ -25,11 +25,11 @@ use Rattle.sb_core.specs.Parts.{only_node, put_in}
 use Rattle.sb_lane.specs.LaneView.{LaneView, lane_of}
 use Rattle.sb_lane.specs.Placed.{conts_of}
 use Rattle.sb_lane.specs.Taking.{take_first}
-use Rattle.sb_hand.specs.declared.state.NodeState.{NodeState}
+use Rattle.sb_node.specs.declared.state.NodeState.{NodeState}
 use Rattle.std.proofs.lemmas.List.{length-drop, take_min}
 use Rattle.std.proofs.lemmas.Bool.{cases_lt}
 use Rattle.std.specs.Option.{option_map}
-use Rattle.sb_hand.specs.declared.closing.Closing.{Closing}
+use Rattle.sb_node.specs.declared.closing.Closing.{Closing}
 use Rattle.sb_hand.specs.Runs.{close_of, deliveries, Delivers, Ends}
 use Rattle.sb_hand.proofs.Composing.{does-then}
 use Rattle.sb_hand.proofs.LeftToDo.{lowers-then, below-lowers, ends-lowers}

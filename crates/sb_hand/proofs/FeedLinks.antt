@@ -14,9 +14,10 @@ use Rattle.sb_core.specs.Lanes.{next_epoch, with_seal}
 use Rattle.sb_lane.specs.declared.answers.ArriveStop.{ArriveStop}
 use Rattle.sb_lane.specs.LaneView.{LaneView, lane_of}
 use Rattle.sb_lane.specs.Placed.{conts_of}
-use Rattle.sb_hand.specs.declared.state.NodeState.{NodeState}
+use Rattle.sb_node.specs.declared.state.NodeState.{NodeState}
 use Rattle.sb_hand.specs.Feeding.{ArrivesIn, ComesBack, TakesStream}
-use Rattle.sb_hand.specs.LinkChanges.{GetsPlace, LaneGoes, LinksStay}
+use Rattle.sb_node.specs.LinkChanges.{GetsPlace, LinksStay}
+use Rattle.sb_hand.specs.LaneGoing.{LaneGoes}
 use Rattle.sb_hand.specs.Linking.{AreLinked}
 use Rattle.sb_hand.specs.Searching.{SearchesStay}
 use Rattle.sb_hand.specs.Sets.{HasLane, StaysAt, Turns}

@@ -35,8 +35,9 @@ use Rattle.sb_lane.specs.Placed.{conts_of}
 use Rattle.sb_lane.specs.Unfinished.{unfinished_of}
 use Rattle.sb_tally.specs.Written.{arrival_line, seal_line}
 use Rattle.sb_tally.specs.Written as written
-use Rattle.sb_hand.specs.declared.state.NodeState.{NodeState}
-use Rattle.sb_hand.specs.Feeding.{ArrivesIn, ComesBack, IsBackFrom, IsTurnedBack, MayArrive, MaySeal, TakesStream}
+use Rattle.sb_node.specs.declared.state.NodeState.{NodeState}
+use Rattle.sb_node.specs.Coming.{IsBackFrom}
+use Rattle.sb_hand.specs.Feeding.{ArrivesIn, ComesBack, IsTurnedBack, MayArrive, MaySeal, TakesStream}
 use Rattle.sb_hand.specs.Sets.{HasLane, SetsLane, StaysAt, Turns}
 use Rattle.sb_hand.specs.Showing.{CanStand, Does, IsKept, ShowsNode, Stands, diaries_of, settings_of}
 use Rattle.sb_hand.proofs.LaneEvents.{lane_in, the_lane-is, lane-free, put-is}

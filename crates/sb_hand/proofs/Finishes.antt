@@ -34,7 +34,7 @@ use Rattle.sb_core.proofs.Nodes.{begun_mark, slice_get-set_same}
 use Rattle.sb_lane.specs.LaneView.{LaneView, lane_of}
 use Rattle.sb_lane.specs.Placed.{conts_of}
 use Rattle.sb_lane.specs.Taking.{finish_first}
-use Rattle.sb_hand.specs.declared.state.NodeState.{NodeState}
+use Rattle.sb_node.specs.declared.state.NodeState.{NodeState}
 use Rattle.sb_window.specs.Groupings.{IsFrom}
 use Rattle.sb_kept.specs.declared.kept.Kept.{Kept}
 use Rattle.sb_kept.specs.Keeping.{IsMadeFor, IsSpent, IsPartFor, ShowsKept, closed_mark, gives}

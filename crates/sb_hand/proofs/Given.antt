@@ -40,7 +40,7 @@ use Rattle.sb_lane.specs.LaneView.{LaneView, lane_of, link_at}
 use Rattle.sb_lane.specs.Links.{Link, down_of, link_of, link_in, links_of}
 use Rattle.sb_lane.specs.Placed.{Placed, conts_of}
 use Rattle.sb_lane.proofs.OrderKept.{place-within}
-use Rattle.sb_hand.specs.declared.state.NodeState.{NodeState}
+use Rattle.sb_node.specs.declared.state.NodeState.{NodeState}
 use Rattle.sb_hand.specs.Linking.{AreLinked, place_in}
 use Rattle.sb_hand.specs.Runs.{work_of}
 use Rattle.sb_hand.specs.Sets.{HasLane}

@@ -21,8 +21,9 @@ use Rattle.sb_lane.specs.Changes.{StandsAt}
 use Rattle.sb_lane.specs.LaneView.{LaneView, lane_of}
 use Rattle.sb_lane.specs.Links.{down_of, link_in, links_of}
 use Rattle.sb_lane.specs.Placed.{conts_of}
-use Rattle.sb_hand.specs.declared.state.NodeState.{NodeState}
-use Rattle.sb_hand.specs.LinkChanges.{FindsPlace, GetsLink, LaneGoes, LinksStay}
+use Rattle.sb_node.specs.declared.state.NodeState.{NodeState}
+use Rattle.sb_node.specs.LinkChanges.{FindsPlace, GetsLink, LinksStay}
+use Rattle.sb_hand.specs.LaneGoing.{LaneGoes}
 use Rattle.sb_hand.specs.Linking.{AreLinked, KeepsLinks}
 use Rattle.sb_hand.specs.Runs.{work_of, Gives}
 use Rattle.sb_hand.specs.Sets.{HasLane, StaysAt, Turns}

@@ -23,7 +23,7 @@ use Rattle.sb_core.specs.Moments.{lane_at}
 use Rattle.sb_core.proofs.InTime.{begun_within}
 use Rattle.sb_lane.specs.LaneView.{LaneView, lane_of}
 use Rattle.sb_lane.specs.Placed.{conts_of}
-use Rattle.sb_hand.specs.declared.state.NodeState.{NodeState}
+use Rattle.sb_node.specs.declared.state.NodeState.{NodeState}
 use Rattle.sb_hand.specs.Sets.{HasLane}
 use Rattle.sb_hand.specs.Showing.{ShowsNode, Stands, CanStand}
 use Rattle.sb_hand.proofs.Calm.{node_is}

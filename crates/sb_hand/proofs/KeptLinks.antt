@@ -22,8 +22,9 @@ use Rattle.sb_lane.specs.Links.{Link, link_in, links_of}
 use Rattle.sb_lane.specs.Placed.{conts_of}
 use Rattle.sb_lane.specs.Taking.{finish_first}
 use Rattle.sb_work.specs.declared.outputs.Part.{Part}
-use Rattle.sb_hand.specs.declared.state.NodeState.{NodeState}
-use Rattle.sb_hand.specs.LinkChanges.{DropsLink, FindsPlace, GetsLink, GetsPlace, LaneGoes, LinksStay}
+use Rattle.sb_node.specs.declared.state.NodeState.{NodeState}
+use Rattle.sb_node.specs.LinkChanges.{DropsLink, FindsPlace, GetsLink, GetsPlace, LinksStay}
+use Rattle.sb_hand.specs.LaneGoing.{LaneGoes}
 use Rattle.sb_hand.specs.Linking.{AreLinked, KeepsLinks, place_in}
 use Rattle.sb_hand.specs.Searching.{LooksFew}
 use Rattle.sb_hand.specs.Sets.{Absorbs, BeginsAt, HasLane, StaysAt, Takes, Turns}

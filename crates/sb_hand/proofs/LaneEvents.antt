@@ -20,7 +20,7 @@ use Rattle.sb_core.specs.Parts.{only_node, put_in, part_after, held_after, with_
 use Rattle.sb_core.specs.Soundness.{IsSound}
 use Rattle.sb_core.proofs.Nodes.{slice_get-set_same}
 use Rattle.sb_lane.specs.LaneView.{LaneView, lane_of}
-use Rattle.sb_hand.specs.declared.state.NodeState.{NodeState}
+use Rattle.sb_node.specs.declared.state.NodeState.{NodeState}
 use Rattle.sb_kept.specs.declared.kept.Kept.{Kept}
 use Rattle.sb_kept.specs.Keeping.{IsMadeFor, IsSpent, ShowsKept, closed_mark}
 use Rattle.sb_hand.specs.Sets.{SetsLane}

@@ -15,7 +15,7 @@ use Rattle.sb_core.specs.Marks.{first_is_closing, last_of_first, begun, before_c
 use Rattle.sb_lane.specs.declared.answers.LaneClose.{LaneClose}
 use Rattle.sb_lane.specs.Looks.{look_of, look_closing, look_marked}
 use Rattle.sb_lane.specs.Taking.{finish_first}
-use Rattle.sb_hand.specs.Marking.{mark_for, next_mark, ended_mark}
+use Rattle.sb_node.specs.Marking.{mark_for, next_mark, ended_mark}
 
 module _ (bound epoch number : ℕ) where
   later-open : (n g e f : ℕ) (cs : List Cont) → AreOpen bound n g e f cs → epoch < e → finish_in epoch number cs ≡ cs

@@ -1,7 +1,8 @@
+pub mod Answering
+pub mod AtNodes
 pub mod Beginning
 pub mod Calm
 pub mod ClosingLinks
-pub mod ComingBack
 pub mod Composing
 pub mod Doing
 pub mod Examples
@@ -12,7 +13,6 @@ pub mod Finishes
 pub mod Given
 pub mod Gives
 pub mod Having
-pub mod InPlaces
 pub mod KeptLinks
 pub mod LaneEvents
 pub mod LaneLaws
@@ -25,7 +25,6 @@ pub mod NewLinks
 pub mod Numbers
 pub mod OpenBelow
 pub mod Outputs
-pub mod PlacedFirst
 pub mod Resting
 pub mod SettingsStay
 pub mod ShownLanes

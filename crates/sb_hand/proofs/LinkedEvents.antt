@@ -15,8 +15,8 @@ use Rattle.sb_lane.specs.LaneView.{LaneView, lane_of, link_at}
 use Rattle.sb_lane.specs.Links.{Link, link_in, links_of, with_place}
 use Rattle.sb_lane.specs.Links.{linked as set_link}
 use Rattle.sb_lane.specs.Placed.{Placed, conts_of}
-use Rattle.sb_hand.specs.declared.state.NodeState.{NodeState}
-use Rattle.sb_hand.specs.LinkChanges.{DropsLink, GetsLink, LinksStay}
+use Rattle.sb_node.specs.declared.state.NodeState.{NodeState}
+use Rattle.sb_node.specs.LinkChanges.{DropsLink, GetsLink, LinksStay}
 use Rattle.sb_hand.specs.Linking.{AreLinked, KeepsLinks, LeadsTo, place_in}
 use Rattle.sb_hand.specs.Searching.{LooksFew, SearchesFew}
 use Rattle.sb_hand.specs.Sets.{HasLane}

@@ -25,7 +25,7 @@ use Rattle.sb_core.proofs.SoundPut.{lone_has}
 use Rattle.sb_lane.specs.LaneView.{LaneView, lane_of}
 use Rattle.sb_lane.specs.Links.{Link, link_of, link_in, links_of}
 use Rattle.sb_lane.specs.Placed.{Placed, conts_of}
-use Rattle.sb_hand.specs.declared.state.NodeState.{NodeState}
+use Rattle.sb_node.specs.declared.state.NodeState.{NodeState}
 use Rattle.sb_hand.specs.Sets.{HasLane}
 use Rattle.sb_hand.specs.Showing.{ShowsNode, Stands}
 use Rattle.sb_hand.proofs.Calm.{node_is}

@@ -23,7 +23,7 @@ use Rattle.sb_lane.specs.Looks.{look_marked, look_closing, look_of}
 use Rattle.sb_lane.specs.Placed.{conts_of}
 use Rattle.sb_lane.specs.Taking.{first_taken, take_first}
 use Rattle.sb_lane.specs.Unfinished.{unfinished_in, unfinished_of}
-use Rattle.sb_hand.specs.declared.state.NodeState.{NodeState}
+use Rattle.sb_node.specs.declared.state.NodeState.{NodeState}
 use Rattle.sb_hand.specs.HandLaws.{AreIdle, IdleIsRest, IdleIsFinished}
 use Rattle.sb_hand.specs.Showing.{Stands}
 use Rattle.sb_hand.specs.Stepping.{NoneWaits, CannotClose}

@@ -6,7 +6,7 @@ use Rattle.std.proofs.lemmas.Option.{same_Some}
 use Rattle.sb_diary.specs.declared.event.DiaryEvent.{DiaryEvent}
 use Rattle.sb_kept.specs.declared.kept.Kept.{Kept}
 use Rattle.sb_lane.specs.LaneView.{LaneView}
-use Rattle.sb_hand.specs.declared.state.NodeState.{NodeState}
+use Rattle.sb_node.specs.declared.state.NodeState.{NodeState}
 use Rattle.sb_hand.specs.Sets.{SetsLane, SetsNode}
 use Rattle.sb_hand.specs.Showing.{Settings, settings_of}
 use Rattle.sb_hand.proofs.Single.{get-map}

@@ -12,7 +12,7 @@ use Rattle.sb_core.specs.declared.held.Held.{Held}
 use Rattle.sb_core.specs.Moments.{lane_at}
 use Rattle.sb_lane.specs.LaneView.{LaneView, lane_of}
 use Rattle.sb_lane.specs.Placed.{Placed, conts_of}
-use Rattle.sb_hand.specs.declared.state.NodeState.{NodeState}
+use Rattle.sb_node.specs.declared.state.NodeState.{NodeState}
 use Rattle.sb_hand.specs.HandLaws.{ShowsSources, TakesSources, HasItsLanes, DoneIsEmpty}
 use Rattle.sb_hand.specs.Sets.{HasLane}
 use Rattle.sb_hand.specs.Showing.{ShowsNode, Stands}

@@ -23,7 +23,7 @@ use Rattle.sb_core.specs.Soundness.{IsSound}
 use Rattle.sb_core.proofs.AfterSound.{events-keep_sound}
 use Rattle.sb_core.proofs.Nodes.{slice_get-set_same, slice_get-set_other}
 use Rattle.sb_core.proofs.PartsLaw.{parts-are_events, held-parts_are_events}
-use Rattle.sb_hand.specs.declared.state.NodeState.{NodeState}
+use Rattle.sb_node.specs.declared.state.NodeState.{NodeState}
 use Rattle.std.proofs.lemmas.List.{map-set}
 use Rattle.std.proofs.lemmas.Option.{get_or_from_slice_get}
 use Rattle.sb_core.specs.Choices.{pulled}

@@ -4,7 +4,7 @@ use Rattle.sb_record.specs.declared.item.Record.{Record}
 use Rattle.sb_pipeline.specs.Shapes.{Shape}
 use Rattle.sb_hand.specs.declared.did.Did.{Did}
 use Rattle.sb_hand.specs.declared.did.Did.TheVariants.{Bundle, Closing, Nothing}
-use Rattle.sb_hand.specs.declared.state.NodeState.{NodeState}
+use Rattle.sb_node.specs.declared.state.NodeState.{NodeState}
 use Rattle.sb_hand.specs.Runs.{bundle_events}
 use Rattle.sb_hand.specs.Showing.{CanStand, settings_of}
 use Rattle.sb_hand.specs.Stepping.{Steps}

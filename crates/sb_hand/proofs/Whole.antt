@@ -17,9 +17,9 @@ use Rattle.sb_lane.specs.declared.answers.LaneClose.{LaneClose}
 use Rattle.sb_lane.specs.Looks.{look_of}
 use Rattle.sb_lane.specs.LaneView.{LaneView, lane_of}
 use Rattle.sb_lane.specs.Placed.{conts_of}
-use Rattle.sb_hand.specs.declared.closing.Closing.{Closing}
-use Rattle.sb_hand.specs.declared.state.NodeState.{NodeState}
-use Rattle.sb_hand.specs.Marking.{mark_for}
+use Rattle.sb_node.specs.declared.closing.Closing.{Closing}
+use Rattle.sb_node.specs.declared.state.NodeState.{NodeState}
+use Rattle.sb_node.specs.Marking.{mark_for}
 use Rattle.sb_hand.specs.Runs.{close_of, deliveries, Ends, ClosesNode}
 use Rattle.sb_hand.specs.Runs.IsClosingRun.{OfTransform, OfSink}
 use Rattle.sb_hand.specs.Sets.{HasLane, BeginsAt, Turns}

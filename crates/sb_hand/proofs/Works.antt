@@ -23,7 +23,7 @@ use Rattle.sb_core.proofs.TimeBounds.{bound-before_end}
 use Rattle.sb_lane.specs.LaneView.{LaneView, lane_of}
 use Rattle.sb_lane.specs.Placed.{conts_of}
 use Rattle.sb_lane.specs.Taking.{finish_first}
-use Rattle.sb_hand.specs.declared.state.NodeState.{NodeState}
+use Rattle.sb_node.specs.declared.state.NodeState.{NodeState}
 use Rattle.sb_hand.specs.Runs.{work_of, bundle_events, FinishesWork, WorksOff}
 use Rattle.sb_hand.specs.Sets.{HasLane, SetsLane, Takes, Turns, Absorbs}
 use Rattle.sb_diary.specs.declared.event.DiaryEvent.TheVariants as line

@@ -13,7 +13,8 @@ use Rattle.sb_lane.specs.declared.answers.ArriveStop.TheVariants.{Full, Memory}
 use Rattle.sb_lane.specs.Unfinished.{unfinished_of}
 use Rattle.sb_lane.specs.LaneView.{LaneView, lane_of}
 use Rattle.sb_lane.specs.Placed.{conts_of}
-use Rattle.sb_hand.specs.declared.state.NodeState.{NodeState}
+use Rattle.sb_node.specs.declared.state.NodeState.{NodeState}
+use Rattle.sb_node.specs.Coming.{IsBackFrom}
 use Rattle.sb_hand.specs.Sets.{HasLane, StaysAt, Turns}
 
 -- the lane that takes the stream, if the plan uses it
@@ -38,11 +39,6 @@ pub record MaySeal (plan : Shape) (stream : Stream) (mark : ℕ) (nodes : List N
   pub into : TakesStream plan stream nodes
   pub bound : mark ≤ END_MARK
   pub rises : next_floor (lane_of into.lane) ≤ mark
-
--- the bundle comes back; the lane is full only where as many as its limit are waiting or out
-abbrev pub IsBackFrom : LaneView → Bundle → ArriveStop → Type 0
-IsBackFrom lane bundle (Full back) = (back ≡ bundle) × (lane.pending ≤ unfinished_of (conts_of lane.containers))
-IsBackFrom lane bundle (Memory back) = back ≡ bundle
 
 -- the bundle comes back; it is full only where as many as the lane's limit are waiting or out
 abbrev pub IsTurnedBack : Shape → Stream → List NodeState → Bundle → ArriveStop → Type 0

@@ -17,7 +17,7 @@ use Rattle.sb_lane.specs.Placed.{conts_of}
 use Rattle.sb_lane.specs.Unfinished.{unfinished_of}
 use Rattle.sb_tally.specs.Keeping.{feed_by}
 use Rattle.sb_tally.specs.Tally.{Feed}
-use Rattle.sb_hand.specs.declared.state.NodeState.{NodeState}
+use Rattle.sb_node.specs.declared.state.NodeState.{NodeState}
 use Rattle.sb_hand.specs.Feeding.{TakesStream}
 use Rattle.sb_hand.specs.Hands.{NoneLeft}
 use Rattle.sb_hand.specs.Runs.{IsClosingRun, bundle_events}

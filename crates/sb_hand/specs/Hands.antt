@@ -6,7 +6,7 @@ use Rattle.sb_pipeline.specs.Operators.{Operator, operator_of, lanes_of}
 use Rattle.sb_pipeline.specs.Operators.Operator.{Sink}
 use Rattle.sb_core.specs.declared.moment.Moment.{Moment}
 use Rattle.sb_core.specs.Moments.{first}
-use Rattle.sb_hand.specs.declared.state.NodeState.{NodeState}
+use Rattle.sb_node.specs.declared.state.NodeState.{NodeState}
 use Rattle.sb_hand.specs.Showing.{Settings, Stands, diaries_of, settings_of}
 
 pub record HandView : Type 0 where

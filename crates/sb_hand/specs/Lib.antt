@@ -1,9 +1,9 @@
 pub mod Feeding
 pub mod HandLaws
+pub mod HandParts
 pub mod Hands
-pub mod LinkChanges
+pub mod LaneGoing
 pub mod Linking
-pub mod Marking
 pub mod NewNodes
 pub mod Runs
 pub mod Searching

@@ -8,7 +8,7 @@ use Rattle.sb_core.specs.Closings.{is_pardo}
 use Rattle.sb_lane.specs.Changes.{StandsAt}
 use Rattle.sb_lane.specs.LaneView.{LaneView, link_at}
 use Rattle.sb_lane.specs.Links.{Link, link_in, links_of}
-use Rattle.sb_hand.specs.declared.state.NodeState.{NodeState}
+use Rattle.sb_node.specs.declared.state.NodeState.{NodeState}
 use Rattle.sb_hand.specs.Searching.{SearchesFew}
 use Rattle.sb_hand.specs.Sets.{HasLane}
 

@@ -4,7 +4,7 @@ use Rattle.sb_pipeline.specs.Operators.{Operator, lanes_of, operator_at}
 use Rattle.sb_pipeline.specs.Shapes.{Shape}
 use Rattle.sb_kept.specs.Keeping.{IsSpent, IsMadeFor, ShowsKept, closed_mark}
 use Rattle.sb_lane.specs.LaneView.{empty_lane}
-use Rattle.sb_hand.specs.declared.state.NodeState.{NodeState}
+use Rattle.sb_node.specs.declared.state.NodeState.{NodeState}
 
 -- its lanes and its diary are empty, and it keeps nothing
 pub record IsNewNode (op : Operator) (pending : ℕ) (keeps : Bool) (own : NodeState) : Type 0 where

@@ -7,8 +7,8 @@ use Rattle.sb_core.specs.declared.event.Event.{Event}
 use Rattle.sb_core.specs.declared.event.Event.TheVariants.{Take, Deliver, Finish, Begin, Pass, End}
 use Rattle.sb_core.specs.declared.held.Held.{Held}
 use Rattle.sb_core.specs.declared.held.Held.TheVariants.{Work, Close}
-use Rattle.sb_hand.specs.declared.closing.Closing.{Closing}
-use Rattle.sb_hand.specs.declared.state.NodeState.{NodeState}
+use Rattle.sb_node.specs.declared.closing.Closing.{Closing}
+use Rattle.sb_node.specs.declared.state.NodeState.{NodeState}
 use Rattle.sb_hand.specs.Showing.{Does, settings_of}
 use Rattle.sb_hand.specs.Todo.{Lowers}
 

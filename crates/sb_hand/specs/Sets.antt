@@ -14,10 +14,10 @@ use Rattle.sb_window.specs.Groupings.{Adds, Closes}
 use Rattle.sb_pipeline.specs.Operators.{Operator}
 use Rattle.sb_work.specs.declared.outputs.Part.{Part}
 use Rattle.sb_core.specs.Marks.{before_closing}
-use Rattle.sb_hand.specs.Marking.{mark_for}
+use Rattle.sb_node.specs.Marking.{mark_for}
 use Rattle.sb_kept.specs.declared.kept.Kept.{Kept}
 use Rattle.sb_kept.specs.Keeping.{IsSpent, IsMadeFor, IsPartFor, closed_mark, gives}
-use Rattle.sb_hand.specs.declared.state.NodeState.{NodeState}
+use Rattle.sb_node.specs.declared.state.NodeState.{NodeState}
 
 -- the lane is there, and is so
 pub record HasLane (k l : ℕ) (lane : LaneView) (nodes : List NodeState) : Type 0 where

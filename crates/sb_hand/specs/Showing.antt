@@ -15,7 +15,7 @@ use Rattle.sb_tally.specs.Keeping.{diaries_by}
 use Rattle.sb_lane.specs.LaneView.{lane_of}
 use Rattle.sb_kept.specs.declared.kept.Kept.{Kept}
 use Rattle.sb_kept.specs.Keeping.{IsSpent, IsMadeFor, ShowsKept, closed_mark}
-use Rattle.sb_hand.specs.declared.state.NodeState.{NodeState}
+use Rattle.sb_node.specs.declared.state.NodeState.{NodeState}
 
 -- what is kept is any list that the node's grouping stands for
 pub record IsKept (op : Operator) (k : Kept) (n : Node) : Type 0 where

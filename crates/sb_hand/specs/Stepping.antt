@@ -10,7 +10,7 @@ use Rattle.sb_lane.specs.Placed.{conts_of}
 use Rattle.sb_lane.specs.Taking.{take_first}
 use Rattle.sb_hand.specs.declared.did.Did.{Did}
 use Rattle.sb_hand.specs.declared.did.Did.TheVariants.{Bundle, Closing, Nothing}
-use Rattle.sb_hand.specs.declared.state.NodeState.{NodeState}
+use Rattle.sb_node.specs.declared.state.NodeState.{NodeState}
 use Rattle.sb_hand.specs.Runs.{WorksOff, ClosesNode}
 use Rattle.sb_hand.specs.Sets.{HasLane}
 

@@ -14,8 +14,8 @@ ghost use Rattle.sb_hand.specs.Sets.{HasLane};
 ghost use Rattle.sb_hand.specs.Showing.{CanStand};
 
 use crate::events::{down_at, finish_at, finish_part, link_at, put_at, put_first, take_at};
-use crate::state::NodeState;
 use sb_bundle::Bundle;
+use sb_node::NodeState;
 use sb_pipeline::Plan;
 use sb_record::{NoMemory, Record, Sequence};
 use sb_work::{Claim, Output, process};

@@ -1,10 +1,10 @@
-//! What each event does to the state of the one node that it changes.
+//! Each event, at the node that it changes. Room for its line in the diary is reserved first.
 
 ghost use Rattle.std.specs.Prelude.{◌≡◌, ◌<◌, ◌≤◌, ◌+◌, ◌-◌, ◌^◌, true, length, OnOk, IfOk, slice_get, Some, is_some};
 ghost use Rattle.std.specs.Prelude.{ℕ, drop, map, Ok};
 ghost use Rattle.sb_core.specs.LaneOrder.{IsLane};
 ghost use Rattle.sb_core.specs.Lanes.{in_epoch, next_epoch, with_arrival, with_seal};
-ghost use Rattle.sb_core.specs.Marks.{before_closing, first_is_closing};
+ghost use Rattle.sb_core.specs.Marks.{first_is_closing};
 ghost use Rattle.sb_diary.specs.declared.event.DiaryEvent.TheVariants as line;
 ghost use Rattle.sb_kept.specs.Keeping.{IsPartFor, closed_mark};
 ghost use Rattle.sb_lane.specs.Changes.{StandsAt};
@@ -14,16 +14,14 @@ ghost use Rattle.sb_lane.specs.Looks.{look_of};
 ghost use Rattle.sb_lane.specs.Placed.{conts_of};
 ghost use Rattle.sb_lane.specs.Taking.{take_first, finish_first};
 ghost use Rattle.sb_lane.specs.declared.answers.LaneClose.{LaneClose as AClose};
-ghost use Rattle.sb_hand.specs.LinkChanges.{DropsLink, FindsPlace, GetsLink, GetsPlace, LaneGoes, LinksStay};
-ghost use Rattle.sb_hand.specs.Marking as spec;
+ghost use Rattle.sb_node.specs.LinkChanges.{DropsLink, FindsPlace, GetsLink, GetsPlace, LinksStay};
+ghost use Rattle.sb_hand.specs.LaneGoing.{LaneGoes};
+ghost use Rattle.sb_node.specs.Marking as spec;
 ghost use Rattle.sb_hand.specs.Sets.{HasLane, Takes, Turns, Absorbs, BeginsAt, StaysAt};
-ghost use Rattle.sb_hand.specs.declared.state.NodeState.{NodeState as ANode};
+ghost use Rattle.sb_node.specs.declared.state.NodeState.{NodeState as ANode};
 
-use crate::closing::Closing;
-use crate::state::NodeState;
 use sb_bundle::Bundle;
-use sb_diary::DiaryEvent;
-use sb_lane::Lane;
+use sb_node::{Closing, NodeState};
 use sb_pipeline::Down;
 use sb_record::NoMemory;
 use sb_work::{Claim, Part};
@@ -38,67 +36,7 @@ pub(crate) fn take_at(nodes: &mut Vec<NodeState>, node: u32, lane: u32) -> Resul
 {
     let own = &mut nodes[node as usize];
     own.diary.reserve(1)?;
-    let from = &mut own.lanes[lane as usize];
-    let bundle = from.take().unwrap();
-    own.diary.push(DiaryEvent::Take {
-        lane,
-        number: bundle.number,
-    });
-    Ok(bundle)
-}
-
-/// Puts a bundle into the container of its epoch, which stands at a place of a lane.
-fn deliver_there(lane: &mut Lane, place: u64, bundle: Bundle) -> Result<u64, NoMemory>
-    requires room { lane.old.arrived < 2 ^ 64 - 1 }
-    requires here { StandsAt bundle.epoch place lane.old.containers }
-    requires order { (bound : ℕ) × IsLane bound (lane_of lane.old) }
-    ensures number { IfOk result (λ n. n ≡ lane.old.arrived + 1) }
-    ensures ok { OnOk result
-        (lane_of lane.new ≡ with_arrival bundle.epoch bundle.floor bundle.records (lane_of lane.old)) }
-    ensures limit { OnOk result (lane.new.pending ≡ lane.old.pending) }
-    ensures links { OnOk result (LinksStay lane.old lane.new) }
-{
-    match lane.deliver_at(place, bundle) {
-        Ok(number) => Ok(number),
-        Err(_) => Err(NoMemory),
-    }
-}
-
-/// The same, if the lane has a number for it.
-fn deliver_in(lane: &mut Lane, place: u64, bundle: Bundle) -> Result<u64, NoMemory>
-    requires here { StandsAt bundle.epoch place lane.old.containers }
-    requires order { (bound : ℕ) × IsLane bound (lane_of lane.old) }
-    ensures room { OnOk result (lane.old.arrived < 2 ^ 64 - 1) }
-    ensures number { IfOk result (λ n. n ≡ lane.old.arrived + 1) }
-    ensures ok { OnOk result
-        (lane_of lane.new ≡ with_arrival bundle.epoch bundle.floor bundle.records (lane_of lane.old)) }
-    ensures limit { OnOk result (lane.new.pending ≡ lane.old.pending) }
-    ensures links { OnOk result (LinksStay lane.old lane.new) }
-{
-    if lane.arrived() == u64::MAX {
-        return Err(NoMemory);
-    }
-    deliver_there(lane, place, bundle)
-}
-
-/// Puts a bundle into its epoch, the container of which is looked for: its place, and the number of the bundle.
-fn deliver_first(lane: &mut Lane, bundle: Bundle) -> Result<(u64, u64), NoMemory>
-    requires { lane.old.arrived < 2 ^ 64 - 1 → (bound : ℕ) × IsLane bound (record (lane_of lane.old) {
-      conts = in_epoch bundle.epoch bundle.floor (λ c. c) (conts_of lane.old.containers);
-    }) }
-    ensures room { OnOk result (lane.old.arrived < 2 ^ 64 - 1) }
-    ensures number { IfOk result (λ n. n.1 ≡ lane.old.arrived + 1) }
-    ensures ok { OnOk result
-        (lane_of lane.new ≡ with_arrival bundle.epoch bundle.floor bundle.records (lane_of lane.old)) }
-    ensures limit { OnOk result (lane.new.pending ≡ lane.old.pending) }
-    ensures links { IfOk result (λ n. FindsPlace bundle.epoch n.0 lane.old lane.new) }
-{
-    if lane.arrived() == u64::MAX {
-        return Err(NoMemory);
-    }
-    let place = lane.place(bundle.epoch, bundle.floor)?;
-    let number = deliver_there(lane, place, bundle)?;
-    Ok((place, number))
+    Ok(own.take(lane))
 }
 
 /// Puts a bundle into a lane, into the container of its epoch, which stands at this place.
@@ -121,16 +59,7 @@ pub(crate) fn put_at(
 {
     let own = &mut nodes[down.node as usize];
     own.diary.reserve(1)?;
-    let into = &mut own.lanes[down.lane as usize];
-    let (epoch, length) = (bundle.epoch, bundle.records.as_slice().len() as u64);
-    let number = deliver_in(into, place, bundle)?;
-    own.diary.push(DiaryEvent::Arrive {
-        lane: down.lane,
-        epoch,
-        number,
-        length,
-    });
-    Ok(())
+    own.put_at(down.lane, place, bundle)
 }
 
 /// Puts a bundle into a lane, in which the container of its epoch is looked for, and gives the place of that container.
@@ -153,16 +82,7 @@ pub(crate) fn put_first(
 {
     let own = &mut nodes[down.node as usize];
     own.diary.reserve(1)?;
-    let into = &mut own.lanes[down.lane as usize];
-    let (epoch, length) = (bundle.epoch, bundle.records.as_slice().len() as u64);
-    let (place, number) = deliver_first(into, bundle)?;
-    own.diary.push(DiaryEvent::Arrive {
-        lane: down.lane,
-        epoch,
-        number,
-        length,
-    });
-    Ok(place)
+    own.put_first(down.lane, bundle)
 }
 
 /// Where the container below stands that takes the output of an epoch, if it is known.
@@ -170,7 +90,7 @@ pub(crate) fn down_at(nodes: &[NodeState], node: u32, epoch: u64) -> Option<u64>
     requires { (at : LaneView) × HasLane node 0 at nodes.now }
     ensures { (at : LaneView) → HasLane node 0 at nodes.now → result ≡ down_of epoch (links_of at.containers) }
 {
-    nodes[node as usize].lanes[0].down_of(epoch)
+    nodes[node as usize].down(epoch)
 }
 
 /// Links the container of an epoch, if it is there, to a place below.
@@ -181,8 +101,7 @@ pub(crate) fn link_at(nodes: &mut Vec<NodeState>, node: u32, epoch: u64, place: 
     ensures links { LaneGoes node 0 (GetsLink epoch place) nodes.old.items nodes.new.items }
 {
     let own = &mut nodes[node as usize];
-    let of = &mut own.lanes[0];
-    of.link(epoch, place);
+    own.link(epoch, place);
 }
 
 /// Seals the next epoch of a lane.
@@ -196,15 +115,7 @@ pub(crate) fn seal_at(nodes: &mut Vec<NodeState>, place: Down, mark: u64) -> Res
 {
     let own = &mut nodes[place.node as usize];
     own.diary.reserve(1)?;
-    let into = &mut own.lanes[place.lane as usize];
-    let (epoch, _) = into.next();
-    into.seal(mark)?;
-    own.diary.push(DiaryEvent::Seal {
-        lane: place.lane,
-        epoch,
-        mark,
-    });
-    Ok(())
+    own.seal(place.lane, mark)
 }
 
 /// A bundle of a lane is done with.
@@ -225,13 +136,7 @@ pub(crate) fn finish_at(
 {
     let own = &mut nodes[node as usize];
     own.diary.reserve(1)?;
-    let of = &mut own.lanes[lane as usize];
-    of.finish(epoch, number);
-    own.diary.push(DiaryEvent::Finish {
-        lane,
-        number,
-        length,
-    });
+    own.finish(lane, epoch, number, length);
     Ok(())
 }
 
@@ -252,9 +157,7 @@ pub(crate) fn end_at(
 {
     let own = &mut nodes[node as usize];
     own.diary.reserve(1)?;
-    let of = &mut own.lanes[lane as usize];
-    of.end();
-    own.diary.push(DiaryEvent::End { lane, epoch });
+    own.end(lane, epoch);
     Ok(())
 }
 
@@ -275,44 +178,7 @@ pub(crate) fn finish_part(
 {
     let own = &mut nodes[claim.node as usize];
     own.diary.reserve(1)?;
-    own.kept.absorb(part)?;
-    let of = &mut own.lanes[claim.lane as usize];
-    of.finish(claim.bundle.epoch, claim.bundle.number);
-    own.diary.push(DiaryEvent::Finish {
-        lane: claim.lane,
-        number: claim.bundle.number,
-        length: 0,
-    });
-    Ok(())
-}
-
-/// The mark up to which a node is closed once the oldest container of a lane is closing.
-fn mark_for(lanes: &[Lane], lane: u32) -> u64
-    ensures { result ≡ spec.mark_for lane (map lane_of lanes.now) }
-{
-    match lanes {
-        [own] => own.mark_with(),
-        [left, right] => {
-            if lane == 0 {
-                left.mark_with().min(right.mark_before())
-            } else {
-                left.mark_before().min(right.mark_with())
-            }
-        }
-        _ => 0,
-    }
-}
-
-/// The mark up to which a node is closed before that.
-fn mark_before(lanes: &[Lane]) -> u64
-    requires { length lanes.now ≤ 2 }
-    ensures { result ≡ before_closing (map lane_of lanes.now) }
-{
-    match lanes {
-        [own] => own.mark_before(),
-        [left, right] => left.mark_before().min(right.mark_before()),
-        _ => 0,
-    }
+    own.absorb(claim.lane, claim.bundle.epoch, claim.bundle.number, part)
 }
 
 /// The closing of the oldest container of a lane begins, where it can.
@@ -338,26 +204,5 @@ pub(crate) fn begin_at(
         return Err(NoMemory);
     }
     own.diary.reserve(1)?;
-    let mark = mark_for(own.lanes.as_slice(), lane);
-    let floor = mark_before(own.lanes.as_slice());
-    let rows = own.kept.close(mark)?;
-    let of = &mut own.lanes[lane as usize];
-    let _ = of.begin();
-    let serial = own.closings;
-    own.closings = serial + 1;
-    own.diary.push(DiaryEvent::Begin {
-        lane,
-        epoch,
-        mark,
-        rows: rows.len() as u64,
-    });
-    Ok(Closing {
-        node,
-        lane,
-        epoch,
-        serial,
-        floor,
-        mark,
-        rows,
-    })
+    own.begin(node, lane, epoch)
 }

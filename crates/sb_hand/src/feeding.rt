@@ -9,16 +9,16 @@ ghost use Rattle.sb_lane.specs.Placed.{conts_of};
 ghost use Rattle.sb_lane.specs.Unfinished.{unfinished_of};
 ghost use Rattle.sb_pipeline.specs.Plans.{IsPlan};
 ghost use Rattle.sb_hand.specs.Feeding.{ArrivesIn, ComesBack, IsTurnedBack, MayArrive, MaySeal, TakesStream};
-ghost use Rattle.sb_hand.specs.LinkChanges.{GetsPlace, LaneGoes, LinksStay};
+ghost use Rattle.sb_node.specs.LinkChanges.{GetsPlace, LinksStay};
+ghost use Rattle.sb_hand.specs.LaneGoing.{LaneGoes};
 ghost use Rattle.sb_hand.specs.Linking.{AreLinked};
 ghost use Rattle.sb_hand.specs.Searching.{SearchesStay};
 ghost use Rattle.sb_hand.specs.Sets.{HasLane, StaysAt, Turns};
 ghost use Rattle.sb_hand.specs.Showing.{CanStand, Does, settings_of};
 
-use crate::state::NodeState;
 use sb_bundle::Bundle;
-use sb_diary::DiaryEvent;
 use sb_lane::ArriveStop;
+use sb_node::NodeState;
 use sb_pipeline::{Down, Plan};
 use sb_record::{NoMemory, Stream};
 
@@ -34,25 +34,9 @@ fn arrive_in(nodes: &mut Vec<NodeState>, place: Down, bundle: Bundle) -> Result<
     ensures stays { OnErr result (LaneGoes place.node place.lane LinksStay nodes.old.items nodes.new.items) }
 {
     let own = &mut nodes[place.node as usize];
-    if own.diary.reserve(1).is_err() {
-        return Err(ArriveStop::Memory(bundle));
-    }
-    let into = &mut own.lanes[place.lane as usize];
-    if into.arrived() >= u64::MAX {
-        return Err(ArriveStop::Memory(bundle));
-    }
-    let (epoch, length) = (bundle.epoch, bundle.records.as_slice().len() as u64);
-    match into.arrive(bundle) {
-        Ok(number) => {
-            own.diary.push(DiaryEvent::Arrive {
-                lane: place.lane,
-                epoch,
-                number,
-                length,
-            });
-            Ok(number)
-        }
-        Err(stop) => Err(stop),
+    match own.diary.reserve(1) {
+        Ok(()) => own.arrive(place.lane, bundle),
+        Err(NoMemory) => Err(ArriveStop::Memory(bundle)),
     }
 }
 
@@ -100,22 +84,8 @@ fn seal_in(nodes: &mut Vec<NodeState>, place: Down, mark: u64) -> Result<(), NoM
     ensures stays { OnErr result (LaneGoes place.node place.lane LinksStay nodes.old.items nodes.new.items) }
 {
     let own = &mut nodes[place.node as usize];
-    if own.diary.reserve(1).is_err() {
-        return Err(NoMemory);
-    }
-    let into = &mut own.lanes[place.lane as usize];
-    let (epoch, _) = into.next();
-    match into.seal(mark) {
-        Ok(()) => {
-            own.diary.push(DiaryEvent::Seal {
-                lane: place.lane,
-                epoch,
-                mark,
-            });
-            Ok(())
-        }
-        Err(NoMemory) => Err(NoMemory),
-    }
+    own.diary.reserve(1)?;
+    own.seal(place.lane, mark)
 }
 
 /// A watermark of a stream seals the next epoch of its lane.

@@ -9,20 +9,22 @@ ghost use Rattle.sb_lane.specs.Placed.{conts_of};
 ghost use Rattle.sb_lane.specs.Unfinished.{unfinished_of};
 ghost use Rattle.sb_hand.specs.Feeding.{IsTurnedBack, MayArrive, MaySeal, TakesStream};
 ghost use Rattle.sb_hand.specs.Hands.{IsNewHand, KeepsAllButNodes, NoneLeft};
+ghost use Rattle.sb_hand.specs.HandParts.{IsMadeOf};
+ghost use Rattle.sb_hand.specs.Linking.{AreLinked};
 ghost use Rattle.sb_hand.specs.Searching.{SearchesFew, SearchesStay};
 ghost use Rattle.sb_hand.specs.Sets.{HasLane};
-ghost use Rattle.sb_hand.specs.Showing.{Does, settings_of};
+ghost use Rattle.sb_hand.specs.Showing.{CanStand, Does, settings_of};
 ghost use Rattle.sb_hand.specs.Stepping.{Steps};
 
 use crate::did::Did;
 use crate::feeding;
 use crate::making::new_nodes;
 use crate::settling::is_none_left;
-use crate::state::NodeState;
 use crate::steps::step_node;
 use sb_bundle::{Bundle, MAX_BUNDLE};
 use sb_diary::Diary;
 use sb_lane::ArriveStop;
+use sb_node::NodeState;
 use sb_pipeline::Plan;
 use sb_record::{NoMemory, Record, Stream};
 use std::alloc::Global;
@@ -52,7 +54,7 @@ impl Model for Hand {
     ghost use Rattle.sb_hand.specs.Showing.{CanStand};
     ghost use Rattle.std.specs.Coded.{codes};
     ghost use Rattle.sb_pipeline.specs.contracts.transform.Step as step;
-    ghost use Rattle.sb_hand.specs.contracts.state.NodeState as state;
+    ghost use Rattle.sb_node.specs.contracts.state.NodeState as state;
 
     ghost Value = { HandView };
 
@@ -69,6 +71,23 @@ impl Model for Hand {
 
     ghost invariant = { λ h. h.spent ≡ false
         → CanStand h.plan h.bundle h.nodes.items [] × AreLinked h.plan h.nodes.items };
+}
+
+/// What a hand is made of, for those who share it among workers.
+#[derive(Drop)]
+pub struct HandParts {
+    /// The plan.
+    pub plan: Plan,
+    /// The most records of a bundle.
+    pub bundle: u32,
+    /// The most bundles of a stream that may be waiting or out.
+    pub pending: u32,
+    /// The transforms, and the sink.
+    pub nodes: Vec<NodeState>,
+    /// The rows that were not drained.
+    pub tray: Vec<Record>,
+    /// Whether a node's content is unknown.
+    pub spent: bool,
 }
 
 impl Hand {
@@ -241,5 +260,53 @@ impl Hand {
         ensures { (at : LaneView) → HasLane node lane at self.now.nodes → result ≡ at.searches }
     {
         self.nodes[node as usize].lanes[lane as usize].searches()
+    }
+
+    /// Takes a hand apart. It takes no memory.
+    pub fn into_parts(self) -> HandParts
+        ensures { IsMadeOf result self }
+    {
+        let Hand {
+            alloc: _,
+            plan,
+            bundle,
+            pending,
+            nodes,
+            tray,
+            spent,
+        } = self;
+        HandParts {
+            plan,
+            bundle,
+            pending,
+            nodes,
+            tray,
+            spent,
+        }
+    }
+
+    /// A hand of these parts. It takes no memory.
+    pub fn from_parts(alloc: Global, parts: HandParts) -> Hand
+        requires can { parts.spent ≡ false → CanStand parts.plan parts.bundle parts.nodes.items [] }
+        requires linked { parts.spent ≡ false → AreLinked parts.plan parts.nodes.items }
+        ensures { IsMadeOf parts result }
+    {
+        let HandParts {
+            plan,
+            bundle,
+            pending,
+            nodes,
+            tray,
+            spent,
+        } = parts;
+        Hand {
+            alloc,
+            plan,
+            bundle,
+            pending,
+            nodes,
+            tray,
+            spent,
+        }
     }
 }

@@ -2,7 +2,6 @@
 #![tactic(auto)]
 
 mod bundles;
-mod closing;
 mod closings;
 mod did;
 mod events;
@@ -11,11 +10,9 @@ mod hand;
 pub mod laws;
 mod making;
 mod settling;
-mod state;
 mod steps;
 #[cfg(test)]
 mod tests;
 
 pub use did::Did;
-pub use hand::{Hand, MAX_PENDING};
-pub use state::NodeState;
+pub use hand::{Hand, HandParts, MAX_PENDING};

@@ -5,10 +5,10 @@ ghost use Rattle.sb_lane.specs.LaneView.{empty_lane};
 ghost use Rattle.sb_pipeline.specs.Operators.{operator_at};
 ghost use Rattle.sb_hand.specs.NewNodes.{AreNewNodes, IsNewNode};
 
-use crate::state::NodeState;
 use sb_diary::Diary;
 use sb_kept::Kept;
 use sb_lane::Lane;
+use sb_node::NodeState;
 use sb_pipeline::Plan;
 use sb_record::NoMemory;
 use std::alloc::Global;

@@ -18,7 +18,7 @@ use Rattle.sb_core.specs.Lanes.{next_floor}
 use Rattle.sb_lane.specs.LaneView.{LaneView, lane_of}
 use Rattle.sb_lane.specs.Placed.{conts_of}
 use Rattle.sb_lane.specs.Unfinished.{unfinished_of}
-use Rattle.sb_hand.specs.declared.state.NodeState.{NodeState}
+use Rattle.sb_node.specs.declared.state.NodeState.{NodeState}
 use Rattle.sb_hand.specs.Feeding.{MayArrive, MaySeal, TakesStream}
 use Rattle.sb_hand.specs.Hands.{HandView, settings_at, settings_for}
 use Rattle.sb_hand.specs.Sets.{HasLane}

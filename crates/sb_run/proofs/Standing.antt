@@ -27,7 +27,7 @@ use Rattle.sb_tally.proofs.EventsKeep.{runs-keep_tally}
 use Rattle.sb_tally.proofs.First.{first-is_tallied}
 use Rattle.sb_hand.specs.declared.did.Did.{Did}
 use Rattle.sb_hand.specs.declared.did.Did.TheVariants as did
-use Rattle.sb_hand.specs.declared.state.NodeState.{NodeState}
+use Rattle.sb_node.specs.declared.state.NodeState.{NodeState}
 use Rattle.sb_hand.specs.Hands.{HandView, IsNewHand, KeepsAllButNodes, settings_at}
 use Rattle.sb_hand.specs.Runs.{bundle_events}
 use Rattle.sb_hand.specs.Showing.{Does, Stands, diaries_of, settings_of}

@@ -4,7 +4,8 @@ use Rattle.sb_lane.proofs.Results.{on_ok, both_ok}
 use Rattle.sb_hand.specs.Runs.{close_of, ClosesNode}
 use Rattle.sb_hand.specs.Sets.{BeginsAt}
 use Rattle.sb_diary.specs.declared.event.DiaryEvent.TheVariants as line
-use Rattle.sb_hand.specs.LinkChanges.{LaneGoes, LinksStay}
+use Rattle.sb_node.specs.LinkChanges.{LinksStay}
+use Rattle.sb_hand.specs.LaneGoing.{LaneGoes}
 use Rattle.sb_hand.proofs.ClosingLinks.{none-yet}
 use Rattle.sb_hand.proofs.KeptLinks.{begin-keeps, end-keeps}
 use Rattle.sb_hand.proofs.LinkedEvents.{keeps-then}

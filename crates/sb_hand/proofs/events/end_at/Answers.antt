@@ -1,19 +1,16 @@
-use Rattle.std.proofs.Common.{◌+◌, refl, ap, ◌∙◌, drop}
+use Rattle.std.proofs.Common.{◌+◌, drop}
 use Rattle.sb_diary.specs.declared.event.DiaryEvent.TheVariants as line
-use Rattle.sb_lane.specs.LaneView.{LaneView, lane_of}
+use Rattle.sb_lane.specs.LaneView.{lane_of}
 use Rattle.sb_lane.specs.Placed.{conts_of}
-use Rattle.sb_hand.specs.LinkChanges.{DropsLink}
-use Rattle.sb_hand.proofs.InPlaces.{goes, lane-read, tells, turns}
+use Rattle.sb_node.specs.LinkChanges.{DropsLink}
+use Rattle.sb_hand.proofs.AtNodes.{goes, has-lane, turns}
 use Rattle.sb_hand.proofs.events.end_at.Goals as goal
 
+pub end-requires-clause-lane : goal.end-requires-clause-lane
+end-requires-clause-lane c = let at = c.requires.0 in let h = c.requires.1 in (at, (has-lane c.args.nodes.now.items c.args.node c.args.lane c.index_mut-own.result.now at h c.index_mut-own.ensures.value), c.requires.2, c.requires.3)
+
 pub returns-clause-ends : goal.returns-clause-ends
-returns-clause-ends c = λ at h.
-    let r = lane-read c.args.nodes.now.items c.args.node c.args.lane c.index_mut-own.result.now c.index_mut-own.result.now c.index_mut-of.result.now at at h c.index_mut-own.ensures.value c.index_mut-of.ensures.value in
-    turns c.args.nodes.now.items c.args.node c.args.lane c.index_mut-own.result.now _ c.index_mut-of.result.now at c.end.new.self h c.index_mut-own.ensures.value c.index_mut-of.ensures.value _ (line.End c.args.lane c.args.epoch) refl refl refl
-    (tells c.index_mut-own.result.now.diary _ _ _ _ _ c.in_ok-reserve.ensures.ok c.push.ensures refl) c.end.ensures.lane.pending
-    (c.end.ensures.lane.lane ∙ ap (λ (s : LaneView). record (lane_of s) { conts = drop 1 (conts_of s.containers); ended = s.ended + 1 }) r)
+returns-clause-ends c = λ at h. turns c.args.nodes.now.items c.args.node c.args.lane c.index_mut-own.result.now at h c.index_mut-own.ensures.value c.reserve.new.self _ c.in_ok-reserve.ensures.ok _ (record (lane_of at) { conts = drop 1 (conts_of at.containers); ended = at.ended + 1 }) DropsLink (line.End c.args.lane c.args.epoch) (c.end.ensures at (has-lane c.args.nodes.now.items c.args.node c.args.lane c.index_mut-own.result.now at h c.index_mut-own.ensures.value))
 
 pub returns-clause-links : goal.returns-clause-links
-returns-clause-links c =
-    goes c.args.nodes.now.items c.args.node c.args.lane c.index_mut-own.result.now _ c.index_mut-of.result.now c.end.new.self c.index_mut-own.ensures.value c.index_mut-of.ensures.value DropsLink refl
-    (record { links = c.end.ensures.links; searches = c.end.ensures.searches })
+returns-clause-links c = goes c.args.nodes.now.items c.args.node c.args.lane c.index_mut-own.result.now _ c.index_mut-own.ensures.value DropsLink (λ at there. let t = c.end.ensures at there in (t.now, t.sets.lanes, t.linked))

@@ -1,20 +1,16 @@
-use Rattle.std.proofs.Common.{refl, ap, ◌∙◌}
 use Rattle.sb_diary.specs.declared.event.DiaryEvent.TheVariants as line
-use Rattle.sb_lane.specs.LaneView.{LaneView, lane_of}
+use Rattle.sb_lane.specs.LaneView.{lane_of}
 use Rattle.sb_lane.specs.Placed.{conts_of}
 use Rattle.sb_lane.specs.Taking.{finish_first}
-use Rattle.sb_hand.specs.LinkChanges.{LinksStay}
-use Rattle.sb_hand.proofs.InPlaces.{goes, lane-read, tells, turns}
+use Rattle.sb_node.specs.LinkChanges.{LinksStay}
+use Rattle.sb_hand.proofs.AtNodes.{goes, has-lane, turns}
 use Rattle.sb_hand.proofs.events.finish_at.Goals as goal
 
+pub finish-requires-clause-lane : goal.finish-requires-clause-lane
+finish-requires-clause-lane c = let at = c.requires.0 in let h = c.requires.1 in (at, (has-lane c.args.nodes.now.items c.args.node c.args.lane c.index_mut-own.result.now at h c.index_mut-own.ensures.value))
+
 pub returns-clause-finishes : goal.returns-clause-finishes
-returns-clause-finishes c = λ at h.
-    let r = lane-read c.args.nodes.now.items c.args.node c.args.lane c.index_mut-own.result.now c.index_mut-own.result.now c.index_mut-of.result.now at at h c.index_mut-own.ensures.value c.index_mut-of.ensures.value in
-    turns c.args.nodes.now.items c.args.node c.args.lane c.index_mut-own.result.now _ c.index_mut-of.result.now at c.finish.new.self h c.index_mut-own.ensures.value c.index_mut-of.ensures.value _ (line.Finish c.args.lane c.args.number c.args.length) refl refl refl
-    (tells c.index_mut-own.result.now.diary _ _ _ _ _ c.in_ok-reserve.ensures.ok c.push.ensures refl) c.finish.ensures.first.pending
-    (c.finish.ensures.first.lane ∙ ap (λ (s : LaneView). record (lane_of s) { conts = finish_first c.args.epoch c.args.number (conts_of s.containers) }) r)
+returns-clause-finishes c = λ at h. turns c.args.nodes.now.items c.args.node c.args.lane c.index_mut-own.result.now at h c.index_mut-own.ensures.value c.reserve.new.self _ c.in_ok-reserve.ensures.ok _ (record (lane_of at) { conts = finish_first c.args.epoch c.args.number (conts_of at.containers) }) LinksStay (line.Finish c.args.lane c.args.number c.args.length) (c.finish.ensures at (has-lane c.args.nodes.now.items c.args.node c.args.lane c.index_mut-own.result.now at h c.index_mut-own.ensures.value))
 
 pub returns-clause-links : goal.returns-clause-links
-returns-clause-links c =
-    goes c.args.nodes.now.items c.args.node c.args.lane c.index_mut-own.result.now _ c.index_mut-of.result.now c.finish.new.self c.index_mut-own.ensures.value c.index_mut-of.ensures.value LinksStay refl
-    (record { links = c.finish.ensures.links; searches = c.finish.ensures.searches })
+returns-clause-links c = goes c.args.nodes.now.items c.args.node c.args.lane c.index_mut-own.result.now _ c.index_mut-own.ensures.value LinksStay (λ at there. let t = c.finish.ensures at there in (t.now, t.sets.lanes, t.linked))

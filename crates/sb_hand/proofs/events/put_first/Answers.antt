@@ -1,30 +1,20 @@
-use Rattle.std.proofs.Common.{◌+◌, refl, ap, ◌∙◌}
+use Rattle.std.proofs.Common.{◌+◌, length}
+use Rattle.sb_core.specs.Lanes.{with_arrival}
 use Rattle.sb_diary.specs.declared.event.DiaryEvent.TheVariants as line
-use Rattle.sb_lane.specs.LaneView.{LaneView, lane_of}
-use Rattle.std.proofs.Common.{ℕ, ◌<◌, ◌-◌, ◌^◌, subst, length, sym}
-use Rattle.sb_core.specs.LaneOrder.{IsLane}
-use Rattle.sb_core.specs.Lanes.{in_epoch, with_arrival}
-use Rattle.sb_lane.specs.Placed.{conts_of}
-use Rattle.sb_hand.specs.LinkChanges.{FindsPlace}
-use Rattle.sb_hand.proofs.InPlaces.{goes, lane-read, tells, turns}
+use Rattle.sb_lane.specs.LaneView.{lane_of}
+use Rattle.sb_lane.proofs.Results.{ok-map, ok-some}
+use Rattle.sb_node.specs.LinkChanges.{FindsPlace}
+use Rattle.sb_hand.proofs.AtNodes.{goes, has-lane, lane-there, turns}
 use Rattle.sb_hand.proofs.events.put_first.Goals as goal
 
+pub put_first-requires-clause-lane : goal.put_first-requires-clause-lane
+put_first-requires-clause-lane c = let at = c.requires.at.0 in let h = c.requires.at.1 in (at, (has-lane c.args.nodes.now.items c.args.down.node c.args.down.lane c.index_mut-own.result.now at h c.index_mut-own.ensures.value))
+
+pub put_first-requires-clause-order : goal.put_first-requires-clause-order
+put_first-requires-clause-order c = λ at there. c.requires.order at (lane-there c.args.nodes.now.items c.args.down.node c.args.down.lane c.index_mut-own.result.now c.requires.at.0 c.requires.at.1 c.index_mut-own.ensures.value at there)
+
 pub returns-clause-puts : goal.returns-clause-puts
-returns-clause-puts c = λ at h.
-    let r = lane-read c.args.nodes.now.items c.args.down.node c.args.down.lane c.index_mut-own.result.now c.index_mut-own.result.now c.index_mut-into.result.now at at h c.index_mut-own.ensures.value c.index_mut-into.ensures.value in (
-      subst (λ (s : LaneView). s.arrived < 2 ^ 64 - 1) r c.in_ok-place.ensures.room,
-      turns c.args.nodes.now.items c.args.down.node c.args.down.lane c.index_mut-own.result.now _ c.index_mut-into.result.now at c.deliver_first.new.lane h c.index_mut-own.ensures.value c.index_mut-into.ensures.value _ (line.Arrive c.args.down.lane c.args.bundle.epoch (at.arrived + 1) (length c.args.bundle.records)) refl refl refl
-          (tells c.index_mut-own.result.now.diary _ _ _ _ _ c.in_ok-reserve.ensures.ok c.push.ensures (λ i. line.Arrive c.args.down.lane c.args.bundle.epoch ((c.in_ok-place.ensures.number ∙ ap (λ (s : LaneView). s.arrived + 1) r) i) (length (c.as_slice.ensures i)))) c.in_ok-place.ensures.limit
-          (c.in_ok-place.ensures.ok ∙ ap (λ (s : LaneView). with_arrival c.args.bundle.epoch c.args.bundle.floor c.args.bundle.records (lane_of s)) r),
-    )
+returns-clause-puts c = ok-some c.put_first.result (λ place puts at h. let t = puts at (has-lane c.args.nodes.now.items c.args.down.node c.args.down.lane c.index_mut-own.result.now at h c.index_mut-own.ensures.value) in (t.0, turns c.args.nodes.now.items c.args.down.node c.args.down.lane c.index_mut-own.result.now at h c.index_mut-own.ensures.value c.reserve.new.self _ c.in_ok-reserve.ensures.ok _ (with_arrival c.args.bundle.epoch c.args.bundle.floor c.args.bundle.records (lane_of at)) (FindsPlace c.args.bundle.epoch place) (line.Arrive c.args.down.lane c.args.bundle.epoch (at.arrived + 1) (length c.args.bundle.records)) t.1)) c.put_first.ensures.puts
 
 pub returns-clause-links : goal.returns-clause-links
-returns-clause-links c =
-    goes c.args.nodes.now.items c.args.down.node c.args.down.lane c.index_mut-own.result.now _ c.index_mut-into.result.now c.deliver_first.new.lane c.index_mut-own.ensures.value c.index_mut-into.ensures.value (FindsPlace c.args.bundle.epoch c.in_ok-place.place) refl
-    c.in_ok-place.ensures.links
-
-pub deliver_first-requires : goal.deliver_first-requires
-deliver_first-requires c = λ room.
-    let at = c.requires.at in
-    let r = lane-read c.args.nodes.now.items c.args.down.node c.args.down.lane c.index_mut-own.result.now c.index_mut-own.result.now c.index_mut-into.result.now at.0 at.0 at.1 c.index_mut-own.ensures.value c.index_mut-into.ensures.value in
-    subst (λ (s : LaneView). (bound : ℕ) × IsLane bound (record (lane_of s) { conts = in_epoch c.args.bundle.epoch c.args.bundle.floor (λ c. c) (conts_of s.containers) })) (sym r) (c.requires.order at.0 at.1 (subst (λ (s : LaneView). s.arrived < 2 ^ 64 - 1) r room))
+returns-clause-links c = ok-map c.put_first.result (λ place puts. goes c.args.nodes.now.items c.args.down.node c.args.down.lane c.index_mut-own.result.now _ c.index_mut-own.ensures.value (FindsPlace c.args.bundle.epoch place) (λ at there. let t = (puts at there).1 in (t.now, t.sets.lanes, t.linked))) c.put_first.ensures.puts

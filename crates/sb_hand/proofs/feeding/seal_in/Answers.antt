@@ -1,43 +1,30 @@
-use Rattle.std.proofs.Common.{length, refl, sym, ap, ◌∙◌, arith}
+use Rattle.std.proofs.Common.{length, refl}
 use Rattle.sb_core.specs.Lanes.{next_epoch, with_seal}
 use Rattle.sb_diary.specs.declared.event.DiaryEvent.TheVariants as line
-use Rattle.sb_lane.specs.LaneView.{LaneView, lane_of}
-use Rattle.sb_hand.proofs.ComingBack.{lane-within, on-err, on-no_err, retells, retells-same, stays, stays-before}
-use Rattle.sb_hand.specs.LinkChanges.{GetsPlace, LinksStay}
-use Rattle.sb_hand.proofs.InPlaces.{goes, goes-before, lane-read, tells, turns}
+use Rattle.sb_lane.specs.LaneView.{lane_of}
+use Rattle.sb_lane.proofs.Results.{on_err, on_ok}
+use Rattle.sb_node.specs.LinkChanges.{GetsPlace, LinksStay}
+use Rattle.sb_hand.proofs.Answering.{so-on_err}
+use Rattle.sb_hand.proofs.AtNodes.{goes, has-lane, same-goes, shows-all, stays, turns}
 use Rattle.sb_hand.proofs.feeding.seal_in.Goals as goal
 
-pub returns-then-is_err-clause-err : goal.returns-then-is_err-clause-err
-returns-then-is_err-clause-err c = λ at h.
-    stays-before c.args.nodes.now.items c.args.place.node c.args.place.lane c.index_mut-own.result.now at h c.index_mut-own.ensures.value _ refl refl refl
-    (retells-same _ _ (on-err _ c.reserve.result (sym c.is_err.ensures.value ∙ c.if-is_err.true) c.reserve.ensures.err))
+pub seal-requires-clause-lane : goal.seal-requires-clause-lane
+seal-requires-clause-lane c = let at = c.requires.0 in let h = c.requires.1 in (at, (has-lane c.args.nodes.now.items c.args.place.node c.args.place.lane c.index_mut-own.result.now at h c.index_mut-own.ensures.value))
 
-pub index_mut-into-requires : goal.index_mut-into-requires
-index_mut-into-requires c = omega (arith, c.index_mut-own.result.now.lanes.ok, lane-within c.args.nodes.now.items c.args.place.node c.args.place.lane c.index_mut-own.result.now c.requires.0 c.requires.1 c.index_mut-own.ensures.value)
+pub returns-clause-ok : goal.returns-clause-ok
+returns-clause-ok c = on_ok c.seal.result (λ seals at h. turns c.args.nodes.now.items c.args.place.node c.args.place.lane c.index_mut-own.result.now at h c.index_mut-own.ensures.value c.reserve.new.self _ c.in_ok-reserve.ensures.ok _ (with_seal c.args.mark (lane_of at)) (GetsPlace (length at.marks)) (line.Seal c.args.place.lane (next_epoch (lane_of at)) c.args.mark) (seals at (has-lane c.args.nodes.now.items c.args.place.node c.args.place.lane c.index_mut-own.result.now at h c.index_mut-own.ensures.value))) c.seal.ensures.seals
 
-pub returns-in-Ok-clause-ok : goal.returns-in-Ok-clause-ok
-returns-in-Ok-clause-ok c = λ at h.
-    let r = lane-read c.args.nodes.now.items c.args.place.node c.args.place.lane c.index_mut-own.result.now c.index_mut-own.result.now c.index_mut-into.result.now at at h c.index_mut-own.ensures.value c.index_mut-into.ensures.value in
-    turns c.args.nodes.now.items c.args.place.node c.args.place.lane c.index_mut-own.result.now _ c.index_mut-into.result.now at c.seal.new.self h c.index_mut-own.ensures.value c.index_mut-into.ensures.value _ (line.Seal c.args.place.lane (next_epoch (lane_of at)) c.args.mark) refl refl refl
-    (tells c.index_mut-own.result.now.diary _ _ _ _ _ (on-no_err _ c.reserve.result (sym c.is_err.ensures.value ∙ c.if-is_err.false) c.reserve.ensures.ok) c.push.ensures
-    (ap (λ e. line.Seal c.args.place.lane e c.args.mark) (c.next-epoch.ensures.epoch ∙ ap (λ (s : LaneView). next_epoch (lane_of s)) r))) c.in-Ok.ensures.ok.pending
-    (c.in-Ok.ensures.ok.lane ∙ ap (λ (s : LaneView). with_seal c.args.mark (lane_of s)) r)
+pub returns-clause-err : goal.returns-clause-err
+returns-clause-err c = on_err c.seal.result (λ same at h. stays c.args.nodes.now.items c.args.place.node c.args.place.lane c.index_mut-own.result.now at h c.index_mut-own.ensures.value c.reserve.new.self _ c.in_ok-reserve.ensures.ok _ (same at (has-lane c.args.nodes.now.items c.args.place.node c.args.place.lane c.index_mut-own.result.now at h c.index_mut-own.ensures.value))) c.seal.ensures.same
 
-pub returns-in-Err-clause-err : goal.returns-in-Err-clause-err
-returns-in-Err-clause-err c = λ at h.
-    let r = lane-read c.args.nodes.now.items c.args.place.node c.args.place.lane c.index_mut-own.result.now c.index_mut-own.result.now c.index_mut-into.result.now at at h c.index_mut-own.ensures.value c.index_mut-into.ensures.value in
-    stays c.args.nodes.now.items c.args.place.node c.args.place.lane c.index_mut-own.result.now at h c.index_mut-own.ensures.value _ c.index_mut-into.result.now c.seal.new.self r refl refl refl
-    (retells _ _ _ (on-no_err _ c.reserve.result (sym c.is_err.ensures.value ∙ c.if-is_err.false) c.reserve.ensures.ok)) c.in-Err.ensures.err.lane c.in-Err.ensures.err.pending
+pub returns-clause-links : goal.returns-clause-links
+returns-clause-links c = on_ok c.seal.result (λ seals. goes c.args.nodes.now.items c.args.place.node c.args.place.lane c.index_mut-own.result.now _ c.index_mut-own.ensures.value (λ was. GetsPlace (length was.marks) was) (λ at there. let t = seals at there in (t.now, t.sets.lanes, t.linked))) c.seal.ensures.seals
 
-pub returns-then-is_err-clause-stays : goal.returns-then-is_err-clause-stays
-returns-then-is_err-clause-stays c = goes-before c.args.nodes.now.items c.args.place.node c.args.place.lane c.index_mut-own.result.now _ c.index_mut-own.ensures.value refl
+pub returns-clause-stays : goal.returns-clause-stays
+returns-clause-stays c = on_err c.seal.result (λ same. goes c.args.nodes.now.items c.args.place.node c.args.place.lane c.index_mut-own.result.now _ c.index_mut-own.ensures.value LinksStay (λ at there. let t = same at there in (t.now, t.lanes, t.linked))) c.seal.ensures.same
 
-pub returns-in-Ok-clause-links : goal.returns-in-Ok-clause-links
-returns-in-Ok-clause-links c =
-    goes c.args.nodes.now.items c.args.place.node c.args.place.lane c.index_mut-own.result.now _ c.index_mut-into.result.now c.seal.new.self c.index_mut-own.ensures.value c.index_mut-into.ensures.value (λ was. GetsPlace (length was.marks) was) refl
-    (record { place = c.in-Ok.ensures.links.place; links = c.in-Ok.ensures.links.links; searches = c.seal.ensures.searches })
+pub returns-in_err-reserve-clause-err : goal.returns-in_err-reserve-clause-err
+returns-in_err-reserve-clause-err c = so-on_err c.from_residual.result (λ at h. shows-all c.args.nodes.now.items c.args.place.node c.args.place.lane c.index_mut-own.result.now at h c.index_mut-own.ensures.value c.reserve.new.self c.in_err-reserve.ensures.err)
 
-pub returns-in-Err-clause-stays : goal.returns-in-Err-clause-stays
-returns-in-Err-clause-stays c =
-    goes c.args.nodes.now.items c.args.place.node c.args.place.lane c.index_mut-own.result.now _ c.index_mut-into.result.now c.seal.new.self c.index_mut-own.ensures.value c.index_mut-into.ensures.value LinksStay refl
-    (record { links = c.in-Err.ensures.err.links; searches = c.seal.ensures.searches })
+pub returns-in_err-reserve-clause-stays : goal.returns-in_err-reserve-clause-stays
+returns-in_err-reserve-clause-stays c = so-on_err c.from_residual.result (same-goes c.args.nodes.now.items c.args.place.node c.args.place.lane c.index_mut-own.result.now _ c.index_mut-own.ensures.value refl)

@@ -2,7 +2,7 @@ use Rattle.std.proofs.Common.{◌≡◌, [], length, refl, sym, ap, subst, ◌�
 use Rattle.std.specs.Prelude.{All, slice_get}
 use Rattle.std.proofs.lemmas.Option.{same_Some}
 use Rattle.sb_lane.specs.LaneView.{LaneView}
-use Rattle.sb_hand.specs.declared.state.NodeState.{NodeState}
+use Rattle.sb_node.specs.declared.state.NodeState.{NodeState}
 use Rattle.sb_hand.specs.Stepping.{NoneWaits}
 use Rattle.sb_hand.proofs.Having.{node-there}
 use Rattle.sb_hand.proofs.steps.step_node.Goals as goal

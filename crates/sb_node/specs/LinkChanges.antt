@@ -1,14 +1,8 @@
--- What becomes of the links and searches of a lane of a node.
-use Rattle.std.specs.Prelude.{◌≡◌, ℕ, List, drop}
+-- What becomes of the links and searches of a lane.
+use Rattle.std.specs.Prelude.{◌≡◌, ℕ, drop}
 use Rattle.sb_lane.specs.Changes.{StandsAt}
 use Rattle.sb_lane.specs.LaneView.{LaneView, one_search_more}
 use Rattle.sb_lane.specs.Links.{linked, links_of, with_place}
-use Rattle.sb_hand.specs.declared.state.NodeState.{NodeState}
-use Rattle.sb_hand.specs.Sets.{HasLane}
-
--- lane l of node k becomes another so
-abbrev pub LaneGoes : ℕ → ℕ → (LaneView → LaneView → Type 0) → List NodeState → List NodeState → Type 0
-LaneGoes k l so old new = (was is : LaneView) → HasLane k l was old → HasLane k l is new → so was is
 
 -- the links are as before, and so are the searches
 pub record LinksStay (was is : LaneView) : Type 0 where

@@ -1,0 +1,9 @@
+-- What becomes of a lane of a node, whatever it was.
+use Rattle.std.specs.Prelude.{ℕ, List}
+use Rattle.sb_lane.specs.LaneView.{LaneView}
+use Rattle.sb_node.specs.declared.state.NodeState.{NodeState}
+use Rattle.sb_hand.specs.Sets.{HasLane}
+
+-- lane l of node k becomes another so
+abbrev pub LaneGoes : ℕ → ℕ → (LaneView → LaneView → Type 0) → List NodeState → List NodeState → Type 0
+LaneGoes k l so old new = (was is : LaneView) → HasLane k l was old → HasLane k l is new → so was is

@@ -1,0 +1,5 @@
+pub mod Changes
+pub mod Coming
+pub mod LinkChanges
+pub mod Looking
+pub mod Marking
