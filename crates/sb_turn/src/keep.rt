@@ -2,6 +2,8 @@
 ghost use Rattle.std.specs.Prelude.{◌≡◌, ℕ, Bool, List, Option, [], ◌∷◌, ◌++◌};
 ghost use Rattle.sb_turn.specs.Facts.{Finds, Fits};
 
+use std::marker::Brand;
+
 /// The most lines of a state, 2^60: twice as many, and one more, fit into its turn's word.
 pub const MAX_STATE_LINES: u64 = 1_152_921_504_606_846_976;
 
@@ -88,4 +90,9 @@ pub trait Keep {
 pub trait Lesson<W> {
     /// The fact.
     ghost fact: { W → Type 0 };
+}
+
+/// A call that must know a value to say its fact names `Brand`, and gives the fact by its ghost arguments.
+impl<W> Lesson<W> for Brand {
+    ghost fact = { λ _. Unit {0} };
 }
