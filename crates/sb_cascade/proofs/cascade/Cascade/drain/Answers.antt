@@ -1,0 +1,29 @@
+use Rattle.std.proofs.Common.{rules, ◌≡◌, true, ap}
+use Rattle.sb_cascade.specs.declared.telling.Change.TheVariants.{Drain}
+use Rattle.sb_cascade.specs.declared.telling.Hands.{Hands}
+use Rattle.sb_cascade.specs.declared.telling.Setting.{Setting}
+use Rattle.sb_cascade.specs.SharedNodes.{SharedView}
+use Rattle.sb_cascade.proofs.Acts.{drains}
+use Rattle.sb_cascade.proofs.FeedOfChanges.{feeds-drained}
+use Rattle.sb_cascade.proofs.LeftTurns.{does_at, knew}
+use Rattle.sb_cascade.proofs.LinksOwed.{own-stays}
+use Rattle.sb_cascade.proofs.cascade.Cascade.drain.Goals as goal
+
+pub leave-requires-clause-does : goal.leave-requires-clause-does
+leave-requires-clause-does g c =
+    let turn = c.enter-guard.ensures.turn in
+    let r = c.enter-guard.result in
+    let p = c.enter-guard.new.pass in
+    let a : Setting = c.args.self.now.setting in
+    let w : Hands = c.args.pass.now.seat.me.0.client in
+    let k = c.transforms-sink.result in
+    let x : SharedView = r.state in
+    let y : SharedView = c.drain.new.self in
+    let on : w.feed.on ≡ true = c.requires.pass.1.1 in
+    let told : c.of-told.result.value ≡ x.tray = search rules in
+    does_at a p.me.0.client w p.me.0.seen r.node k r.found.value x y (Drain c.of-told.result) turn.0
+    (knew c.args.pass.now.seat.me p.me _ _ _ _ turn.2.1) turn.1 (record {
+      feeds = feeds-drained w k on c.of-told.result;
+      part = drains a w p.me.0.seen k x y c.of-told.result c.transforms-sink.ensures.value told c.drain.ensures.rest;
+      links = own-stays x y (ap (λ (z : SharedView). z.own) c.drain.ensures.rest);
+    })

@@ -1,0 +1,14 @@
+use Rattle.std.proofs.Common.{rules, ◌≡◌, subst}
+use Rattle.sb_turn.specs.Passes.{about}
+use Rattle.sb_cascade.specs.declared.telling.Setting.{Setting}
+use Rattle.sb_cascade.specs.Found.{IsShown}
+use Rattle.sb_cascade.proofs.HeldOnce.{shows}
+use Rattle.sb_cascade.proofs.cascade.Cascade.reason.Goals as goal
+
+pub reason_as-requires-clause-rule : goal.reason_as-requires-clause-rule
+reason_as-requires-clause-rule c = shows (about c.args.self.now.turns) c.args.pass.now.seat.id c.args.pass.now.seat.me.0.client
+
+pub returns-clause-shown : goal.returns-clause-shown
+returns-clause-shown c =
+    let same : about c.args.self.now.turns ≡ c.args.self.now.setting = search rules in
+    subst (λ (a : Setting). IsShown a c.args.pass.now.seat.me.0.client) same c.reason_as.ensures.fact

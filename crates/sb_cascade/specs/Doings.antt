@@ -1,0 +1,104 @@
+-- What a leaving is in the core: an event, or nothing.
+use Rattle.std.specs.Prelude.{ℕ, Bool, true, false, List, [], ◌∷◌, ◌++◌, drop, Option, Some}
+use Rattle.sb_record.specs.Reading.{◌>>=◌}
+use Rattle.sb_record.specs.declared.item.Record.{Record}
+use Rattle.sb_core.specs.declared.event.Event.{Event}
+use Rattle.sb_core.specs.declared.event.Event.TheVariants as event
+use Rattle.sb_core.specs.declared.held.Held.{Held}
+use Rattle.sb_core.specs.declared.held.Held.TheVariants.{Work, Close}
+use Rattle.sb_core.specs.declared.moment.Node.{Node}
+use Rattle.sb_core.specs.Parts.{Part, only_node, part_after, held_after}
+use Rattle.sb_diary.specs.declared.event.DiaryEvent.{DiaryEvent}
+use Rattle.sb_tally.specs.Written.{line_after, held_line}
+use Rattle.sb_node.specs.declared.closing.Closing.{Closing}
+use Rattle.sb_work.specs.declared.claim.Claim.{Claim}
+use Rattle.sb_cascade.specs.declared.telling.Change.{Change}
+use Rattle.sb_cascade.specs.declared.telling.Change.TheVariants.{Arrive, Seal, Take, Deliver, Finish, Begin, Rows, Pass}
+use Rattle.sb_cascade.specs.declared.telling.Change.TheVariants.{End}
+use Rattle.sb_cascade.specs.declared.telling.Change.TheVariants.{Idle, NotYet, Full, Drain, Spent, Nothing}
+use Rattle.sb_cascade.specs.declared.telling.Setting.{Setting}
+
+-- the bundle in hand, as the core has it
+abbrev pub work_of : Claim → Bool → Held
+work_of c delivered = Work c.node c.lane c.bundle.epoch c.bundle.floor c.bundle.number c.bundle.records delivered
+
+-- the closing in hand, with these rows left
+abbrev pub close_of : Closing → List Record → Bool → Held
+close_of c rows passed = Close c.node c.lane c.epoch c.serial c.floor c.mark rows passed
+
+-- nothing; an event that concerns nothing in hand; an event of this Work or Close
+pub data Doing : Type 0 where
+  Quiet : Doing
+  Fresh : (e : Event) → Doing
+  Of : (e : Event) (h : Held) → Doing
+
+-- of a leaving of node k
+abbrev pub doing : ℕ → Change → Doing
+doing k (Arrive stream records) = Fresh (event.Arrive stream records.value)
+doing k (Seal stream mark) = Fresh (event.Seal stream mark)
+doing k (Take c link) = Fresh (event.Take k c.value.lane c.value.bundle.number)
+doing k (Deliver c place) = Of (event.Deliver c.value.node c.value.lane c.value.bundle.number) (work_of c.value false)
+doing k (Finish c delivered) =
+    Of (event.Finish c.value.node c.value.lane c.value.bundle.number) (work_of c.value delivered)
+doing k (Begin c passed) = Fresh (event.Begin k c.value.lane)
+doing k (Rows c first most place) =
+    Of (event.Deliver c.value.node c.value.lane 0) (close_of c.value (drop first c.value.rows.items) false)
+doing k (Pass c) = Of (event.Pass c.value.node) (close_of c.value [] false)
+doing k (End c) = Of (event.End c.value.node) (close_of c.value [] true)
+doing k Idle = Quiet
+doing k (NotYet why) = Quiet
+doing k (Full lane) = Quiet
+doing k (Drain rows) = Quiet
+doing k Spent = Quiet
+doing k Nothing = Quiet
+
+abbrev pub is_done : Doing → Bool
+is_done Quiet = false
+is_done (Fresh e) = true
+is_done (Of e h) = true
+
+-- whether the change is an event
+abbrev pub is_event : Change → Bool
+is_event c = is_done (doing 0 c)
+
+-- what a leaving makes of its node's part, if its condition holds
+abbrev pub part_by : Setting → Doing → Node → Option Part
+part_by a Quiet node = Some (only_node [] node)
+part_by a (Fresh e) node = part_after a.plan a.bundle e node
+part_by a (Of e h) node = held_after a.plan a.bundle e h node
+
+-- the line that it adds to the node's diary
+abbrev pub lines_by : Setting → Doing → Node → List DiaryEvent
+lines_by a Quiet node = []
+lines_by a (Fresh e) node = line_after a.plan e node ∷ []
+lines_by a (Of e h) node = held_line a.plan a.bundle e h node ∷ []
+
+-- a node's part, and the lines of its diary
+pub record Story : Type 0 where
+  pub node : Node
+  pub lines : List DiaryEvent
+
+-- what the leavings of node k make of both, if the condition of each holds
+abbrev pub replay : Setting → ℕ → List Change → Story → Option Story
+replay a k [] s = Some s
+replay a k (c ∷ cs) s =
+    part_by a (doing k c) s.node >>= λ p.
+    replay a k cs (record { node = p.node; lines = s.lines ++ lines_by a (doing k c) s.node })
+
+-- the rows that the feeder drains by a leaving
+abbrev pub drained_by : Change → List Record
+drained_by (Drain rows) = rows.value
+drained_by (Arrive stream records) = []
+drained_by (Seal stream mark) = []
+drained_by (Take c link) = []
+drained_by (Deliver c place) = []
+drained_by (Finish c delivered) = []
+drained_by (Begin c passed) = []
+drained_by (Rows c first most place) = []
+drained_by (Pass c) = []
+drained_by (End c) = []
+drained_by Idle = []
+drained_by (NotYet why) = []
+drained_by (Full lane) = []
+drained_by Spent = []
+drained_by Nothing = []

@@ -1,0 +1,75 @@
+-- What a cascade keeps, between any two steps of its passes: laws over its rule.
+use Rattle.std.specs.Prelude.{◌≡◌, ◌≤◌, ◌==◌, ℕ, true, List, length, count_by, slice_set, Option, Some, IsPermutation}
+use Rattle.std.specs.List.{list_any}
+use mathlib.Core.Option.{some}
+use lib.ListN.{get_elem?}
+use Rattle.sb_pipeline.specs.declared.transform.Down.{Down}
+use Rattle.sb_pipeline.specs.Shapes.{Shape}
+use Rattle.sb_core.specs.declared.moment.CoreLane.{CoreLane}
+use Rattle.sb_core.specs.declared.held.Held.{Held}
+use Rattle.sb_core.specs.declared.moment.Moment.{Moment}
+use Rattle.sb_core.specs.declared.event.Event.{Event}
+use Rattle.sb_core.specs.Events as events
+use Rattle.sb_core.specs.Marks.{first_is_closing}
+use Rattle.sb_core.specs.Moments.{with_held, lane_at, is_work, is_close, is_close_of}
+use Rattle.sb_turn.specs.Turning.{logged}
+use Rattle.sb_cascade.specs.declared.telling.Change.{Change}
+use Rattle.sb_cascade.specs.declared.telling.Hands.{Hands}
+use Rattle.sb_cascade.specs.declared.telling.Piece.{Piece}
+use Rattle.sb_cascade.specs.declared.telling.Setting.{Setting}
+use Rattle.sb_cascade.specs.Doings.{Doing, Quiet, Fresh, Of, doing, is_event}
+use Rattle.sb_cascade.specs.Leavings.{Does}
+use Rattle.sb_cascade.specs.SharedNodes.{SharedView}
+use Rattle.sb_cascade.specs.Shown.{ShowsMoment, moment_of}
+use Rattle.sb_cascade.specs.Views.{after, all_in_hand}
+
+-- the moment that is shown
+abbrev pub shown_by : {a : Setting} {shelf : List (Option Piece)} {status : ℕ} {states : List SharedView}
+    {logs : List (List Change)} {views : List Hands} → ShowsMoment a shelf status states logs views → Moment
+shown_by {a} {shelf} {status} {states} {logs} {views} r =
+    moment_of a.bundle r.parts (all_in_hand views shelf) r.rows
+
+-- the second moment is the first after the event, if the order of what is in hand does not count
+abbrev pub IsAfter : Shape → Event → Moment → Moment → Type 0
+IsAfter plan e m n = (held : List Held) × (later : List Held)
+    × IsPermutation m.held held × IsPermutation later n.held
+    × (events.after plan (with_held held m) e ≡ Some (with_held later n))
+
+-- a leaving with an event makes the moment after this one event; any other leaving changes nothing of it
+abbrev pub IsLeaving : Shape → Doing → Moment → Moment → Type 0
+IsLeaving plan Quiet m n = (n.nodes ≡ m.nodes) × (n.rows ≡ m.rows) × IsPermutation m.held n.held
+IsLeaving plan (Fresh e) m n = IsAfter plan e m n
+IsLeaving plan (Of e h) m n = IsAfter plan e m n
+
+-- a pass leaves node k with a change: what is shown then is what was shown, after the change's one event
+abbrev pub EachLeavingIsOneEvent : Type 0
+EachLeavingIsOneEvent =
+    (a : Setting) (id k seen : ℕ) (w : Hands) (x y : SharedView) (c : Change) → Does a w seen k x y c
+    → (shelf : List (Option Piece)) (status : ℕ) (states : List SharedView) (logs : List (List Change))
+    (views : List Hands) (r : ShowsMoment a shelf status states logs views)
+    → seen ≤ status → length logs ≡ length states → get_elem? states k ≡ some x → get_elem? views id ≡ some w
+    → (later : ShowsMoment a shelf status (slice_set states k y) (logged is_event k c logs)
+    (slice_set views id (after w k c)))
+    × IsLeaving a.plan (doing k c) (shown_by r) (shown_by later)
+
+-- a bundle was taken from a lane, and is not done with
+abbrev pub IsTaken : Moment → Down → ℕ → Type 0
+IsTaken m place number = (lane : CoreLane) × (lane_at m place ≡ Some lane)
+    × (list_any (λ c. list_any (λ n. n == number) c.out) lane.conts ≡ true)
+
+-- a closing of a lane has begun, and has not ended
+abbrev pub IsBegun : Moment → Down → Type 0
+IsBegun m place = (lane : CoreLane) × (lane_at m place ≡ Some lane) × (first_is_closing lane.conts ≡ true)
+
+-- Nothing is twice in the hands of passes and on the shelf, and no two closings of a node are. A bundle that was taken,
+-- and a closing that has begun, is there once.
+abbrev pub EachIsHeldOnce : Type 0
+EachIsHeldOnce =
+    (a : Setting) (shelf : List (Option Piece)) (status : ℕ) (states : List SharedView) (logs : List (List Change))
+    (views : List Hands) (r : ShowsMoment a shelf status states logs views)
+    → ((node lane number : ℕ) → count_by (is_work node lane number) (all_in_hand views shelf) ≤ 1)
+    × ((node : ℕ) → count_by (is_close node) (all_in_hand views shelf) ≤ 1)
+    × ((place : Down) (number : ℕ) → IsTaken (shown_by r) place number
+    → count_by (is_work place.node place.lane number) (all_in_hand views shelf) ≡ 1)
+    × ((place : Down) → IsBegun (shown_by r) place
+    → count_by (is_close_of place.node place.lane) (all_in_hand views shelf) ≡ 1)

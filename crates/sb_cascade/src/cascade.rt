@@ -1,0 +1,59 @@
+//! The cascade, and how its turns are left.
+
+ghost use Rattle.std.specs.Prelude.{◌≡◌, ◌≤◌, ◌+◌, [], length};
+ghost use Rattle.std.specs.Vec.{vec_capacity};
+ghost use Rattle.sb_turn.specs.Passes.{Holds, IsPassOf, IsSamePass, about, node_count, seat_view};
+ghost use Rattle.sb_turn.specs.Turning.{left};
+ghost use Rattle.sb_cascade.specs.Found.{IsFound};
+ghost use Rattle.sb_cascade.specs.Leavings.{Does, Looks};
+ghost use Rattle.sb_cascade.specs.SharedNodes.{lines_of};
+ghost use Rattle.sb_cascade.specs.Views.{after};
+
+use crate::keeping::Keeping;
+use crate::telling::{Change, Setting};
+use sb_node::NodeState;
+use sb_pipeline::Plan;
+use sb_turn::{Guard, Pass, Turns};
+use std::alloc::Global;
+
+/// The cascade that workers share.
+#[derive(Drop)]
+pub struct Cascade {
+    pub(crate) alloc: Global,
+    pub(crate) turns: Turns<Keeping>,
+    pub(crate) setting: Setting,
+    /// For the states of the nodes, once the cascade is shut.
+    pub(crate) room: Vec<NodeState>,
+    ghost roomy: { (room.items ≡ []) × (length setting.plan.steps + 1 ≤ vec_capacity room) },
+    ghost many: { node_count turns ≡ length setting.plan.steps + 1 },
+    ghost same: { about turns ≡ setting },
+}
+
+impl Cascade {
+    /// The plan. It takes no memory.
+    pub fn plan(&self) -> &Plan
+        ensures { result.now ≡ self.now.setting.plan }
+    {
+        &self.setting.plan
+    }
+
+    /// Leaves a turn: the state goes home, and the change is what was done.
+    pub(crate) fn leave(&self, guard: Guard<Keeping>, pass: &mut Pass<Keeping>, change: Change)
+        requires pass { IsPassOf self.now.turns pass.old × (guard.node ≤ length self.now.setting.plan.steps) }
+        requires turn { Holds guard.node guard.found.value pass.old }
+        requires found { IsFound self.now.setting (seat_view pass.old).client guard.node guard.found.value }
+        requires looks { Looks guard.node guard.found.value guard.state change }
+        requires does { Does self.now.setting (seat_view pass.old).client (seat_view pass.old).seen
+            guard.node guard.found.value guard.state change }
+        ensures pass { IsSamePass pass.old pass.new }
+        ensures turn { pass.new.me ≡ (
+          left guard.node (lines_of guard.state) change
+              (after (seat_view pass.old).client guard.node change) (seat_view pass.old),
+          [],
+        ) }
+    {
+        // It is within the most lines of a diary.
+        let _ = guard.state.lines();
+        self.turns.leave(guard, pass, change);
+    }
+}

@@ -1,0 +1,25 @@
+//! The cascade that workers share: one turn for each node, and a shelf of bundles.
+//!
+//! Between any two atomic steps of any workers the cascade shows a moment of the engine's core that is sound, exact for
+//! what the feeder has fed, and tallies with the diaries. Each leaving of a turn with an event is exactly that one
+//! event.
+#![tactic(auto)]
+
+mod cascade;
+mod closings;
+mod feeding;
+mod keeping;
+pub mod laws;
+mod life;
+mod pass;
+mod reasons;
+mod shared_node;
+mod shelf;
+mod taking;
+mod telling;
+mod working;
+
+pub use cascade::Cascade;
+pub use closings::CloseStop;
+pub use pass::CascadePass;
+pub use taking::TryTake;

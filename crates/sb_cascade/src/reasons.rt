@@ -1,0 +1,36 @@
+//! The state word: whether the work goes on, or why it ends.
+
+ghost use Rattle.std.specs.Prelude.{◌≡◌, ◌≤◌};
+ghost use Rattle.sb_turn.specs.Reasons.{number_of};
+ghost use Rattle.sb_turn.specs.Turning.{raised, saw};
+ghost use Rattle.sb_cascade.specs.Calls.{HasSame, IsReady, IsSame, hands, setting_of, view_of};
+ghost use Rattle.sb_cascade.specs.Found.{IsShown};
+
+use crate::cascade::Cascade;
+use crate::pass::CascadePass;
+use sb_turn::Reason;
+use std::marker::Brand;
+
+impl Cascade {
+    /// Raises the state word to a reason, if it is lower. It takes no memory and waits for nobody.
+    pub fn stop(&self, pass: &mut CascadePass, reason: Reason)
+        requires pass { IsReady self.now pass.old }
+        ensures pass { IsReady self.now pass.new × IsSame pass.old pass.new × HasSame pass.old pass.new }
+        ensures word { view_of pass.new ≡ raised (number_of reason) (hands pass.old) (view_of pass.old) }
+    {
+        self.turns.stop(&mut pass.seat, reason);
+    }
+
+    /// The state word, by one load: it is at least each number that the pass, or one that it joined, saw or raised. At
+    /// that step the cascade shows a sound moment in which the pass has in hand what it has. It takes no memory and
+    /// waits for nobody.
+    pub fn reason(&self, pass: &mut CascadePass) -> Reason
+        requires pass { IsReady self.now pass.old }
+        ensures pass { IsReady self.now pass.new × IsSame pass.old pass.new × HasSame pass.old pass.new }
+        ensures word { view_of pass.new ≡ saw (number_of result) (view_of pass.old) }
+        ensures least { (view_of pass.old).seen ≤ number_of result }
+        ensures shown { IsShown (setting_of self.now) (hands pass.old) }
+    {
+        self.turns.reason_as::<Brand>(&mut pass.seat)
+    }
+}
