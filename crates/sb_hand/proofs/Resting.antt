@@ -26,7 +26,7 @@ use Rattle.sb_lane.specs.Unfinished.{unfinished_in, unfinished_of}
 use Rattle.sb_node.specs.declared.state.NodeState.{NodeState}
 use Rattle.sb_hand.specs.HandLaws.{AreIdle, IdleIsRest, IdleIsFinished}
 use Rattle.sb_hand.specs.Showing.{Stands}
-use Rattle.sb_hand.specs.Stepping.{NoneWaits, CannotClose}
+use Rattle.sb_node.specs.Looking.{CannotClose, NoneWaits}
 use Rattle.sb_hand.proofs.Having.{finds}
 use Rattle.sb_hand.proofs.ShownLanes.{one-of-all, within-plan, lane-shown}
 use Rattle.sb_hand.proofs.Single.{there-too}

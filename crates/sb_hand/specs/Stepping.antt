@@ -1,9 +1,8 @@
 -- What a step of a node does.
-use Rattle.std.specs.Prelude.{◌≡◌, ℕ, true, is_some, List, All, Some, None, Ok, Err, slice_get}
+use Rattle.std.specs.Prelude.{◌≡◌, ℕ, true, is_some, List, All, Some, Ok, slice_get}
 use Rattle.sb_record.specs.declared.item.Record.{Record}
 use Rattle.sb_pipeline.specs.Shapes.{Shape}
 use Rattle.sb_lane.specs.declared.answers.LaneClose.{LaneClose}
-use Rattle.sb_lane.specs.declared.answers.NotYet.{NotYet}
 use Rattle.sb_lane.specs.Looks.{look_of}
 use Rattle.sb_lane.specs.LaneView.{LaneView}
 use Rattle.sb_lane.specs.Placed.{conts_of}
@@ -11,16 +10,9 @@ use Rattle.sb_lane.specs.Taking.{take_first}
 use Rattle.sb_hand.specs.declared.did.Did.{Did}
 use Rattle.sb_hand.specs.declared.did.Did.TheVariants.{Bundle, Closing, Nothing}
 use Rattle.sb_node.specs.declared.state.NodeState.{NodeState}
+use Rattle.sb_node.specs.Looking.{CannotClose, NoneWaits}
 use Rattle.sb_hand.specs.Runs.{WorksOff, ClosesNode}
 use Rattle.sb_hand.specs.Sets.{HasLane}
-
--- no bundle waits in the lane
-abbrev pub NoneWaits : LaneView → Type 0
-NoneWaits lane = take_first (conts_of lane.containers) ≡ None
-
--- the lane's oldest container cannot close, and this is why
-abbrev pub CannotClose : LaneView → Type 0
-CannotClose lane = (why : NotYet) × (look_of (conts_of lane.containers) ≡ Err why)
 
 -- nothing waits in a lane of the node, and none of its closings can begin
 pub record IsIdle (k : ℕ) (nodes : List NodeState) : Type 0 where

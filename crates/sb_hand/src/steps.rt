@@ -11,7 +11,8 @@ ghost use Rattle.sb_pipeline.specs.Plans.{IsPlan};
 ghost use Rattle.sb_node.specs.declared.state.NodeState.{NodeState as ANode};
 ghost use Rattle.sb_hand.specs.Linking.{AreLinked, KeepsLinks};
 ghost use Rattle.sb_hand.specs.Showing.{CanStand};
-ghost use Rattle.sb_hand.specs.Stepping.{NoneWaits, CannotClose, Steps};
+ghost use Rattle.sb_hand.specs.Stepping.{Steps};
+ghost use Rattle.sb_node.specs.Looking.{CannotClose, NoneWaits};
 
 use crate::bundles::work_off;
 use crate::closings::close_node;
@@ -21,21 +22,6 @@ use sb_node::NodeState;
 use sb_pipeline::Plan;
 use sb_record::{NoMemory, Record};
 use std::alloc::Global;
-
-/// The first lane in which a bundle waits.
-fn waiting_lane(lanes: &[Lane]) -> Option<u32>
-    requires { length lanes.now ≤ 2 }
-    ensures some { IfSome result (λ l. (at : LaneView) × (slice_get lanes.now l ≡ Some at)
-        × (is_some (take_first (conts_of at.containers)) ≡ true)) }
-    ensures none { IfNone result (All NoneWaits lanes.now) }
-{
-    for lane in 0..lanes.len() {
-        if lanes[lane].waits() {
-            return Some(lane as u32);
-        }
-    }
-    None
-}
 
 /// The first lane whose oldest container can close, and that container's epoch.
 fn closable_lane(lanes: &[Lane]) -> Option<(u32, u64)>
@@ -96,7 +82,7 @@ pub(crate) fn step_node(
         (Steps plan.now size node nodes.old.items tray.old.items nodes.new.items tray.new.items) }
     ensures links { OnOk result (KeepsLinks plan.now nodes.old.items nodes.new.items) }
 {
-    match waiting_lane(nodes[node as usize].lanes.as_slice()) {
+    match nodes[node as usize].waiting_lane() {
         Some(lane) => {
             work_off(alloc, plan, size, nodes, node, lane)?;
             Ok(Did::Bundle)

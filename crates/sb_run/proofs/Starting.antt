@@ -24,7 +24,7 @@ use Rattle.sb_emit.specs.Taps.{TapState}
 use Rattle.sb_hand.specs.HandLaws.{AreIdle}
 use Rattle.sb_hand.specs.Hands.{HandView, IsNewHand, settings_at}
 use Rattle.sb_hand.specs.Showing.{settings_of}
-use Rattle.sb_hand.specs.Stepping.{CannotClose, NoneWaits}
+use Rattle.sb_node.specs.Looking.{CannotClose, NoneWaits}
 use Rattle.sb_hand.proofs.ShownLanes.{all-of-each, one-of-all}
 use Rattle.sb_hand.proofs.Single.{get-map, there-too}
 use Rattle.sb_feed.specs.declared.give.GiveStop.{GiveStop}

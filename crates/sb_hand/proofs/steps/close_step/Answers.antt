@@ -5,7 +5,7 @@ use Rattle.sb_lane.specs.Looks.{look_of}
 use Rattle.sb_lane.specs.LaneView.{LaneView}
 use Rattle.sb_lane.specs.Placed.{conts_of}
 use Rattle.sb_node.specs.declared.state.NodeState.{NodeState}
-use Rattle.sb_hand.specs.Stepping.{CannotClose}
+use Rattle.sb_node.specs.Looking.{CannotClose}
 use Rattle.sb_hand.proofs.LinkedEvents.{keeps-none}
 use Rattle.sb_hand.proofs.Having.{node-there}
 use Rattle.sb_hand.proofs.steps.close_step.Goals as goal

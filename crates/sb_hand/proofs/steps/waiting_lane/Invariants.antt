@@ -1,7 +1,0 @@
-use Rattle.std.proofs.Common.{ℕ, ◌<◌, get_or}
-use Rattle.sb_lane.specs.LaneView.{LaneView}
-use Rattle.sb_hand.specs.Stepping.{NoneWaits}
-use Rattle.sb_hand.proofs.steps.waiting_lane.Given as goal
-
-abbrev pub invariant-loop-lane : goal.invariant-loop-lane
-invariant-loop-lane l = (k : ℕ) (d : LaneView) → k < l.lane → NoneWaits (get_or l.lanes k d)
