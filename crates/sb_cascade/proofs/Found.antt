@@ -1,7 +1,8 @@
 -- What calls need of the node that a pass finds.
-use Rattle.std.proofs.Common.{◌≡◌, ℕ, ◌≤◌, true, false, [], ◌∷◌, map, Some, sym, ap, subst, ◌∙◌, arith}
+use Rattle.std.proofs.Common.{◌≡◌, ℕ, ◌≤◌, true, false, List, [], ◌∷◌, length, map, Some, sym, ap, subst, ◌∙◌, arith}
 use Rattle.std.specs.Prelude.{Ok}
 use Rattle.std.specs.List.{slice_get}
+use Rattle.std.proofs.lemmas.List.{length-map}
 use Rattle.std.proofs.lemmas.Option.{slice_get_within}
 use Rattle.sb_record.specs.declared.item.Stream.{Stream}
 use Rattle.sb_record.specs.Elements.{on_lane}
@@ -9,7 +10,7 @@ use Rattle.sb_window.specs.Groupings.{IsFrom}
 use Rattle.sb_pipeline.specs.declared.transform.Down.{Down}
 use Rattle.sb_pipeline.specs.Shapes.{source}
 use Rattle.sb_core.specs.declared.moment.Node.{Node}
-use Rattle.sb_diary.specs.Lines.{seals}
+use Rattle.sb_diary.specs.Lines.{Sized, arrivals, seals}
 use Rattle.sb_lane.specs.declared.answers.LaneClose.{LaneClose}
 use Rattle.sb_lane.specs.LaneView.{LaneView, lane_of}
 use Rattle.sb_lane.specs.Looks.{look_of}
@@ -30,7 +31,7 @@ use Rattle.sb_cascade.specs.Doings.{work_of}
 use Rattle.sb_cascade.specs.Found.{IsFound}
 use Rattle.sb_cascade.specs.SharedNodes.{SharedView}
 use Rattle.sb_cascade.specs.Shown.{operator_of}
-use Rattle.sb_cascade.specs.Views.{fed_on, held_by}
+use Rattle.sb_cascade.specs.Views.{as_fed, fed_on, held_by}
 use Rattle.sb_cascade.proofs.Begun as begin
 use Rattle.sb_cascade.proofs.Claims.{times_here}
 use Rattle.sb_cascade.proofs.FoundLanes.{lane_in_part, lanes_are, near, part_there}
@@ -63,3 +64,12 @@ module _ (a : Setting) (w : Hands) (k : ℕ) (x : SharedView) (f : IsFound a w k
       (ap (λ (n : Node). slice_get n.lanes d.lane) (part_there a w k x f) ∙ lane_in_part a w k x f d.lane at has) in
       told.marks ∙ ap (λ j. seals d.lane (diary_at f.diaries j)) (sym here)
       ∙ sym (f.tallied.sources s d from).marks_are ∙ ap (λ (g : tally.Feed). g.marks s) (f.feed_is on)
+
+  -- and as many bundles came into it as the feeder has fed
+  pub bundles_fed : w.feed.on ≡ true → (s : Stream) (d : Down) → source a.plan s ≡ Some d → d.node ≡ k → (at : LaneView) → HasLane d.lane at x.own → at.arrived ≡ length (fed_on s w.feed).bundles
+  bundles_fed on s d from here at has =
+      let told = (diaries-tell a.plan f.moment f.diaries f.feed f.sound f.tallied k (near a w k x f)).1 d.lane (lane_of at)
+      (ap (λ (n : Node). slice_get n.lanes d.lane) (part_there a w k x f) ∙ lane_in_part a w k x f d.lane at has) in
+      told.arrived ∙ ap (λ j. length (arrivals d.lane (diary_at f.diaries j))) (sym here)
+      ∙ ap (λ (came : List Sized). length came) (sym (f.tallied.sources s d from).bundles_are) ∙ length-map (f.feed.bundles s) tally.size_of
+      ∙ ap (λ (g : tally.Feed). length (g.bundles s)) (f.feed_is on) ∙ length-map (fed_on s w.feed).bundles as_fed

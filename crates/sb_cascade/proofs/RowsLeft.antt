@@ -26,3 +26,9 @@ rows_some first rows more = go (drop first rows) (omega (arith, length-drop firs
     go : (l : List Record) → 0 < length l → is_empty l ≡ false
     go [] h = absurd (omega (arith, h))
     go (r ∷ l) h = refl
+
+-- and fewer are left once more are gone
+pub rows_fewer : (first count most : ℕ) (rows : List Record) → count ≡ min most (length (drop first rows)) → first < length rows → 1 ≤ most
+    → length (drop (first + count) rows) < length (drop first rows)
+rows_fewer first count most rows counted more some =
+    omega (arith, counted, more, some, length-drop first rows, length-drop (first + count) rows)

@@ -16,6 +16,7 @@ use Rattle.sb_cascade.specs.declared.pass.CascadePass.{CascadePass}
 use Rattle.sb_cascade.specs.declared.telling.Change.{Change}
 use Rattle.sb_cascade.specs.declared.telling.Change.TheVariants as change
 use Rattle.sb_cascade.specs.Calls.{LeftBy, hands, plan_of, setting_of}
+use Rattle.sb_cascade.specs.Told.{Is}
 use Rattle.sb_cascade.specs.Views.{fed_on}
 
 -- a lane that was sealed with the marks that the feeder brought of a stream
@@ -46,7 +47,7 @@ LeftSource c stream so p q = (d : Down) × (source (plan_of c) stream ≡ Some d
 abbrev pub SaysFull : Change → Type 0
 SaysFull c = (lane : ℕ) × (c ≡ change.Full lane)
 
--- the bundle comes back; the lane is full only if a look under the turn said so
+-- the bundle comes back; the lane is full only if a look under the turn said so, and else nothing has changed
 abbrev pub IsTurnedBack : Cascade → Stream → Bundle → CascadePass → CascadePass → ArriveStop → Type 0
 IsTurnedBack c stream bundle p q (Full back) = (back ≡ bundle) × LeftSource c stream SaysFull p q
-IsTurnedBack c stream bundle p q (Memory back) = back ≡ bundle
+IsTurnedBack c stream bundle p q (Memory back) = (back ≡ bundle) × LeftSource c stream (Is change.Nothing) p q

@@ -90,11 +90,16 @@ rows_left closing p = drop p.gone closing.rows.items
 abbrev pub HasClosing : Closing → Bool → CascadePass → Type 0
 HasClosing closing passed p = Has (close_of closing (rows_left closing p) passed) p
 
--- it is the same pass, and has fed the same
+-- the passes that were split off the feeder's and not joined
+abbrev pub passes_out : CascadePass → ℕ
+passes_out p = (view_of p).count
+
+-- it is the same pass, has fed the same, and as many passes are out
 pub record IsSame (p q : CascadePass) : Type 0 where
   pub table : q.seat.table_id ≡ p.seat.table_id
   pub id : q.seat.id ≡ p.seat.id
   pub feed : (hands q).feed ≡ (hands p).feed
+  pub out : passes_out q ≡ passes_out p
 
 -- it has nothing in hand, or a bundle that it keeps
 abbrev pub MayFill : CascadePass → Type 0
@@ -123,10 +128,6 @@ pub record LeftAtOnce (node : ℕ) (so : Change → Type 0) (p q : CascadePass) 
 -- the pass found the node's word held, at its one try
 abbrev pub FoundHeld : ℕ → CascadePass → CascadePass → Type 0
 FoundHeld node p q = (view_of q).trace ≡ (view_of p).trace ++ entry.Held node ∷ []
-
--- the passes that were split off the feeder's and not joined
-abbrev pub passes_out : CascadePass → ℕ
-passes_out p = (view_of p).count
 
 -- the pass raised the state word to say that there was no memory, and left the node, what it keeps unknown
 pub record LeftSpent (node : ℕ) (p q : CascadePass) : Type 0 where

@@ -1,10 +1,10 @@
 //! What a worker does with a closing: it begins, its rows and its mark go below, and it ends.
 
-ghost use Rattle.std.specs.Prelude.{◌≡◌, ◌<◌, ◌≤◌, ℕ, Bool, true, false, [], drop, take, length};
-ghost use Rattle.std.specs.Prelude.{IfErr, IfOk, OnErr, OnOk, MatchBool};
+ghost use Rattle.std.specs.Prelude.{◌≡◌, ◌<◌, ◌≤◌, ◌⊎◌, ℕ, Bool, true, false, [], drop, take, length};
+ghost use Rattle.std.specs.Prelude.{IfErr, IfOk, OnErr, OnOk, MatchBool, Ok};
 ghost use Rattle.sb_core.specs.Closings.{is_sink};
 ghost use Rattle.sb_cascade.specs.Calls.{HasClosing, HasSame, IsEmptyHanded, IsReady, IsSame, LeftBy};
-ghost use Rattle.sb_cascade.specs.Calls.{plan_of, rows_left, setting_of};
+ghost use Rattle.sb_cascade.specs.Calls.{plan_of, rows_left, setting_of, view_of};
 ghost use Rattle.sb_cascade.specs.Shown.{operator_of};
 ghost use Rattle.sb_cascade.specs.Told.{AreRows, Is, IsBeginning, IsEnd, IsPassing};
 ghost use Rattle.sb_cascade.specs.Working.{LeftBelow};
@@ -62,6 +62,8 @@ impl Cascade {
         ensures begun { IfOk result (λ c. (c.node ≡ node)
             × HasClosing c (is_sink (operator_of (setting_of self.now) node)) pass.new
             × LeftBy node (IsBeginning c) pass.old pass.new) }
+        ensures none { IfOk result (λ c. is_sink (operator_of (setting_of self.now) node) ≡ true
+            → rows_left c pass.new ≡ []) }
         ensures stopped { OnErr result (HasSame pass.old pass.new) }
         ensures cause { IfErr result (λ stop. StopsBy node pass.old pass.new stop) }
     {
@@ -113,9 +115,14 @@ impl Cascade {
             ((0 < length (rows_left closing.now pass.old))
             × LeftBelow self.now closing.now.node (AreRows closing.now) pass.old pass.new)
             ((rows_left closing.now pass.old ≡ []) × HasSame pass.old pass.new)) }
+        ensures still { result ≡ Ok false → view_of pass.new ≡ view_of pass.old }
         ensures rows { OnOk result (rows_left closing.now pass.new
             ≡ drop (setting_of self.now).bundle (rows_left closing.now pass.old)) }
+        ensures fewer { result ≡ Ok true
+            → length (rows_left closing.now pass.new) < length (rows_left closing.now pass.old) }
         ensures same { OnErr result (HasSame pass.old pass.new) }
+        ensures tried { OnErr result ((view_of pass.new ≡ view_of pass.old)
+            ⊎ LeftBelow self.now closing.now.node (Is change.Nothing) pass.old pass.new) }
     {
         let first = pass.gone;
         if first >= closing.rows.len() {
@@ -171,7 +178,9 @@ impl Cascade {
         ensures pass { IsReady self.now pass.new × IsSame pass.old pass.new }
         ensures passed { OnOk result (HasClosing closing.now true pass.new
             × LeftBelow self.now closing.now.node (IsPassing closing.now) pass.old pass.new) }
+        ensures none { OnOk result (rows_left closing.now pass.new ≡ []) }
         ensures same { OnErr result (HasSame pass.old pass.new) }
+        ensures tried { OnErr result (LeftBelow self.now closing.now.node (Is change.Nothing) pass.old pass.new) }
     {
         let down = self.setting.plan.down(closing.node);
         let mut guard = self.turns.enter(rt, down.node, &mut pass.seat);

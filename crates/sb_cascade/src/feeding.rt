@@ -1,11 +1,12 @@
 //! What the feeder does: it brings bundles and watermarks, and drains rows.
 
-ghost use Rattle.std.specs.Prelude.{◌≡◌, length, IfErr, OnErr, OnOk};
+ghost use Rattle.std.specs.Prelude.{◌≡◌, ◌+◌, length, IfErr, IfOk, OnErr, OnOk};
 ghost use Rattle.sb_cascade.specs.Bringing.{IsTurnedBack, LeftSource, MayArrive, MaySeal};
-ghost use Rattle.sb_cascade.specs.Calls.{HasSame, IsEmptyHanded, IsFeeder, IsReady, LeftBy, hands, plan_of};
+ghost use Rattle.sb_cascade.specs.Calls.{HasSame, IsEmptyHanded, IsFeeder, IsReady, LeftBy};
+ghost use Rattle.sb_cascade.specs.Calls.{hands, passes_out, plan_of};
 ghost use Rattle.sb_cascade.specs.Shown.{AreLater};
 ghost use Rattle.sb_cascade.specs.Told.{Is, IsArrival, IsDrain};
-ghost use Rattle.sb_cascade.specs.Views.{with_bundle, with_drained, with_mark};
+ghost use Rattle.sb_cascade.specs.Views.{fed_on, with_bundle, with_drained, with_mark};
 ghost use Rattle.sb_cascade.specs.declared.telling.Change.TheVariants as change;
 
 use crate::cascade::Cascade;
@@ -35,9 +36,11 @@ impl Cascade {
         requires pass { IsReady self.now pass.old × IsFeeder pass.old × IsEmptyHanded pass.old }
         requires bundle { MayArrive self.now pass.old stream bundle }
         ensures pass { IsReady self.now pass.new × IsFeeder pass.new × IsEmptyHanded pass.new }
+        ensures out { passes_out pass.new ≡ passes_out pass.old }
         ensures fed { OnOk result (hands pass.new ≡ record (hands pass.old) {
           feed = with_bundle stream bundle.records (hands pass.old).feed;
         }) }
+        ensures number { IfOk result (λ n. n ≡ length (fed_on stream (hands pass.old).feed).bundles + 1) }
         ensures left { OnOk result (LeftSource self.now stream (IsArrival stream bundle.records) pass.old pass.new) }
         ensures same { OnErr result (HasSame pass.old pass.new) }
         ensures back { IfErr result (λ e. IsTurnedBack self.now stream bundle pass.old pass.new e) }
@@ -83,11 +86,13 @@ impl Cascade {
         requires pass { IsReady self.now pass.old × IsFeeder pass.old × IsEmptyHanded pass.old }
         requires mark { MaySeal self.now pass.old stream mark }
         ensures pass { IsReady self.now pass.new × IsFeeder pass.new × IsEmptyHanded pass.new }
+        ensures out { passes_out pass.new ≡ passes_out pass.old }
         ensures fed { OnOk result (hands pass.new ≡ record (hands pass.old) {
           feed = with_mark stream mark (hands pass.old).feed;
         }) }
         ensures left { OnOk result (LeftSource self.now stream (Is (change.Seal stream mark)) pass.old pass.new) }
         ensures same { OnErr result (HasSame pass.old pass.new) }
+        ensures tried { OnErr result (LeftSource self.now stream (Is change.Nothing) pass.old pass.new) }
     {
         let Some(down) = self.setting.plan.source(stream) else {
             return Err(NoMemory);
@@ -110,6 +115,7 @@ impl Cascade {
     pub fn drain<R: Wait>(&self, rt: &R, pass: &mut CascadePass) -> Vec<Record>
         requires pass { IsReady self.now pass.old × IsFeeder pass.old × IsEmptyHanded pass.old }
         ensures pass { IsReady self.now pass.new × IsFeeder pass.new × IsEmptyHanded pass.new }
+        ensures out { passes_out pass.new ≡ passes_out pass.old }
         ensures rows { hands pass.new ≡ record (hands pass.old) {
           feed = with_drained result.items (hands pass.old).feed;
         } }

@@ -10,7 +10,7 @@ ghost use Rattle.sb_hand.specs.Hands.{IsNewHand};
 ghost use Rattle.sb_node.specs.declared.state.NodeState.{NodeState as ANode};
 ghost use Rattle.sb_turn.specs.Passes.{ShowsEmpty};
 ghost use Rattle.sb_turn.specs.Turning.{joined_with, opening_view, split_off};
-ghost use Rattle.sb_cascade.specs.Calls.{HasSame, IsEmptyHanded, IsFeeder, IsReady, IsSame};
+ghost use Rattle.sb_cascade.specs.Calls.{HasSame, IsEmptyHanded, IsFeeder, IsReady};
 ghost use Rattle.sb_cascade.specs.Calls.{hands, passes_out, setting_of, view_of};
 ghost use Rattle.sb_cascade.specs.Ends.{fresh_state};
 ghost use Rattle.sb_cascade.specs.Lives.{GivesBack, IsShared};
@@ -127,8 +127,7 @@ impl Cascade {
     /// takes no memory and waits for nobody.
     pub fn split(&self, pass: &mut CascadePass) -> CascadePass
         requires pass { IsReady self.now pass.old × IsFeeder pass.old }
-        ensures pass { IsReady self.now pass.new × IsFeeder pass.new × IsSame pass.old pass.new
-            × HasSame pass.old pass.new }
+        ensures pass { IsReady self.now pass.new × IsFeeder pass.new × HasSame pass.old pass.new }
         ensures view { view_of pass.new ≡ split_off (view_of pass.old) }
         ensures other { IsReady self.now result × IsEmptyHanded result × (view_of result ≡ opening_view idle_hands) }
     {
@@ -140,8 +139,7 @@ impl Cascade {
     pub fn join(&self, pass: &mut CascadePass, other: CascadePass)
         requires pass { IsReady self.now pass.old × IsFeeder pass.old }
         requires other { IsReady self.now other × IsEmptyHanded other × ((hands other).feed ≡ no_feed) }
-        ensures pass { IsReady self.now pass.new × IsFeeder pass.new × IsSame pass.old pass.new
-            × HasSame pass.old pass.new }
+        ensures pass { IsReady self.now pass.new × IsFeeder pass.new × HasSame pass.old pass.new }
         ensures view { view_of pass.new ≡ joined_with (view_of pass.old) (view_of other) }
     {
         let CascadePass {

@@ -5,6 +5,7 @@ use sb_turn::Pass;
 use sb_work::Claim;
 
 /// The right of one worker to take steps in a cascade. It has at most one bundle or closing in hand.
+#[derive(Drop)]
 pub struct CascadePass {
     pub(crate) seat: Pass<Keeping>,
     /// How many records the bundle in hand gave, once they are delivered.

@@ -43,7 +43,7 @@ impl Cascade {
         requires pass { IsReady self.now pass.old × MayFill pass.old }
         requires node { node ≤ length (plan_of self.now).steps }
         ensures pass { IsReady self.now pass.new × IsSame pass.old pass.new }
-        ensures yes { result ≡ true → KeepsOne pass.old pass.new }
+        ensures yes { result ≡ true → KeepsOne node pass.old pass.new }
         ensures no { result ≡ false → IsEmptyHanded pass.new × WasIdle node pass.old pass.new }
     {
         if pass.kept.is_some() {

@@ -6,8 +6,9 @@ ghost use Rattle.sb_core.specs.Events.{below};
 ghost use Rattle.sb_cascade.specs.Calls.{HasBundle, HasSame, IsEmptyHanded, IsReady, IsSame, LeftBy, LeftSpent};
 ghost use Rattle.sb_cascade.specs.Calls.{hands, plan_of, setting_of};
 ghost use Rattle.sb_cascade.specs.Shown.{operator_of};
-ghost use Rattle.sb_cascade.specs.Told.{IsDelivery, IsFinish};
+ghost use Rattle.sb_cascade.specs.Told.{Is, IsDelivery, IsFinish};
 ghost use Rattle.sb_cascade.specs.Working.{GivesBelow, LeftBelow, NeedsNoPart};
+ghost use Rattle.sb_cascade.specs.declared.telling.Change.TheVariants as change;
 ghost use Rattle.sb_work.specs.Processing.{IsPart};
 
 use crate::cascade::Cascade;
@@ -41,6 +42,7 @@ impl Cascade {
         ensures delivered { OnOk result (HasBundle claim.now true pass.new
             × LeftBelow self.now claim.now.node (IsDelivery claim.now) pass.old pass.new) }
         ensures same { OnErr result (HasSame pass.old pass.new) }
+        ensures tried { OnErr result (LeftBelow self.now claim.now.node (Is change.Nothing) pass.old pass.new) }
     {
         let down = self.setting.plan.down(claim.node);
         let count = records.len() as u64;

@@ -1,17 +1,19 @@
-use Rattle.std.proofs.Common.{rules, ◌≡◌, true, Some, refl, sym, ap, ◌∙◌, subst}
+use Rattle.std.proofs.Common.{rules, ◌≡◌, ◌+◌, true, Some, refl, sym, ap, ◌∙◌, subst}
 use Rattle.sb_pipeline.specs.Shapes.{source}
 use Rattle.sb_turn.specs.Passes.{about}
 use Rattle.sb_lane.specs.declared.answers.ArriveStop.{ArriveStop}
 use Rattle.sb_node.specs.Coming.{IsBackFrom}
-use Rattle.sb_cascade.specs.declared.telling.Change.TheVariants.{Arrive, Full}
+use Rattle.sb_cascade.specs.declared.telling.Change.TheVariants.{Arrive, Full, Nothing}
 use Rattle.sb_cascade.specs.declared.telling.Hands.{Hands}
 use Rattle.sb_cascade.specs.declared.telling.Setting.{Setting}
 use Rattle.sb_cascade.specs.Bringing.{SaysFull}
 use Rattle.sb_cascade.specs.Found.{IsFound}
 use Rattle.sb_cascade.specs.Leavings.{IsFull}
 use Rattle.sb_cascade.specs.SharedNodes.{SharedView}
+use Rattle.sb_cascade.specs.Told.{Is}
 use Rattle.sb_cascade.specs.Views.{listed}
 use Rattle.sb_cascade.proofs.FeedOfChanges.{feeds-bundle}
+use Rattle.sb_cascade.proofs.Found.{bundles_fed}
 use Rattle.sb_cascade.proofs.FoundLanes.{source_lane}
 use Rattle.sb_cascade.proofs.LeftTurns.{does_at, found_by, knew, left_by}
 use Rattle.sb_cascade.proofs.LinksOwed.{arrive-sets}
@@ -89,6 +91,21 @@ returns-in-Err-Full-clause-back g c =
 
 pub returns-clause-back : goal.returns-clause-back
 returns-clause-back g c =
+    let turn = c.enter-guard.ensures.turn in
+    let a : Setting = c.args.self.now.setting in
+    let w : Hands = c.args.pass.now.seat.me.0.client in
+    let d = c.in-Some.down in
+    let x : SharedView = c.enter-guard.result.state in
+    let same : about c.args.self.now.turns ≡ a = search rules in
+    let f : IsFound a w d.node x = found_by a _ w d.node x same c.enter-guard.ensures.finds in
+    let from : source a.plan c.args.stream ≡ Some d = sym c.source.ensures.value ∙ c.in-Some.is in
+    let at = source_lane a w d.node x f c.args.stream d from refl in (
+      c.in-Err-Memory.bundle-is ∙ subst (λ (e : ArriveStop). IsBackFrom at.0 c.args.bundle e) c.in-Err-Memory.field-0-is (c.in-Err-Memory.ensures.back at.0 at.1),
+      (d, from, left_by d.node (Is Nothing) c.args.pass.now _ c.enter-guard.new.pass.me c.enter-guard.result.node turn.2.0 _ _ Nothing _ _ _ turn.0 turn.2.1 c.leave-in-Err-Memory.ensures.turn refl),
+    )
+
+pub returns-in-Ok-clause-number : goal.returns-in-Ok-clause-number
+returns-in-Ok-clause-number g c =
     let a : Setting = c.args.self.now.setting in
     let w : Hands = c.args.pass.now.seat.me.0.client in
     let d = c.in-Some.down in
@@ -97,4 +114,4 @@ returns-clause-back g c =
     let f : IsFound a w d.node x = found_by a _ w d.node x same c.enter-guard.ensures.finds in
     let from : source a.plan c.args.stream ≡ Some d = sym c.source.ensures.value ∙ c.in-Some.is in
     let at = source_lane a w d.node x f c.args.stream d from refl in
-    c.in-Err-Memory.bundle-is ∙ subst (λ (e : ArriveStop). IsBackFrom at.0 c.args.bundle e) c.in-Err-Memory.field-0-is (c.in-Err-Memory.ensures.back at.0 at.1)
+    c.in-Ok.ensures.number at.0 at.1 ∙ ap (λ n. n + 1) (bundles_fed a w d.node x f c.requires.pass.1.1 c.args.stream d from refl at.0 at.1)

@@ -1,4 +1,4 @@
-use Rattle.std.proofs.Common.{◌≡◌, [], Some, refl, sym, ap, subst, ◌∙◌}
+use Rattle.std.proofs.Common.{◌≡◌, [], Some, drop, if◌then◌else◌, refl, sym, ap, subst, ◌∙◌}
 use Rattle.std.specs.Prelude.{◌==◌}
 use Rattle.sb_core.specs.Closings.{is_sink}
 use Rattle.sb_node.specs.Looking.{IsNotYet}
@@ -81,3 +81,15 @@ returns-in-Ok-clause-begun g c =
       left_by n (IsBeginning k) p (record { seat = c.leave.new.pass; delivered = p.delivered; gone = _; kept = p.kept; link = p.link }) q.me r.node turn.2.0 (lines_of c.begin.new.self) r.state (Begin c.of-told.result sink) (after q.me.0.client r.node (Begin c.of-told.result sink)) _ _ turn.0 turn.2.1 c.leave.ensures.turn
           (c.of-told.result, sink, refl, c.of-told.ensures),
     )
+
+pub returns-in-Ok-clause-none : goal.returns-in-Ok-clause-none
+returns-in-Ok-clause-none g c is_so =
+    let a = c.args.self.now.setting in
+    let n = c.args.node in
+    let w = c.args.pass.now.seat.me.0.client in
+    let r = c.enter-guard.result in
+    let f = found_by a _ w n r.state c.args.self.now.same c.enter-guard.ensures.finds in
+    let sink = n == c.transforms.result in
+    let is : sink ≡ is_sink (operator_of a n) = sink_here a w n r.state f c.transforms.result c.transforms.ensures.value in
+    let begins = c.in-Ok.ensures.begins.1 in
+    ap (drop 0) (begins.rows_are ∙ ap (λ s. if s then [] else begins.rows) (is ∙ is_so))

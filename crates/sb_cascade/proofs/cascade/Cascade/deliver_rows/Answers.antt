@@ -1,4 +1,4 @@
-use Rattle.std.proofs.Common.{rules, arith, ◌≡◌, ◌<◌, ◌∷◌, [], length, drop, false, refl, sym, ap, ◌∙◌}
+use Rattle.std.proofs.Common.{rules, arith, ◌≡◌, ◌<◌, ◌≤◌, ℕ, subst, ◌∷◌, [], length, drop, false, refl, sym, ap, ◌∙◌}
 use Rattle.std.specs.Prelude.{min}
 use Rattle.std.proofs.lemmas.List.{length-drop}
 use Rattle.sb_cascade.specs.declared.telling.Change.TheVariants.{Rows}
@@ -13,7 +13,7 @@ use Rattle.sb_cascade.proofs.LanesBelow.{below_is}
 use Rattle.sb_cascade.proofs.LinkHere.{close-link}
 use Rattle.sb_cascade.proofs.LeftTurns.{does_at, found_by, knew, left_by}
 use Rattle.sb_cascade.proofs.OrderHere.{order_here, rows_order}
-use Rattle.sb_cascade.proofs.RowsLeft.{next_rows, rows_some}
+use Rattle.sb_cascade.proofs.RowsLeft.{next_rows, rows_fewer, rows_some}
 use Rattle.sb_cascade.proofs.cascade.Cascade.deliver_rows.Goals as goal
 
 pub put-requires-clause-lane : goal.put-requires-clause-lane
@@ -100,3 +100,15 @@ returns-in-Ok-clause-more g c =
             (c.of-told.result, p.gone, a.bundle, c.in-Ok.place, refl, c.of-told.ensures),
       ),
     )
+
+pub returns-in-Ok-clause-fewer : goal.returns-in-Ok-clause-fewer
+returns-in-Ok-clause-fewer g c is_true =
+    let a = c.args.self.now.setting in
+    let p = c.args.pass.now in
+    let k = c.args.closing.now in
+    let w = p.seat.me.0.client in
+    let d = c.down-down.result in
+    let f = found_by a _ w d.node c.enter-guard.result.state c.args.self.now.same c.enter-guard.ensures.finds in
+    let more : p.gone < length k.rows.items = search rules in
+    let counted : c.min-count.result ≡ min a.bundle (length (drop p.gone k.rows.items)) = rw (c.split_at.ensures.back, c.as_slice.ensures.value) at c.min-count.ensures in
+    rows_fewer p.gone c.min-count.result a.bundle k.rows.items counted more (subst (λ (n : ℕ). 1 ≤ n) f.bundle f.sound.bundle.0)

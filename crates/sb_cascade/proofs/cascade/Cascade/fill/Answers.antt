@@ -7,8 +7,7 @@ use Rattle.sb_cascade.specs.Calls.{IsSame}
 use Rattle.sb_cascade.specs.Doings.{work_of}
 use Rattle.sb_cascade.specs.Found.{IsClaim}
 use Rattle.sb_cascade.specs.Shelving.{EndsWith}
-use Rattle.sb_cascade.specs.Told.{IsTake}
-use Rattle.sb_cascade.proofs.Handing.{empty-still, ends-none, ends-then, keeps-none, left-any, left-idle, same-still, same-then}
+use Rattle.sb_cascade.proofs.Handing.{empty-still, ends-none, ends-then, keeps-none, left-idle, left-take, same-still, same-then}
 use Rattle.sb_cascade.proofs.cascade.Cascade.fill.Goals as goal
 
 pub loop-init : goal.loop-init
@@ -58,7 +57,7 @@ returns-in-Some-lay-clause-pass g c =
           );
         };
       },
-      record { table = same.table; id = same.id; feed = same.feed },
+      record { table = same.table; id = same.id; feed = same.feed; out = same.out },
     )
 
 pub returns-in-Some-lay-clause-yes : goal.returns-in-Some-lay-clause-yes
@@ -69,10 +68,10 @@ returns-in-Some-lay-clause-yes g c is_true =
     let r = c.take.new.pass in
     let claim = c.in-Some-take.claim in
     let look = c.in-Some-lay.ensures.laid.2 in
-    let taken : EndsWith [] q r = left-any q r c.args.node (IsTake claim) c.in-Some-take.ensures.some.3 in (
+    let taken : EndsWith [] q r = left-take q r c.args.node claim c.in-Some-take.ensures.some.3 in (
       c.in-Some-lay.claim,
       refl,
-      inr (inv.2.kept, (look.0, look.1, look.2, ends-then p r c.lay.new.pass (looked_from 0 look.0) (ends-then p q r [] inv.3 taken) look.3)),
+      inr (inv.2.kept, ap (λ (v : Claim). v.node) c.in-Some-lay.ensures.laid.0 ∙ c.in-Some-take.ensures.some.0, (look.0, look.1, look.2, ends-then p r c.lay.new.pass (looked_from 0 look.0) (ends-then p q r [] inv.3 taken) look.3)),
     )
 
 pub loop-preserved : goal.loop-preserved
@@ -83,7 +82,7 @@ loop-preserved g c =
     let r = c.take.new.pass in
     let s = c.lay.new.pass in
     let laid = c.in_default-lay.ensures.laid in
-    let taken : EndsWith [] q r = left-any q r c.args.node (IsTake c.in-Some-take.claim) c.in-Some-take.ensures.some.3 in (
+    let taken : EndsWith [] q r = left-take q r c.args.node c.in-Some-take.claim c.in-Some-take.ensures.some.3 in (
       (c.lay.ensures.pass.0, same-then p r s (same-then p q r inv.0.1 c.take.ensures.pass.1) c.lay.ensures.pass.1),
       laid.0,
       inv.2,
