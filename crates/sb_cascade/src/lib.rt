@@ -23,3 +23,6 @@ pub use cascade::Cascade;
 pub use closings::CloseStop;
 pub use pass::CascadePass;
 pub use taking::TryTake;
+
+#[cfg(test)]
+mod tests;
