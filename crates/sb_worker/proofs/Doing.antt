@@ -1,0 +1,47 @@
+-- What a step did, by its two halves.
+use Rattle.std.proofs.Common.{ℕ, List, [], ◌∷◌, ◌++◌, inl, inr, refl, ⊎_elim}
+use Rattle.sb_turn.specs.declared.turns.Entry.{Entry}
+use Rattle.sb_turn.specs.declared.turns.Entry.TheVariants.{Saw}
+use Rattle.sb_hand.specs.declared.did.Did.{Did}
+use Rattle.sb_hand.specs.declared.did.Did.TheVariants.{Bundle, Closing, Nothing}
+use Rattle.sb_cascade.specs.declared.telling.Change.{Change}
+use Rattle.sb_worker.specs.Entries.{Does, is_claimed, is_idle_of, is_not_yet_of}
+use Rattle.sb_worker.specs.Steps.{IsClaiming, IsDone, IsIdle, IsNotYet}
+use Rattle.sb_worker.proofs.Counting.{does-then, free-after, free-before, full-after, full-before, has-after, has-before}
+
+module _ (sink : ℕ) (a b : List (Entry Change)) where
+  -- a bundle was claimed and worked off
+  pub bundle-done : IsClaiming a → Does 1 0 b → IsDone sink Bundle (a ++ b)
+  bundle-done x y = (
+    does-then 0 0 1 0 a b x.0 y,
+    ⊎_elim (λ h. inl (has-before is_claimed a b h)) (λ f. inr (free-before a b f)) x.1,
+  )
+
+  -- none was, and a closing was made
+  pub closing-done : IsIdle sink a → Does 0 1 b → IsDone sink Closing (a ++ b)
+  closing-done x y = does-then 0 0 0 1 a b x.0 y
+
+  -- none was, and no closing could begin
+  pub nothing-done : IsIdle sink a → IsNotYet sink b → IsDone sink Nothing (a ++ b)
+  nothing-done x y = (
+    (does-then 0 0 0 0 a b x.0 y.0, λ k le. has-before (is_idle_of k) a b (x.1 k le), full-before a b x.2),
+    λ k le. has-after (is_not_yet_of k) a b (y.1 k le),
+  )
+
+-- and before it the state word was seen
+pub seen-first : (sink n : ℕ) (did : Did) (l : List (Entry Change)) → IsDone sink did l → IsDone sink did ((Saw n ∷ []) ++ l)
+seen-first sink n Bundle l x =
+    let first : List (Entry Change) = Saw n ∷ [] in (
+      does-then 0 0 1 0 first l (refl, refl) x.0,
+      ⊎_elim (λ h. inl (has-after is_claimed first l h)) (λ f. inr (free-after first l f)) x.1,
+    )
+seen-first sink n Closing l x = does-then 0 0 0 1 (Saw n ∷ []) l (refl, refl) x
+seen-first sink n Nothing l x =
+    let first : List (Entry Change) = Saw n ∷ [] in (
+      (
+        does-then 0 0 0 0 first l (refl, refl) x.0.0,
+        λ k le. has-after (is_idle_of k) first l (x.0.1 k le),
+        full-after first l x.0.2,
+      ),
+      λ k le. has-after (is_not_yet_of k) first l (x.1 k le),
+    )

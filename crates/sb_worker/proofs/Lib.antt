@@ -1,0 +1,6 @@
+pub mod Claims
+pub mod Counting
+pub mod Doing
+pub mod Gaining
+pub mod Leaving
+pub mod Looping

@@ -1,0 +1,48 @@
+//! The next bundle for a worker.
+
+ghost use Rattle.std.specs.Prelude.{◌≤◌, false, length, IfNone, IfSome};
+ghost use Rattle.sb_cascade.specs.Calls.{HasBundle, IsEmptyHanded, IsReady, IsSame, plan_of, setting_of};
+ghost use Rattle.sb_cascade.specs.Found.{IsClaim};
+ghost use Rattle.sb_worker.specs.Entries.{Gains};
+ghost use Rattle.sb_worker.specs.Steps.{IsClaiming, IsIdle, IsIdleAt};
+
+use sb_cascade::{Cascade, CascadePass};
+use sb_work::Claim;
+use std::sync::Wait;
+
+/// A bundle of the shelf, once those that wait in a node are there.
+fn claim_at<R: Wait>(rt: &R, cascade: &Cascade, pass: &mut CascadePass, node: u32) -> Option<Claim>
+    requires pass { IsReady cascade.now pass.old × IsEmptyHanded pass.old }
+    requires node { node ≤ length (plan_of cascade.now).steps }
+    ensures pass { IsReady cascade.now pass.new × IsSame pass.old pass.new }
+    ensures some { IfSome result (λ c. IsClaim (setting_of cascade.now) c × HasBundle c false pass.new
+        × Gains IsClaiming pass.old pass.new) }
+    ensures none { IfNone result (IsEmptyHanded pass.new × Gains (IsIdleAt node) pass.old pass.new) }
+{
+    cascade.fill(rt, pass, node);
+    cascade.claim(pass)
+}
+
+/// A bundle of the shelf, or else of the first node where one waits.
+pub(crate) fn next_claim<R: Wait>(
+    rt: &R,
+    cascade: &Cascade,
+    pass: &mut CascadePass,
+) -> Option<Claim>
+    requires pass { IsReady cascade.now pass.old × IsEmptyHanded pass.old }
+    ensures pass { IsReady cascade.now pass.new × IsSame pass.old pass.new }
+    ensures some { IfSome result (λ c. IsClaim (setting_of cascade.now) c × HasBundle c false pass.new
+        × Gains IsClaiming pass.old pass.new) }
+    ensures none { IfNone result (IsEmptyHanded pass.new
+        × Gains (IsIdle (length (plan_of cascade.now).steps)) pass.old pass.new) }
+{
+    if let Some(claim) = cascade.claim(pass) {
+        return Some(claim);
+    }
+    for node in 0..cascade.plan().transforms() + 1 {
+        if let Some(claim) = claim_at(rt, cascade, pass, node) {
+            return Some(claim);
+        }
+    }
+    None
+}

@@ -1,0 +1,9 @@
+//! A worker of the cascade that is shared: the steps that it takes with its pass.
+#![tactic(auto)]
+
+mod claiming;
+mod closing;
+mod step;
+mod working;
+
+pub use step::{OneStop, one_step};

@@ -1,0 +1,86 @@
+//! One step of a worker.
+
+ghost use Rattle.std.specs.Prelude.{◌≡◌, ◌≢◌, length, Err, IfErr, IfOk, OnErr};
+ghost use Rattle.sb_cascade.specs.Calls.{IsEmptyHanded, IsReady, IsSame, plan_of};
+ghost use Rattle.sb_worker.specs.Entries.{Gains, Grows};
+ghost use Rattle.sb_worker.specs.Steps.{IsDone, IsWhy};
+ghost use Rattle.sb_worker.specs.declared.step.OneStop.TheVariants as stop;
+
+use crate::claiming::next_claim;
+use crate::closing::close_any;
+use crate::working::work_off;
+use sb_cascade::{Cascade, CascadePass};
+use sb_hand::Did;
+use sb_record::NoMemory;
+use sb_turn::Reason;
+use sb_work::Gate;
+use std::alloc::Global;
+use std::sync::Wait;
+
+/// Why a worker's step ended without an answer.
+#[derive(Clone, Copy, PartialEq, Eq, Debug)]
+pub enum OneStop {
+    /// The state word says that the work ends.
+    Stopped,
+    /// There was no memory; the state word says so.
+    Memory,
+}
+
+/// The step, once the state word said that the work goes on.
+fn do_next<R: Wait, G: Gate>(
+    rt: &R,
+    alloc: Global,
+    cascade: &Cascade,
+    pass: &mut CascadePass,
+    gate: &G,
+) -> Result<Did, NoMemory>
+    requires pass { IsReady cascade.now pass.old × IsEmptyHanded pass.old }
+    ensures pass { IsReady cascade.now pass.new × IsSame pass.old pass.new }
+    ensures done { IfOk result (λ did. IsEmptyHanded pass.new
+        × Gains (IsDone (length (plan_of cascade.now).steps) did) pass.old pass.new) }
+    ensures failed { OnErr result (Grows pass.old pass.new) }
+{
+    if let Some(claim) = next_claim(rt, cascade, pass) {
+        work_off(rt, alloc, cascade, pass, gate, claim)?;
+        return Ok(Did::Bundle);
+    }
+    if close_any(rt, cascade, pass)? {
+        Ok(Did::Closing)
+    } else {
+        Ok(Did::Nothing)
+    }
+}
+
+/// One step of a worker: it works off a bundle, or else makes a whole closing of the first node that allows it. Nothing
+/// only if each node was found, under its turn, without a bundle that waits and, under a later turn, with no closing
+/// that could begin, and each place of the shelf was looked at and was not full. The gate is passed outside of every
+/// turn, between taking a bundle and processing it. It may wait for turns.
+///
+/// # Errors
+///
+/// [`OneStop::Stopped`] only if a load of the state word said that the work ends. [`OneStop::Memory`] if no memory was
+/// found: the state word says so, and the pass may still have something in hand.
+pub fn one_step<R: Wait, G: Gate>(
+    rt: &R,
+    alloc: Global,
+    cascade: &Cascade,
+    pass: &mut CascadePass,
+    gate: &G,
+) -> Result<Did, OneStop>
+    requires pass { IsReady cascade.now pass.old × IsEmptyHanded pass.old }
+    ensures pass { IsReady cascade.now pass.new × IsSame pass.old pass.new }
+    ensures empty { result ≢ Err stop.Memory → IsEmptyHanded pass.new }
+    ensures done { IfOk result (λ did. Gains (IsDone (length (plan_of cascade.now).steps) did) pass.old pass.new) }
+    ensures why { IfErr result (λ stop. Gains (IsWhy stop) pass.old pass.new) }
+{
+    if cascade.reason(pass) != Reason::Running {
+        return Err(OneStop::Stopped);
+    }
+    match do_next(rt, alloc, cascade, pass, gate) {
+        Ok(did) => Ok(did),
+        Err(NoMemory) => {
+            cascade.stop(pass, Reason::Memory);
+            Err(OneStop::Memory)
+        }
+    }
+}
