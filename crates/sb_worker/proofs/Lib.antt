@@ -2,5 +2,6 @@ pub mod Claims
 pub mod Counting
 pub mod Doing
 pub mod Gaining
+pub mod Knowing
 pub mod Leaving
 pub mod Looping

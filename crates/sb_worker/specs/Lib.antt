@@ -1,2 +1,4 @@
 pub mod Entries
+pub mod Feeding
+pub mod Helping
 pub mod Steps

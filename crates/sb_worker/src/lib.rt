@@ -3,7 +3,11 @@
 
 mod claiming;
 mod closing;
+mod feeding;
+mod helping;
 mod step;
 mod working;
 
+pub use feeding::{FeedStop, Feeding, feed};
+pub use helping::help;
 pub use step::{OneStop, one_step};

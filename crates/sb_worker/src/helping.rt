@@ -1,0 +1,32 @@
+//! The loop of a worker that helps.
+
+ghost use Rattle.std.specs.Prelude.{IfSome};
+ghost use Rattle.sb_worker.specs.Helping.{IsHelper};
+
+use crate::step::{OneStop, one_step};
+use sb_cascade::{Cascade, CascadePass};
+use sb_work::Gate;
+use std::alloc::Global;
+use std::sync::Wait;
+
+/// Steps until the state word says that the work ends, and gives the pass back. None if no memory was found: the state
+/// word says so, and the pass is dropped with what it has in hand.
+pub fn help<R: Wait, G: Gate>(
+    rt: &R,
+    alloc: Global,
+    cascade: &Cascade,
+    mut pass: CascadePass,
+    gate: &G,
+) -> Option<CascadePass>
+    requires pass { IsHelper cascade.now pass }
+    ensures pass { IfSome result (IsHelper cascade.now) }
+{
+    for _ in rt.forever() {
+        match one_step(rt, alloc, cascade, &mut pass, gate) {
+            Ok(_) => {}
+            Err(OneStop::Stopped) => return Some(pass),
+            Err(OneStop::Memory) => return None,
+        }
+    }
+    unreachable!()
+}
