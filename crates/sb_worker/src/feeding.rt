@@ -219,7 +219,7 @@ fn feed_mark<R: Wait>(
 }
 
 /// What comes next.
-fn feed_next<R: Wait, G: Gate>(
+pub(crate) fn feed_next<R: Wait, G: Gate>(
     rt: &R,
     alloc: Global,
     cascade: &Cascade,
@@ -246,7 +246,7 @@ fn feed_next<R: Wait, G: Gate>(
 }
 
 /// Steps until there is nothing to do.
-fn settle<R: Wait, G: Gate>(
+pub(crate) fn settle<R: Wait, G: Gate>(
     rt: &R,
     alloc: Global,
     cascade: &Cascade,

@@ -6,6 +6,8 @@ mod closing;
 mod feeding;
 mod helping;
 mod step;
+#[cfg(test)]
+mod tests;
 mod working;
 
 pub use feeding::{FeedStop, Feeding, feed};
