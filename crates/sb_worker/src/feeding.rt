@@ -189,7 +189,16 @@ fn feed_records<R: Wait, G: Gate>(
     let Ok(copied) = Vec::from_slice(alloc, records) else {
         return Err(FeedStop::Memory);
     };
-    bring(rt, alloc, cascade, pass, gate, both, stream, Sequence::new(copied))
+    bring(
+        rt,
+        alloc,
+        cascade,
+        pass,
+        gate,
+        both,
+        stream,
+        Sequence::new(copied),
+    )
 }
 
 /// A watermark of the stream comes.

@@ -193,11 +193,7 @@ fn is_settled(alloc: Global, hand: &Hand) -> Result<bool, Fail>
 }
 
 /// A run of four passes over what comes.
-fn run<R: Wait>(
-    rt: &R,
-    alloc: Global,
-    seed: u64,
-) -> Result<(Driven, Vec<Record>, bool), Fail> {
+fn run<R: Wait>(rt: &R, alloc: Global, seed: u64) -> Result<(Driven, Vec<Record>, bool), Fail> {
     let (bundle, pending) = match seed % 3 {
         0 => (1, 1),
         1 => (2, 3),
