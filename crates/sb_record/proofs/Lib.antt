@@ -1,3 +1,4 @@
+pub mod Crossing
 pub mod Elements
 pub mod KeyOrder
 pub mod WordBytes
