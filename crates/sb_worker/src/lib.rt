@@ -10,6 +10,4 @@ mod step;
 mod tests;
 mod working;
 
-pub use feeding::{FeedStop, Feeding, feed};
-pub use helping::help;
 pub use step::{OneStop, one_step};

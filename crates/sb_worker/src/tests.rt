@@ -4,8 +4,7 @@ ghost use Rattle.std.specs.Prelude.{◌≡◌, ◌≤◌, ◌<◌, false, length
 
 mod driving;
 
-use crate::Feeding;
-use crate::feeding::are_in_time;
+use crate::feeding::{Feeding, are_in_time};
 use crate::tests::driving::{Driven, drive};
 use sb_aggregate::Agg;
 use sb_diary::{Auditor, DiaryLine, line_bytes};
