@@ -63,7 +63,7 @@ bundle-on A records f = refl
 bundle-on B records f = refl
 
 -- nothing is drained
-bundle-dry : (s : Stream) (records : List Record) (f : Feed) → (with_bundle s records f).drained ≡ f.drained ++ []
+pub bundle-dry : (s : Stream) (records : List Record) (f : Feed) → (with_bundle s records f).drained ≡ f.drained ++ []
 bundle-dry A records f = sym (append-nil f.drained)
 bundle-dry B records f = sym (append-nil f.drained)
 
@@ -83,7 +83,7 @@ same-marks B A records f = refl
 same-marks B B records f = refl
 
 -- the tally has the bundle
-bundle-fed : (s : Stream) (records : List Record) (f : Feed) → feed_of (with_bundle s records f) ≡ feed_after (event.Arrive s records) (feed_of f)
+pub bundle-fed : (s : Stream) (records : List Record) (f : Feed) → feed_of (with_bundle s records f) ≡ feed_after (event.Arrive s records) (feed_of f)
 bundle-fed s records f = λ i. record { bundles = λ t. one-fed s t records f i; marks = λ t. same-marks s t records f i; drained = 0 }
 
 -- ---- a mark
@@ -93,7 +93,7 @@ mark-on A mark f = refl
 mark-on B mark f = refl
 
 -- nothing is drained
-mark-dry : (s : Stream) (mark : ℕ) (f : Feed) → (with_mark s mark f).drained ≡ f.drained ++ []
+pub mark-dry : (s : Stream) (mark : ℕ) (f : Feed) → (with_mark s mark f).drained ≡ f.drained ++ []
 mark-dry A mark f = sym (append-nil f.drained)
 mark-dry B mark f = sym (append-nil f.drained)
 
@@ -112,7 +112,7 @@ one-mark B A mark f = refl
 one-mark B B mark f = refl
 
 -- the tally has the mark
-mark-fed : (s : Stream) (mark : ℕ) (f : Feed) → feed_of (with_mark s mark f) ≡ feed_after (event.Seal s mark) (feed_of f)
+pub mark-fed : (s : Stream) (mark : ℕ) (f : Feed) → feed_of (with_mark s mark f) ≡ feed_after (event.Seal s mark) (feed_of f)
 mark-fed s mark f = λ i. record { bundles = λ t. same-bundles s t mark f i; marks = λ t. one-mark s t mark f i; drained = 0 }
 
 -- ---- rows that are drained
@@ -122,7 +122,7 @@ same-feed rows A f = refl
 same-feed rows B f = refl
 
 -- and so it is for the tally
-drained-fed : (rows : List Record) (f : Feed) → feed_of (with_drained rows f) ≡ feed_of f
+pub drained-fed : (rows : List Record) (f : Feed) → feed_of (with_drained rows f) ≡ feed_of f
 drained-fed rows f = λ i. record { bundles = λ t. map as_fed (same-feed rows t f i).bundles; marks = λ t. (same-feed rows t f i).marks; drained = 0 }
 
 -- ---- the feeder's changes

@@ -6,6 +6,7 @@ pub mod Begins
 pub mod Begun
 pub mod Claims
 pub mod ClosingsTold
+pub mod Drained
 pub mod FedViews
 pub mod FeedOfChanges
 pub mod Found

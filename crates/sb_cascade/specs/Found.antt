@@ -11,6 +11,7 @@ use Rattle.sb_diary.specs.declared.event.DiaryEvent.{DiaryEvent}
 use Rattle.sb_tally.specs.Tally as tally
 use Rattle.sb_tally.specs.Tally.{IsTallied}
 use Rattle.sb_work.specs.declared.claim.Claim.{Claim}
+use Rattle.sb_cascade.specs.declared.telling.Feed.{Feed}
 use Rattle.sb_cascade.specs.declared.telling.Hands.{Hands}
 use Rattle.sb_cascade.specs.declared.telling.Piece.{Piece}
 use Rattle.sb_cascade.specs.declared.telling.Setting.{Setting}
@@ -36,6 +37,8 @@ pub record IsFound (a : Setting) (w : Hands) (k : ℕ) (x : SharedView) : Type 0
   pub shown : ShowsPart (operator_of a k) x part
   pub held : moment.held ≡ held_by w ++ rest
   pub feed_is : w.feed.on ≡ true → feed ≡ feed_of w.feed
+  pub exact : w.feed.on ≡ true → IsExact a.plan moment (fed_of w.feed)
+  pub rows : w.feed.on ≡ true → k ≡ length a.plan.steps → moment.rows ≡ w.feed.drained ++ x.tray
   pub later : w.feed.on ≡ true → k ≡ length a.plan.steps → AreLater w.feed.drained x.tray
   pub place : IsPlaceHere a w k x
 
@@ -51,6 +54,16 @@ pub record IsLaid (a : Setting) (p : Piece) : Type 0 where
 pub record IsClaim (a : Setting) (c : Claim) : Type 0 where
   pub node : c.node ≤ length a.plan.steps
   pub times : All (λ r. r.time < END_MARK) c.bundle.records
+
+-- All rows of a moment are drained, which is exact for what the feeder has fed, and tallies with the diaries.
+pub record IsDrained (a : Setting) (f : Feed) : Type 0 where
+  pub plan : IsPlan a.plan
+  pub moment : Moment
+  pub diaries : List (List DiaryEvent)
+  pub sound : IsSound a.plan moment
+  pub exact : IsExact a.plan moment (fed_of f)
+  pub tallied : IsTallied a.plan moment diaries (feed_of f)
+  pub rows : moment.rows ≡ f.drained
 
 -- Between any two steps there is a sound moment in which the pass has in hand what it has; the feeder knows that it is
 -- exact for what it has fed, and tallies with the diaries, which are legal.

@@ -83,6 +83,11 @@ found a shelf status states logs views id k w x r here at =
       shown = s.2;
       held = refl;
       feed_is = λ on. ap (λ (u : Hands). feed_of u.feed) (is_feeder views r.feeder w id r.first r.others at on);
+      exact = λ on. subst (λ (u : Hands). IsExact a.plan (moment_of a.bundle r.parts (held_by w ++ o.0) r.rows)
+          (fed_of u.feed)) (is_feeder views r.feeder w id r.first r.others at on)
+          ((held-in_any_order a.plan m (held_by w ++ o.0) o.1 r.sound).1 (fed_of r.feeder.feed) r.exact);
+      rows = λ on sink. r.tray x (ap (get_elem? states) (sym sink) ∙ here)
+          ∙ ap (λ (u : Hands). u.feed.drained ++ x.tray) (is_feeder views r.feeder w id r.first r.others at on);
       later = λ on sink. subst (λ (u : Hands). AreLater u.feed.drained x.tray)
           (is_feeder views r.feeder w id r.first r.others at on) (r.later x (ap (get_elem? states) (sym sink) ∙ here));
       place = place-here a shelf states views r.linked id k w x here at;

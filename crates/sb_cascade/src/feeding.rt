@@ -3,7 +3,8 @@
 ghost use Rattle.std.specs.Prelude.{◌≡◌, ◌+◌, length, IfErr, IfOk, OnErr, OnOk};
 ghost use Rattle.sb_cascade.specs.Bringing.{IsTurnedBack, LeftSource, MayArrive, MaySeal};
 ghost use Rattle.sb_cascade.specs.Calls.{HasSame, IsEmptyHanded, IsFeeder, IsReady, LeftBy};
-ghost use Rattle.sb_cascade.specs.Calls.{hands, passes_out, plan_of};
+ghost use Rattle.sb_cascade.specs.Calls.{hands, passes_out, plan_of, setting_of};
+ghost use Rattle.sb_cascade.specs.Found.{IsDrained};
 ghost use Rattle.sb_cascade.specs.Shown.{AreLater};
 ghost use Rattle.sb_cascade.specs.Told.{Is, IsArrival, IsDrain};
 ghost use Rattle.sb_cascade.specs.Views.{fed_on, with_bundle, with_drained, with_mark};
@@ -110,8 +111,9 @@ impl Cascade {
         }
     }
 
-    /// Takes the rows that the sink has closed since the last drain. They are later than all rows drained before. It
-    /// takes no memory, but may wait for the sink's turn.
+    /// Takes the rows that the sink has closed since the last drain. They are later than all rows drained before, and
+    /// under the turn the cascade shows a moment that has no others. It takes no memory, but may wait for the sink's
+    /// turn.
     pub fn drain<R: Wait>(&self, rt: &R, pass: &mut CascadePass) -> Vec<Record>
         requires pass { IsReady self.now pass.old × IsFeeder pass.old × IsEmptyHanded pass.old }
         ensures pass { IsReady self.now pass.new × IsFeeder pass.new × IsEmptyHanded pass.new }
@@ -120,6 +122,7 @@ impl Cascade {
           feed = with_drained result.items (hands pass.old).feed;
         } }
         ensures later { AreLater (hands pass.old).feed.drained result.items }
+        ensures all { IsDrained (setting_of self.now) (hands pass.new).feed }
         ensures left { LeftBy (length (plan_of self.now).steps) (IsDrain result.items) pass.old pass.new }
     {
         let sink = self.setting.plan.transforms();

@@ -1,5 +1,5 @@
 -- What the feeder knows stays true while it works, and is what the cascade asks for.
-use Rattle.std.proofs.Common.{◌≡◌, ℕ, ◌+◌, ◌≤◌, List, [], ◌∷◌, ◌++◌, length, true, sym, ap, subst, refl, ◌∙◌, arith}
+use Rattle.std.proofs.Common.{◌≡◌, ℕ, ◌+◌, ◌≤◌, List, [], ◌∷◌, sym, ap, subst, refl, ◌∙◌, arith}
 use Rattle.std.specs.List.{AllByRecursion}
 use Rattle.std.proofs.lemmas.List.{length-append}
 use Rattle.sb_record.specs.declared.item.Record.{Record}
@@ -14,8 +14,7 @@ use Rattle.sb_core.proofs.EventLaws.{sealed_floor}
 use Rattle.sb_cascade.specs.declared.cascade.Cascade.{Cascade}
 use Rattle.sb_cascade.specs.declared.pass.CascadePass.{CascadePass}
 use Rattle.sb_cascade.specs.declared.telling.Feed.{Feed}
-use Rattle.sb_cascade.specs.declared.telling.StreamFeed.{StreamFeed}
-use Rattle.sb_cascade.specs.Bringing.{MayArrive, MaySeal, sealed_by}
+use Rattle.sb_cascade.specs.Bringing.{MayArrive, MaySeal}
 use Rattle.sb_cascade.specs.Calls.{IsEmptyHanded, IsFeeder, IsReady, IsSame, hands, plan_of, setting_of}
 use Rattle.sb_cascade.specs.Views.{fed_on, with_bundle, with_mark}
 use Rattle.sb_worker.specs.declared.feeding.BothFed.{BothFed}

@@ -1,5 +1,6 @@
 pub mod Claims
 pub mod Counting
+pub mod Crossing
 pub mod Doing
 pub mod Gaining
 pub mod Knowing

@@ -1,6 +1,7 @@
 //! The loop of a worker that helps.
 
 ghost use Rattle.std.specs.Prelude.{IfSome};
+ghost use Rattle.sb_worker.specs.Entries.{Gains, Has, is_end_seen};
 ghost use Rattle.sb_worker.specs.Helping.{IsHelper};
 
 use crate::step::{OneStop, one_step};
@@ -9,8 +10,9 @@ use sb_work::Gate;
 use std::alloc::Global;
 use std::sync::Wait;
 
-/// Steps until the state word says that the work ends, and gives the pass back. None if no memory was found: the state
-/// word says so, and the pass is dropped with what it has in hand.
+/// Steps until the state word says that the work ends, and gives the pass back: it comes back only if a load of the state
+/// word said so. None if no memory was found: then the state word says so, and the pass is dropped with what it has in
+/// hand. It may wait for turns, and whether it ends is not said.
 pub fn help<R: Wait, G: Gate>(
     rt: &R,
     alloc: Global,
@@ -20,6 +22,7 @@ pub fn help<R: Wait, G: Gate>(
 ) -> Option<CascadePass>
     requires pass { IsHelper cascade.now pass }
     ensures pass { IfSome result (IsHelper cascade.now) }
+    ensures ended { IfSome result (λ back. Gains (Has is_end_seen) pass back) }
 {
     for _ in rt.forever() {
         match one_step(rt, alloc, cascade, &mut pass, gate) {

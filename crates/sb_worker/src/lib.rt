@@ -10,4 +10,6 @@ mod step;
 mod tests;
 mod working;
 
+pub use helping::help;
 pub use step::{OneStop, one_step};
+pub use working::work_off;

@@ -19,6 +19,7 @@ use sb_work::OpenGate;
 use std::alloc::Global;
 use std::sync::Wait;
 use std::test::Fail;
+use std::thread::Threads;
 
 /// How many runs there are.
 const SEEDS: u64 = 200;
@@ -192,7 +193,11 @@ fn is_settled(alloc: Global, hand: &Hand) -> Result<bool, Fail>
 }
 
 /// A run of four passes over what comes.
-fn run<R: Wait>(rt: &R, alloc: Global, seed: u64) -> Result<(Driven, Vec<Record>, bool), Fail> {
+fn run<R: Threads + Wait + Sync>(
+    rt: &R,
+    alloc: Global,
+    seed: u64,
+) -> Result<(Driven, Vec<Record>, bool), Fail> {
     let (bundle, pending) = match seed % 3 {
         0 => (1, 1),
         1 => (2, 3),

@@ -65,7 +65,7 @@ fn finish_bundle<R: Wait>(
 }
 
 /// Works off a bundle in hand. The gate is passed before it is processed.
-pub(crate) fn work_off<R: Wait, G: Gate>(
+pub fn work_off<R: Wait, G: Gate>(
     rt: &R,
     alloc: Global,
     cascade: &Cascade,

@@ -1,14 +1,15 @@
-//! A whole run by four passes that take turns in one thread: one feeds a cascade, and three help.
+//! A whole run by four threads: one feeds a cascade, and three help.
 
 ghost use Rattle.std.specs.Prelude.{◌≡◌, ◌≤◌, ℕ, Bool, true, false, length, IfOk, IfSome, OnOk};
+ghost use Rattle.std.specs.Thread.{IsSync};
 ghost use Rattle.sb_pipeline.specs.Shapes.{Shape};
 ghost use Rattle.sb_hand.specs.Hands.{IsNewHand};
 ghost use Rattle.sb_cascade.specs.Calls.{hands, plan_of, setting_of};
 ghost use Rattle.sb_cascade.specs.Views.{nothing_fed};
 ghost use Rattle.sb_worker.specs.Helping.{IsFirst, IsHelper};
 
-use crate::feeding::{BothFed, Fed, FeedStop, Feeding, feed_next, settle};
-use crate::step::{OneStop, one_step};
+use crate::feeding::{FeedStop, Feeding, feed};
+use crate::helping::help;
 use crate::working::work_off;
 use sb_cascade::{Cascade, CascadePass};
 use sb_hand::{Did, Hand};
@@ -16,9 +17,25 @@ use sb_record::{NoMemory, Record};
 use sb_work::Gate;
 use std::alloc::Global;
 use std::sync::Wait;
+use std::thread::{Threads, join};
 
 /// Three passes.
 type Three = (CascadePass, (CascadePass, CascadePass));
+
+/// Those of them that came back.
+type Back = Option<CascadePass>;
+
+/// What the feeder's thread gives, and the passes of the helpers that came back.
+type Joined = (Result<CascadePass, FeedStop>, (Back, (Back, Back)));
+
+/// Why a run stopped before the end.
+#[derive(Clone, Copy, PartialEq, Eq, Debug)]
+pub(super) enum DriveStop {
+    /// The feeder stopped.
+    Feeding(FeedStop),
+    /// There was no memory.
+    Memory,
+}
 
 /// What a run gave.
 #[derive(Drop)]
@@ -29,77 +46,105 @@ pub(super) struct Driven {
     pub hand: Hand,
 }
 
-/// A helper makes a step.
-fn step_helper<R: Wait, G: Gate>(
+/// Two helpers.
+fn two_help<R: Threads + Wait + Sync, G: Gate>(
     rt: &R,
     alloc: Global,
     cascade: &Cascade,
     gate: &G,
-    pass: &mut CascadePass,
-) -> Result<(), FeedStop>
-    requires pass { IsHelper cascade.now pass.old }
-    ensures pass { OnOk result (IsHelper cascade.now pass.new) }
+    passes: (CascadePass, CascadePass),
+) -> (Back, Back)
+    requires one { IsHelper cascade.now passes.0 }
+    requires two { IsHelper cascade.now passes.1 }
+    ensures one { IfSome result.0 (IsHelper cascade.now) }
+    ensures two { IfSome result.1 (IsHelper cascade.now) }
 {
-    match one_step(rt, alloc, cascade, pass, gate) {
-        Ok(_) => Ok(()),
-        Err(OneStop::Stopped) => Err(FeedStop::Stopped),
-        Err(OneStop::Memory) => Err(FeedStop::Memory),
-    }
+    let (one, two) = passes;
+    join(
+        rt,
+        || -> Back
+            requires { IsHelper cascade.now one × IsSync G.row }
+            ensures { IfSome result (IsHelper cascade.entry.now) }
+        { help(rt, alloc, cascade, one, gate) },
+        || -> Back
+            requires { IsHelper cascade.now two × IsSync G.row }
+            ensures { IfSome result (IsHelper cascade.entry.now) }
+        { help(rt, alloc, cascade, two, gate) },
+    )
 }
 
-/// Each of the helpers makes a step.
-fn step_each<R: Wait, G: Gate>(
+/// Three helpers.
+fn three_help<R: Threads + Wait + Sync, G: Gate>(
     rt: &R,
     alloc: Global,
     cascade: &Cascade,
     gate: &G,
     passes: Three,
-) -> Result<Three, FeedStop>
+) -> (Back, (Back, Back))
     requires one { IsHelper cascade.now passes.0 }
     requires two { IsHelper cascade.now passes.1.0 }
     requires three { IsHelper cascade.now passes.1.1 }
-    ensures one { IfOk result (λ t. IsHelper cascade.now t.0) }
-    ensures two { IfOk result (λ t. IsHelper cascade.now t.1.0) }
-    ensures three { IfOk result (λ t. IsHelper cascade.now t.1.1) }
+    ensures one { IfSome result.0 (IsHelper cascade.now) }
+    ensures two { IfSome result.1.0 (IsHelper cascade.now) }
+    ensures three { IfSome result.1.1 (IsHelper cascade.now) }
 {
-    let (mut one, (mut two, mut three)) = passes;
-    step_helper(rt, alloc, cascade, gate, &mut one)?;
-    step_helper(rt, alloc, cascade, gate, &mut two)?;
-    step_helper(rt, alloc, cascade, gate, &mut three)?;
-    Ok((one, (two, three)))
+    let (one, others) = passes;
+    join(
+        rt,
+        || -> Back
+            requires { IsHelper cascade.now one × IsSync G.row }
+            ensures { IfSome result (IsHelper cascade.entry.now) }
+        { help(rt, alloc, cascade, one, gate) },
+        || -> (Back, Back)
+            requires two { IsHelper cascade.now others.0 }
+            requires three { IsHelper cascade.now others.1 }
+            requires row { IsSync R.row × IsSync G.row }
+            ensures two { IfSome result.0 (IsHelper cascade.entry.now) }
+            ensures three { IfSome result.1 (IsHelper cascade.entry.now) }
+        { two_help(rt, alloc, cascade, gate, others) },
+    )
 }
 
-/// All that comes. After each bundle and each watermark each helper makes a step.
-fn feed_in_turns<R: Wait, G: Gate>(
+/// The feeder and three helpers.
+fn work_all<R: Threads + Wait + Sync, G: Gate>(
     rt: &R,
     alloc: Global,
     cascade: &Cascade,
-    pass: &mut CascadePass,
-    others: Three,
     gate: &G,
     most: u32,
     items: &[Feeding],
-) -> Result<Three, FeedStop>
-    requires pass { IsFirst cascade.now 3 pass.old }
-    requires fed { ((hands pass.old).feed.a ≡ nothing_fed) × ((hands pass.old).feed.b ≡ nothing_fed) }
+    pass: CascadePass,
+    others: Three,
+) -> Joined
+    requires pass { IsFirst cascade.now 3 pass }
+    requires fed { ((hands pass).feed.a ≡ nothing_fed) × ((hands pass).feed.b ≡ nothing_fed) }
     requires most { (setting_of cascade.now).bundle ≡ most }
     requires one { IsHelper cascade.now others.0 }
     requires two { IsHelper cascade.now others.1.0 }
     requires three { IsHelper cascade.now others.1.1 }
-    ensures pass { OnOk result (IsFirst cascade.now 3 pass.new) }
-    ensures one { IfOk result (λ t. IsHelper cascade.now t.0) }
-    ensures two { IfOk result (λ t. IsHelper cascade.now t.1.0) }
-    ensures three { IfOk result (λ t. IsHelper cascade.now t.1.1) }
+    ensures pass { IfOk result.0 (IsFirst cascade.now 3) }
+    ensures one { IfSome result.1.0 (IsHelper cascade.now) }
+    ensures two { IfSome result.1.1.0 (IsHelper cascade.now) }
+    ensures three { IfSome result.1.1.1 (IsHelper cascade.now) }
 {
-    let start = Fed { epoch: 0, floor: 0 };
-    let mut both = BothFed { a: start, b: start };
-    let mut others = others;
-    for next in items {
-        both = feed_next(rt, alloc, cascade, pass, gate, most, both, next)?;
-        others = step_each(rt, alloc, cascade, gate, others)?;
-    }
-    settle(rt, alloc, cascade, pass, gate)?;
-    Ok(others)
+    join(
+        rt,
+        || -> Result<CascadePass, FeedStop>
+            requires pass { IsFirst cascade.now 3 pass }
+            requires fed { ((hands pass).feed.a ≡ nothing_fed) × ((hands pass).feed.b ≡ nothing_fed) }
+            requires most { ((setting_of cascade.now).bundle ≡ most) × IsSync G.row }
+            ensures pass { IfOk result (IsFirst cascade.entry.now 3) }
+        { feed(rt, alloc, cascade, pass, gate, most, items) },
+        || -> (Back, (Back, Back))
+            requires one { IsHelper cascade.now others.0 }
+            requires two { IsHelper cascade.now others.1.0 }
+            requires three { IsHelper cascade.now others.1.1 }
+            requires row { IsSync R.row × IsSync G.row }
+            ensures one { IfSome result.0 (IsHelper cascade.entry.now) }
+            ensures two { IfSome result.1.0 (IsHelper cascade.entry.now) }
+            ensures three { IfSome result.1.1 (IsHelper cascade.entry.now) }
+        { three_help(rt, alloc, cascade, gate, others) },
+    )
 }
 
 /// Three passes for helpers.
@@ -117,18 +162,22 @@ fn split_three(cascade: &Cascade, pass: &mut CascadePass) -> Three
     (one, (two, three))
 }
 
-/// The passes of the helpers come back.
-fn take_back(cascade: &Cascade, pass: &mut CascadePass, others: Three)
+/// The passes of the helpers come back, if all are there.
+fn take_back(cascade: &Cascade, pass: &mut CascadePass, backs: (Back, (Back, Back))) -> bool
     requires pass { IsFirst cascade.now 3 pass.old }
-    requires one { IsHelper cascade.now others.0 }
-    requires two { IsHelper cascade.now others.1.0 }
-    requires three { IsHelper cascade.now others.1.1 }
-    ensures pass { IsFirst cascade.now 0 pass.new }
+    requires one { IfSome backs.0 (IsHelper cascade.now) }
+    requires two { IfSome backs.1.0 (IsHelper cascade.now) }
+    requires three { IfSome backs.1.1 (IsHelper cascade.now) }
+    ensures pass { result ≡ true → IsFirst cascade.now 0 pass.new }
 {
-    let (one, (two, three)) = others;
+    let (one, (two, three)) = backs;
+    let (Some(one), Some(two), Some(three)) = (one, two, three) else {
+        return false;
+    };
     cascade.join(pass, one);
     cascade.join(pass, two);
     cascade.join(pass, three);
+    true
 }
 
 /// Works off what lies on the shelf, and hands the cascade back.
@@ -205,26 +254,38 @@ fn finish<R: Wait, G: Gate>(
     Ok(Driven { rows, hand })
 }
 
-/// Runs a new hand's plan over what comes, with four passes: one feeds, and three help.
-pub(super) fn drive<R: Wait, G: Gate>(
+/// Runs a new hand's plan over what comes, with four threads: one feeds, and three help. What is then left is worked off
+/// by this thread alone.
+///
+/// # Errors
+///
+/// Why the feeder stopped, or want of memory.
+pub(super) fn drive<R: Threads + Wait + Sync, G: Gate>(
     rt: &R,
     alloc: Global,
     hand: Hand,
     gate: &G,
     items: &[Feeding],
-) -> Result<Driven, FeedStop>
+) -> Result<Driven, DriveStop>
     requires hand { (plan : Shape) × (bundle pending : ℕ) × (keeps : Bool) × IsNewHand plan bundle pending keeps hand }
+    ensures plan { IfOk result (λ d. d.hand.plan ≡ hand.plan) }
     ensures unspent { IfOk result (λ d. d.hand.spent ≡ false) }
 {
     let most = hand.bundle();
     let Ok((cascade, mut pass)) = Cascade::share(alloc, hand) else {
-        return Err(FeedStop::Memory);
+        return Err(DriveStop::Memory);
     };
     let others = split_three(&cascade, &mut pass);
-    let others = feed_in_turns(rt, alloc, &cascade, &mut pass, others, gate, most, items)?;
-    take_back(&cascade, &mut pass, others);
+    let (fed, backs) = work_all(rt, alloc, &cascade, gate, most, items, pass, others);
+    let mut pass = match fed {
+        Ok(pass) => pass,
+        Err(stop) => return Err(DriveStop::Feeding(stop)),
+    };
+    if !take_back(&cascade, &mut pass, backs) {
+        return Err(DriveStop::Memory);
+    }
     match finish(rt, alloc, cascade, pass, gate) {
         Ok(driven) => Ok(driven),
-        Err(NoMemory) => Err(FeedStop::Memory),
+        Err(NoMemory) => Err(DriveStop::Memory),
     }
 }

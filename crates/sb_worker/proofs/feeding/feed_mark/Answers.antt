@@ -1,4 +1,4 @@
-use Rattle.std.proofs.Common.{◌≡◌, ◌+◌, ap, sym, subst, refl, ◌∙◌}
+use Rattle.std.proofs.Common.{◌+◌, ap, sym, subst, refl, ◌∙◌}
 use Rattle.sb_worker.specs.declared.feeding.BothFed.{BothFed}
 use Rattle.sb_worker.specs.declared.feeding.Fed.{Fed}
 use Rattle.sb_worker.specs.Feeding.{IsFeeding}

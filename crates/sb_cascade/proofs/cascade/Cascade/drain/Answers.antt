@@ -1,11 +1,15 @@
-use Rattle.std.proofs.Common.{rules, ◌≡◌, true, ap}
+use Rattle.std.proofs.Common.{rules, ◌≡◌, true, ap, subst, sym}
+use Rattle.sb_turn.specs.Passes.{about}
 use Rattle.sb_cascade.specs.declared.telling.Change.TheVariants.{Drain}
 use Rattle.sb_cascade.specs.declared.telling.Hands.{Hands}
 use Rattle.sb_cascade.specs.declared.telling.Setting.{Setting}
+use Rattle.sb_cascade.specs.Found.{IsDrained, IsFound}
 use Rattle.sb_cascade.specs.SharedNodes.{SharedView}
+use Rattle.sb_cascade.specs.Views.{with_drained}
 use Rattle.sb_cascade.proofs.Acts.{drains}
+use Rattle.sb_cascade.proofs.Drained.{all-drained}
 use Rattle.sb_cascade.proofs.FeedOfChanges.{feeds-drained}
-use Rattle.sb_cascade.proofs.LeftTurns.{does_at, knew}
+use Rattle.sb_cascade.proofs.LeftTurns.{does_at, found_by, knew}
 use Rattle.sb_cascade.proofs.LinksOwed.{own-stays}
 use Rattle.sb_cascade.proofs.cascade.Cascade.drain.Goals as goal
 
@@ -27,3 +31,17 @@ leave-requires-clause-does g c =
       part = drains a w p.me.0.seen k x y c.of-told.result c.transforms-sink.ensures.value told c.drain.ensures.rest;
       links = own-stays x y (ap (λ (z : SharedView). z.own) c.drain.ensures.rest);
     })
+
+pub returns-clause-all : goal.returns-clause-all
+returns-clause-all g c =
+    let a : Setting = c.args.self.now.setting in
+    let w : Hands = c.args.pass.now.seat.me.0.client in
+    let k = c.transforms-sink.result in
+    let x : SharedView = c.enter-guard.result.state in
+    let rows = c.drain.result.items in
+    let same : about c.args.self.now.turns ≡ a = search rules in
+    let f : IsFound a w k x = found_by a _ w k x same c.enter-guard.ensures.finds in
+    let told : rows ≡ x.tray = search rules in
+    let on : w.feed.on ≡ true = c.requires.pass.1.1 in
+    let feed : c.leave.new.pass.me.0.client.feed ≡ with_drained rows w.feed = search rules in
+    subst (IsDrained a) (sym feed) (all-drained a w k x rows on c.transforms-sink.ensures.value told f)
