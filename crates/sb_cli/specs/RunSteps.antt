@@ -13,7 +13,12 @@ use Rattle.sb_cli.specs.Telling.{CanTell, diaries_of_hand}
 
 -- the sizes that options give
 abbrev pub sizes_from : Options → Sizes
-sizes_from options = record { bundle = options.bundle; pending = options.pending; keeps_diaries = options.diary }
+sizes_from options = record {
+  workers = options.workers;
+  bundle = options.bundle;
+  pending = options.pending;
+  keeps_diaries = options.diary;
+}
 
 -- the status of a run of the engine whose rows were passed on
 abbrev pub status_at : RunEnd → Status

@@ -106,6 +106,7 @@ fn sizes_of(options: &Options) -> Sizes
     ensures { result ≡ sizes_from options.now }
 {
     Sizes {
+        workers: options.workers,
         bundle: options.bundle,
         pending: options.pending,
         keeps_diaries: options.diary,

@@ -22,7 +22,7 @@ use Rattle.sb_node.specs.declared.state.NodeState.{NodeState}
 use Rattle.sb_hand.specs.Feeding.{MayArrive, MaySeal, TakesStream}
 use Rattle.sb_hand.specs.Hands.{HandView, settings_at, settings_for}
 use Rattle.sb_hand.specs.Sets.{HasLane}
-use Rattle.sb_hand.specs.Showing.{Settings, settings_of}
+use Rattle.sb_hand.specs.Showing.{Settings, diaries_of, settings_of}
 use Rattle.sb_hand.proofs.Resting.{idle-is-finished}
 use Rattle.sb_hand.proofs.ShownLanes.{one-of-all, shows-sources, takes-sources}
 use Rattle.sb_hand.proofs.Single.{get-map}
@@ -32,7 +32,7 @@ use Rattle.sb_run.specs.Rested.{IsRested, IsWhole}
 use Rattle.sb_run.proofs.SoFar.{floor_is, marks_of_lane}
 
 -- a stream that the plan uses goes somewhere
-goes : (plan : Shape) (s : Stream) → uses (streams_of plan) s ≡ true → (d : Down) × (source plan s ≡ Some d)
+pub goes : (plan : Shape) (s : Stream) → uses (streams_of plan) s ≡ true → (d : Down) × (source plan s ≡ Some d)
 goes plan A used = there plan.source_a used
   where
     there : (o : Option Down) → is_some o ≡ true → (d : Down) × (o ≡ Some d)
@@ -50,7 +50,7 @@ module _ (h : HandView) (f : Fed) (rows : List Record) (w : IsWhole h f rows) wh
 
   -- its lane was sealed with the marks that were fed
   marks_are : (s : Stream) (into : TakesStream h.plan s h.nodes) → into.lane.marks ≡ marks_in f s
-  marks_are s into = marks_of_lane h f rows w s into.place (lane_of into.lane) into.goes (shows-sources h.plan h.bundle h.nodes [] (rows ++ h.tray) w.moment w.shows s into)
+  marks_are s into = marks_of_lane h.plan w.moment (diaries_of h.nodes) f w.shows.sound w.tallied s into.place (lane_of into.lane) into.goes (shows-sources h.plan h.bundle h.nodes [] (rows ++ h.tray) w.moment w.shows s into)
 
   floors_are : (s : Stream) (into : TakesStream h.plan s h.nodes) → next_floor (lane_of into.lane) ≡ floor_in f s
   floors_are s into = sym (floor_is into.lane.marks) ∙ ap (last_or 0) (marks_are s into)

@@ -63,7 +63,7 @@ used_by plan B d is = ap is_some is
 module _ (h : HandView) (size : ℕ) (items : List Item) (f : Fed) (c : Cutters) (rows : List Record) (r : IsRested h f rows)
     (fed : IsFedBy size (items ++ end_items (streams_of h.plan) at.End) f c) (quiet : IsQuiet h.plan items) where
   ends_are : AreAtTheEnd h.plan r.whole.moment
-  ends_are s d is = floor_of_source h f rows r.whole s d is ∙ floor_at_end h.plan size items f c fed quiet s (used_by h.plan s d is)
+  ends_are s d is = floor_of_source h.plan r.whole.moment (diaries_of h.nodes) f r.whole.shows.sound r.whole.tallied s d is ∙ floor_at_end h.plan size items f c fed quiet s (used_by h.plan s d is)
 
   rows_are : r.whole.moment.rows ≡ rows
   rows_are = r.whole.shows.rows_is ∙ ap (λ l. rows ++ l) r.none_ready ∙ append-nil rows

@@ -1,4 +1,4 @@
--- The rows of a whole hand are the plan's below a mark, whatever may still come.
+-- The rows of a moment, and those of a whole hand, are the plan's below a mark, whatever may still come.
 use Rattle.std.proofs.Common.{◌≡◌, ◌≤◌, ◌<◌, ℕ, ◌-◌, Bool, true, false, List, [], ◌∷◌, ◌++◌, length, get_or, Option, Some, None, refl, sym, ap, subst, ◌∙◌, append-nil, arith}
 use Rattle.std.specs.Prelude.{All, is_some, min}
 use Rattle.std.specs.List.{AllByRecursion, slice_get}
@@ -15,13 +15,18 @@ use Rattle.sb_pipeline.specs.declared.transform.Down.{Down}
 use Rattle.sb_pipeline.specs.Shapes.{Shape, source, streams_of}
 use Rattle.sb_pipeline.specs.Results.{rows_below}
 use Rattle.sb_core.specs.declared.moment.CoreLane.{CoreLane}
+use Rattle.sb_core.specs.declared.moment.Moment.{Moment}
 use Rattle.sb_core.specs.declared.moment.Node.{Node}
-use Rattle.sb_core.specs.Exactness.{IsAdmissible}
+use Rattle.sb_core.specs.Exactness.{IsAdmissible, IsExact}
 use Rattle.sb_core.specs.Laws.{written_to}
 use Rattle.sb_core.specs.Moments.{floor_at, floor_of, lane_at, no_node, node_at}
 use Rattle.sb_core.specs.Rest.{IsAtRest, floor_where, low_mark}
+use Rattle.sb_core.specs.Soundness.{IsSound}
 use Rattle.sb_core.proofs.AtRest.{closes-low}
 use Rattle.sb_core.proofs.RowsAre.{rows-are_the_plans}
+use Rattle.sb_diary.specs.declared.event.DiaryEvent.{DiaryEvent}
+use Rattle.sb_pipeline.specs.Plans.{IsPlan}
+use Rattle.sb_tally.specs.Tally.{IsTallied}
 use Rattle.sb_tally.proofs.Telling.{diaries-tell}
 use Rattle.sb_hand.specs.HandLaws.{AreIdle}
 use Rattle.sb_hand.specs.Hands.{HandView}
@@ -29,6 +34,7 @@ use Rattle.sb_hand.specs.Showing.{diaries_of}
 use Rattle.sb_hand.proofs.Resting.{idle-is-rest}
 use Rattle.sb_feed.specs.Feeds.{AreRowsSoFar, Fed, IsComing, IsFrom, fed_of, floor_in, marks_in}
 use Rattle.sb_run.specs.Rested.{IsRested, IsWhole, feed_of}
+use Rattle.sb_run.proofs.Behind.{written_behind}
 
 -- the low watermark of what was sealed
 abbrev pub low_of : Shape → Fed → ℕ
@@ -43,36 +49,59 @@ pub floor_is : (xs : List ℕ) → last_or 0 xs ≡ get_or xs (length xs - 1) 0
 floor_is [] = refl
 floor_is (x ∷ xs) = last_is 0 x xs ∙ ap (λ k. get_or (x ∷ xs) k 0) (let e : length xs ≡ length (x ∷ xs) - 1 = omega arith in e)
 
-module _ (h : HandView) (f : Fed) (rows : List Record) (w : IsWhole h f rows) where
-  -- a source lane has been sealed with the marks that were fed
-  pub marks_of_lane : (s : Stream) (d : Down) (lane : CoreLane) → source h.plan s ≡ Some d → lane_at w.moment d ≡ Some lane → lane.marks ≡ marks_in f s
-  marks_of_lane s d lane is at =
-      let b = bind_some (slice_get w.moment.nodes d.node) (λ node. slice_get node.lanes d.lane) lane at in
-      let within : d.node ≤ length h.plan.steps = omega (arith, w.shows.sound.nodes, slice_get_within w.moment.nodes d.node b.0 b.1) in
-      let there : slice_get (node_at w.moment d.node).lanes d.lane ≡ Some lane = ap (λ (n : Node). slice_get n.lanes d.lane) (get_or_from_slice_get w.moment.nodes d.node b.0 no_node b.1) ∙ b.2 in
-      let told = (diaries-tell h.plan w.moment (diaries_of h.nodes) (feed_of f) w.shows.sound w.tallied d.node within).1 d.lane lane there in
-      told.marks ∙ sym (w.tallied.sources s d is).marks_are
+All-mapped : (P Q : Record → Type 0) → ((r : Record) → P r → Q r) → (l : List Record) → AllByRecursion P l → AllByRecursion Q l
+All-mapped P Q f [] all = tt
+All-mapped P Q f (r ∷ l) all = (f r all.0, All-mapped P Q f l all.1)
 
-  pub floor_of_source : (s : Stream) (d : Down) → source h.plan s ≡ Some d → floor_at w.moment d ≡ floor_in f s
+pub back : (P : Record → Type 0) (l m : List Record) → AllByRecursion P (l ++ m) → AllByRecursion P m
+back P [] m all = all
+back P (r ∷ l) m all = back P l m all.1
+
+-- a sound moment that tallies with diaries and what was fed
+module _ (plan : Shape) (m : Moment) (diaries : List (List DiaryEvent)) (f : Fed) (sound : IsSound plan m) (tallied : IsTallied plan m diaries (feed_of f)) where
+  -- a source lane has been sealed with the marks that were fed
+  pub marks_of_lane : (s : Stream) (d : Down) (lane : CoreLane) → source plan s ≡ Some d → lane_at m d ≡ Some lane → lane.marks ≡ marks_in f s
+  marks_of_lane s d lane is at =
+      let b = bind_some (slice_get m.nodes d.node) (λ node. slice_get node.lanes d.lane) lane at in
+      let within : d.node ≤ length plan.steps = omega (arith, sound.nodes, slice_get_within m.nodes d.node b.0 b.1) in
+      let there : slice_get (node_at m d.node).lanes d.lane ≡ Some lane = ap (λ (n : Node). slice_get n.lanes d.lane) (get_or_from_slice_get m.nodes d.node b.0 no_node b.1) ∙ b.2 in
+      let told = (diaries-tell plan m diaries (feed_of f) sound tallied d.node within).1 d.lane lane there in
+      told.marks ∙ sym (tallied.sources s d is).marks_are
+
+  pub floor_of_source : (s : Stream) (d : Down) → source plan s ≡ Some d → floor_at m d ≡ floor_in f s
   floor_of_source s d is =
-      let lane = w.shows.sound.sources s d is in
+      let lane = sound.sources s d is in
       ap floor_of lane.1 ∙ sym (floor_is lane.0.marks) ∙ ap (last_or 0) (marks_of_lane s d lane.0 is lane.1)
 
   -- what may come of the feeder may come of the moment
-  pub admissible : (coming : Stream → List Record) → IsComing f coming → IsAdmissible h.plan w.moment coming
+  pub admissible : (coming : Stream → List Record) → IsComing f coming → IsAdmissible plan m coming
   admissible coming all = λ s d is.
-      All-from_recursion (λ (r : Record). IsFrom (floor_at w.moment d) r) (coming s) (subst (λ x. AllByRecursion (IsFrom x) (coming s)) (sym (floor_of_source s d is)) (all s))
+      All-from_recursion (λ (r : Record). IsFrom (floor_at m d) r) (coming s) (subst (λ x. AllByRecursion (IsFrom x) (coming s)) (sym (floor_of_source s d is)) (all s))
+
+  -- its rows are the plan's below a mark, whatever may come
+  pub moment_so_far : IsPlan plan → IsExact plan m (fed_of f) → ((s : Stream) → floor_in f s ≤ END_MARK) → AreRowsSoFar plan f m.rows
+  moment_so_far is_plan exact bound = record {
+    mark = written_to plan m;
+    bound = written_behind plan is_plan m sound END_MARK (λ s d is. let e = floor_of_source s d is in let b = bound s in omega (arith, e, b));
+    are = λ coming is. rows-are_the_plans plan m (fed_of f) coming sound exact (admissible coming is);
+  }
+
+  -- and their times are below the last mark
+  pub moment_in_time : IsPlan plan → ((s : Stream) → floor_in f s ≤ END_MARK) → AllByRecursion (λ r. r.time < END_MARK) m.rows
+  moment_in_time is_plan bound =
+      let within : written_to plan m ≤ END_MARK = written_behind plan is_plan m sound END_MARK (λ s d is. let e = floor_of_source s d is in let b = bound s in omega (arith, e, b)) in
+      All-mapped (λ (r : Record). r.time < written_to plan m) (λ (r : Record). r.time < END_MARK) (λ r lt. omega (arith, lt, within)) m.rows sound.written
 
   -- the low watermark of the moment is that of what was sealed
-  low_same : (a b : Option Down) (x y : ℕ) → ((d : Down) → a ≡ Some d → floor_at w.moment d ≡ x) → ((d : Down) → b ≡ Some d → floor_at w.moment d ≡ y)
-      → least_of (record { a = is_some a; b = is_some b }) (floor_where w.moment a) (floor_where w.moment b) ≡ least_of (record { a = is_some a; b = is_some b }) x y
+  low_same : (a b : Option Down) (x y : ℕ) → ((d : Down) → a ≡ Some d → floor_at m d ≡ x) → ((d : Down) → b ≡ Some d → floor_at m d ≡ y)
+      → least_of (record { a = is_some a; b = is_some b }) (floor_where m a) (floor_where m b) ≡ least_of (record { a = is_some a; b = is_some b }) x y
   low_same None None x y of_a of_b = refl
   low_same (Some d) None x y of_a of_b = of_a d refl
   low_same None (Some e) x y of_a of_b = of_b e refl
   low_same (Some d) (Some e) x y of_a of_b = λ i. min (of_a d refl i) (of_b e refl i)
 
-  pub low_is : low_mark h.plan w.moment ≡ low_of h.plan f
-  low_is = low_same h.plan.source_a h.plan.source_b (floor_in f A) (floor_in f B) (floor_of_source A) (floor_of_source B)
+  pub low_is : low_mark plan m ≡ low_of plan f
+  low_is = low_same plan.source_a plan.source_b (floor_in f A) (floor_in f B) (floor_of_source A) (floor_of_source B)
 
 -- the low watermark is a watermark
 low_within : (streams : Streams) (a b : ℕ) → a ≤ END_MARK → b ≤ END_MARK → least_of streams a b ≤ END_MARK
@@ -84,21 +113,13 @@ low_within streams a b p q = of_two streams.a streams.b
     of_two false true = q
     of_two false false = omega arith
 
-All-mapped : (P Q : Record → Type 0) → ((r : Record) → P r → Q r) → (l : List Record) → AllByRecursion P l → AllByRecursion Q l
-All-mapped P Q f [] all = tt
-All-mapped P Q f (r ∷ l) all = (f r all.0, All-mapped P Q f l all.1)
-
-back : (P : Record → Type 0) (l m : List Record) → AllByRecursion P (l ++ m) → AllByRecursion P m
-back P [] m all = all
-back P (r ∷ l) m all = back P l m all.1
-
 -- a hand with nothing left to do
 module _ (h : HandView) (f : Fed) (rows : List Record) (w : IsWhole h f rows) (idle : AreIdle h.plan h.nodes) where
   pub at_rest : IsAtRest w.moment
   at_rest = idle-is-rest h.plan h.bundle h.nodes (rows ++ h.tray) w.moment w.shows idle
 
   pub written_low : written_to h.plan w.moment ≡ low_of h.plan f
-  written_low = closes-low h.plan w.is_plan w.moment w.shows.sound at_rest ∙ low_is h f rows w
+  written_low = closes-low h.plan w.is_plan w.moment w.shows.sound at_rest ∙ low_is h.plan w.moment (diaries_of h.nodes) f w.shows.sound w.tallied
 
   pub written_within : written_to h.plan w.moment ≤ END_MARK
   written_within = subst (λ x. x ≤ END_MARK) (sym written_low) (low_within (streams_of h.plan) (floor_in f A) (floor_in f B) (w.bound A) (w.bound B))
@@ -107,7 +128,7 @@ module _ (h : HandView) (f : Fed) (rows : List Record) (w : IsWhole h f rows) (i
   pub rows_with_tray : (coming : Stream → List Record) → IsComing f coming → rows ++ h.tray ≡ rows_below (low_of h.plan f) h.plan (λ s. fed_of f s ++ coming s)
   rows_with_tray coming is =
       sym w.shows.rows_is
-      ∙ rows-are_the_plans h.plan w.moment (fed_of f) coming w.shows.sound w.exact (admissible h f rows w coming is)
+      ∙ rows-are_the_plans h.plan w.moment (fed_of f) coming w.shows.sound w.exact (admissible h.plan w.moment (diaries_of h.nodes) f w.shows.sound w.tallied coming is)
       ∙ ap (λ x. rows_below x h.plan (λ s. fed_of f s ++ coming s)) written_low
 
   -- their times are below the last mark

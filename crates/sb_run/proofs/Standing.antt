@@ -96,7 +96,7 @@ fed-arrives A b f B = refl
 fed-arrives B b f A = refl
 fed-arrives B b f B = one_more f.bundles_b b
 
-feed-arrives : (s : Stream) (b : Bundle) (f : Fed) → b.epoch ≡ length (marks_in f s) → feed_by (Arrive s b.records ∷ []) (feed_of f) ≡ feed_of (with_bundle s b f)
+pub feed-arrives : (s : Stream) (b : Bundle) (f : Fed) → b.epoch ≡ length (marks_in f s) → feed_by (Arrive s b.records ∷ []) (feed_of f) ≡ feed_of (with_bundle s b f)
 feed-arrives s b f epoch = λ i. record { bundles = λ u. bundles s epoch u i; marks = λ u. marks s u i; drained = 0 }
   where
     was : (n : ℕ) → tally.Fed
@@ -118,7 +118,7 @@ feed-arrives s b f epoch = λ i. record { bundles = λ u. bundles s epoch u i; m
     marks B A = refl
     marks B B = refl
 
-floor-arrives : (s : Stream) (b : Bundle) (f : Fed) → ((u : Stream) → floor_in f u ≤ END_MARK) → (u : Stream) → floor_in (with_bundle s b f) u ≤ END_MARK
+pub floor-arrives : (s : Stream) (b : Bundle) (f : Fed) → ((u : Stream) → floor_in f u ≤ END_MARK) → (u : Stream) → floor_in (with_bundle s b f) u ≤ END_MARK
 floor-arrives A b f h A = h A
 floor-arrives A b f h B = h B
 floor-arrives B b f h A = h A
@@ -143,7 +143,7 @@ fed-seals A t f B = refl
 fed-seals B t f A = refl
 fed-seals B t f B = refl
 
-feed-seals : (s : Stream) (t : ℕ) (f : Fed) → feed_by (Seal s t ∷ []) (feed_of f) ≡ feed_of (with_mark s t f)
+pub feed-seals : (s : Stream) (t : ℕ) (f : Fed) → feed_by (Seal s t ∷ []) (feed_of f) ≡ feed_of (with_mark s t f)
 feed-seals s t f = λ i. record { bundles = λ u. bundles s u i; marks = λ u. marks s u i; drained = 0 }
   where
     bundles : (s u : Stream) → map as_fed (bundles_in f u) ≡ map as_fed (bundles_in (with_mark s t f) u)
@@ -163,7 +163,7 @@ pub last_more : (n t : ℕ) (xs : List ℕ) → last_or n (xs ++ t ∷ []) ≡ t
 last_more n t [] = refl
 last_more n t (x ∷ xs) = last_more x t xs
 
-floor-seals : (s : Stream) (t : ℕ) (f : Fed) → t ≤ END_MARK → ((u : Stream) → floor_in f u ≤ END_MARK) → (u : Stream) → floor_in (with_mark s t f) u ≤ END_MARK
+pub floor-seals : (s : Stream) (t : ℕ) (f : Fed) → t ≤ END_MARK → ((u : Stream) → floor_in f u ≤ END_MARK) → (u : Stream) → floor_in (with_mark s t f) u ≤ END_MARK
 floor-seals A t f le h A = subst (λ x. x ≤ END_MARK) (sym (last_more 0 t f.marks_a)) le
 floor-seals A t f le h B = h B
 floor-seals B t f le h A = h A

@@ -8,11 +8,15 @@ use Rattle.sb_feed.specs.declared.give.GiveStop.TheVariants as stop
 use Rattle.sb_run.specs.declared.run_end.RunEnd.{RunEnd}
 use Rattle.sb_run.specs.declared.run_end.RunEnd.TheVariants.{Done, Refused, Input, Output, Tap, Memory}
 
+-- by why it stopped early
+abbrev pub early_by : GiveStop → RunEnd
+early_by stop.Output = Output
+early_by (stop.Tap place) = Tap place
+early_by stop.Memory = Memory
+
 -- at the end of the input the hand comes back
 abbrev pub end_by : HandView → Result Stop GiveStop → RunEnd
 end_by hand (Ok at.End) = Done hand
 end_by hand (Ok (at.Refused refusal)) = Refused refusal
 end_by hand (Ok at.Fault) = Input
-end_by hand (Err stop.Output) = Output
-end_by hand (Err (stop.Tap place)) = Tap place
-end_by hand (Err stop.Memory) = Memory
+end_by hand (Err why) = early_by why

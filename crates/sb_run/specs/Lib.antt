@@ -1,3 +1,4 @@
 pub mod Ending
 pub mod Rested
 pub mod RunEnds
+pub mod Feeders

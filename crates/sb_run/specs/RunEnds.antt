@@ -1,5 +1,5 @@
 -- How a run ends: what was written and dropped, and what the taps have seen, over the accepted items.
-use Rattle.std.specs.Prelude.{◌≡◌, ◌≤◌, ℕ, true, false, List, ◌++◌, length, Option, slice_get, ⊤}
+use Rattle.std.specs.Prelude.{◌≡◌, ◌≤◌, ◌⊎◌, ℕ, true, false, List, ◌++◌, length, Option, slice_get, Result, Ok, Err, ⊤}
 use Rattle.sb_record.specs.declared.intake.Stop.{Stop}
 use Rattle.sb_record.specs.declared.intake.Stop.TheVariants as stop
 use Rattle.sb_record.specs.declared.item.Dropped.{Dropped}
@@ -20,14 +20,19 @@ use Rattle.sb_hand.specs.Hands.{HandView, NoneLeft, settings_at}
 use Rattle.sb_hand.specs.Showing.{diaries_of, settings_of}
 use Rattle.sb_feed.specs.Calls.{calls_of}
 use Rattle.sb_feed.specs.Due.{AreFirstDropped, AreFirstRows, due_rows}
+use Rattle.sb_feed.specs.declared.give.GiveStop.{GiveStop}
 use Rattle.sb_feed.specs.Given.{Given, items_of, stop_at}
+use Rattle.sb_feed.specs.Reads.{FaultCause}
 use Rattle.sb_feed.specs.TapLists.{LeavesThoseThatStay, StopsIn}
 use Rattle.sb_run.specs.declared.sizes.Sizes.{Sizes}
+use Rattle.sb_run.specs.declared.sizes.TheConstants.{MAX_WORKERS}
 use Rattle.sb_run.specs.declared.run_end.RunEnd.{RunEnd}
 use Rattle.sb_run.specs.declared.run_end.RunEnd.TheVariants.{Done, Refused, Input, Output, Tap, Memory}
 
 -- sizes in their ranges
 pub record AreSizes (sizes : Sizes) : Type 0 where
+  pub some_workers : 1 ≤ sizes.workers
+  pub most_workers : sizes.workers ≤ MAX_WORKERS
   pub some_records : 1 ≤ sizes.bundle
   pub most_records : sizes.bundle ≤ MAX_BUNDLE
   pub some_bundles : 1 ≤ sizes.pending
@@ -96,6 +101,24 @@ InputCause before now (Refused refusal) = now ≡ before
 InputCause before now Output = now ≡ before
 InputCause before now (Tap place) = now ≡ before
 InputCause before now Memory = now ≡ before
+
+-- no read failed, or one did
+abbrev pub MayHaveFailed : ℕ → ℕ → Type 0
+MayHaveFailed before now = (now ≡ before) ⊎ Rose before now
+
+-- of several workers: a failed read is told by its own end, but if the run ends early then one may have failed before
+abbrev pub SharedInputCause : ℕ → ℕ → RunEnd → Type 0
+SharedInputCause before now Input = Rose before now
+SharedInputCause before now (Done hand) = now ≡ before
+SharedInputCause before now (Refused refusal) = now ≡ before
+SharedInputCause before now Output = MayHaveFailed before now
+SharedInputCause before now (Tap place) = MayHaveFailed before now
+SharedInputCause before now Memory = MayHaveFailed before now
+
+-- of the feeder among them
+abbrev pub SharedFeedCause : ℕ → ℕ → Result Stop GiveStop → Type 0
+SharedFeedCause before now (Ok at) = FaultCause before now at
+SharedFeedCause before now (Err why) = MayHaveFailed before now
 
 -- a run in which writing went well
 abbrev pub IsWritten : RunEnd → Type 0

@@ -1,33 +1,18 @@
 //! A run with one worker.
 
-ghost use Rattle.std.specs.Prelude.{◌≡◌, ◌<◌, ◌^◌, map, length};
-ghost use Rattle.sb_run.specs.Ending.{end_by};
+ghost use Rattle.std.specs.Prelude.{◌<◌, ◌^◌, map, length};
 ghost use Rattle.sb_run.specs.RunEnds.{AreSizes, Ends, InputCause, OutputCause};
 
+use crate::ending::end_of;
 use crate::feeding::feed;
 use crate::run_end::RunEnd;
 use crate::sizes::Sizes;
 use sb_emit::{RowOut, Tap};
-use sb_feed::GiveStop;
 use sb_hand::Hand;
 use sb_outside::Source;
 use sb_pipeline::Plan;
-use sb_record::{Dropped, NoMemory, Stop};
+use sb_record::{Dropped, NoMemory};
 use std::alloc::Global;
-
-// How a run ends whose input was fed to a hand.
-fn end_of(hand: Hand, fed: Result<Stop, GiveStop>) -> RunEnd
-    ensures { result ≡ end_by hand fed }
-{
-    match fed {
-        Ok(Stop::End) => RunEnd::Done(hand),
-        Ok(Stop::Refused(refusal)) => RunEnd::Refused(refusal),
-        Ok(Stop::Fault) => RunEnd::Input,
-        Err(GiveStop::Output) => RunEnd::Output,
-        Err(GiveStop::Tap { place }) => RunEnd::Tap { place },
-        Err(GiveStop::Memory) => RunEnd::Memory,
-    }
-}
 
 /// Runs a plan over an input with one worker: it waits for nobody, starts no thread, and always returns.
 ///

@@ -124,8 +124,8 @@ fn take_item<R: RowOut>(
     }
 }
 
-// Whether the stream is one of these.
-fn uses(streams: Streams, stream: Stream) -> bool
+/// Whether the stream is one of these.
+pub(crate) fn uses(streams: Streams, stream: Stream) -> bool
     ensures { result ≡ spec_uses streams stream }
 {
     match stream {

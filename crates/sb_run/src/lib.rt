@@ -2,14 +2,18 @@
 #![tactic(auto)]
 
 mod alone;
+mod ending;
 mod feeding;
 mod run_end;
+mod shared;
 mod sizes;
+mod together;
 mod working;
 
 pub use alone::execute_alone;
 pub use run_end::RunEnd;
-pub use sizes::Sizes;
+pub use sizes::{MAX_WORKERS, Sizes};
+pub use together::execute;
 
 #[cfg(test)]
 mod tests;

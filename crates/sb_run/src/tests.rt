@@ -1,8 +1,8 @@
-//! Whole runs with one worker, by example.
+//! Whole runs with one worker and with several, by example.
 
 ghost use Rattle.std.specs.Prelude.{◌≤◌, All, IfOk};
 
-use crate::{RunEnd, Sizes, execute_alone};
+use crate::{MAX_WORKERS, RunEnd, Sizes, execute, execute_alone};
 use sb_aggregate::Agg;
 use sb_bundle::MAX_BUNDLE;
 use sb_emit::{CountTap, Printing, Tap};
@@ -10,8 +10,11 @@ use sb_outside::{MemSink, MemSource};
 use sb_pipeline::{Down, Kind, Plan, Step};
 use sb_record::{Dropped, LatePolicy, Refusal};
 use sb_window::Windows;
+use sb_work::OpenGate;
 use std::alloc::{AllocError, Global};
+use std::sync::Wait;
 use std::test::Fail;
+use std::thread::Threads;
 
 /// What a run left: its end, the text of the rows that were written, and the late records that were dropped.
 #[derive(Drop)]
@@ -43,10 +46,13 @@ fn pieces(alloc: Global) -> Result<Vec<usize>, AllocError>
     vec![in alloc; 27; 20]
 }
 
-/// Runs a plan with bundles of a size. The writes with these numbers fail, and so does the tap at these calls.
-fn run(
+/// Runs a plan with so many workers and bundles of a size. The writes with these numbers fail, and so does the tap at
+/// these calls.
+fn run<W: Threads + Wait + Sync>(
+    rt: &W,
     alloc: Global,
     plan: Plan,
+    workers: u32,
     bundle: u32,
     input: &mut MemSource,
     writes: &[u64],
@@ -54,8 +60,11 @@ fn run(
 ) -> Result<Ran, AllocError>
     requires some { 1 ≤ bundle }
     requires most { bundle ≤ MAX_BUNDLE }
+    requires some_workers { 1 ≤ workers }
+    requires most_workers { workers ≤ MAX_WORKERS }
 {
     let sizes = Sizes {
+        workers,
         bundle,
         pending: 4,
         keeps_diaries: true,
@@ -65,7 +74,21 @@ fn run(
     taps.push(Box::new(alloc, CountTap::new(Vec::from_slice(alloc, calls)?))?)?;
     let mut dropped = Vec::new(alloc);
     let mut out = Printing::new(&mut sink);
-    let end = execute_alone(alloc, plan, sizes, input, &mut out, &mut taps, &mut dropped);
+    let end = if workers == 1 {
+        execute_alone(alloc, plan, sizes, input, &mut out, &mut taps, &mut dropped)
+    } else {
+        execute(
+            rt,
+            alloc,
+            plan,
+            sizes,
+            input,
+            &mut out,
+            &mut taps,
+            &mut dropped,
+            &OpenGate,
+        )
+    };
     let rows = Vec::from_slice(alloc, sink.taken())?;
     Ok(Ran { end, rows, dropped })
 }
@@ -128,8 +151,10 @@ fn rows_do_not_depend_on_the_size_of_bundles(rt: HostRuntime) -> Result<(), Fail
         for bundle in [1, 2, 1_024] {
             let plan = sums(alloc, every, LatePolicy::Refuse)?;
             let ran = run(
+                &rt,
                 alloc,
                 plan,
+                1,
                 bundle,
                 &mut source(alloc, lines, &[])?,
                 &[],
@@ -138,6 +163,46 @@ fn rows_do_not_depend_on_the_size_of_bundles(rt: HostRuntime) -> Result<(), Fail
             assert_eq!(rt; ran.rows.as_slice(), rows.as_bytes());
             assert_eq!(rt; said(&ran.end), end);
         }
+    }
+    Ok(())
+}
+
+#[test]
+fn rows_do_not_depend_on_the_number_of_workers(rt: HostRuntime) -> Result<(), Fail> {
+    let alloc = rt.alloc();
+    for (lines, every, rows, end) in CASES {
+        for workers in [2, 4, 8] {
+            for bundle in [1, 2, 1_024] {
+                let plan = sums(alloc, every, LatePolicy::Refuse)?;
+                let mut input = source(alloc, lines, &[])?;
+                let ran = run(&rt, alloc, plan, workers, bundle, &mut input, &[], &[])?;
+                assert_eq!(rt; ran.rows.as_slice(), rows.as_bytes());
+                assert_eq!(rt; said(&ran.end), end);
+            }
+        }
+    }
+    Ok(())
+}
+
+#[test]
+fn faults_end_a_run_of_several_workers(rt: HostRuntime) -> Result<(), Fail> {
+    let alloc = rt.alloc();
+    for (reads, writes, calls, rows, end) in [
+        (
+            [2].as_slice(),
+            [].as_slice(),
+            [].as_slice(),
+            "10,1,7\n",
+            "input failed",
+        ),
+        (&[], &[2], &[], "10,1,7\n", "output failed"),
+        (&[], &[], &[2], "10,1,7\n20,1,4\n", "tap 0 failed"),
+    ] {
+        let plan = sums(alloc, 10, LatePolicy::Refuse)?;
+        let mut input = source(alloc, FIRST, reads)?;
+        let ran = run(&rt, alloc, plan, 4, 1, &mut input, writes, calls)?;
+        assert_eq!(rt; ran.rows.as_slice(), rows.as_bytes());
+        assert_eq!(rt; said(&ran.end), end);
     }
     Ok(())
 }
@@ -159,8 +224,10 @@ fn faults_end_a_run_behind_what_was_written(rt: HostRuntime) -> Result<(), Fail>
     ] {
         let plan = sums(alloc, 10, LatePolicy::Refuse)?;
         let ran = run(
+            &rt,
             alloc,
             plan,
+            1,
             1,
             &mut source(alloc, FIRST, reads)?,
             writes,
@@ -176,7 +243,8 @@ fn faults_end_a_run_behind_what_was_written(rt: HostRuntime) -> Result<(), Fail>
 fn late_records_are_listed_if_the_plan_drops_them(rt: HostRuntime) -> Result<(), Fail> {
     let alloc = rt.alloc();
     let plan = sums(alloc, 10, LatePolicy::Drop)?;
-    let ran = run(alloc, plan, 2, &mut source(alloc, LATE, &[])?, &[], &[])?;
+    let mut input = source(alloc, LATE, &[])?;
+    let ran = run(&rt, alloc, plan, 1, 2, &mut input, &[], &[])?;
     assert_eq!(rt; ran.rows.as_slice(), b"10,1,5\n20,1,4\n".as_slice());
     assert_eq!(rt; said(&ran.end), "done");
     let late = Dropped {

@@ -46,8 +46,12 @@ fn settle(hand: &mut Hand) -> Result<(), NoMemory>
     Ok(())
 }
 
-// Works off what a hand has, and gives out its rows.
-fn flow<R: RowOut>(
+/// Works off what a hand has, and gives out its rows.
+///
+/// # Errors
+///
+/// Those of [`give_out`], and `Memory`. Then nothing is known of the hand.
+pub(crate) fn flow<R: RowOut>(
     hand: &mut Hand,
     out: &mut R,
     taps: &mut Vec<Box<dyn Tap>>,

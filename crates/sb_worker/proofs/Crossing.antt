@@ -3,14 +3,14 @@
 use mathlib.Core.List.{List, [], ◌∷◌}
 use Prim.Native.Nat.{ℕ}
 use mir.Syntax.{Sym}
-use denote.Builtin.{u32, u64}
+use denote.Builtin.{One, u32, u64}
 use denote.Hole.{as_row}
 use denote.Param.{param}
 use denote.Param.Send.{AllSend, IsSend, IsSync, sendable}
 use denote.Param.SendFields.{FieldsHave, as_row_send, declared_send, declared_sync, variants_send, variants_sync}
 use denote.RattleType.{RattleType}
 use denote.Ref.{NamedLft}
-use denote.Struct.Field.{row_field, shr_ref_field}
+use denote.Struct.Field.{mut_ref_field, row_field, shr_ref_field}
 use denote.Struct.Tuple.{TupleAt, parts, type_at}
 use Rattle.std.specs.contracts.alloc.Global as heap
 use Rattle.std.specs.contracts.option.Option as option
@@ -128,6 +128,9 @@ Cascade-sync =
 -- what is lent may be sent
 pub Bound-lent : (ℓ : NamedLft) (i : ℕ) (R : RattleType) → IsSync (param i R) → IsSend (shr_ref_field ℓ (param i R) tt).row
 Bound-lent ℓ i R shared = search sendable depth 20
+
+pub Mut-lent : (ℓ : NamedLft) (T : RattleType) (one : One T.mir) → IsSend T → IsSend (mut_ref_field ℓ T one).row
+Mut-lent ℓ T one sent = search sendable depth 20
 
 pub Heap-lent : (ℓ : NamedLft) → IsSend (shr_ref_field ℓ heap.the_row tt).row
 Heap-lent ℓ = search (sendable, heap-sync) depth 20

@@ -1,0 +1,22 @@
+use Rattle.std.proofs.Common.{◌≤◌, ◌+◌, ◌-◌, Ok, length, map}
+use Rattle.sb_record.specs.declared.intake.TheConstants.{MAX_LINES}
+use Rattle.sb_feed.specs.GiveCauses.{GiveCause}
+use Rattle.sb_feed.proofs.FedSoFar.{FedSoFar}
+use Rattle.sb_run.specs.Feeders.{HasFed, IsStill}
+use Rattle.sb_run.proofs.shared.feeding.feed_lines.Given as goal
+
+abbrev pub invariant-items : goal.invariant-items
+invariant-items g l =
+    record {
+      fed : FedSoFar g.S.Source.left g.S.Source.faults g.R.RowOut.after l.cascade.setting.plan l.fn.size (HasFed l.cascade l.pass)
+          (record { source = l.fn.input; out = l.fn.out; taps = map (λ t. (goal.Tap-dyn g (t.vtable, t.value)).tap_state t.value) l.fn.taps.items; dropped = l.fn.dropped.items })
+          (record { source = l.input; out = l.out; taps = map (λ t. (goal.Tap-dyn g (t.vtable, t.value)).tap_state t.value) l.taps.items; dropped = l.dropped.items })
+          l.lines l.intake l.cutters;
+      same : IsStill l.cascade l.fn.pass l.pass;
+      cause : GiveCause {T = Unit {0}} (g.R.RowOut.row_state l.fn.out) (g.R.RowOut.row_state l.out) (Ok tt);
+      fewer : length l.taps.items ≤ length l.fn.taps.items;
+      room : l.intake.lines ≤ MAX_LINES;
+    }
+
+abbrev pub decreases-items : goal.decreases-items
+decreases-items g l = MAX_LINES + 1 - l.intake.lines

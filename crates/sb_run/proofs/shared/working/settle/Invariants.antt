@@ -1,0 +1,13 @@
+use Rattle.std.proofs.Common.{List}
+use Rattle.sb_record.specs.declared.item.Record.{Record}
+use Rattle.sb_cascade.specs.Calls.{IsEmptyHanded}
+use Rattle.sb_feed.specs.Feeds.{Fed}
+use Rattle.sb_run.specs.Feeders.{HasFed, IsStill}
+use Rattle.sb_run.proofs.shared.working.settle.Given as goal
+
+abbrev pub invariant-loop : goal.invariant-loop
+invariant-loop g l = record {
+  same : IsStill l.cascade l.fn.pass l.pass;
+  empty : IsEmptyHanded l.pass;
+  feeder : (f : Fed) (rows : List Record) → HasFed l.cascade l.fn.pass f rows → HasFed l.cascade l.pass f rows;
+}

@@ -1,0 +1,52 @@
+-- What the feeder's pass of a shared cascade stands for between two lines of an input.
+use Rattle.std.specs.Prelude.{◌≡◌, ◌≤◌, List, [], length}
+use Rattle.std.specs.List.{AllByRecursion}
+use Rattle.sb_record.specs.declared.item.Record.{Record}
+use Rattle.sb_record.specs.declared.item.Stream.{Stream}
+use Rattle.sb_record.specs.declared.item.TheConstants.{END_MARK}
+use Rattle.sb_pipeline.specs.Plans.{IsPlan}
+use Rattle.sb_pipeline.specs.Shapes.{Shape}
+use Rattle.sb_cascade.specs.declared.cascade.Cascade.{Cascade}
+use Rattle.sb_cascade.specs.declared.pass.CascadePass.{CascadePass}
+use Rattle.sb_cascade.specs.declared.telling.Setting.{Setting}
+use Rattle.sb_cascade.specs.Calls.{IsEmptyHanded, IsFeeder, IsReady, hands, passes_out, plan_of, setting_of}
+use Rattle.sb_cascade.specs.Lives.{IsShared}
+use Rattle.sb_cascade.specs.Views as view
+use Rattle.sb_feed.specs.Feeds.{AreRowsSoFar, Fed, floor_in, nothing_fed}
+use Rattle.sb_hand.specs.Hands.{HandView, settings_at}
+use Rattle.sb_hand.specs.Showing.{settings_of}
+use Rattle.sb_run.specs.declared.sizes.Sizes.{Sizes}
+use Rattle.sb_run.specs.Rested.{feed_of}
+use Rattle.sb_worker.specs.Helping.{IsFirst, IsHelper}
+
+-- the feeder's pass, with nothing in hand, that was given this to feed, and has drained these rows: they are the plan's
+-- below some mark, whatever may still come
+pub record HasFed (c : Cascade) (p : CascadePass) (f : Fed) (rows : List Record) : Type 0 where
+  pub ready : IsReady c p
+  pub feeder : IsFeeder p
+  pub empty : IsEmptyHanded p
+  pub is_plan : IsPlan (plan_of c)
+  pub fed : view.feed_of (hands p).feed ≡ feed_of f
+  pub drained : (hands p).feed.drained ≡ rows
+  pub so_far : AreRowsSoFar (plan_of c) f rows
+  pub bound : (s : Stream) → floor_in f s ≤ END_MARK
+
+-- the pass has no turn, and as many others are out as before
+pub record IsStill (c : Cascade) (p q : CascadePass) : Type 0 where
+  pub ready : IsReady c q
+  pub out : passes_out q ≡ passes_out p
+
+-- the hand has the plan and the sizes that the cascade was made with, and so have its nodes
+pub record IsGivenBack (a : Setting) (h : HandView) : Type 0 where
+  pub plan : h.plan ≡ a.plan
+  pub bundle : h.bundle ≡ a.bundle
+  pub pending : h.pending ≡ a.pending
+  pub settings : settings_of h.nodes ≡ settings_at a.keeps a.pending a.plan
+
+-- workers begin to share a cascade of the plan: the feeder has fed nothing, and each helper has a pass
+pub record IsBegun (plan : Shape) (sizes : Sizes) (c : Cascade) (p : CascadePass) (helpers : List CascadePass)
+    : Type 0 where
+  pub setting : IsShared plan sizes.bundle sizes.pending sizes.keeps_diaries (setting_of c)
+  pub first : IsFirst c (length helpers) p
+  pub helpers_are : AllByRecursion (IsHelper c) helpers
+  pub begins : HasFed c p nothing_fed []

@@ -1,0 +1,188 @@
+//! A run by several workers.
+
+ghost use Rattle.std.specs.Prelude.{◌≡◌, ◌≤◌, ◌<◌, ◌^◌, [], true, map, length, IfOk, OnOk};
+ghost use Rattle.std.specs.List.{AllByRecursion};
+ghost use Rattle.std.specs.Thread.{IsSync};
+ghost use Rattle.sb_cascade.specs.Calls.{plan_of, setting_of};
+ghost use Rattle.sb_feed.specs.Feeds.{nothing_fed};
+ghost use Rattle.sb_feed.specs.GiveCauses.{GiveCause};
+ghost use Rattle.sb_feed.specs.InputFeeds.{Feeds};
+ghost use Rattle.sb_run.specs.Feeders.{HasFed, IsBegun, IsStill};
+ghost use Rattle.sb_run.specs.RunEnds.{AreSizes, Ends, OutputCause, SharedFeedCause, SharedInputCause};
+ghost use Rattle.sb_worker.specs.Helping.{IsFirst, IsHelper};
+
+use crate::ending::{early_end, end_of};
+use crate::run_end::RunEnd;
+use crate::shared::feeding::feed;
+use crate::shared::handing::{split_all, take_back};
+use crate::shared::helping::help_all;
+use crate::sizes::Sizes;
+use crate::working::flow;
+use sb_bundle::MAX_BUNDLE;
+use sb_cascade::{Cascade, CascadePass};
+use sb_emit::{RowOut, Tap};
+use sb_feed::GiveStop;
+use sb_hand::Hand;
+use sb_outside::Source;
+use sb_pipeline::Plan;
+use sb_record::{Dropped, NoMemory, Stop};
+use sb_work::Gate;
+use std::alloc::Global;
+use std::sync::Wait;
+use std::thread::{Threads, join_mut};
+
+// What workers share: the cascade, the feeder's pass, and those of the helpers.
+#[derive(Drop)]
+struct Begun {
+    cascade: Cascade,
+    pass: CascadePass,
+    helpers: Vec<CascadePass>,
+}
+
+// A cascade of the plan, for so many workers.
+fn begin(alloc: Global, plan: Plan, sizes: Sizes) -> Result<Begun, NoMemory>
+    requires sizes { AreSizes sizes }
+    ensures { IfOk result (λ b. IsBegun plan sizes b.cascade b.pass b.helpers.items) }
+{
+    let _ = plan.transforms();
+    let hand = Hand::new(
+        alloc,
+        plan,
+        sizes.bundle,
+        sizes.pending,
+        sizes.keeps_diaries,
+    )?;
+    let (cascade, mut pass) = Cascade::share(alloc, hand)?;
+    let helpers = split_all(alloc, &cascade, &mut pass, sizes.workers - 1)?;
+    Ok(Begun {
+        cascade,
+        pass,
+        helpers,
+    })
+}
+
+// The feeder feeds the input, and the helpers help, until all have ended. False with a helper that found no memory.
+fn work<W: Threads + Wait + Sync, S: Source, R: RowOut, G: Gate>(
+    rt: &W,
+    alloc: Global,
+    cascade: &Cascade,
+    pass: &mut CascadePass,
+    helpers: &mut Vec<CascadePass>,
+    size: u32,
+    input: &mut S,
+    out: &mut R,
+    taps: &mut Vec<Box<dyn Tap>>,
+    dropped: &mut Vec<Dropped>,
+    gate: &G,
+) -> (bool, Result<Stop, GiveStop>)
+    requires begins { HasFed cascade.now pass.old nothing_fed [] }
+    requires pass { IsFirst cascade.now (length helpers.old.items) pass.old }
+    requires helpers { AllByRecursion (IsHelper cascade.now) helpers.old.items }
+    requires size { (setting_of cascade.now).bundle ≡ size }
+    requires some { 1 ≤ size }
+    requires most { size ≤ MAX_BUNDLE }
+    requires few { length taps.old.items < 2 ^ 32 }
+    ensures back { result.0 ≡ true → AllByRecursion (IsHelper cascade.now) helpers.new.items
+        × (length helpers.new.items ≡ length helpers.old.items) }
+    ensures same { IsStill cascade.now pass.old pass.new }
+    ensures feeds { Feeds (plan_of cascade.now) size (S.left input.old) (S.left input.new)
+        (HasFed cascade.now pass.new) R.after R.part out.old out.new
+        (map (λ t. tap_state t) taps.old.items) (map (λ t. tap_state t) taps.new.items)
+        dropped.old.items dropped.new.items result.1 }
+    ensures fewer { OnOk result.1 (length taps.new.items ≤ length taps.old.items) }
+    ensures source { SharedFeedCause (S.faults input.old) (S.faults input.new) result.1 }
+    ensures cause { GiveCause (R.row_state out.old) (R.row_state out.new) result.1 }
+{
+    join_mut(
+        rt,
+        &mut || -> bool
+            requires helpers { AllByRecursion (IsHelper cascade.now) helpers.now.items }
+            requires row { IsSync W.row × IsSync G.row }
+            ensures { result ≡ true → AllByRecursion (IsHelper cascade.entry.now) helpers.exit.now.items
+                × (length helpers.exit.now.items ≡ length helpers.entry.now.items) }
+        { help_all(rt, alloc, cascade, gate, helpers) },
+        &mut || -> Result<Stop, GiveStop>
+            requires begins { HasFed cascade.now pass.now nothing_fed [] }
+            requires size { (setting_of cascade.now).bundle ≡ size }
+            requires some { 1 ≤ size }
+            requires most { size ≤ MAX_BUNDLE }
+            requires few { length taps.now.items < 2 ^ 32 }
+            ensures same { IsStill cascade.entry.now pass.entry.now pass.exit.now }
+            ensures feeds { Feeds (plan_of cascade.entry.now) size (S.left input.entry.now) (S.left input.exit.now)
+                (HasFed cascade.entry.now pass.exit.now) R.after R.part out.entry.now out.exit.now
+                (map (λ t. tap_state t) taps.entry.now.items) (map (λ t. tap_state t) taps.exit.now.items)
+                dropped.entry.now.items dropped.exit.now.items result }
+            ensures fewer { OnOk result (length taps.exit.now.items ≤ length taps.entry.now.items) }
+            ensures source { SharedFeedCause (S.faults input.entry.now) (S.faults input.exit.now) result }
+            ensures cause { GiveCause (R.row_state out.entry.now) (R.row_state out.exit.now) result }
+        {
+            feed(
+                rt, alloc, cascade, pass, gate, size, input, out, taps, dropped,
+            )
+        },
+    )
+}
+
+/// Runs a plan over an input with `sizes.workers` workers: the caller's thread feeds, and the others help, each in a
+/// thread of its own if one can be made.
+///
+/// What is written, offered and dropped is what one worker writes, offers and drops. Rows come out as watermarks come,
+/// or as a lane is full, and at the end. The gate is passed with each bundle in hand, outside of every turn. Whether the
+/// call returns is not said: workers wait for one another.
+pub fn execute<W: Threads + Wait + Sync, S: Source, R: RowOut, G: Gate>(
+    rt: &W,
+    alloc: Global,
+    plan: Plan,
+    sizes: Sizes,
+    input: &mut S,
+    out: &mut R,
+    taps: &mut Vec<Box<dyn Tap>>,
+    dropped: &mut Vec<Dropped>,
+    gate: &G,
+) -> RunEnd
+    requires sizes { AreSizes sizes }
+    requires few { length taps.old.items < 2 ^ 32 }
+    ensures ends { Ends plan sizes (S.left input.old) (S.left input.new) R.after R.part out.old out.new
+        (map (λ t. tap_state t) taps.old.items) (map (λ t. tap_state t) taps.new.items)
+        dropped.old.items dropped.new.items result }
+    ensures input { SharedInputCause (S.faults input.old) (S.faults input.new) result }
+    ensures output { OutputCause (R.row_state out.old) (R.row_state out.new) result }
+{
+    let begun = match begin(alloc, plan, sizes) {
+        Ok(begun) => begun,
+        Err(NoMemory) => return RunEnd::Memory,
+    };
+    let Begun {
+        cascade,
+        mut pass,
+        mut helpers,
+    } = begun;
+    let (clear, fed) = work(
+        rt,
+        alloc,
+        &cascade,
+        &mut pass,
+        &mut helpers,
+        sizes.bundle,
+        input,
+        out,
+        taps,
+        dropped,
+        gate,
+    );
+    if !clear {
+        return RunEnd::Memory;
+    }
+    let stop = match fed {
+        Ok(stop) => stop,
+        Err(why) => return early_end(why),
+    };
+    let mut hand = match take_back(rt, alloc, cascade, pass, helpers, gate) {
+        Ok(hand) => hand,
+        Err(NoMemory) => return RunEnd::Memory,
+    };
+    match flow(&mut hand, out, taps) {
+        Ok(()) => end_of(hand, Ok(stop)),
+        Err(why) => end_of(hand, Err(why)),
+    }
+}
