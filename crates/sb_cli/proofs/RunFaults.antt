@@ -1,5 +1,5 @@
 -- The faults that a run of the engine tells.
-use Rattle.std.proofs.Common.{◌≡◌, ℕ, ◌≤◌, Bool, true, false, List, Result, Ok, Err, refl, ◌∙◌, arith}
+use Rattle.std.proofs.Common.{◌≡◌, ℕ, ◌≤◌, Bool, true, false, List, Result, Ok, Err, refl, ◌∙◌, arith, inl}
 use Rattle.std.specs.Prelude.{OnOk}
 use Rattle.sb_outside.specs.Folders.{Load}
 use Rattle.sb_outside.specs.Sinks.{SinkCause, SinkState}
@@ -8,8 +8,9 @@ use Rattle.sb_outside.specs.declared.sink.SinkFault.{SinkFault}
 use Rattle.sb_outside.specs.declared.sink.SinkFault.TheVariants as fault
 use Rattle.sb_run.specs.declared.run_end.RunEnd.{RunEnd}
 use Rattle.sb_run.specs.declared.run_end.RunEnd.TheVariants as run
-use Rattle.sb_run.specs.RunEnds.{InputCause, IsWritten, OutputCause}
+use Rattle.sb_run.specs.RunEnds.{InputCause, IsWritten, OutputCause, SharedInputCause}
 use Rattle.sb_cli.specs.Faults.{HasCause, HidesNoFault, faults_of}
+use Rattle.sb_cli.specs.declared.status.Status.TheVariants.{Tap}
 use Rattle.sb_cli.specs.RunSteps.{status_after}
 use Rattle.sb_cli.specs.Answers.{IsRead}
 
@@ -35,7 +36,7 @@ run_read (run.Tap place) (Ok x) = tt
 run_read run.Memory (Ok x) = tt
 
 module _ (reads reads' : ℕ) (sink sink1 sink2 : SinkState) where
-  pub run_cause : (end : RunEnd) (passed : Result (Unit {0}) SinkFault) (loads : List Load) → InputCause reads reads' end → OutputCause sink sink1 end → SinkCause sink1 sink2 passed
+  pub run_cause : (end : RunEnd) (passed : Result (Unit {0}) SinkFault) (loads : List Load) → SharedInputCause reads reads' end → OutputCause sink sink1 end → SinkCause sink1 sink2 passed
       → HasCause (faults_of reads sink loads) (faults_of reads' sink2 loads) (status_after end passed)
   run_cause end (Err fault.Failed) loads input output cause = rose_later sink.faults sink1.faults sink2.faults output.never_falls (cause.failed refl)
   run_cause end (Err fault.Memory) loads input output cause = tt
@@ -53,7 +54,7 @@ module _ (reads reads' : ℕ) (sink sink1 sink2 : SinkState) where
   same_faults : (loads : List Load) → reads' ≡ reads → sink2.faults ≡ sink.faults → faults_of reads' sink2 loads ≡ faults_of reads sink loads
   same_faults loads r w = λ i. record { reads = r i; writes = w i; loads = loads }
 
-  pub run_hides_none : (end : RunEnd) (passed : Result (Unit {0}) SinkFault) (loads : List Load) → InputCause reads reads' end → OutputCause sink sink1 end → SinkCause sink1 sink2 passed
+  pub run_hides_none : (end : RunEnd) (passed : Result (Unit {0}) SinkFault) (loads : List Load) → SharedInputCause reads reads' end → OutputCause sink sink1 end → SinkCause sink1 sink2 passed
       → OnOk passed (IsWritten end → sink2.refuses ≡ false) → HidesNoFault (faults_of reads sink loads) (faults_of reads' sink2 loads) (status_after end passed)
   run_hides_none end (Err fault.Failed) loads input output cause told = refl
   run_hides_none end (Err fault.Memory) loads input output cause told = refl
@@ -61,5 +62,25 @@ module _ (reads reads' : ℕ) (sink sink1 sink2 : SinkState) where
   run_hides_none (run.Refused refusal) (Ok x) loads input output cause told = same_faults loads input (writes_same (run.Refused refusal) x output cause told tt)
   run_hides_none run.Input (Ok x) loads input output cause told = (writes_same run.Input x output cause told tt, refl)
   run_hides_none run.Output (Ok x) loads input output cause told = refl
-  run_hides_none (run.Tap place) (Ok x) loads input output cause told = same_faults loads input (writes_same (run.Tap place) x output cause told tt)
+  run_hides_none (run.Tap place) (Ok x) loads input output cause told = (writes_same (run.Tap place) x output cause told tt, refl)
   run_hides_none run.Memory (Ok x) loads input output cause told = refl
+
+-- of one worker the cause is the stronger one
+pub cause_alone : (before now : ℕ) (end : RunEnd) → InputCause before now end → SharedInputCause before now end
+cause_alone before now (run.Done hand) cause = cause
+cause_alone before now (run.Refused refusal) cause = cause
+cause_alone before now run.Input cause = cause
+cause_alone before now run.Output cause = inl cause
+cause_alone before now (run.Tap place) cause = inl cause
+cause_alone before now run.Memory cause = inl cause
+
+-- and before a tap fails no read has failed
+pub tap_alone : (before now place : ℕ) (end : RunEnd) (passed : Result (Unit {0}) SinkFault) → InputCause before now end → status_after end passed ≡ Tap place → now ≡ before
+tap_alone before now place end (Err fault.Failed) cause is = cc is
+tap_alone before now place end (Err fault.Memory) cause is = cc is
+tap_alone before now place (run.Done hand) (Ok x) cause is = cc is
+tap_alone before now place (run.Refused refusal) (Ok x) cause is = cc is
+tap_alone before now place run.Input (Ok x) cause is = cc is
+tap_alone before now place run.Output (Ok x) cause is = cc is
+tap_alone before now place (run.Tap at) (Ok x) cause is = cause
+tap_alone before now place run.Memory (Ok x) cause is = cc is

@@ -69,7 +69,8 @@ IsWanted folder ask.Audit load = ⊥
 abbrev pub BlamesFile : Option Files → Asked → List Load → List Load → Type 0
 BlamesFile folder wanted before now = (load : Load) × IsWanted folder wanted load × (now ≡ before ++ load ∷ [])
 
--- no fault is passed over: nothing failed but what the status tells. At Output a read may have failed before; out of memory, a read or a write
+-- no fault is passed over: nothing failed but what the status tells. At Output a read may have failed before, and so it
+-- may if a tap fails and several workers ran; out of memory, a read or a write
 abbrev pub HidesNoFault : Faults → Faults → Status → Type 0
 HidesNoFault before now Done = now ≡ before
 HidesNoFault before now Words = now ≡ before
@@ -79,7 +80,7 @@ HidesNoFault before now Input = (now.writes ≡ before.writes) × (now.loads ≡
 HidesNoFault before now Output = now.loads ≡ before.loads
 HidesNoFault before now Folder = (now.reads ≡ before.reads) × (now.writes ≡ before.writes)
 HidesNoFault before now Memory = now.loads ≡ before.loads
-HidesNoFault before now (Tap place) = now ≡ before
+HidesNoFault before now (Tap place) = (now.writes ≡ before.writes) × (now.loads ≡ before.loads)
 HidesNoFault before now (Audit fault) = now ≡ before
 
 -- the run was done, or there was no memory

@@ -24,6 +24,13 @@ options_in (Run name options) = options
 options_in (Slow name) = defaults
 options_in Audit = defaults
 
+-- a run of the engine by one worker
+abbrev pub HasOneWorker : Asked → Type 0
+HasOneWorker (Sum size options) = options.workers ≡ 1
+HasOneWorker (Run name options) = options.workers ≡ 1
+HasOneWorker (Slow name) = ⊥
+HasOneWorker Audit = ⊥
+
 -- the plan in a file, or its first fault, or that the file or one that it names is not there. One byte more than a plan may have shows that it is too long
 abbrev pub plan_in : Files → List ℕ → Result Shape (Failure PlanFault)
 plan_in files name = in_file (λ bytes. plan_of files (take (MAX_PLAN_BYTES + 1) bytes)) (files name)

@@ -24,6 +24,8 @@ use sb_plan::{MAX_PLAN_BYTES, PlanStop, plan_of};
 use sb_record::NoMemory;
 use sb_words::Options;
 use std::alloc::Global;
+use std::sync::Wait;
+use std::thread::Threads;
 
 /// The plan in a file.
 fn load_plan<F: Folder>(alloc: Global, name: &str, folder: &mut F) -> Result<Plan, PlanStop>
@@ -41,7 +43,8 @@ fn load_plan<F: Folder>(alloc: Global, name: &str, folder: &mut F) -> Result<Pla
 }
 
 /// Answers with the sums over windows of a size.
-pub(crate) fn answer_sum<S: Source, K: Sink>(
+pub(crate) fn answer_sum<W: Threads + Wait + Sync, S: Source, K: Sink>(
+    rt: &W,
     alloc: Global,
     size: u64,
     options: Options,
@@ -64,18 +67,21 @@ pub(crate) fn answer_sum<S: Source, K: Sink>(
         (faults_of (S.faults source.new) (K.sink_state out.new) loads) result.status }
     ensures blames_tap { (place : ℕ) → result.status ≡ Status.Tap place → BlamesTap place
         (map (λ t. tap_state t) taps.old.items) (map (λ t. tap_state t) taps.new.items) }
+    ensures read_no_more { (place : ℕ) → options.workers ≡ 1 → result.status ≡ Status.Tap place
+        → S.faults source.new ≡ S.faults source.old }
     ensures no_fault_hidden { (loads : List Load) → HidesNoFault
         (faults_of (S.faults source.old) (K.sink_state out.old) loads)
         (faults_of (S.faults source.new) (K.sink_state out.new) loads) result.status }
 {
     match sum_plan(alloc, size) {
-        Ok(plan) => answer_run(alloc, plan, options, source, out, taps),
+        Ok(plan) => answer_run(rt, alloc, plan, options, source, out, taps),
         Err(NoMemory) => Ending::of(alloc, Status::Memory),
     }
 }
 
 /// Answers with the rows of the plan in a file.
-pub(crate) fn answer_file<S: Source, K: Sink, F: Folder>(
+pub(crate) fn answer_file<W: Threads + Wait + Sync, S: Source, K: Sink, F: Folder>(
+    rt: &W,
     alloc: Global,
     name: &str,
     options: Options,
@@ -102,12 +108,14 @@ pub(crate) fn answer_file<S: Source, K: Sink, F: Folder>(
         → BlamesFile (F.files folder.old) (Run name.now options) (F.failed folder.old) (F.failed folder.new) }
     ensures blames_tap { (place : ℕ) → result.status ≡ Status.Tap place → BlamesTap place
         (map (λ t. tap_state t) taps.old.items) (map (λ t. tap_state t) taps.new.items) }
+    ensures read_no_more { (place : ℕ) → options.workers ≡ 1 → result.status ≡ Status.Tap place
+        → S.faults source.new ≡ S.faults source.old }
     ensures no_fault_hidden { HidesNoFault
         (faults_of (S.faults source.old) (K.sink_state out.old) (F.failed folder.old))
         (faults_of (S.faults source.new) (K.sink_state out.new) (F.failed folder.new)) result.status }
 {
     match load_plan(alloc, name, folder) {
-        Ok(plan) => answer_run(alloc, plan, options, source, out, taps),
+        Ok(plan) => answer_run(rt, alloc, plan, options, source, out, taps),
         Err(PlanStop::Fault(fault)) => Ending::of(alloc, Status::Plan(fault)),
         Err(PlanStop::Folder) => Ending::of(alloc, Status::Folder),
         Err(PlanStop::Memory) => Ending::of(alloc, Status::Memory),

@@ -60,7 +60,7 @@ const CASES: [Case; 13] = [
 fn an_audit_says_what_a_text_says(rt: HostRuntime) -> Result<(), Fail> {
     for size in [1, 7, 8192usize] {
         for (text, said, code, note) in CASES {
-            let ran = run_in_pieces(rt.alloc(), &["audit"], text, size)?;
+            let ran = run_in_pieces(&rt, &["audit"], text, size)?;
             assert_eq!(rt; ran.rows.as_slice(), said.as_bytes(), "{said:?} {note:?}");
             assert_eq!(rt; ran.status.code(), code, "{said:?} {note:?}");
             assert_eq!(rt; ran.notes.as_slice(), note.as_bytes(), "{said:?} {note:?}");
@@ -76,7 +76,7 @@ fn an_audit_whose_read_fails_says_nothing(rt: HostRuntime) -> Result<(), Fail> {
         let bytes = Vec::from_slice(alloc, SETTLED)?;
         let mut input = MemSource::new(bytes, vec![in alloc; given]?, vec![in alloc; 2]?);
         let mut out = MemSink::new(alloc, Vec::new(alloc), Vec::new(alloc));
-        let ran = run(alloc, &["audit"], &mut input, &mut out)?;
+        let ran = run(&rt, &["audit"], &mut input, &mut out)?;
         assert_eq!(rt; ran.status, Status::Input, "{given} bytes");
         assert_eq!(rt; ran.rows.len(), 0, "{given} bytes");
         assert_eq!(rt;
@@ -94,7 +94,7 @@ fn an_audit_whose_write_fails_writes_a_prefix(rt: HostRuntime) -> Result<(), Fai
     let bytes = Vec::from_slice(alloc, SETTLED)?;
     let mut input = MemSource::new(bytes, Vec::new(alloc), Vec::new(alloc));
     let mut out = MemSink::new(alloc, vec![in alloc; 10]?, vec![in alloc; 2]?);
-    let ran = run(alloc, &["audit"], &mut input, &mut out)?;
+    let ran = run(&rt, &["audit"], &mut input, &mut out)?;
     assert_eq!(rt; ran.status, Status::Output);
     assert_eq!(rt; ran.rows.as_slice(), b"transforms".as_slice());
     assert_eq!(rt; ran.notes.as_slice(), b"output failed\n".as_slice());

@@ -10,7 +10,7 @@ ghost use Rattle.sb_cli.specs.Faults.{BlamesFile, HasCause, HidesNoFault, IsDone
 ghost use Rattle.sb_cli.specs.Faults.{faults_of};
 ghost use Rattle.sb_cli.specs.Notes.{HasNoted};
 ghost use Rattle.sb_cli.specs.Offered.{BlamesTap, IsNoTap, IsOffered};
-ghost use Rattle.sb_cli.specs.Pipelines.{TellsPlan, options_in};
+ghost use Rattle.sb_cli.specs.Pipelines.{HasOneWorker, TellsPlan, options_in};
 ghost use Rattle.sb_cli.specs.Statuses.{note_text, notes_text};
 ghost use Rattle.sb_words.specs.declared.options.Options.{Options};
 ghost use Rattle.sb_words.specs.Texts.{texts};
@@ -28,6 +28,8 @@ use sb_outside::{Folder, Sink, SinkFault, Source, write_all_of};
 use sb_record::NoMemory;
 use sb_words::{Request, read_words};
 use std::alloc::Global;
+use std::sync::Wait;
+use std::thread::Threads;
 
 /// Does what the words of a command line ask for: reads a plan and its tables from `folder` and records and watermarks
 /// from `input`, and writes rows to `out`, and to `notes` a line for each late record that the plan drops, the diaries
@@ -37,9 +39,12 @@ use std::alloc::Global;
 /// What is said of bytes holds of sources and sinks whose bytes are known, and what is said of files of a folder whose
 /// files are known. The words come first, then the plan, then the input: if the words are no command, or the plan is
 /// refused or can't be loaded, the input is not read and no row is written. A run that ends as `Done` has read its input
-/// to the end, and `out` has taken exactly the rows of the pipeline over all accepted records, and has passed them on.
-/// What becomes of the notes does not change the status.
-pub fn streambox<S: Source, K: Sink, N: Sink, F: Folder>(
+/// to the end, and `out` has taken exactly the rows of the pipeline over all accepted records, and has passed them on,
+/// whatever `--workers`, `--bundle` and `--pending` say. What becomes of the notes does not change the status.
+///
+/// With one worker it waits for nobody and starts no thread. With more, whether it returns is not said.
+pub fn streambox<W: Threads + Wait + Sync, S: Source, K: Sink, N: Sink, F: Folder>(
+    rt: &W,
     alloc: Global,
     words: &[String],
     input: &mut S,
@@ -93,6 +98,10 @@ pub fn streambox<S: Source, K: Sink, N: Sink, F: Folder>(
     ensures blames_tap { (place : ℕ) → result ≡ Status.Tap place → BlamesTap place
         (map (λ t. tap_state t) taps.old.items) (map (λ t. tap_state t) taps.new.items) }
 
+    // With one worker no read has failed before a tap fails.
+    ensures read_no_more { (wanted : Asked) (place : ℕ) → IsCommand wanted (texts words.now) → HasOneWorker wanted
+        → result ≡ Status.Tap place → S.faults input.new ≡ S.faults input.old }
+
     // None is passed over, and a run in which nothing fails is done.
     ensures no_fault_hidden { HidesNoFault
         (faults_of (S.faults input.old) (K.sink_state out.old) (F.failed folder.old))
@@ -110,13 +119,14 @@ pub fn streambox<S: Source, K: Sink, N: Sink, F: Folder>(
         (faults_of (S.faults input.new) (K.sink_state out.new) (F.failed folder.new))
         → IsDoneOrMemory result }
 {
-    let ending = respond(alloc, words, input, out, folder, taps);
+    let ending = respond(rt, alloc, words, input, out, folder, taps);
     tell(notes, &ending);
     ending.status
 }
 
 /// Does what the words ask for.
-fn respond<S: Source, K: Sink, F: Folder>(
+fn respond<W: Threads + Wait + Sync, S: Source, K: Sink, F: Folder>(
+    rt: &W,
     alloc: Global,
     words: &[String],
     input: &mut S,
@@ -150,15 +160,19 @@ fn respond<S: Source, K: Sink, F: Folder>(
         → BlamesFile (F.files folder.old) wanted (F.failed folder.old) (F.failed folder.new) }
     ensures blames_tap { (place : ℕ) → result.status ≡ Status.Tap place → BlamesTap place
         (map (λ t. tap_state t) taps.old.items) (map (λ t. tap_state t) taps.new.items) }
+    ensures read_no_more { (wanted : Asked) (place : ℕ) → IsCommand wanted (texts words.now) → HasOneWorker wanted
+        → result.status ≡ Status.Tap place → S.faults input.new ≡ S.faults input.old }
     ensures no_fault_hidden { HidesNoFault
         (faults_of (S.faults input.old) (K.sink_state out.old) (F.failed folder.old))
         (faults_of (S.faults input.new) (K.sink_state out.new) (F.failed folder.new)) result.status }
 {
     match read_words(alloc, words) {
-        Ok(Some(Request::Sum(size, options))) => answer_sum(alloc, size, options, input, out, taps),
+        Ok(Some(Request::Sum(size, options))) => answer_sum(
+            rt, alloc, size, options, input, out, taps,
+        ),
         Ok(Some(Request::Audit)) => answer_audit(alloc, input, out),
         Ok(Some(Request::Run(name, options))) => {
-            answer_file(alloc, name, options, input, out, folder, taps)
+            answer_file(rt, alloc, name, options, input, out, folder, taps)
         }
         Ok(Some(Request::Slow(name))) => answer_slow(alloc, name, input, out, folder),
         Ok(None) => Ending::of(alloc, Status::Words),

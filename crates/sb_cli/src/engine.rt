@@ -19,12 +19,16 @@ use sb_emit::Tap;
 use sb_outside::{Sink, SinkFault, Source};
 use sb_pipeline::Plan;
 use sb_record::{Dropped, Sequence};
-use sb_run::{RunEnd, Sizes, execute_alone};
+use sb_run::{RunEnd, Sizes, execute, execute_alone};
 use sb_words::Options;
+use sb_work::OpenGate;
 use std::alloc::Global;
+use std::sync::Wait;
+use std::thread::Threads;
 
 /// Answers with the rows of a plan, and offers each to the taps if the options say so.
-pub(crate) fn answer_run<S: Source, K: Sink>(
+pub(crate) fn answer_run<W: Threads + Wait + Sync, S: Source, K: Sink>(
+    rt: &W,
     alloc: Global,
     plan: Plan,
     options: Options,
@@ -46,20 +50,23 @@ pub(crate) fn answer_run<S: Source, K: Sink>(
         (faults_of (S.faults source.new) (K.sink_state out.new) loads) result.status }
     ensures blames_tap { (place : ℕ) → result.status ≡ Status.Tap place → BlamesTap place
         (map (λ t. tap_state t) taps.old.items) (map (λ t. tap_state t) taps.new.items) }
+    ensures read_no_more { (place : ℕ) → options.workers ≡ 1 → result.status ≡ Status.Tap place
+        → S.faults source.new ≡ S.faults source.old }
     ensures no_fault_hidden { (loads : List Load) → HidesNoFault
         (faults_of (S.faults source.old) (K.sink_state out.old) loads)
         (faults_of (S.faults source.new) (K.sink_state out.new) loads) result.status }
 {
     if options.taps {
-        answer_past(alloc, plan, options, source, out, taps)
+        answer_past(rt, alloc, plan, options, source, out, taps)
     } else {
         let mut none = Vec::new(alloc);
-        answer_past(alloc, plan, options, source, out, &mut none)
+        answer_past(rt, alloc, plan, options, source, out, &mut none)
     }
 }
 
 /// Answers with the rows of a plan, past the taps.
-fn answer_past<S: Source, K: Sink>(
+fn answer_past<W: Threads + Wait + Sync, S: Source, K: Sink>(
+    rt: &W,
     alloc: Global,
     plan: Plan,
     options: Options,
@@ -79,12 +86,15 @@ fn answer_past<S: Source, K: Sink>(
         (faults_of (S.faults source.new) (K.sink_state out.new) loads) result.status }
     ensures blames_tap { (place : ℕ) → result.status ≡ Status.Tap place → BlamesTap place
         (map (λ t. tap_state t) taps.old.items) (map (λ t. tap_state t) taps.new.items) }
+    ensures read_no_more { (place : ℕ) → options.workers ≡ 1 → result.status ≡ Status.Tap place
+        → S.faults source.new ≡ S.faults source.old }
     ensures no_fault_hidden { (loads : List Load) → HidesNoFault
         (faults_of (S.faults source.old) (K.sink_state out.old) loads)
         (faults_of (S.faults source.new) (K.sink_state out.new) loads) result.status }
 {
     let mut dropped = Vec::new(alloc);
     let end = run_to(
+        rt,
         alloc,
         plan,
         sizes_of(&options),
@@ -113,8 +123,8 @@ fn sizes_of(options: &Options) -> Sizes
     }
 }
 
-/// Runs a plan over an input, and writes its rows to a sink.
-fn run_to<S: Source, K: Sink>(
+/// Runs a plan over an input by one worker, and writes its rows to a sink.
+fn run_alone<S: Source, K: Sink>(
     alloc: Global,
     plan: Plan,
     sizes: Sizes,
@@ -135,6 +145,62 @@ fn run_to<S: Source, K: Sink>(
 {
     let mut lent = Lent { sink: &mut *out };
     execute_alone(alloc, plan, sizes, source, &mut lent, taps, dropped)
+}
+
+/// Runs a plan over an input by several workers, and writes its rows to a sink.
+fn run_shared<W: Threads + Wait + Sync, S: Source, K: Sink>(
+    rt: &W,
+    alloc: Global,
+    plan: Plan,
+    sizes: Sizes,
+    source: &mut S,
+    out: &mut K,
+    taps: &mut Vec<Box<dyn Tap>>,
+    dropped: &mut Vec<Dropped>,
+) -> RunEnd
+    requires sizes { run.AreSizes sizes }
+    requires few { length taps.old.items < 2 ^ 32 }
+    ensures ends { run.Ends plan sizes (S.left source.old) (S.left source.new)
+        (λ taken rows taken'. Wrote taken taken' rows) (λ taken rows taken'. WrotePrefix taken taken' rows)
+        (K.taken out.old) (K.taken out.new)
+        (map (λ t. tap_state t) taps.old.items) (map (λ t. tap_state t) taps.new.items)
+        dropped.old.items dropped.new.items result }
+    ensures input { run.SharedInputCause (S.faults source.old) (S.faults source.new) result }
+    ensures output { run.OutputCause (K.sink_state out.old) (K.sink_state out.new) result }
+{
+    let mut lent = Lent { sink: &mut *out };
+    execute(
+        rt, alloc, plan, sizes, source, &mut lent, taps, dropped, &OpenGate,
+    )
+}
+
+/// Runs a plan over an input, and writes its rows to a sink.
+fn run_to<W: Threads + Wait + Sync, S: Source, K: Sink>(
+    rt: &W,
+    alloc: Global,
+    plan: Plan,
+    sizes: Sizes,
+    source: &mut S,
+    out: &mut K,
+    taps: &mut Vec<Box<dyn Tap>>,
+    dropped: &mut Vec<Dropped>,
+) -> RunEnd
+    requires sizes { run.AreSizes sizes }
+    requires few { length taps.old.items < 2 ^ 32 }
+    ensures ends { run.Ends plan sizes (S.left source.old) (S.left source.new)
+        (λ taken rows taken'. Wrote taken taken' rows) (λ taken rows taken'. WrotePrefix taken taken' rows)
+        (K.taken out.old) (K.taken out.new)
+        (map (λ t. tap_state t) taps.old.items) (map (λ t. tap_state t) taps.new.items)
+        dropped.old.items dropped.new.items result }
+    ensures input { run.SharedInputCause (S.faults source.old) (S.faults source.new) result }
+    ensures alone { sizes.workers ≡ 1 → run.InputCause (S.faults source.old) (S.faults source.new) result }
+    ensures output { run.OutputCause (K.sink_state out.old) (K.sink_state out.new) result }
+{
+    if sizes.workers == 1 {
+        run_alone(alloc, plan, sizes, source, out, taps, dropped)
+    } else {
+        run_shared(rt, alloc, plan, sizes, source, out, taps, dropped)
+    }
 }
 
 /// Has the sink pass on all rows, unless writing failed or there was no memory.

@@ -10,7 +10,9 @@ use std::alloc::{AllocError, Global};
 use std::collections::BTreeMap;
 use std::fs;
 use std::process::Abort;
+use std::sync::Wait;
 use std::test::Fail;
+use std::thread::Threads;
 
 /// Taps in a list.
 type Taps = Vec<Box<dyn Tap>>;
@@ -20,7 +22,7 @@ const FIRST_ROWS: &str = "10,1,7\n20,1,4\n";
 
 /// A run over a source and a sink that may fail, past taps.
 fn code_of(
-    alloc: Global,
+    rt: &(impl AllocGlobal + Threads + Wait + Sync),
     words: &[&str],
     input: &mut MemSource,
     out: &mut MemSink,
@@ -29,9 +31,10 @@ fn code_of(
 ) -> Result<u8, AllocError>
     requires { length taps.old.items < 2 ^ 32 }
 {
+    let alloc = rt.alloc();
     let words = strings_of(alloc, words)?;
     let mut folder = MemFolder::new(alloc, BTreeMap::new(alloc), Vec::new(alloc));
-    let status = streambox(alloc, &words, input, out, notes, &mut folder, taps);
+    let status = streambox(rt, alloc, &words, input, out, notes, &mut folder, taps);
     Ok(status.code())
 }
 
@@ -108,7 +111,7 @@ fn options_in_any_order(rt: HostRuntime) -> Result<(), Fail> {
         let mut out = sink_of(alloc, &[])?;
         let mut notes = sink_of(alloc, &[])?;
         let mut taps = Vec::new(alloc);
-        let ended = code_of(alloc, words, &mut input, &mut out, &mut notes, &mut taps)?;
+        let ended = code_of(&rt, words, &mut input, &mut out, &mut notes, &mut taps)?;
         assert_eq!(rt; ended, code, "{words:?}");
         assert_eq!(rt; out.taken(), rows.as_bytes(), "{words:?}");
         assert_eq!(rt; notes.taken(), told.as_bytes(), "{words:?}");
@@ -258,14 +261,17 @@ fn failing_sink(alloc: Global, case: &FaultCase) -> Result<MemSink, AllocError> 
     Ok(MemSink::new(alloc, pieces, failing))
 }
 
-fn check_fault(rt: &(impl AllocGlobal + Abort), case: &FaultCase) -> Result<(), Fail> {
+fn check_fault(
+    rt: &(impl AllocGlobal + Abort + Threads + Wait + Sync),
+    case: &FaultCase,
+) -> Result<(), Fail> {
     let alloc = rt.alloc();
     let mut input = failing_source(alloc, case)?;
     let mut out = failing_sink(alloc, case)?;
     let mut notes = sink_of(alloc, case.untold)?;
     let mut taps = Vec::new(alloc);
     let words = ["sum", "10"];
-    let ended = code_of(alloc, &words, &mut input, &mut out, &mut notes, &mut taps)?;
+    let ended = code_of(rt, &words, &mut input, &mut out, &mut notes, &mut taps)?;
     assert_eq!(rt; ended, case.code);
     assert_eq!(rt; out.taken(), case.rows.as_bytes());
     assert_eq!(rt; notes.taken(), case.told.as_bytes());
@@ -294,7 +300,7 @@ fn a_tap_that_has_enough_goes(rt: HostRuntime) -> Result<(), Fail> {
     let mut out = sink_of(alloc, &[])?;
     let mut notes = sink_of(alloc, &[])?;
     let words = ["sum", "10", "--taps"];
-    let ended = code_of(alloc, &words, &mut input, &mut out, &mut notes, &mut taps)?;
+    let ended = code_of(&rt, &words, &mut input, &mut out, &mut notes, &mut taps)?;
     assert_eq!(rt; ended, 0);
     assert_eq!(rt; out.taken(), FIRST_ROWS.as_bytes());
     assert_eq!(rt; taps.len(), 0);
@@ -349,7 +355,10 @@ const TAPPED: [TapCase; 4] = [
     },
 ];
 
-fn check_tap(rt: &(impl AllocGlobal + Abort), case: &TapCase) -> Result<(), Fail> {
+fn check_tap(
+    rt: &(impl AllocGlobal + Abort + Threads + Wait + Sync),
+    case: &TapCase,
+) -> Result<(), Fail> {
     let alloc = rt.alloc();
     let mut taps: Taps = Vec::new(alloc);
     let failing = Vec::from_slice(alloc, case.failing)?;
@@ -357,9 +366,7 @@ fn check_tap(rt: &(impl AllocGlobal + Abort), case: &TapCase) -> Result<(), Fail
     let mut input = source_of(alloc, FIRST)?;
     let mut out = sink_of(alloc, &[])?;
     let mut notes = sink_of(alloc, &[])?;
-    let ended = code_of(
-        alloc, case.words, &mut input, &mut out, &mut notes, &mut taps,
-    )?;
+    let ended = code_of(rt, case.words, &mut input, &mut out, &mut notes, &mut taps)?;
     assert_eq!(rt; ended, case.code);
     assert_eq!(rt; out.taken(), case.rows.as_bytes());
     assert_eq!(rt; notes.taken(), case.told.as_bytes());

@@ -4,7 +4,9 @@ use crate::{Status, streambox};
 use sb_outside::{MemFolder, MemSink, MemSource};
 use std::alloc::{AllocError, Global};
 use std::collections::BTreeMap;
+use std::sync::Wait;
 use std::test::Fail;
+use std::thread::Threads;
 
 /// What a run gave: its status, the rows, the notes, and how much of the input was read.
 #[derive(Drop)]
@@ -35,12 +37,13 @@ pub(crate) fn folder_of(
 
 /// A run of a command and the name of its plan over a text.
 pub(crate) fn run(
-    alloc: Global,
+    rt: &(impl AllocGlobal + Threads + Wait + Sync),
     command: &str,
     name: &str,
     folder: &mut MemFolder,
     text: &[u8],
 ) -> Result<Ran, AllocError> {
+    let alloc = rt.alloc();
     let mut words = Vec::new(alloc);
     words.push(String::from_str(alloc, command)?)?;
     words.push(String::from_str(alloc, name)?)?;
@@ -53,7 +56,7 @@ pub(crate) fn run(
     let mut notes = MemSink::new(alloc, Vec::new(alloc), Vec::new(alloc));
     let mut taps = Vec::new(alloc);
     let status = streambox(
-        alloc, &words, &mut input, &mut out, &mut notes, folder, &mut taps,
+        rt, alloc, &words, &mut input, &mut out, &mut notes, folder, &mut taps,
     );
     Ok(Ran {
         status,
@@ -64,7 +67,7 @@ pub(crate) fn run(
 
 /// Runs a plan, with a table in its folder, over a text by both commands, and compares rows, status and notes.
 pub(crate) fn check_plan(
-    rt: &(impl AllocGlobal + std::process::Abort),
+    rt: &(impl AllocGlobal + std::process::Abort + Threads + Wait + Sync),
     plan: &str,
     table: &str,
     lines: &str,
@@ -75,7 +78,7 @@ pub(crate) fn check_plan(
     let alloc = rt.alloc();
     for command in ["run", "slow"] {
         let mut folder = folder_of(alloc, plan.as_bytes(), table.as_bytes(), &[])?;
-        let ran = run(alloc, command, "p.toml", &mut folder, lines.as_bytes())?;
+        let ran = run(rt, command, "p.toml", &mut folder, lines.as_bytes())?;
         assert_eq!(rt;
             ran.notes.as_slice(),
             notes.as_bytes(),
@@ -272,7 +275,7 @@ fn refused_plans_are_named_before_the_input_is_read(rt: HostRuntime) -> Result<(
     for (plan, table, note) in &REFUSED {
         for command in ["run", "slow"] {
             let mut folder = folder_of(alloc, plan.as_bytes(), table.as_bytes(), &[])?;
-            let ran = run(alloc, command, "p.toml", &mut folder, b"x\n")?;
+            let ran = run(&rt, command, "p.toml", &mut folder, b"x\n")?;
             assert_eq!(rt; ran.notes.as_slice(), note.as_bytes(), "{plan}");
             assert_eq!(rt; ran.status.code(), 2, "{plan}");
             assert_eq!(rt; ran.rows.len(), 0, "{plan}");
@@ -296,7 +299,7 @@ fn files_that_are_not_loaded(rt: HostRuntime) -> Result<(), Fail> {
     ];
     for (plan, name, failing) in cases {
         let mut folder = folder_of(alloc, plan.as_bytes(), ADS.as_bytes(), &[failing])?;
-        let ran = run(alloc, "run", name, &mut folder, VIEW_LINES.as_bytes())?;
+        let ran = run(&rt, "run", name, &mut folder, VIEW_LINES.as_bytes())?;
         assert_eq!(rt;
             ran.status,
             Status::Folder,
@@ -318,7 +321,7 @@ fn long_files_are_refused(rt: HostRuntime) -> Result<(), Fail> {
         let mut plan = Vec::from_slice(alloc, SLIDING.as_bytes())?;
         plan.resize(length, b'\n')?;
         let mut folder = folder_of(alloc, &plan, b"", &[])?;
-        let ran = run(alloc, "run", "p.toml", &mut folder, b"")?;
+        let ran = run(&rt, "run", "p.toml", &mut folder, b"")?;
         assert_eq!(rt; ran.notes.as_slice(), note.as_bytes(), "{length} bytes");
     }
     // The same of a table of 4,194,304 bytes.
@@ -329,7 +332,7 @@ fn long_files_are_refused(rt: HostRuntime) -> Result<(), Fail> {
         let mut table = Vec::from_slice(alloc, ADS.as_bytes())?;
         table.resize(length, b'\n')?;
         let mut folder = folder_of(alloc, VIEWS.as_bytes(), &table, &[])?;
-        let ran = run(alloc, "run", "p.toml", &mut folder, b"")?;
+        let ran = run(&rt, "run", "p.toml", &mut folder, b"")?;
         assert_eq!(rt; ran.notes.as_slice(), note.as_bytes(), "{length} bytes");
     }
     Ok(())

@@ -5,7 +5,9 @@ use crate::streambox;
 use sb_outside::{MemFolder, MemSink, MemSource};
 use std::alloc::Global;
 use std::collections::BTreeMap;
+use std::sync::Wait;
 use std::test::Fail;
+use std::thread::Threads;
 
 /// A sum over windows of 10.
 const SUM: &str = "[[transform]]\nname = \"s\"\nkind = \"sum\"\nfrom = \"a\"\nsize = 10\n";
@@ -250,7 +252,10 @@ const REFUSED: [(&str, &str); 8] = [
     ),
 ];
 
-fn check_cases(rt: &(impl AllocGlobal + std::process::Abort), cases: &[Case]) -> Result<(), Fail> {
+fn check_cases(
+    rt: &(impl AllocGlobal + std::process::Abort + Threads + Wait + Sync),
+    cases: &[Case],
+) -> Result<(), Fail> {
     let alloc = rt.alloc();
     for (settings, transforms, lines, rows, code, notes) in cases {
         let plan = format!(in alloc; "{settings}{transforms}")?;
@@ -303,6 +308,7 @@ fn what_was_dropped_is_told_before_a_failed_read(rt: HostRuntime) -> Result<(), 
     let mut notes = MemSink::new(alloc, Vec::new(alloc), Vec::new(alloc));
     let mut taps = Vec::new(alloc);
     let status = streambox(
+        &rt,
         alloc,
         &words,
         &mut input,

@@ -7,7 +7,9 @@ use sb_outside::{MemFolder, MemSink, MemSource};
 use sb_record::Refusal;
 use std::alloc::{AllocError, Global};
 use std::collections::BTreeMap;
+use std::sync::Wait;
 use std::test::Fail;
+use std::thread::Threads;
 
 /// What a run gave: its status, the rows and the notes.
 #[derive(Drop)]
@@ -34,16 +36,18 @@ pub(crate) fn strings_of(alloc: Global, words: &[&str]) -> Result<Vec<String>, A
 }
 
 pub(crate) fn run(
-    alloc: Global,
+    rt: &(impl AllocGlobal + Threads + Wait + Sync),
     words: &[&str],
     input: &mut MemSource,
     out: &mut MemSink,
 ) -> Result<Ran, AllocError> {
+    let alloc = rt.alloc();
     let words = strings_of(alloc, words)?;
     let mut notes = MemSink::new(alloc, Vec::new(alloc), Vec::new(alloc));
     let mut folder = MemFolder::new(alloc, BTreeMap::new(alloc), Vec::new(alloc));
     let mut taps = Vec::new(alloc);
     let status = streambox(
+        rt,
         alloc,
         &words,
         input,
@@ -61,17 +65,18 @@ pub(crate) fn run(
 
 /// A run over a text that comes in pieces of one size.
 pub(crate) fn run_in_pieces(
-    alloc: Global,
+    rt: &(impl AllocGlobal + Threads + Wait + Sync),
     words: &[&str],
     text: &[u8],
     size: usize,
 ) -> Result<Ran, AllocError>
     requires { 1 ≤ size }
 {
+    let alloc = rt.alloc();
     let bytes = Vec::from_slice(alloc, text)?;
     let mut input = MemSource::new(bytes, pieces_of(alloc, size)?, Vec::new(alloc));
     let mut out = MemSink::new(alloc, Vec::new(alloc), Vec::new(alloc));
-    run(alloc, words, &mut input, &mut out)
+    run(rt, words, &mut input, &mut out)
 }
 
 /// Lines of an input, the rows of sums over windows of 10, the status and the note.
@@ -173,10 +178,13 @@ const REFUSED: [Case; 18] = [
     ),
 ];
 
-fn check_cases(rt: &(impl AllocGlobal + std::process::Abort), cases: &[Case]) -> Result<(), Fail> {
+fn check_cases(
+    rt: &(impl AllocGlobal + std::process::Abort + Threads + Wait + Sync),
+    cases: &[Case],
+) -> Result<(), Fail> {
     for (text, rows, code, note) in cases {
         for size in 1..8usize {
-            let ran = run_in_pieces(rt.alloc(), &["sum", "10"], text, size)?;
+            let ran = run_in_pieces(rt, &["sum", "10"], text, size)?;
             assert_eq!(rt; ran.status.code(), *code, "{text:?} in pieces of {size}");
             assert_eq!(rt;
                 ran.rows.as_slice(),
@@ -211,7 +219,7 @@ fn a_line_has_at_most_128_bytes(rt: HostRuntime) -> Result<(), Fail> {
             let mut text = vec![in alloc; b'#'; 1]?;
             text.extend_from_slice(&vec![in alloc; 255u8; more]?)?;
             text.extend_from_slice(b"\nr,a,3,1,5\n")?;
-            let ran = run_in_pieces(alloc, &["sum", "10"], &text, size)?;
+            let ran = run_in_pieces(&rt, &["sum", "10"], &text, size)?;
             assert_eq!(rt;
                 ran.rows.as_slice(),
                 rows.as_bytes(),
@@ -224,7 +232,7 @@ fn a_line_has_at_most_128_bytes(rt: HostRuntime) -> Result<(), Fail> {
             );
         }
         let zeros = vec![in alloc; 0u8; 4096]?;
-        let ran = run_in_pieces(alloc, &["sum", "10"], &zeros, size)?;
+        let ran = run_in_pieces(&rt, &["sum", "10"], &zeros, size)?;
         assert_eq!(rt;
             ran.status,
             Status::Line(Refusal::TooLong { line: 1 }),
@@ -256,7 +264,7 @@ fn words_outside_the_grammar_are_not_understood(rt: HostRuntime) -> Result<(), F
         &["Audit"],
     ];
     for words in faulty {
-        let ran = run_in_pieces(rt.alloc(), words, FIRST, 7)?;
+        let ran = run_in_pieces(&rt, words, FIRST, 7)?;
         assert_eq!(rt; ran.status, Status::Words, "{words:?}");
         assert_eq!(rt; ran.rows.len(), 0, "{words:?}");
         assert_eq!(rt;
@@ -265,7 +273,7 @@ fn words_outside_the_grammar_are_not_understood(rt: HostRuntime) -> Result<(), F
             "{words:?}"
         );
     }
-    let ran = run_in_pieces(rt.alloc(), &["sum", "1000000000000"], FIRST, 7)?;
+    let ran = run_in_pieces(&rt, &["sum", "1000000000000"], FIRST, 7)?;
     assert_eq!(rt; ran.rows.as_slice(), b"1000000000000,1,11\n".as_slice());
     Ok(())
 }
@@ -277,7 +285,7 @@ fn a_failed_read_leaves_the_rows_below_the_low_watermark(rt: HostRuntime) -> Res
         let bytes = Vec::from_slice(alloc, FIRST)?;
         let mut input = MemSource::new(bytes, vec![in alloc; given]?, vec![in alloc; 2]?);
         let mut out = MemSink::new(alloc, Vec::new(alloc), Vec::new(alloc));
-        let ran = run(alloc, &["sum", "10"], &mut input, &mut out)?;
+        let ran = run(&rt, &["sum", "10"], &mut input, &mut out)?;
         assert_eq!(rt; ran.status, Status::Input, "{given} bytes");
         assert_eq!(rt; ran.rows.as_slice(), rows.as_bytes(), "{given} bytes");
         assert_eq!(rt;
@@ -296,7 +304,7 @@ fn a_failed_write_leaves_a_prefix_of_the_rows(rt: HostRuntime) -> Result<(), Fai
     let bytes = Vec::from_slice(alloc, FIRST)?;
     let mut input = MemSource::new(bytes, Vec::new(alloc), Vec::new(alloc));
     let mut out = MemSink::new(alloc, vec![in alloc; 4]?, vec![in alloc; 2]?);
-    let ran = run(alloc, &["sum", "10"], &mut input, &mut out)?;
+    let ran = run(&rt, &["sum", "10"], &mut input, &mut out)?;
     assert_eq!(rt; ran.status, Status::Output);
     assert_eq!(rt; ran.rows.as_slice(), b"10,1".as_slice());
     assert_eq!(rt; ran.notes.as_slice(), b"output failed\n".as_slice());
@@ -336,7 +344,7 @@ fn a_fault_at_the_end_is_a_fault_of_output(rt: HostRuntime) -> Result<(), Fail> 
         let bytes = Vec::from_slice(alloc, text)?;
         let mut input = MemSource::new(bytes, Vec::new(alloc), Vec::new(alloc));
         let mut out = MemSink::new(alloc, Vec::new(alloc), Vec::from_slice(alloc, failing)?);
-        let ran = run(alloc, &["sum", "10"], &mut input, &mut out)?;
+        let ran = run(&rt, &["sum", "10"], &mut input, &mut out)?;
         assert_eq!(rt; ran.status, status, "{failing:?}");
         assert_eq!(rt; ran.rows.as_slice(), rows.as_bytes(), "{failing:?}");
     }
@@ -354,6 +362,7 @@ fn notes_that_fail_change_no_status(rt: HostRuntime) -> Result<(), Fail> {
     let mut folder = MemFolder::new(alloc, BTreeMap::new(alloc), Vec::new(alloc));
     let mut taps = Vec::new(alloc);
     let status = streambox(
+        &rt,
         alloc,
         &words,
         &mut input,
@@ -376,7 +385,7 @@ fn more_rows_than_one_write_holds(rt: HostRuntime) -> Result<(), Fail> {
         text.extend_from_slice(format!(in alloc; "r,a,5,{key},-7\n")?.as_bytes())?;
         rows.extend_from_slice(format!(in alloc; "10,{key},-7\n")?.as_bytes())?;
     }
-    let ran = run_in_pieces(alloc, &["sum", "10"], &text, 7)?;
+    let ran = run_in_pieces(&rt, &["sum", "10"], &text, 7)?;
     assert_eq!(rt; ran.rows.as_slice(), rows.as_slice());
     Ok(())
 }

@@ -3,7 +3,9 @@
 use crate::tests::run_in_pieces;
 use std::alloc::{AllocError, Global};
 use std::process::Abort;
+use std::sync::Wait;
 use std::test::Fail;
+use std::thread::Threads;
 
 /// A text that is one piece again and again, and how the run ends.
 struct Case {
@@ -89,10 +91,13 @@ fn text_of(alloc: Global, case: &Case) -> Result<Vec<u8>, AllocError> {
     Ok(text)
 }
 
-fn check_case(rt: &(impl AllocGlobal + Abort), case: &Case) -> Result<(), Fail> {
+fn check_case(
+    rt: &(impl AllocGlobal + Abort + Threads + Wait + Sync),
+    case: &Case,
+) -> Result<(), Fail> {
     let alloc = rt.alloc();
     let text = text_of(alloc, case)?;
-    let ran = run_in_pieces(alloc, case.words, &text, 7)?;
+    let ran = run_in_pieces(rt, case.words, &text, 7)?;
     assert_eq!(rt; ran.status.code(), case.code);
     assert_eq!(rt; ran.rows.as_slice(), case.rows.as_bytes());
     assert_eq!(rt; ran.notes.as_slice(), case.told.as_bytes());

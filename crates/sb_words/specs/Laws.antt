@@ -4,7 +4,7 @@ use Rattle.sb_words.specs.declared.options.TheConstants.{MAX_WORKERS, MAX_PENDIN
 
 -- the greatest values, and those of options that are not given
 pub record Limits : Type 0 where
-  pub workers : MAX_WORKERS ≡ 1
+  pub workers : MAX_WORKERS ≡ 64
   pub pending : MAX_PENDING ≡ 1024
   pub default_workers : DEFAULT_WORKERS ≡ 1
   pub default_bundle : DEFAULT_BUNDLE ≡ 1024

@@ -2,8 +2,8 @@
 
 ghost use Rattle.sb_words.specs.Laws as law;
 
-/// `--workers` is 1, `--pending` at most 1,024. Without them the values are 1 and 256, and without `--bundle` it is
-/// 1,024.
+/// `--workers` is at most 64, `--pending` at most 1,024. Without them the values are 1 and 256, and without `--bundle`
+/// it is 1,024.
 pub fn limits()
     ensures { law.Limits }
 {}

@@ -8,8 +8,8 @@ ghost use Rattle.sb_words.specs.Texts.{texts};
 
 use crate::setting::{Setting, first_setting};
 
-/// The most threads that may work. It rises when workers share the engine.
-pub const MAX_WORKERS: u32 = 1;
+/// The most threads that may work.
+pub const MAX_WORKERS: u32 = 64;
 
 /// The most bundles that may be allowed to wait, or to be out, in the lane of a source.
 pub const MAX_PENDING: u32 = 1_024;

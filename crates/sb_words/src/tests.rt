@@ -38,6 +38,16 @@ fn words_ask_for_what_they_say(rt: HostRuntime) -> Result<(), Fail> {
         ("audit", Request::Audit),
         ("sum 10 --workers 1", Request::Sum(10, none)),
         (
+            "sum 10 --workers 64",
+            Request::Sum(
+                10,
+                Options {
+                    workers: 64,
+                    ..none
+                },
+            ),
+        ),
+        (
             "sum 10 --bundle 1",
             Request::Sum(10, options(1, 256, false, false)),
         ),
@@ -110,7 +120,7 @@ fn other_words_ask_for_nothing(rt: HostRuntime) -> Result<(), Fail> {
         "sum 10 --workers",
         "sum 10 --workers=1",
         "sum 10 --workers 0",
-        "sum 10 --workers 2",
+        "sum 10 --workers 65",
         "sum 10 --workers 01",
         "sum 10 --bundle 0",
         "sum 10 --bundle 65537",

@@ -10,6 +10,8 @@ ghost use Rattle.uses.specs.Sums.{GivesSums};
 use crate::in_memory::{Answer, answer_to_source};
 use sb_outside::{MemSource, Source, SourceFault};
 use std::alloc::{AllocError, Global};
+use std::sync::Wait;
+use std::thread::Threads;
 
 /// All bytes of the first source, and then those of the second. If the first does not end in a line feed, its last line
 /// goes on with the second.
@@ -36,7 +38,8 @@ impl<S: Source, T: Source> Source for EndToEnd<S, T> {
 }
 
 /// What the program gives for words and two texts that are read as one: the same as for the two texts joined.
-pub fn answer_to_both(
+pub fn answer_to_both<W: Threads + Wait + Sync>(
+    rt: &W,
     alloc: Global,
     words: &[String],
     first: Vec<u8>,
@@ -49,5 +52,5 @@ pub fn answer_to_both(
         first: MemSource::new(first, Vec::new(alloc), Vec::new(alloc)),
         second: MemSource::new(second, Vec::new(alloc), Vec::new(alloc)),
     };
-    answer_to_source(alloc, words, &mut input)
+    answer_to_source(rt, alloc, words, &mut input)
 }

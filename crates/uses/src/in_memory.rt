@@ -11,6 +11,8 @@ use sb_cli::{Status, streambox};
 use sb_outside::{MemFolder, MemSink, MemSource, Source};
 use std::alloc::{AllocError, Global};
 use std::collections::BTreeMap;
+use std::sync::Wait;
+use std::thread::Threads;
 
 /// What the program gave: how the run ended, and the text of the rows.
 #[derive(Drop)]
@@ -21,7 +23,8 @@ pub struct Answer {
 
 /// What the program gives for words and an input, without files. The contract speaks of the words `sum SIZE` with any
 /// options.
-pub fn answer_to_source<S: Source>(
+pub fn answer_to_source<W: Threads + Wait + Sync, S: Source>(
+    rt: &W,
     alloc: Global,
     words: &[String],
     input: &mut S,
@@ -35,6 +38,7 @@ pub fn answer_to_source<S: Source>(
     let mut folder = MemFolder::new(alloc, BTreeMap::new(alloc), Vec::new(alloc));
     let mut taps = Vec::new(alloc);
     let status = streambox(
+        rt,
         alloc,
         words,
         input,
@@ -48,10 +52,15 @@ pub fn answer_to_source<S: Source>(
 }
 
 /// The same for a text.
-pub fn answer_to_text(alloc: Global, words: &[String], text: Vec<u8>) -> Result<Answer, AllocError>
+pub fn answer_to_text<W: Threads + Wait + Sync>(
+    rt: &W,
+    alloc: Global,
+    words: &[String],
+    text: Vec<u8>,
+) -> Result<Answer, AllocError>
     ensures { (size : ℕ) (options : Options) → IsCommand (Sum size options) (texts words.now)
         → IfOk result (GivesSums size text.items) }
 {
     let mut input = MemSource::new(text, Vec::new(alloc), Vec::new(alloc));
-    answer_to_source(alloc, words, &mut input)
+    answer_to_source(rt, alloc, words, &mut input)
 }

@@ -73,11 +73,11 @@ fn main(rt: HostRuntime) -> anyhow::Result<()> {
     print_answer(
         &rt,
         "one text",
-        &in_memory::answer_to_text(alloc, &words, text)?,
+        &in_memory::answer_to_text(&rt, alloc, &words, text)?,
     )?;
 
     let first = Vec::from_slice(alloc, b"r,a,3,1,5\n")?;
     let second = Vec::from_slice(alloc, b"r,a,7,1,2\nw,a,10\nr,a,12,1,4\n")?;
-    let both = end_to_end::answer_to_both(alloc, &words, first, second)?;
+    let both = end_to_end::answer_to_both(&rt, alloc, &words, first, second)?;
     print_answer(&rt, "two texts", &both)
 }

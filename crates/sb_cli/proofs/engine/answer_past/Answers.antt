@@ -1,5 +1,5 @@
 use Rattle.sb_cli.proofs.RunAnswers.{run_answer, run_blames, run_can_tell, run_offered}
-use Rattle.sb_cli.proofs.RunFaults.{run_cause, run_hides_none, run_read}
+use Rattle.sb_cli.proofs.RunFaults.{run_cause, run_hides_none, run_read, tap_alone}
 use Rattle.sb_cli.proofs.engine.answer_past.Goals as goal
 
 pub tell-requires : goal.tell-requires
@@ -36,3 +36,7 @@ pub returns-clause-no_fault_hidden : goal.returns-clause-no_fault_hidden
 returns-clause-no_fault_hidden g c = λ loads.
     rw c.status_behind-status.ensures
     (run_hides_none _ _ _ _ _ c.run_to-end.result c.finish_after.result loads c.run_to-end.ensures.input c.run_to-end.ensures.output c.finish_after.ensures.cause c.finish_after.ensures.told)
+
+pub returns-clause-read_no_more : goal.returns-clause-read_no_more
+returns-clause-read_no_more g c = λ place one is.
+    tap_alone _ _ place c.run_to-end.result c.finish_after.result (c.run_to-end.ensures.alone (rw c.sizes_of.ensures one)) (rw c.status_behind-status.ensures at is)

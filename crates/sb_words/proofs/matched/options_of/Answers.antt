@@ -2,6 +2,9 @@ use Rattle.std.proofs.Common.{Some}
 use Rattle.std.proofs.lemmas.Option.{same_Some}
 use Rattle.sb_words.proofs.matched.options_of.Goals as goal
 
+pub returns-in_err-workers : goal.returns-in_err-workers
+returns-in_err-workers c options are = absurd (cc (c.in_err-workers.ensures options.workers are.in_range.some_worker are.in_range.workers are.workers))
+
 pub returns-in_err-bundle : goal.returns-in_err-bundle
 returns-in_err-bundle c options are = absurd (cc (c.in_err-bundle.ensures options.bundle are.in_range.some_record are.in_range.bundle are.bundle))
 
