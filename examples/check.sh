@@ -2,11 +2,12 @@
 # Runs what the examples and docs/PLANS.md print, and compares rows, notes and exit codes. It takes ../streambox, or the
 # program that STREAMBOX names by an absolute path: STREAMBOX=/usr/local/bin/streambox ./check.sh
 #
-# Of the guide it tries, by `run` and by `slow`, each plan that stands with an input, rows and, if it has any, notes, and each fault of the
-# tables `| What is wrong | Plan | Answer |`. Three faults have no plan there, since it would be too long: these are
-# made here. Each folder with a plan is run with bundles of several sizes, too, and its diaries are audited. Each folder
-# of runs/ is a run: its words (args), its input, its rows, its note and its exit code. Not tried are the exit codes 7, 8
-# and 70, and what the guide says in sentences. The last line counts what was as expected.
+# Of the guide it tries, by `run` and by `slow`, each plan that stands with an input, rows and, if it has any, notes, and
+# each fault of the tables `| What is wrong | Plan | Answer |`. Three faults have no plan there, since it would be too
+# long: these are made here. Each folder with a plan is run with several numbers of workers and sizes of bundles, too, and
+# its diaries are audited; each plan of the guide is run with several workers. Each folder of runs/ is a run: its words
+# (args), its input, its rows, its note and its exit code. Not tried are the exit codes 7, 8 and 70, and what the guide
+# says in sentences. The last line counts what was as expected.
 # shellcheck disable=SC2016 # Backquotes are those of the guide.
 set -euo pipefail
 shopt -s nullglob
@@ -103,31 +104,33 @@ or_empty() {
 }
 
 check_folders() {
-  local plan command size
+  local plan command size workers
   folders=0
   for plan in */plan.toml; do
     for command in run slow; do
       (cd "${plan%/*}" && gives rows.txt "$(or_empty notes.txt)" "$command" plan.toml < input.txt)
     done
-    for size in 1 3 1024; do
-      (cd "${plan%/*}" && tells_its_diary "$size" rows.txt "$(or_empty notes.txt)")
+    for workers in 1 2 8; do
+      for size in 1 3 1024; do
+        (cd "${plan%/*}" && tells_its_diary "$workers" "$size" rows.txt "$(or_empty notes.txt)")
+      done
     done
     folders=$((folders + 1))
   done
   some "$folders" 'folders with a plan'
 }
 
-# tells_its_diary SIZE ROWS NOTES: with bundles of this size the plan there gives the same rows and notes, and the diary
-# behind the notes is settled.
+# tells_its_diary WORKERS SIZE ROWS NOTES: with so many workers and bundles of this size the plan there gives the same rows
+# and notes, and the diary behind the notes is settled.
 tells_its_diary() {
-  local size=$1 rows=$2 notes=$3 lines said
-  "$program" run plan.toml --bundle "$size" --diary < input.txt > "$scratch/rows" 2> "$scratch/note" ||
-    fail "bundles of $size: exit code $?"
-  cmp "$scratch/rows" "$rows" || fail "bundles of $size: other rows than $rows"
+  local how="$1 workers, bundles of $2" rows=$3 notes=$4 lines said
+  "$program" run plan.toml --workers "$1" --bundle "$2" --diary < input.txt > "$scratch/rows" 2> "$scratch/note" ||
+    fail "$how: exit code $?"
+  cmp "$scratch/rows" "$rows" || fail "$how: other rows than $rows"
   lines=$(wc -l < "$notes")
-  head -n "$lines" "$scratch/note" | cmp - "$notes" || fail "bundles of $size: other notes than $notes"
+  head -n "$lines" "$scratch/note" | cmp - "$notes" || fail "$how: other notes than $notes"
   said=$(tail -n "+$((lines + 1))" "$scratch/note" | "$program" audit)
-  [[ $said == *' settled' ]] || fail "bundles of $size: the diary is $said"
+  [[ $said == *' settled' ]] || fail "$how: the diary is $said"
 }
 
 # Runs the commands of each example's README, if it has one, in a copy without the files that they make: they print what
@@ -165,7 +168,7 @@ blocks() {
 
 # The guide's examples: a plan, an input and its rows, each in a block of its own.
 check_plans() {
-  local plan command
+  local plan command workers
   plans=0
   awk '/^```(toml|input|rows|notes)$/ { kind = substr($0, 4); if (kind == "toml") count++; next }
     /^```/ { kind = "" }
@@ -173,6 +176,10 @@ check_plans() {
   for plan in [0-9]*.toml; do
     for command in run slow; do
       gives "${plan%.toml}.rows" "$(or_empty "${plan%.toml}.notes")" "$command" "$plan" < "${plan%.toml}.input"
+    done
+    for workers in 2 8; do
+      gives "${plan%.toml}.rows" "$(or_empty "${plan%.toml}.notes")" \
+        run "$plan" --workers "$workers" < "${plan%.toml}.input"
     done
     plans=$((plans + 1))
   done
