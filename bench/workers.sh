@@ -1,0 +1,49 @@
+#!/usr/bin/env bash
+# Times the engine with several numbers of workers, side by side: elapsed and processor time of each.
+#
+# First over N lines and a plan that is heavy for each record: an expansion by 8, and then how many different values there
+# are in sliding windows of 64 parts. Then over M lines and the sums over windows of 10.
+#
+#   bench/workers.sh 1000000 10000000
+set -eu
+cd "$(dirname "$0")/.."
+program=${STREAMBOX:-./streambox}
+lines=$(mktemp) plan=$(mktemp) rows=$(mktemp) alone=$(mktemp)
+trap 'rm -f "$lines" "$plan" "$rows" "$alone"' EXIT
+"$program" sum 10 < /dev/null
+echo "$(nproc) processors"
+
+# measure WORKERS WORD..: one run by these words with so many workers
+measure() {
+  local workers=$1
+  shift
+  command time -f "$workers workers: %e s, of the processors %U s + %S s, %M kB" \
+    "$program" "$@" --workers "$workers" < "$lines" > "$rows"
+}
+
+cat > "$plan" <<'PLAN'
+[[transform]]
+name = "eight"
+kind = "expand"
+from = "a"
+addends = [0, 1, 2, 3, 4, 5, 6, 7]
+
+[[transform]]
+name = "different"
+kind = "distinct"
+from = "eight"
+size = 6400
+every = 100
+PLAN
+bench/gen.sh "${1:?how many lines for the heavy plan}" > "$lines"
+echo "an expansion by 8, then distinct over windows of 64 parts, $1 lines"
+for workers in 1 2 4; do
+  measure "$workers" run "$plan"
+  if [ "$workers" = 1 ]; then cp "$rows" "$alone"; else cmp "$rows" "$alone"; fi
+done
+bench/gen.sh "${2:?how many lines for the sums}" > "$lines"
+echo "sum 10, $2 lines"
+for workers in 1 2 4; do
+  measure "$workers" sum 10
+  if [ "$workers" = 1 ]; then cp "$rows" "$alone"; else cmp "$rows" "$alone"; fi
+done
