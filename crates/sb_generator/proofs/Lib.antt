@@ -1,1 +1,4 @@
 pub mod LaterText
+pub mod TextLines
+pub mod GeneratedLines
+pub mod Acceptance

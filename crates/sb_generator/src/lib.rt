@@ -6,6 +6,7 @@
 #![tactic(auto)]
 
 mod held;
+pub mod laws;
 mod pattern;
 mod source;
 
