@@ -10,7 +10,7 @@ use Rattle.sb_record.specs.Lines.{record_text, mark_text}
 use Rattle.sb_outside.specs.Lines.{line_feed}
 use Rattle.sb_generator.specs.declared.pattern.TheConstants.{GROUP, KEYS, VALUES, VALUE_STEP, VALUE_OFFSET}
 
--- record i: times fall within an eight, keys come in turn, and values jump
+-- record i: times fall within a group, keys come in turn, and values jump
 abbrev pub record_at : ℕ → Record
 record_at i = record {
   time = GROUP * (i / GROUP) + (GROUP - 1) - i % GROUP;
@@ -18,7 +18,7 @@ record_at i = record {
   value = pos (VALUE_STEP * i % VALUES) -ℤ pos VALUE_OFFSET;
 }
 
--- record i, and behind the last of an eight the watermark above all records so far
+-- record i, and behind the last of a group the watermark above all times so far
 abbrev pub items_at : ℕ → List Item
 items_at i = Rec A (record_at i) ∷ (if i % GROUP == GROUP - 1 then Mark A (i + 1) ∷ [] else [])
 

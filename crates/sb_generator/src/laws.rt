@@ -3,8 +3,7 @@
 
 ghost use Rattle.sb_generator.specs.Laws as law;
 
-/// At most ten million records are made. A watermark stands behind each eight, keys are 0 to 4, and values are -50 to
-/// 50.
+/// At most ten million records are made, in groups of eight. Keys are 0 to 4, and values -50 to 50.
 pub fn limits()
     ensures { law.Limits }
 {}

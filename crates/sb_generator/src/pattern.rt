@@ -10,7 +10,7 @@ use sb_record::TextBuf;
 /// The most records that can be made.
 pub const MAX_RECORDS: u64 = 10_000_000;
 
-/// How many records stand between two watermarks.
+/// How many records a group has: a watermark stands behind each whole one.
 pub const GROUP: u64 = 8;
 
 /// How many keys there are: 0 to 4.
@@ -25,8 +25,14 @@ pub const VALUE_STEP: u64 = 37;
 /// The least value is minus this.
 pub const VALUE_OFFSET: u64 = 50;
 
+/// The most bytes of the line of a record.
+const MAX_RECORD_LENGTH: usize = 67;
+
+/// The most bytes of the line of a watermark.
+const MAX_MARK_LENGTH: usize = 25;
+
 /// The most bytes of the lines of one record.
-pub const MAX_LINES_LENGTH: usize = 92;
+pub const MAX_LINES_LENGTH: usize = MAX_RECORD_LENGTH + MAX_MARK_LENGTH;
 
 /// The text of a record's line, and of a watermark's behind it.
 pub type LinesBuf = TextBuf<MAX_LINES_LENGTH>;
@@ -52,7 +58,7 @@ fn push_record(text: &mut LinesBuf, i: u64)
     requires number { i < MAX_RECORDS }
     requires empty { text.old ≡ [] }
     ensures text { text.new ≡ text_of (Rec A (record_at i) ∷ []) }
-    ensures length { length text.new ≤ 67 }
+    ensures length { length text.new ≤ MAX_RECORD_LENGTH }
 {
     text.push(b"r,a,");
     text.push_number(time_of(i));
@@ -65,7 +71,7 @@ fn push_record(text: &mut LinesBuf, i: u64)
 
 /// Adds the line of a watermark.
 fn push_mark(text: &mut LinesBuf, time: u64)
-    requires { length text.old + 25 ≤ MAX_LINES_LENGTH }
+    requires { length text.old + MAX_MARK_LENGTH ≤ MAX_LINES_LENGTH }
     ensures { text.new ≡ text.old ++ text_of (Mark A time ∷ []) }
 {
     text.push(b"w,a,");

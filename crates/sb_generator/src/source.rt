@@ -45,7 +45,7 @@ impl GenSource {
         }
     }
 
-    /// Gives bytes of the lines of one record: none only at the end, or where there is no room.
+    /// Gives bytes of the lines of one record: none only at the end.
     fn give(&mut self, buf: &mut [u8]) -> usize
         requires { 0 < length buf.old }
         ensures bytes { self.old ≡ take result buf.new ++ self.new }
