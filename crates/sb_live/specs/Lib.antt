@@ -1,0 +1,6 @@
+pub mod Changes
+pub mod Lasts
+pub mod Rising
+pub mod Following
+pub mod Showings
+pub mod ShowLaws

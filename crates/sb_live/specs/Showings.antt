@@ -1,0 +1,29 @@
+-- What contracts see of a writer, and what rows make of it.
+use Rattle.std.specs.Prelude.{◌≡◌, ℕ, Bool, List, ◌++◌}
+use Rattle.sb_record.specs.declared.item.Record.{Record}
+use Rattle.sb_live.specs.declared.change.Change.{Change}
+use Rattle.sb_live.specs.Changes.{rows_in}
+
+-- what a writer has shown, and whether it has run out of memory and shows nothing more
+pub record Showing : Type 0 where
+  pub changes : List Change
+  pub is_spent : Bool
+
+-- an output over a writer: how often its rows fell, and how often it was out of memory
+pub record ShownRows : Type 0 where
+  pub out : Showing
+  pub faults : ℕ
+  pub shortages : ℕ
+
+-- the changes have grown by exactly these rows, in whatever calls
+pub record Shows (old : List Change) (rows : List Record) (new : List Change) : Type 0 where
+  pub more : List Change
+  pub grown : new ≡ old ++ more
+  pub shown : rows_in more ≡ rows
+
+-- the changes have grown by the first rows
+pub record ShowsPrefix (old : List Change) (rows : List Record) (new : List Change) : Type 0 where
+  pub prefix : List Record
+  pub rest : List Record
+  pub whole : rows ≡ prefix ++ rest
+  pub shows : Shows old prefix new

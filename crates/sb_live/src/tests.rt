@@ -1,0 +1,169 @@
+//! A live table, by example.
+
+ghost use Rattle.std.specs.Prelude.{◌<◌, All, IsTrue};
+
+use crate::{LiveOut, LiveReader, LiveRows, TableEnded, live};
+use sb_emit::RowOut;
+use sb_outside::SinkFault;
+use sb_record::{END_MARK, Key, NoMemory, Record};
+use std::sync::Wait;
+use std::test::Fail;
+use std::thread::join;
+
+/// The time and the value of the last row of a key, if it has one.
+type Last = Option<(u64, i64)>;
+
+fn record(time: u64, number: u64, value: i64) -> Record {
+    let key = Key::Number(number);
+    Record { time, key, value }
+}
+
+/// The row with this key, time and value.
+fn row_of(number: u64, last: Last) -> Option<Record> {
+    match last {
+        Some((time, value)) => Some(record(time, number, value)),
+        None => None,
+    }
+}
+
+/// Shows rows, if their times do not fall.
+fn show<R: Wait + Drop>(out: &mut LiveOut<R>, rows: &[Record]) -> Result<(), NoMemory> {
+    if out.may_show(rows) {
+        return out.show(rows);
+    }
+    Ok(())
+}
+
+#[test]
+fn the_last_row_of_a_key_is_found(rt: HostRuntime) -> Result<(), Fail> {
+    let (mut out, mut readers) = live(rt.alloc(), rt, 2)?;
+    for (rows, one, two) in [
+        ([record(9, 1, 7)].as_slice(), Some((9, 7)), None),
+        // Of the rows of one call the last counts. A row of the time of the one before does not fall.
+        (
+            &[record(19, 1, 4), record(19, 2, 5), record(19, 1, -4)],
+            Some((19, -4)),
+            Some((19, 5)),
+        ),
+        // Its time falls.
+        (&[record(9, 1, 8)], Some((19, -4)), Some((19, 5))),
+    ] {
+        if show(&mut out, rows).is_err() {
+            out.end();
+            return Err(NoMemory.into());
+        }
+        for (number, last) in [(1, one), (2, two), (3, None)] {
+            let key = Key::Number(number);
+            assert_eq!(rt; out.last(&key), row_of(number, last));
+            // A reader that was made before, and one that is made now.
+            assert_eq!(rt; readers[0].get(&key), Ok(row_of(number, last)));
+            if let Ok(mut reader) = out.reader() {
+                assert_eq!(rt; reader.get(&key), Ok(row_of(number, last)));
+            }
+        }
+    }
+    out.end();
+    assert_eq!(rt; readers[1].get(&Key::Number(1)), Err(TableEnded));
+    Ok(())
+}
+
+/// Whether all rows are of times that rows may have.
+fn are_timely(rows: &[Record]) -> bool
+    ensures { IsTrue result → All (λ r. r.time < END_MARK) rows.now }
+{
+    rows.iter().all(|row| row.time < END_MARK)
+}
+
+/// Gives rows to an output.
+fn give<O: RowOut>(out: &mut O, rows: &[Record]) -> Result<(), SinkFault> {
+    if are_timely(rows) {
+        return out.rows(rows);
+    }
+    out.finish()
+}
+
+#[test]
+fn an_output_shows_rows_and_refuses_those_that_fall(rt: HostRuntime) -> Result<(), Fail> {
+    let (out, mut readers) = live(rt.alloc(), rt, 1)?;
+    let mut shown = LiveRows::new(out);
+    let key = Key::Number(1);
+    for (rows, answer, last) in [
+        ([record(9, 1, 7)].as_slice(), Ok(()), (9, 7)),
+        (
+            &[record(29, 1, 5), record(19, 1, 4)],
+            Err(SinkFault::Failed),
+            (9, 7),
+        ),
+        (&[record(19, 1, 4)], Ok(()), (19, 4)),
+        (&[record(9, 1, 7)], Err(SinkFault::Failed), (19, 4)),
+        (&[record(19, 1, 3), record(29, 1, 5)], Ok(()), (29, 5)),
+    ] {
+        let given = give(&mut shown, rows);
+        if given == Err(SinkFault::Memory) {
+            shown.into_out().end();
+            return Err(NoMemory.into());
+        }
+        assert_eq!(rt; given, answer);
+        assert_eq!(rt; readers[0].get(&key), Ok(row_of(1, Some(last))));
+    }
+    assert_eq!(rt; give(&mut shown, &[record(END_MARK, 1, 7)]), Ok(()));
+    let out = shown.into_out();
+    assert_eq!(rt; out.last(&key), row_of(1, Some((29, 5))));
+    out.end();
+    Ok(())
+}
+
+/// How many calls are shown while threads ask, and how often each of these asks.
+const ROUNDS: u64 = 20_000;
+
+/// Shows calls of two rows, one of each key, at times that rise.
+fn show_all<R: Wait + Drop>(out: &mut LiveOut<R>) -> Result<(), NoMemory> {
+    for round in 0..ROUNDS {
+        let rows = [record(2 * round, 1, 0), record(2 * round + 1, 2, 0)];
+        if out.may_show(&rows) {
+            out.show(&rows)?;
+        }
+    }
+    Ok(())
+}
+
+/// Whether a reader sees the time of a key fall, or its row go.
+fn sees_one_fall(reader: &mut LiveReader, number: u64) -> bool {
+    let key = Key::Number(number);
+    let mut latest = None;
+    for _ in 0..ROUNDS {
+        let time = match reader.get(&key) {
+            Ok(Some(row)) => Some(row.time),
+            Ok(None) | Err(TableEnded) => None,
+        };
+        if time < latest {
+            return true;
+        }
+        latest = time;
+    }
+    false
+}
+
+#[test]
+fn readers_beside_a_writer_see_no_time_fall(rt: HostRuntime) -> Result<(), Fail> {
+    let (mut out, mut readers) = live(rt.alloc(), rt, 2)?;
+    let (Some(mut one), Some(mut two)) = (readers.pop(), readers.pop()) else {
+        out.end();
+        return Ok(());
+    };
+    let (shown, falls) = join(
+        &rt,
+        || show_all(&mut out),
+        || join(
+            &rt,
+            || sees_one_fall(&mut one, 1),
+            || sees_one_fall(&mut two, 2),
+        ),
+    );
+    assert_eq!(rt; falls, (false, false));
+    let last = out.last(&Key::Number(2));
+    out.end();
+    shown?;
+    assert_eq!(rt; last, row_of(2, Some((2 * ROUNDS - 1, 0))));
+    Ok(())
+}
