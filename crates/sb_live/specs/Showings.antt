@@ -1,6 +1,7 @@
 -- What contracts see of a writer, and what rows make of it.
-use Rattle.std.specs.Prelude.{◌≡◌, ℕ, Bool, List, ◌++◌}
+use Rattle.std.specs.Prelude.{◌≡◌, ℕ, Bool, false, List, ◌++◌}
 use Rattle.sb_record.specs.declared.item.Record.{Record}
+use Rattle.sb_outside.specs.Sinks.{SinkState}
 use Rattle.sb_live.specs.declared.change.Change.{Change}
 use Rattle.sb_live.specs.Changes.{rows_in}
 
@@ -21,9 +22,20 @@ pub record Shows (old : List Change) (rows : List Record) (new : List Change) : 
   pub grown : new ≡ old ++ more
   pub shown : rows_in more ≡ rows
 
+-- what an output over a writer counts
+abbrev pub counts_of : ShownRows → SinkState
+counts_of s = record { faults = s.faults; shortages = s.shortages; refuses = false }
+
 -- the changes have grown by the first rows
 pub record ShowsPrefix (old : List Change) (rows : List Record) (new : List Change) : Type 0 where
   pub prefix : List Record
   pub rest : List Record
   pub whole : rows ≡ prefix ++ rest
   pub shows : Shows old prefix new
+
+-- an output has shown exactly these rows; it has shown the first of them
+abbrev pub ShowsAll : ShownRows → List Record → ShownRows → Type 0
+ShowsAll old rows new = Shows old.out.changes rows new.out.changes
+
+abbrev pub ShowsSome : ShownRows → List Record → ShownRows → Type 0
+ShowsSome old rows new = ShowsPrefix old.out.changes rows new.out.changes

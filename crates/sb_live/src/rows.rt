@@ -1,11 +1,16 @@
 //! Rows of a run, shown in a live table.
 
-ghost use Rattle.std.specs.Prelude.{◌≡◌};
+ghost use Rattle.std.specs.Prelude.{◌≡◌, ◌<◌, All, IsErrOf, OnErr};
+ghost use Rattle.sb_outside.specs.Sinks.{SinkCause};
+ghost use Rattle.sb_outside.specs.declared.sink.SinkFault.TheVariants as fault;
+ghost use Rattle.sb_emit.specs.Outputs.{TakesRows};
+ghost use Rattle.sb_live.specs.Rising.{RiseFrom, latest_in};
+ghost use Rattle.sb_live.specs.Showings.{ShowsAll, ShowsSome, counts_of};
 
 use crate::writer::LiveOut;
 use sb_emit::RowOut;
 use sb_outside::SinkFault;
-use sb_record::{NoMemory, Record};
+use sb_record::{END_MARK, NoMemory, Record};
 use std::marker::Model;
 use std::sync::Wait;
 
@@ -53,15 +58,14 @@ impl<R: Wait + Drop> LiveRows<R> {
 }
 
 impl<R: Wait + Drop + Send> RowOut for LiveRows<R> {
-    ghost use Rattle.std.specs.Prelude.{false};
-    ghost use Rattle.sb_live.specs.Showings.{Shows, ShowsPrefix};
+    ghost use Rattle.sb_live.specs.Showings.{ShowsAll, ShowsSome, counts_of};
     ghost use Rattle.sb_live.specs.ShowLaws as shows;
 
-    ghost row_state = { λ s. record { faults = s.faults; shortages = s.shortages; refuses = false } };
+    ghost row_state = { counts_of };
 
-    ghost after = { λ o rows p. Shows o.out.changes rows p.out.changes };
+    ghost after = { ShowsAll };
 
-    ghost part = { λ o rows p. ShowsPrefix o.out.changes rows p.out.changes };
+    ghost part = { ShowsSome };
 
     ghost after_none = { λ o. shows.after_none o.out.changes };
 
@@ -73,7 +77,18 @@ impl<R: Wait + Drop + Send> RowOut for LiveRows<R> {
 
     ghost part_of_more = { λ o p l m. shows.part_of_more o.out.changes p.out.changes l m };
 
-    fn rows(&mut self, rows: &[Record]) -> Result<(), SinkFault> {
+    /// Shows rows, all of them at once. The time of each is below [`END_MARK`].
+    ///
+    /// # Errors
+    ///
+    /// `Failed` only if a time falls, and `Memory` if there was not enough memory. Then none of the rows is shown.
+    fn rows(&mut self, rows: &[Record]) -> Result<(), SinkFault>
+        requires { All (λ r. r.time < END_MARK) rows.now }
+        ensures rows { TakesRows ShowsAll ShowsSome self.old rows.now self.new result }
+        ensures cause { SinkCause (counts_of self.old) (counts_of self.new) result }
+        ensures none { OnErr result (self.new.out.changes ≡ self.old.out.changes) }
+        ensures falls { IsErrOf result fault.Failed → RiseFrom (latest_in self.old.out.changes) rows.now → ⊥ }
+    {
         if !self.out.may_show(rows) {
             self.faults = self.faults.saturating_add(1);
             return Err(SinkFault::Failed);
