@@ -1,0 +1,20 @@
+//! The items of a record file, which reach the engine's feeder through a ring.
+//!
+//! A thread reads a file by [`feed`]: each item that is accepted goes into the ring, and then why reading stopped.
+//! The feeder takes them out by [`FeedIn::pop`], and never waits for it. Once the thread has ended, both ends are in
+//! one hand again, and [`FeedIn::tie`] says that what was taken out are the first of what the file fed, in their
+//! order, and all of it where the stop was among them.
+//!
+//! No contract says how soon a value that one thread put in is seen by the other.
+#![tactic(auto)]
+
+mod ends;
+mod fed;
+mod feeding;
+mod file;
+mod ring;
+
+pub use ends::{FeedDone, FeedIn, FeedOut};
+pub use fed::{Fed, FeedStop};
+pub use feeding::feed;
+pub use ring::{RING_PLACES, feed_pair};
