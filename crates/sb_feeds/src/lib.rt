@@ -18,3 +18,6 @@ pub use ends::{FeedDone, FeedIn, FeedOut};
 pub use fed::{Fed, FeedStop};
 pub use feeding::feed;
 pub use ring::{RING_PLACES, feed_pair};
+
+#[cfg(test)]
+mod tests;

@@ -1,0 +1,154 @@
+//! Feeding a file by a thread of its own, by example.
+
+ghost use Rattle.std.specs.Prelude.{◌≡◌, []};
+ghost use Rattle.sb_feeds.specs.Ends.{ring_in, ring_of, ring_out, sent_by};
+ghost use Rattle.sb_feeds.specs.Fed.{IsNew};
+
+use crate::{Fed, FeedIn, FeedStop, feed, feed_pair};
+use sb_record::{Intake, Item, Key, Keys, LatePolicy, Record, Refusal, Stream, Streams};
+use std::alloc::{AllocError, Global};
+use std::sync::Wait;
+use std::test::Fail;
+use std::thread;
+use std::thread::Threads;
+
+/// The intake of a file of stream a, where nothing was accepted yet.
+fn new_intake() -> Intake
+    ensures { IsNew result }
+{
+    let streams = Streams { a: true, b: false };
+    Intake::new(streams, 0, LatePolicy::Drop, Keys::Numbers)
+}
+
+fn record(time: u64, value: i64) -> Fed {
+    let key = Key::Number(1);
+    Fed::Item(Item::Rec(Stream::A, Record { time, key, value }))
+}
+
+fn mark(time: u64) -> Fed {
+    Fed::Item(Item::Mark(Stream::A, time))
+}
+
+fn late(line: u64, time: u64, mark: u64) -> Fed {
+    Fed::Item(Item::Late { line, time, mark })
+}
+
+const END: Fed = Fed::Stop(FeedStop::End);
+
+fn refused(refusal: Refusal) -> Fed {
+    Fed::Stop(FeedStop::Refused(refusal))
+}
+
+/// Takes values until the stop.
+fn receive<R: Wait>(rt: &R, alloc: Global, inward: &mut FeedIn) -> Result<Vec<Fed>, AllocError>
+    ensures { ring_in inward.new ≡ ring_in inward.old }
+{
+    let mut values = Vec::new(alloc);
+    for _ in rt.forever() {
+        match inward.pop() {
+            Some(next) => {
+                let stops = matches!(&next, Fed::Stop(_));
+                values.push(next)?;
+                if stops {
+                    return Ok(values);
+                }
+            }
+            None => thread::yield_now(),
+        }
+    }
+    unreachable!()
+}
+
+/// The values of a file that one thread feeds, as another receives them.
+fn fed_across<R: Threads + Wait + Sync>(
+    rt: &R,
+    alloc: Global,
+    text: &[u8],
+) -> Result<Vec<Fed>, Fail> {
+    let bytes = Vec::from_slice(alloc, text)?;
+    let (out, inward) = feed_pair(alloc)?;
+    let intake = new_intake();
+    let (done, (inward, values)) = thread::join(
+        rt,
+        move ||
+            requires { IsNew intake × (sent_by out ≡ []) }
+            ensures { ring_of result ≡ ring_out out }
+        { feed(rt, bytes, intake, out) },
+        move ||
+            ensures { ring_in result.0 ≡ ring_in inward }
+        {
+            let mut inward = inward;
+            let values = receive(rt, alloc, &mut inward);
+            (inward, values)
+        },
+    );
+    inward.tie(done);
+    Ok(values?)
+}
+
+#[test]
+fn a_file_goes_through_the_ring(rt: HostRuntime) -> Result<(), Fail> {
+    let malformed = refused(Refusal::Malformed { line: 2 });
+    let too_long = refused(Refusal::TooLong { line: 1 });
+    for (text, values) in [
+        (b"".as_slice(), [END].as_slice()),
+        (
+            b"r,a,3,1,5\nr,a,4,1,6\n",
+            &[record(3, 5), record(4, 6), END],
+        ),
+        (
+            b"# a comment\nw,a,10\nr,a,9,1,1\n",
+            &[mark(10), late(3, 9, 10), END],
+        ),
+        (b"r,a,3,1,5\r\nw,a,4\r\n", &[record(3, 5), mark(4), END]),
+        (b"r,a,3,1,5\nx\nr,a,4,1,6\n", &[record(3, 5), malformed]),
+        (b"r,a,3,1,5\nr,a,4,1,6", &[record(3, 5), record(4, 6), END]),
+        (&[b'#'; 129], &[too_long]),
+    ] {
+        let across = fed_across(&rt, rt.alloc(), text)?;
+        assert_eq!(rt; across.as_slice(), values);
+    }
+    Ok(())
+}
+
+/// Line n of a long file: a comment, a watermark or a record.
+fn nth_line(alloc: Global, n: u32) -> Result<String, AllocError> {
+    if n % 7 == 3 {
+        return format!(in alloc; "# {n}\n");
+    }
+    if n % 11 == 0 {
+        return format!(in alloc; "w,a,{n}\n");
+    }
+    format!(in alloc; "r,a,{n},1,{n}\n")
+}
+
+/// What line n feeds.
+fn nth_value(n: u32) -> Option<Fed> {
+    if n % 7 == 3 {
+        return None;
+    }
+    if n % 11 == 0 {
+        return Some(mark(u64::from(n)));
+    }
+    Some(record(u64::from(n), i64::from(n)))
+}
+
+#[test]
+fn a_file_of_many_more_lines_than_the_ring_has_places_goes_through(
+    rt: HostRuntime,
+) -> Result<(), Fail> {
+    let alloc = rt.alloc();
+    let mut text = Vec::new(alloc);
+    let mut values = Vec::new(alloc);
+    for n in 0..5_000u32 {
+        let line = nth_line(alloc, n)?;
+        text.extend_from_slice(line.as_bytes())?;
+        if let Some(value) = nth_value(n) {
+            values.push(value)?;
+        }
+    }
+    values.push(END)?;
+    let across = fed_across(&rt, alloc, text.as_slice())?;
+    assert_eq!(rt; across.as_slice(), values.as_slice());
+    Ok(())
+}
