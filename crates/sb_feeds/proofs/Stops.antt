@@ -17,6 +17,13 @@ items_have_no_stop (item.Mark s t ∷ items) = items_have_no_stop items
 items_have_no_stop (item.Skip ∷ items) = items_have_no_stop items
 items_have_no_stop (item.Late n t m ∷ items) = items_have_no_stop items
 
+-- behind values without a stop, the next one alone says whether one is among them
+pub stop_last : (values : List Fed) (next : Fed) → has_stop values ≡ false → has_stop (values ++ next ∷ []) ≡ is_stop next
+stop_last [] (fed.Item i) none = refl
+stop_last [] (fed.Stop s) none = refl
+stop_last (fed.Item i ∷ values) next none = stop_last values next none
+stop_last (fed.Stop s ∷ values) next none = cc none
+
 -- what is fed of accepted lines ends with the one stop
 pub feed_ends : (a : Accepted) → ends_with_stop (fed_of a) ≡ true
 feed_ends a = behind a.items

@@ -2,7 +2,7 @@
 
 ghost use Rattle.std.specs.Prelude.{◌≡◌, ◌++◌, ◌∷◌, [], true, false, IfOk, IfSome, IfNone};
 ghost use mathlib.Core.List.{IsPrefix};
-ghost use Rattle.sb_feeds.specs.Fed.{has_stop};
+ghost use Rattle.sb_feeds.specs.Fed.{has_stop, is_stop};
 ghost use Rattle.sb_feeds.specs.Ends.{fed_by, known_to, places_of, received_by, ring_in, ring_of, ring_out, sent_by};
 
 use crate::ends::{FeedDone, FeedIn, FeedOut, Feeding};
@@ -32,12 +32,14 @@ pub fn feed_pair(alloc: Global) -> Result<(FeedOut, FeedIn), NoMemory>
 }
 
 impl FeedIn {
-    /// The next value that was sent, where this end knows of one or sees one in the ring. It never waits.
+    /// The next value that was sent, if this end knows of one or sees one in the ring. It never waits.
+    #[tactic(auto, using(crate::proofs::Stops::stop_last))]
     pub fn pop(&mut self) -> Option<Fed>
         ensures ring { ring_in self.new ≡ ring_in self.old }
         ensures some { IfSome result (λ next. received_by self.new ≡ received_by self.old ++ next ∷ []) }
         ensures known { IfSome result (λ next. IsPrefix (known_to self.old) (next ∷ known_to self.new)) }
         ensures no_stop_before { IfSome result (λ _. has_stop (received_by self.old) ≡ false) }
+        ensures stop { IfSome result (λ next. has_stop (received_by self.new) ≡ is_stop next) }
         ensures none { IfNone result (received_by self.new ≡ received_by self.old) }
         ensures none_known { IfNone result (known_to self.old ≡ []) }
     {
