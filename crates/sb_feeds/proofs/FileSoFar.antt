@@ -1,5 +1,5 @@
 -- How far the feeding of a file has come.
-use Rattle.std.proofs.Common.{◌≡◌, ◌≢◌, ◌<◌, ◌≤◌, ◌+◌, ℕ, Bool, true, false, List, [], ◌∷◌, ◌++◌, Option, Some, None, Ok, Err, refl, sym, ap, subst, ◌∙◌, arith, append_assoc, append-nil}
+use Rattle.std.proofs.Common.{◌≡◌, ◌≢◌, ◌<◌, ◌≤◌, ◌+◌, ℕ, Bool, true, false, List, [], ◌∷◌, ◌++◌, Option, Some, None, Ok, Err, refl, sym, ap, ◌∙◌, arith, append_assoc, append-nil}
 use Rattle.std.specs.Prelude.{flat_map}
 use Rattle.std.proofs.lemmas.List.Concat.{flat_map-append}
 use Rattle.sb_record.specs.declared.intake.Refusal.{Refusal}
@@ -21,7 +21,7 @@ use Rattle.sb_feed.specs.Reads.{FaultCause, IsGoing, StopsAt, StopsReading, Take
 use Rattle.sb_feeds.specs.declared.fed.FeedStop.{FeedStop}
 use Rattle.sb_feeds.specs.declared.fed.Fed.{Fed}
 use Rattle.sb_feeds.specs.declared.fed.Fed.TheVariants as fed
-use Rattle.sb_feeds.specs.Fed.{IsNew, ends_with_stop, fed_by_file, fed_in, fed_of, has_stop, refused_at, stop_from}
+use Rattle.sb_feeds.specs.Fed.{ends_with_stop, fed_by_file, fed_in, fed_of, has_stop, refused_at, stop_from}
 use Rattle.sb_feeds.proofs.FirstLines.{first_with_more, still_refused}
 use Rattle.sb_feeds.proofs.Stops.{feed_ends, items_have_no_stop}
 
@@ -38,19 +38,7 @@ pub record FileSoFar (new : Progress) (bytes left : List ℕ) (held : Held) (p :
   pub are : values ≡ flat_map fed_in items
   pub room : p.lines ≤ MAX_LINES
 
--- before the first line
-pub nothing_read : (new : Progress) (bytes left : List ℕ) (held : Held) (values : List Fed) → IsNew new → left ≡ bytes → held ≡ record { at_hand = []; line = []; halt = None } → values ≡ [] → FileSoFar new bytes left held new values
-nothing_read new bytes left held values is_new all nothing none =
-    subst (λ (h : Held). FileSoFar new bytes left h new values) (sym nothing)
-    (record {
-      items = [];
-      going = tt;
-      accepts = ap (λ l. following new [] (lines true l)) (sym all);
-      progress = is_new;
-      are = none;
-      room = let zero_lines = ap (λ (q : Progress). q.lines) is_new in omega (arith, zero_lines);
-    })
-
+-- none of the values is a stop
 pub no_stop_yet : (new : Progress) (bytes left : List ℕ) (held : Held) (p : Progress) (values : List Fed) → FileSoFar new bytes left held p values → has_stop values ≡ false
 no_stop_yet new bytes left held p values t = ap has_stop t.are ∙ items_have_no_stop t.items
 
