@@ -7,7 +7,7 @@ use Rattle.sb_record.specs.Keys.{same_key}
 use Rattle.sb_live.specs.declared.change.Change.{Change}
 use Rattle.sb_live.specs.declared.change.Change.TheVariants.{Row, End}
 use Rattle.sb_live.specs.Changes.{IsPrefix, call_of, rows_in}
-use Rattle.sb_live.specs.Lasts.{last_of, later}
+use Rattle.sb_live.specs.Lasts.{last_of, later, nearer}
 use Rattle.sb_live.specs.ShowLaws.{rows_in-append}
 use Rattle.sb_live.specs.Showings.{Shows, ShowsPrefix}
 use Rattle.sb_live.specs.Rising.{RiseFrom, last_time, latest_in, IsNoEarlier}
@@ -91,6 +91,12 @@ found_no_earlier k t found (Row r ∷ changes) h up =
 fold_on : (k : Key) (found : Option Record) (a b : List Change) → fold (later k) found (a ++ b) ≡ fold (later k) (fold (later k) found a) b
 fold_on k found [] b = refl
 fold_on k found (c ∷ a) b = fold_on k (later k found c) a b
+
+-- the last row is found by the rows alone
+pub rows_fold : (k : Key) (found : Option Record) (changes : List Change) → fold (later k) found changes ≡ fold (nearer k) found (rows_in changes)
+rows_fold k found [] = refl
+rows_fold k found (Row r ∷ changes) = rows_fold k (later k found (Row r)) changes
+rows_fold k found (End ∷ changes) = rows_fold k found changes
 
 -- the last row of a key is no earlier than that of a front
 pub last_no_earlier : (front changes : List Change) → IsPrefix front changes → RiseFrom 0 (rows_in changes) → (k : Key) → IsNoEarlier (last_of k front) (last_of k changes)

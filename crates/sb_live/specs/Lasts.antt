@@ -14,3 +14,11 @@ later k found End = found
 -- the last row of the key k among the changes
 abbrev pub last_of : Key → List Change → Option Record
 last_of k changes = fold (later k) None changes
+
+-- the last row of the key k after one row more
+abbrev pub nearer : Key → Option Record → Record → Option Record
+nearer k found r = if same_key r.key k then Some r else found
+
+-- the last row of the key k among the rows
+abbrev pub last_row : Key → List Record → Option Record
+last_row k rows = fold (nearer k) None rows

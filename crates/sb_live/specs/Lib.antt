@@ -4,3 +4,4 @@ pub mod Rising
 pub mod Following
 pub mod Showings
 pub mod ShowLaws
+pub mod Laws

@@ -3,9 +3,11 @@
 //! [`live`] makes a table without rows, its writer ([`LiveOut`]) and its readers ([`LiveReader`]). The table stands
 //! twice, by the kit's `left_right`: readers read one copy without a lock while the writer changes the other. The rows
 //! of a call become visible together, and no reader goes back: for a key it never answers an earlier row than before.
+//! [`LiveRows`] is the output through which a run shows its rows.
 #![tactic(auto)]
 
 mod change;
+pub mod laws;
 mod reader;
 mod rising;
 mod rows;
