@@ -1,0 +1,102 @@
+-- The text of a checkpoint, and what a text means when it is read.
+use Rattle.std.specs.Prelude.{◌≡◌, ◌<◌, ◌^◌, ◌+◌, ◌==◌, ℕ, Bool, true, false, ◌&&◌, not, nat_le, if◌then◌else◌, List, [], ◌∷◌, ◌++◌, length, flat_map, decimal, Option, Some, None, Result, Ok, Err}
+use Rattle.sb_record.specs.declared.intake.TheConstants.{MAX_LINES}
+use Rattle.sb_record.specs.declared.item.Item.{Item}
+use Rattle.sb_record.specs.declared.item.Item.TheVariants.{Rec, Mark, Skip, Late}
+use Rattle.sb_record.specs.declared.item.Stream.TheVariants.{A, B}
+use Rattle.sb_record.specs.Lines.{record_text, mark_text}
+use Rattle.sb_record.specs.Reading.{item_of}
+use Rattle.sb_record.specs.Streams.{uses, last_watermark}
+use Rattle.sb_pipeline.specs.Shapes.{Shape, streams_of}
+use Rattle.sb_checkpoint.specs.Reach.{reach, is_within}
+use Rattle.sb_checkpoint.specs.Checkpoints.{low_of}
+
+-- the line of an item, without its end; a comment is `#` alone, and so is what stands in place of a dropped record
+abbrev pub item_text : Item → List ℕ
+item_text (Rec s r) = record_text s r
+item_text (Mark s t) = mark_text s t
+item_text Skip = 35 ∷ []
+item_text (Late n t m) = 35 ∷ []
+
+-- `checkpoint LINES LOW`
+abbrev pub head_text : ℕ → ℕ → List ℕ
+head_text lines low =
+    99 ∷ 104 ∷ 101 ∷ 99 ∷ 107 ∷ 112 ∷ 111 ∷ 105 ∷ 110 ∷ 116 ∷ 32 ∷ (decimal lines ++ 32 ∷ decimal low)
+
+-- `end COUNT`
+abbrev pub end_text : ℕ → List ℕ
+end_text count = 101 ∷ 110 ∷ 100 ∷ 32 ∷ decimal count
+
+-- the line with its end
+abbrev pub with_end : List ℕ → List ℕ
+with_end line = line ++ 10 ∷ []
+
+-- the lines of the items, each with its end
+abbrev pub items_text : List Item → List ℕ
+items_text items = flat_map (λ i. with_end (item_text i)) items
+
+-- the text of the checkpoint of so many lines, with this low watermark and these items
+abbrev pub checkpoint_text : ℕ → ℕ → List Item → List ℕ
+checkpoint_text lines low items =
+    with_end (head_text lines low) ++ (items_text items ++ with_end (end_text (length items)))
+
+-- whether the item may stand after these: first records that can be part of a row from the low watermark on, then a
+-- watermark of a, then one of b
+abbrev pub may_follow : Shape → ℕ → List Item → Item → Bool
+may_follow plan low items (Rec s r) =
+    uses (streams_of plan) s
+    && (is_within (reach plan) low r.time && ((last_watermark A items == 0) && (last_watermark B items == 0)))
+may_follow plan low items (Mark A t) =
+    uses (streams_of plan) A && (not (t == 0) && ((last_watermark A items == 0) && (last_watermark B items == 0)))
+may_follow plan low items (Mark B t) =
+    uses (streams_of plan) B && (not (t == 0) && (last_watermark B items == 0))
+may_follow plan low items Skip = false
+may_follow plan low items (Late n t m) = false
+
+-- whether a checkpoint of so many lines, with this low watermark and these items, can be that of an input
+abbrev pub is_whole : Shape → ℕ → ℕ → List Item → Bool
+is_whole plan lines low items = nat_le (length items) lines && (nat_le lines MAX_LINES && (low == low_of plan items))
+
+-- whether the line of this item may stand there
+abbrev pub may_stand : Shape → ℕ → List Item → Option Item → Bool
+may_stand plan low items None = false
+may_stand plan low items (Some item) = may_follow plan low items item
+
+-- the items and this one, if it is one
+abbrev pub with_item : List Item → Option Item → List Item
+with_item items None = items
+with_item items (Some item) = items ++ item ∷ []
+
+-- whether the texts are the same
+abbrev pub is_same : List ℕ → List ℕ → Bool
+is_same [] [] = true
+is_same [] (y ∷ ys) = false
+is_same (x ∷ xs) [] = false
+is_same (x ∷ xs) (y ∷ ys) = (x == y) && is_same xs ys
+
+-- nothing stands after the last line
+abbrev pub if_last : List Item → List (List ℕ) → Result (List Item) ℕ
+if_last items ([] ∷ []) = Ok items
+if_last items pieces = Err (length items + 3)
+
+-- the items of a checkpoint, or the number of its first faulty line: what stands between the line feeds after its first
+-- line, where these items were read; the last piece, behind the last line feed, is no line
+abbrev pub read_pieces : Shape → ℕ → ℕ → List Item → List ℕ → List (List ℕ) → Result (List Item) ℕ
+read_pieces plan lines low items line [] = Err (length items + 2)
+read_pieces plan lines low items line (next ∷ pieces) =
+    if may_stand plan low items (item_of plan.keys line)
+    then read_pieces plan lines low (with_item items (item_of plan.keys line)) next pieces
+    else if is_same line (end_text (length items)) && is_whole plan lines low items then if_last items (next ∷ pieces)
+    else Err (length items + 2)
+
+-- what the file says: how many lines there were, the low watermark and the items. The pieces of a text are what stands
+-- between its line feeds
+pub record IsRead (plan : Shape) (pieces : List (List ℕ)) (lines low : ℕ) (items : List Item) : Type 0 where
+  pub head : List ℕ
+  pub next : List ℕ
+  pub rest : List (List ℕ)
+  pub split : pieces ≡ head ∷ next ∷ rest
+  pub few_lines : lines < 2 ^ 64
+  pub small_low : low < 2 ^ 64
+  pub first_line : head ≡ head_text lines low
+  pub others : read_pieces plan lines low [] next rest ≡ Ok items
