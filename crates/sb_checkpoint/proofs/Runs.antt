@@ -127,8 +127,8 @@ length-parts n w (Mark B t ∷ items) = omega (arith, length-parts n w items)
 length-parts n w (Skip ∷ items) = omega (arith, length-parts n w items)
 length-parts n w (Late l t m ∷ items) = omega (arith, length-parts n w items)
 
-pub length-saved : (plan : Shape) (items : List Item) → length (saved_items plan items) ≤ length items
-length-saved plan items =
+pub length_saved : (plan : Shape) (items : List Item) → length (saved_items plan items) ≤ length items
+length_saved plan items =
     omega (
       arith,
       length-append (kept_of plan items) (last_marks items),
@@ -140,7 +140,7 @@ length-saved plan items =
 
 pub length-resumed : (plan : Shape) (items : List Item) → length (resumed_items plan items) ≡ length items
 length-resumed plan items =
-    omega (arith, length-append (saved_items plan items) (replicate (length items - length (saved_items plan items)) Skip), length-skips (length items - length (saved_items plan items)), length-saved plan items)
+    omega (arith, length-append (saved_items plan items) (replicate (length items - length (saved_items plan items)) Skip), length-skips (length items - length (saved_items plan items)), length_saved plan items)
 
 pub progress-resumed : (plan : Shape) (items : List Item) → progress_in plan items ≡ progress_in plan (resumed_items plan items)
 progress-resumed plan items =

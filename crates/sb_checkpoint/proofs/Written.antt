@@ -20,7 +20,7 @@ use Rattle.sb_checkpoint.specs.Texts.{item_text, head_text, end_text, is_whole, 
 use Rattle.sb_checkpoint.specs.Checkpoints.{is_kept, low_of, mark_item, saved_items}
 use Rattle.sb_checkpoint.specs.Laws.{accepted_in, CheckpointsAreReadBack}
 use Rattle.sb_checkpoint.proofs.Resuming.{last_marks}
-use Rattle.sb_checkpoint.proofs.Runs.{length-saved, last_watermark-saved}
+use Rattle.sb_checkpoint.proofs.Runs.{length_saved, last_watermark-saved}
 use Rattle.sb_checkpoint.proofs.ReadAgain.{IsFit, IsSound, IsFitMark, accepted-sound, text-of, mark-fit, mark-used}
 use Rattle.sb_checkpoint.proofs.ReadBack.{MayStand, texts_of, reads-by, reads}
 
@@ -85,7 +85,7 @@ module _ (plan : Shape) (low : ℕ) where
 whole-saved : (plan : Shape) (items : List Item) → length items ≤ 4294967295 → is_whole plan (length items) (low_of plan items) (saved_items plan items) ≡ true
 whole-saved plan items few =
     all (nat_le (length (saved_items plan items)) (length items)) (nat_le (length items) 4294967295) (eqb (low_of plan items) (low_of plan (saved_items plan items)))
-    (let h = length-saved plan items in grind (arith, nat_tests)) (grind (arith, nat_tests))
+    (let h = length_saved plan items in grind (arith, nat_tests)) (grind (arith, nat_tests))
     (eq-eqb _ _ (sym (λ i. least_of (streams_of plan) (last_watermark-saved plan A items i) (last_watermark-saved plan B items i))))
   where
     all : (a b c : Bool) → a ≡ true → b ≡ true → c ≡ true → (a && (b && c)) ≡ true

@@ -1,0 +1,46 @@
+-- Lines that are given before the bytes of a source, piece by piece.
+use Rattle.std.proofs.Common.{◌≡◌, ◌≤◌, ℕ, ◌+◌, List, [], ◌∷◌, ◌++◌, Option, Some, None, Result, length, take, drop, refl, sym, ap, subst, ◌∙◌, append_assoc, length-append, arith}
+use Rattle.std.specs.List.{slice_get}
+use Rattle.std.specs.Io.KnownBytes.{ReadConsumes, prepend_known}
+use Rattle.std.proofs.Math.Seq.{take-append_seam}
+use Rattle.std.proofs.lemmas.List.{take-append-drop, drop-drop, drop_more, length-drop}
+use Rattle.std.proofs.lemmas.Option.{slice_get_within, get_or_from_slice_get}
+use Rattle.sb_record.specs.declared.item.Item.{Item}
+use Rattle.sb_checkpoint.specs.Ahead.{Lines, bytes}
+use Rattle.sb_checkpoint.specs.Texts.{item_text, with_end, items_text}
+
+take-length : {X : Type 0} (n : ℕ) (l : List X) → n ≤ length l → length (take n l) ≡ n
+take-length n l le = omega (arith, le, ap length (take-append-drop n l), length-append (take n l) (drop n l), length-drop n l)
+
+-- the first bytes of what is left of a line, in a buffer, and what is left behind them
+pub given_of_line : (line : List ℕ) (from count : ℕ) (copy more : List ℕ) → copy ≡ take count (drop from line) → count ≤ length (drop from line) → drop from line ≡ take count (copy ++ more) ++ drop (from + count) line
+given_of_line line from count copy more is le =
+    let long : length copy ≡ count = ap length is ∙ take-length count (drop from line) le in
+    let front : take count (copy ++ more) ≡ copy = ap (λ n. take n (copy ++ more)) (sym long) ∙ take-append_seam copy more in
+    sym (ap (λ l. l ++ drop (from + count) line) (front ∙ is) ∙ ap (λ l. take count (drop from line) ++ l) (sym (drop-drop count from line)) ∙ take-append-drop count (drop from line))
+
+-- the next line comes to hand
+pub text_from : (items : List Item) (k : ℕ) (i : Item) → slice_get items k ≡ Some i → items_text (drop k items) ≡ with_end (item_text i) ++ items_text (drop (k + 1) items)
+text_from items k i h = ap items_text (drop_more items k i (slice_get_within items k i h) ∙ ap (λ x. x ∷ drop (k + 1) items) (get_or_from_slice_get items k i i h))
+
+-- a line is given, and then those behind it
+pub given_of_all : (old mid new : Lines) (piece : List ℕ) → bytes old ≡ bytes mid → mid.at_hand ≡ piece ++ new.at_hand → new.behind ≡ mid.behind → bytes old ≡ piece ++ bytes new
+given_of_all old mid new piece same given behind =
+    same ∙ (λ i. given i ++ sym behind i) ∙ append_assoc piece new.at_hand new.behind
+
+-- where nothing is given, nothing is left
+nothing_left : (old new : List ℕ) (n : ℕ) (buf : List ℕ) → n ≡ 0 → old ≡ [] → old ≡ take n buf ++ new → new ≡ []
+nothing_left old new n buf none over given = sym (given ∙ ap (λ k. take k buf ++ new) none) ∙ over
+
+nothing_known : (known : Option (List ℕ)) → prepend_known [] known ≡ known
+nothing_known None = refl
+nothing_known (Some l) = refl
+
+-- and the source is read as it is
+pub read_behind : {E : Type 0} (old new : List ℕ) (n : ℕ) (buf : List ℕ) (a b : Option (List ℕ)) (r : Result ℕ E) (piece : List ℕ) → n ≡ 0 → (n ≡ 0 → old ≡ []) → old ≡ take n buf ++ new
+    → ReadConsumes a b r piece → ReadConsumes (prepend_known old a) (prepend_known new b) r piece
+read_behind old new n buf a b r piece none end given read =
+    let over = end none in
+    subst (λ l. ReadConsumes (prepend_known l a) (prepend_known new b) r piece) (sym over)
+    (subst (λ l. ReadConsumes (prepend_known [] a) (prepend_known l b) r piece) (sym (nothing_left old new n buf none over given))
+    (subst (λ k. ReadConsumes k (prepend_known [] b) r piece) (sym (nothing_known a)) (subst (λ k. ReadConsumes a k r piece) (sym (nothing_known b)) read)))

@@ -1,0 +1,14 @@
+-- An output that is handed the rows from a time on.
+use Rattle.std.specs.Prelude.{◌≡◌, ℕ, List}
+use Rattle.sb_record.specs.declared.item.Record.{Record}
+use Rattle.sb_record.specs.Records.{at_least}
+
+-- the output, and the time from which on it is handed rows
+pub record HandedOn (R : Type 0) : Type 0 where
+  pub low : ℕ
+  pub out : R
+
+-- the output is as it is after those of the rows that have a time at least low, and low stays
+pub record Hands {R : Type 0} (after : R → List Record → R → Type 0) (old : HandedOn R) (rows : List Record) (new : HandedOn R) : Type 0 where
+  pub low : new.low ≡ old.low
+  pub out : after old.out (at_least old.low rows) new.out

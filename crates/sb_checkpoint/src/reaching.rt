@@ -1,0 +1,47 @@
+//! How far back a plan reaches.
+
+ghost use Rattle.std.specs.Prelude.{◌≡◌, ◌≤◌, ◌↔◌, false};
+ghost use Rattle.sb_checkpoint.specs.Reach as spec;
+
+use sb_pipeline::{Kind, MAX_TRANSFORMS, Plan};
+use sb_window::MAX_SIZE;
+
+/// The most that a plan reaches back.
+pub const MAX_REACH: u64 = MAX_TRANSFORMS as u64 * MAX_SIZE;
+
+/// How long the windows of a transform are, 0 where it has none.
+fn window_size(kind: &Kind) -> u64
+    ensures value { result ≡ spec.size_in kind.now }
+    ensures bound { result ≤ MAX_SIZE }
+{
+    match kind {
+        Kind::Do(_) | Kind::Session(_, _) => 0,
+        Kind::Group(_, windows) | Kind::Join(_, windows) => windows.size(),
+    }
+}
+
+/// Whether a transform of the plan gathers records by session. Nothing bounds how far back such a plan reaches.
+pub fn has_session(plan: &Plan) -> bool
+    ensures { (result ≡ false) ↔ spec.HasNoSession plan.now }
+{
+    for node in 0..plan.transforms() {
+        if let Kind::Session(_, _) = plan.kind(node) {
+            return true;
+        }
+    }
+    false
+}
+
+/// How far back the plan reaches, in the unit of the times of records: a record whose time is more than this before a
+/// time is part of no row from that time on. It is the sum of the sizes of all windows of the plan.
+pub fn reach(plan: &Plan) -> u64
+    requires { spec.HasNoSession plan.now }
+    ensures value { result ≡ spec.reach plan.now }
+    ensures bound { result ≤ MAX_REACH }
+{
+    let mut sum = 0u64;
+    for node in 0..plan.transforms() {
+        sum += window_size(plan.kind(node));
+    }
+    sum
+}
