@@ -208,6 +208,26 @@ module _ (streams : Streams) (keys : Keys) where
   skips-fit zero = tt
   skips-fit (suc n) = (tt, skips-fit n)
 
+pub resumed-fit : (plan : Shape) (items : List Item) → AllByRecursion (IsSound (streams_of plan) plan.keys) items → AllByRecursion (IsFit (streams_of plan) plan.keys) (resumed_items plan items)
+resumed-fit plan items all =
+    All-join (IsFit streams keys) (saved_items plan items) (replicate (length items - length (saved_items plan items)) Skip)
+    (All-join (IsFit streams keys) (kept_of plan items) (last_marks items)
+    (All-passed (IsSound streams keys) (IsFit streams keys) (is_kept (reach plan) (low_of plan items)) (λ i h k. kept-fit streams keys (reach plan) (low_of plan items) i h k) items all)
+    (All-join (IsFit streams keys) (mark_item A a) (mark_item B b) (mark_item-fit streams keys A a (mark-fit streams keys A items all)) (mark_item-fit streams keys B b (mark-fit streams keys B items all))))
+    (skips-fit streams keys (length items - length (saved_items plan items)))
+  where
+    streams : Streams
+    streams = streams_of plan
+
+    keys : Keys
+    keys = plan.keys
+
+    a : ℕ
+    a = last_watermark A items
+
+    b : ℕ
+    b = last_watermark B items
+
 resumed-takes : (plan : Shape) (items : List Item) → AllByRecursion (IsSound (streams_of plan) plan.keys) items → length items ≤ 4294967295
     → accepted_in plan (map item_text (resumed_items plan items)) ≡ record { items = resumed_items plan items; refused = None }
 resumed-takes plan items all few = takes streams plan.late keys (resumed_items plan items) [] fits timely (omega (arith, few, length-resumed plan items))
@@ -234,12 +254,7 @@ resumed-takes plan items all few = takes streams plan.late keys (resumed_items p
     fit-b = mark-fit streams keys B items all
 
     fits : AllByRecursion (IsFit streams keys) (resumed_items plan items)
-    fits =
-        All-join (IsFit streams keys) (saved_items plan items) (replicate n Skip)
-        (All-join (IsFit streams keys) (kept_of plan items) (last_marks items)
-        (All-passed (IsSound streams keys) (IsFit streams keys) (is_kept (reach plan) (low_of plan items)) (λ i h k. kept-fit streams keys (reach plan) (low_of plan items) i h k) items all)
-        (All-join (IsFit streams keys) (mark_item A a) (mark_item B b) (mark_item-fit streams keys A a fit-a) (mark_item-fit streams keys B b fit-b)))
-        (skips-fit streams keys n)
+    fits = resumed-fit plan items all
 
     in_order : kept_of plan items ++ (mark_item A a ++ (mark_item B b ++ replicate n Skip)) ≡ resumed_items plan items
     in_order = ap (λ l. kept_of plan items ++ l) (sym (join-assoc (mark_item A a) (mark_item B b) (replicate n Skip))) ∙ sym (join-assoc (kept_of plan items) (last_marks items) (replicate n Skip))
@@ -255,3 +270,6 @@ resumed-accepted plan lines =
     let items : List Item = (accepted_in plan lines).items in
     let good = accepted-sound (streams_of plan) plan.late plan.keys lines [] tt (omega arith) in
     resumed-takes plan items good.0 good.1
+
+pub accepted-resumed-fit : (plan : Shape) (lines : List (List ℕ)) → AllByRecursion (IsFit (streams_of plan) plan.keys) (resumed_items plan (accepted_in plan lines).items)
+accepted-resumed-fit plan lines = resumed-fit plan (accepted_in plan lines).items (accepted-sound (streams_of plan) plan.late plan.keys lines [] tt (omega arith)).0

@@ -1,5 +1,5 @@
 -- The laws that resuming rests on.
-use Rattle.std.specs.Prelude.{◌≡◌, ◌≤◌, ℕ, List, [], ◌∷◌, ◌++◌, map, length, All, None}
+use Rattle.std.specs.Prelude.{◌≡◌, ◌≤◌, ◌⊎◌, ℕ, Bool, false, List, [], ◌∷◌, ◌++◌, map, length, All, None}
 use Rattle.sb_record.specs.declared.item.Item.{Item}
 use Rattle.sb_record.specs.declared.item.Record.{Record}
 use Rattle.sb_record.specs.declared.item.Stream.{Stream}
@@ -10,10 +10,11 @@ use Rattle.sb_record.specs.Inputs.{Accepted, accepted, accepted_after, progress_
 use Rattle.sb_record.specs.Progress.{Progress}
 use Rattle.sb_record.specs.Records.{before, at_least}
 use Rattle.sb_record.specs.Streams.{dropped_of}
+use Rattle.sb_outside.specs.Lines.{line_feed, lines}
 use Rattle.sb_pipeline.specs.Results.{output_of, rows_below}
 use Rattle.sb_pipeline.specs.Shapes.{Shape, streams_of}
 use Rattle.sb_checkpoint.specs.Reach.{HasNoSession, reach, within}
-use Rattle.sb_checkpoint.specs.Texts.{item_text, head_text, end_text, IsRead}
+use Rattle.sb_checkpoint.specs.Texts.{item_text, items_text, head_text, end_text, IsRead}
 use Rattle.sb_checkpoint.specs.Checkpoints.{low_of, streams_in, saved_items, resumed_items}
 
 -- streams with the same records from the plan's reach before w on give the same rows from w on
@@ -109,6 +110,22 @@ CutRunsGiveTheWhole =
     (plan : Shape) → HasNoSession plan → (first rest : List (List ℕ)) → (accepted_in plan first).refused ≡ None
     → Resumes plan (accepted_in plan first).items
     (accepted_in plan (first ++ rest)) (accepted_in plan (resumed_lines plan first ++ rest))
+
+-- bytes that are empty or end with a line feed
+abbrev pub AreWholeLines : List ℕ → Type 0
+AreWholeLines bytes = (bytes ≡ []) ⊎ ((before : List ℕ) × (bytes ≡ before ++ line_feed ∷ []))
+
+-- the bytes that a resumed run reads in place of these
+abbrev pub resumed_bytes : Shape → List ℕ → List ℕ
+resumed_bytes plan bytes = items_text (resumed_items plan (accepted_in plan (lines false bytes)).items)
+
+-- the same of an input of bytes that is cut behind a line, whether it has ended behind the rest or not
+abbrev pub CutInputsGiveTheWhole : Type 0
+CutInputsGiveTheWhole =
+    (plan : Shape) → HasNoSession plan → (first rest : List ℕ) (ended : Bool) → AreWholeLines first
+    → (accepted_in plan (lines false first)).refused ≡ None
+    → Resumes plan (accepted_in plan (lines false first)).items
+    (accepted_in plan (lines ended (first ++ rest))) (accepted_in plan (lines ended (resumed_bytes plan first ++ rest)))
 
 -- what stands between the line feeds of a checkpoint's text
 abbrev pub checkpoint_pieces : ℕ → ℕ → List Item → List (List ℕ)

@@ -46,6 +46,12 @@ pub fn cut_runs_give_the_whole()
     ensures { law.CutRunsGiveTheWhole }
 {}
 
+/// The same of an input of bytes, which is cut behind a line: its first part, and then the bytes that a resumed run reads
+/// in place of that part and the rest, give what one run over all bytes gives.
+pub fn cut_inputs_give_the_whole()
+    ensures { law.CutInputsGiveTheWhole }
+{}
+
 /// The lines of a checkpoint are read as what it kept.
 pub fn checkpoints_are_read_back()
     ensures { law.CheckpointsAreReadBack }
