@@ -1,6 +1,6 @@
 //! A source whose end is a fault: the input is only a first part, and more may follow.
 
-ghost use Rattle.std.specs.Prelude.{◌≡◌, ◌⊎◌, ◌≤◌, ◌<◌, true, false, Ok, length, OnErr, IsErr};
+ghost use Rattle.std.specs.Prelude.{◌≡◌, ◌⊎◌, ◌≤◌, ◌<◌, true, false, Ok, length, IfOk, OnErr, IsErr};
 ghost use Rattle.std.specs.Io.{ReadsAtMost};
 ghost use Rattle.std.specs.Io.KnownBytes.{ReadConsumes, IsAtEnd};
 ghost use Rattle.sb_outside.specs.Sources.{SourceCause, Rose};
@@ -67,7 +67,9 @@ impl<S: Source> Source for Cutoff<S> {
             (faults_of self.new.ended (S.faults self.new.source)) result }
         ensures fault { OnErr result (Ends self.old.ended self.new.ended
             ⊎ Rose (S.faults self.old.source) (S.faults self.new.source)) }
-        ensures end { Ends self.old.ended self.new.ended → IsErr result × IsAtEnd (S.left self.new.source) }
+        ensures end { Ends self.old.ended self.new.ended → IsErr result × IsAtEnd (S.left self.new.source)
+            × (S.faults self.new.source ≡ S.faults self.old.source) }
+        ensures some { self.old.ended ≡ false → IfOk result (λ n. 0 < n) }
         ensures unread { self.old.ended ≡ true → (self.new ≡ self.old) × (result ≡ Ok 0) }
     {
         if self.ended {
