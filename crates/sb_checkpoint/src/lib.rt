@@ -17,6 +17,8 @@ mod line_text;
 mod reaching;
 mod resumed;
 mod rows_from;
+#[cfg(test)]
+mod tests;
 mod writing;
 
 pub use checkpoint::{Checkpoint, StreamRec, checkpoint_of};
