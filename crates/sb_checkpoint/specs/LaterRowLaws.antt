@@ -1,4 +1,5 @@
--- The laws of an output that is handed the rows from a time on. Each is proved here, where its implementation can name it.
+-- The laws of an output that is handed the rows from a time on. Each is proved here, where its implementation can
+-- name it.
 use Rattle.std.proofs.Common.{List, [], ◌++◌, refl, sym, subst, ◌∙◌}
 use Rattle.std.specs.Prelude.{nat_lt, not}
 use Rattle.std.proofs.lemmas.List.Elements.{filter-append}

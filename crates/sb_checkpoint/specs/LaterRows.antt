@@ -9,6 +9,7 @@ pub record HandedOn (R : Type 0) : Type 0 where
   pub out : R
 
 -- the output is as it is after those of the rows that have a time at least low, and low stays
-pub record Hands {R : Type 0} (after : R → List Record → R → Type 0) (old : HandedOn R) (rows : List Record) (new : HandedOn R) : Type 0 where
+pub record Hands {R : Type 0} (after : R → List Record → R → Type 0)
+    (old : HandedOn R) (rows : List Record) (new : HandedOn R) : Type 0 where
   pub low : new.low ≡ old.low
   pub out : after old.out (at_least old.low rows) new.out

@@ -103,8 +103,8 @@ ResumedLinesAreAccepted =
     → accepted_in plan (resumed_lines plan lines)
     ≡ record { items = resumed_items plan (accepted_in plan lines).items; refused = None }
 
--- a run over the first lines, none of which is refused, and then a run over the lines of what the checkpoint kept of them
--- and the rest, give what one run over all lines gives
+-- a run over the first lines, none of which is refused, and then a run over the lines of what the checkpoint kept of
+-- them and the rest, give what one run over all lines gives
 abbrev pub CutRunsGiveTheWhole : Type 0
 CutRunsGiveTheWhole =
     (plan : Shape) → HasNoSession plan → (first rest : List (List ℕ)) → (accepted_in plan first).refused ≡ None

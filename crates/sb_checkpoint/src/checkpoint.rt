@@ -29,8 +29,8 @@ pub struct Checkpoint {
     pub mark_b: u64,
 }
 
-/// The checkpoint of these accepted items of an input of so many lines, where no transform of the plan gathers records by
-/// session.
+/// The checkpoint of these accepted items of an input of so many lines, where no transform of the plan gathers
+/// records by session.
 ///
 /// # Errors
 ///

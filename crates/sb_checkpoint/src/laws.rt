@@ -24,8 +24,9 @@ pub fn resumed_rows_are_the_rest()
     ensures { law.ResumedRowsAreTheRest }
 {}
 
-/// Lines that follow a checkpoint are accepted and refused as those that follow the whole first part. What the first part
-/// drops and gives, and then what the resumed run drops and gives from the low watermark on, is that of the whole run.
+/// Lines that follow a checkpoint are accepted and refused as those that follow the whole first part. What the first
+/// part drops and gives, and then what the resumed run drops and gives from the low watermark on, is that of the
+/// whole run.
 pub fn resumed_runs_give_the_rest()
     ensures { law.ResumedRunsGiveTheRest }
 {}
@@ -40,14 +41,14 @@ pub fn resumed_lines_are_accepted()
     ensures { law.ResumedLinesAreAccepted }
 {}
 
-/// A run over the first lines of an input, and one over the lines of a checkpoint of them and the rest, give what one run
-/// over all lines gives.
+/// A run over the first lines of an input, and one over the lines of a checkpoint of them and the rest, give what one
+/// run over all lines gives.
 pub fn cut_runs_give_the_whole()
     ensures { law.CutRunsGiveTheWhole }
 {}
 
-/// The same of an input of bytes, which is cut behind a line: its first part, and then the bytes that a resumed run reads
-/// in place of that part and the rest, give what one run over all bytes gives.
+/// The same of an input of bytes, which is cut behind a line: its first part, and then the bytes that a resumed run
+/// reads in place of that part and the rest, give what one run over all bytes gives.
 pub fn cut_inputs_give_the_whole()
     ensures { law.CutInputsGiveTheWhole }
 {}

@@ -1,12 +1,12 @@
 //! Checkpoints: what of the input of a run has to be kept, so that the run can be cut there and go on later.
 //!
-//! [`laws`] says why that is enough: the rows of the first part, and then those that a run gives from the low watermark of
-//! that part on over what was kept and the rest of the input, are the rows of one run over all of it.
+//! [`laws`] says why that is enough: the rows of the first part, and then those that a run gives from the low
+//! watermark of that part on over what was kept and the rest of the input, are the rows of one run over all of it.
 //!
-//! A run over a first part reads it by [`Cutoff`], whose end is no end of the input. [`checkpoint_of`] says what is kept of
-//! its items, and [`write_checkpoint`] writes that as text. A run that goes on reads what was kept, and then the rest, by
-//! [`Resumed`], and gives its rows to [`RowsFrom`], which leaves out those that the first run gave. Plans with sessions
-//! cannot be cut ([`has_session`]).
+//! A run over a first part reads it by [`Cutoff`], whose end is no end of the input. [`checkpoint_of`] says what is
+//! kept of its items, and [`write_checkpoint`] writes that as text. A run that goes on reads what was kept, and then
+//! the rest, by [`Resumed`], and gives its rows to [`RowsFrom`], which leaves out those that the first run gave.
+//! Plans with sessions cannot be cut ([`has_session`]).
 #![tactic(auto)]
 
 mod ahead;

@@ -10,8 +10,9 @@ use crate::checkpoint::Checkpoint;
 use sb_outside::{Source, SourceFault};
 use std::marker::Model;
 
-/// The lines of a checkpoint's items, then a comment `#` for each line more that its input had, then the bytes of a source.
-/// So the lines of the source have the numbers that they have in the whole input. It counts the faults of the source.
+/// The lines of a checkpoint's items, then a comment `#` for each line more that its input had, then the bytes of a
+/// source. So the lines of the source have the numbers that they have in the whole input. It counts the faults of the
+/// source.
 #[derive(Drop)]
 pub struct Resumed<S> {
     ahead: Ahead,

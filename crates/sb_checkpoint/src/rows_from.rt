@@ -8,8 +8,8 @@ use sb_outside::SinkFault;
 use sb_record::Record;
 use std::marker::Model;
 
-/// Hands on the rows with a time at least `low`, in their order, and leaves out the others. Rows that stand together are
-/// handed on in one call.
+/// Hands on the rows with a time at least `low`, in their order, and leaves out the others. Rows that stand together
+/// are handed on in one call.
 #[derive(Drop)]
 pub struct RowsFrom<R> {
     low: u64,

@@ -8,8 +8,8 @@ use crate::checkpoint::Checkpoint;
 use crate::line_text::{end_line, head_line, item_at, item_count, item_line};
 use sb_outside::{Sink, SinkFault, write_all_of};
 
-/// Writes the text of a checkpoint: a line `checkpoint LINES LOW`, one for each record and for each watermark above 0, and
-/// a line `end COUNT`, the number of lines between. It takes no memory, and does not finish the sink.
+/// Writes the text of a checkpoint: a line `checkpoint LINES LOW`, one for each record and for each watermark above
+/// 0, and a line `end COUNT`, the number of lines between. It takes no memory, and does not finish the sink.
 ///
 /// # Errors
 ///
