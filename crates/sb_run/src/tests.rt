@@ -15,6 +15,7 @@ use std::alloc::{AllocError, Global};
 use std::sync::Wait;
 use std::test::Fail;
 use std::thread::Threads;
+use std::time::Clock;
 
 /// What a run left: its end, the text of the rows that were written, and the late records that were dropped.
 #[derive(Drop)]
@@ -48,7 +49,7 @@ fn pieces(alloc: Global) -> Result<Vec<usize>, AllocError>
 
 /// Runs a plan with so many workers and bundles of a size. The writes with these numbers fail, and so does the tap at
 /// these calls.
-fn run<W: Threads + Wait + Sync>(
+fn run<W: Threads + Wait + Clock + Sync>(
     rt: &W,
     alloc: Global,
     plan: Plan,

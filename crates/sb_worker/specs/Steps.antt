@@ -13,10 +13,13 @@ use Rattle.sb_worker.specs.Entries.{is_claimed, is_end_seen, is_idle_of, is_not_
 abbrev pub IsClaiming : List (Entry Change) → Type 0
 IsClaiming entries = Does 0 0 entries × (Has is_claimed entries ⊎ FoundNoneFree entries)
 
--- each node up to this one was found without a bundle that waits, and no place was full
+-- no place of the shelf was full
+abbrev pub IsShelfBare : List (Entry Change) → Type 0
+IsShelfBare entries = Does 0 0 entries × FoundNoneFull entries
+
+-- each node up to this one was found without a bundle that waits
 abbrev pub IsIdle : ℕ → List (Entry Change) → Type 0
-IsIdle sink entries =
-    Does 0 0 entries × ((node : ℕ) → node ≤ sink → Has (is_idle_of node) entries) × FoundNoneFull entries
+IsIdle sink entries = Does 0 0 entries × ((node : ℕ) → node ≤ sink → Has (is_idle_of node) entries)
 
 -- the node was found without a bundle that waits
 abbrev pub IsIdleAt : ℕ → List (Entry Change) → Type 0
@@ -35,7 +38,8 @@ abbrev pub IsDone : ℕ → Did → List (Entry Change) → Type 0
 IsDone sink Bundle entries = Does 1 0 entries × (Has is_claimed entries ⊎ FoundNoneFree entries)
 IsDone sink Closing entries = Does 0 1 entries
 IsDone sink Nothing entries =
-    IsIdle sink entries × ((node : ℕ) → node ≤ sink → Has (is_not_yet_of node) entries)
+    Does 0 0 entries × FoundNoneFull entries
+    × ((node : ℕ) → node ≤ sink → Has (is_not_yet_of node) entries × Has (is_idle_of node) entries)
 
 -- why it stopped
 abbrev pub IsWhy : OneStop → List (Entry Change) → Type 0

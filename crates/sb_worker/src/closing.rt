@@ -99,7 +99,7 @@ fn close_node<R: Wait>(
     }
 }
 
-/// Makes a whole closing of the first node that allows it, if one does.
+/// Makes a whole closing of the last node that allows it, if one does.
 pub(crate) fn close_any<R: Wait>(
     rt: &R,
     cascade: &Cascade,
@@ -112,7 +112,7 @@ pub(crate) fn close_any<R: Wait>(
         (Gains (IsNotYet (length (plan_of cascade.now).steps)) pass.old pass.new)) }
     ensures failed { OnErr result (Grows pass.old pass.new) }
 {
-    for node in 0..cascade.plan().transforms() + 1 {
+    for node in (0..cascade.plan().transforms() + 1).rev() {
         if close_node(rt, cascade, pass, node)? {
             return Ok(true);
         }

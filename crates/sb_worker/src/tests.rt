@@ -20,6 +20,7 @@ use std::alloc::Global;
 use std::sync::Wait;
 use std::test::Fail;
 use std::thread::Threads;
+use std::time::Clock;
 
 /// How many runs there are.
 const SEEDS: u64 = 200;
@@ -193,7 +194,7 @@ fn is_settled(alloc: Global, hand: &Hand) -> Result<bool, Fail>
 }
 
 /// A run of four passes over what comes.
-fn run<R: Threads + Wait + Sync>(
+fn run<R: Threads + Wait + Clock + Sync>(
     rt: &R,
     alloc: Global,
     seed: u64,

@@ -13,9 +13,10 @@ use std::alloc::Global;
 use std::mem;
 use std::sync::Wait;
 use std::thread::{Threads, join};
+use std::time::Clock;
 
 // Each of the passes helps, in a thread of its own if one can be made. None if one of them found no memory.
-fn help_each<W: Threads + Wait + Sync, G: Gate>(
+fn help_each<W: Threads + Wait + Clock + Sync, G: Gate>(
     rt: &W,
     alloc: Global,
     cascade: &Cascade,
@@ -53,7 +54,7 @@ fn help_each<W: Threads + Wait + Sync, G: Gate>(
 
 /// Each of the passes helps until the run ends, in a thread of its own if one can be made. It takes no memory. False if
 /// one of them found none: then the passes are gone, with what they have in hand.
-pub(crate) fn help_all<W: Threads + Wait + Sync, G: Gate>(
+pub(crate) fn help_all<W: Threads + Wait + Clock + Sync, G: Gate>(
     rt: &W,
     alloc: Global,
     cascade: &Cascade,

@@ -21,6 +21,7 @@ use sb_work::{Claim, Gate};
 use sb_worker::{OneStop, one_step, work_off};
 use std::alloc::Global;
 use std::sync::Wait;
+use std::thread;
 
 // Drains the rows that lie ready, and gives them out.
 fn drain_out<W: Wait, R: RowOut>(
@@ -43,7 +44,7 @@ fn drain_out<W: Wait, R: RowOut>(
     give_out(&rows, out, taps)
 }
 
-// A step of the feeder as a worker. It finds nothing to do, or no memory was found by this worker or another.
+// A step of the feeder as a worker. It fails if this worker or another found no memory.
 fn step_too<W: Wait, G: Gate>(
     rt: &W,
     alloc: Global,
@@ -77,7 +78,8 @@ fn try_there(cascade: &Cascade, pass: &mut CascadePass, stream: Stream) -> Optio
     }
 }
 
-// Works off a bundle of the node that takes the stream, if its turn is free, or else makes a step.
+// Works off a bundle of the node that takes the stream, if its turn is free, or else makes a step. If there is nothing to
+// do, since all is in the hands of others, it leaves the processor to them.
 fn make_room<W: Wait, G: Gate>(
     rt: &W,
     alloc: Global,
@@ -97,7 +99,11 @@ fn make_room<W: Wait, G: Gate>(
             Err(NoMemory) => Err(NoMemory),
         },
         None => match step_too(rt, alloc, cascade, pass, gate) {
-            Ok(_) => Ok(()),
+            Ok(Did::Bundle | Did::Closing) => Ok(()),
+            Ok(Did::Nothing) => {
+                thread::yield_now();
+                Ok(())
+            }
             Err(NoMemory) => Err(NoMemory),
         },
     }

@@ -18,6 +18,7 @@ use sb_work::Gate;
 use std::alloc::Global;
 use std::sync::Wait;
 use std::thread::{Threads, join};
+use std::time::Clock;
 
 /// Three passes.
 type Three = (CascadePass, (CascadePass, CascadePass));
@@ -47,7 +48,7 @@ pub(super) struct Driven {
 }
 
 /// Two helpers.
-fn two_help<R: Threads + Wait + Sync, G: Gate>(
+fn two_help<R: Threads + Wait + Clock + Sync, G: Gate>(
     rt: &R,
     alloc: Global,
     cascade: &Cascade,
@@ -74,7 +75,7 @@ fn two_help<R: Threads + Wait + Sync, G: Gate>(
 }
 
 /// Three helpers.
-fn three_help<R: Threads + Wait + Sync, G: Gate>(
+fn three_help<R: Threads + Wait + Clock + Sync, G: Gate>(
     rt: &R,
     alloc: Global,
     cascade: &Cascade,
@@ -106,7 +107,7 @@ fn three_help<R: Threads + Wait + Sync, G: Gate>(
 }
 
 /// The feeder and three helpers.
-fn work_all<R: Threads + Wait + Sync, G: Gate>(
+fn work_all<R: Threads + Wait + Clock + Sync, G: Gate>(
     rt: &R,
     alloc: Global,
     cascade: &Cascade,
@@ -260,7 +261,7 @@ fn finish<R: Wait, G: Gate>(
 /// # Errors
 ///
 /// Why the feeder stopped, or want of memory.
-pub(super) fn drive<R: Threads + Wait + Sync, G: Gate>(
+pub(super) fn drive<R: Threads + Wait + Clock + Sync, G: Gate>(
     rt: &R,
     alloc: Global,
     hand: Hand,
