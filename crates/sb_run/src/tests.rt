@@ -2,6 +2,8 @@
 
 ghost use Rattle.std.specs.Prelude.{◌≤◌, All, IfOk};
 
+mod holding;
+
 use crate::{MAX_WORKERS, RunEnd, Sizes, execute, execute_alone};
 use sb_aggregate::Agg;
 use sb_bundle::MAX_BUNDLE;
@@ -10,7 +12,7 @@ use sb_outside::{MemSink, MemSource};
 use sb_pipeline::{Down, Kind, Plan, Step};
 use sb_record::{Dropped, LatePolicy, Refusal};
 use sb_window::Windows;
-use sb_work::OpenGate;
+use sb_work::{Gate, OpenGate};
 use std::alloc::{AllocError, Global};
 use std::sync::Wait;
 use std::test::Fail;
@@ -47,9 +49,9 @@ fn pieces(alloc: Global) -> Result<Vec<usize>, AllocError>
     vec![in alloc; 27; 20]
 }
 
-/// Runs a plan with so many workers and bundles of a size. The writes with these numbers fail, and so does the tap at
-/// these calls.
-fn run<W: Threads + Wait + Clock + Sync>(
+/// Runs a plan with so many workers, who pass the gate, and bundles of a size. The writes with these numbers fail, and so
+/// does the tap at these calls.
+fn run<W: Threads + Wait + Clock + Sync, G: Gate>(
     rt: &W,
     alloc: Global,
     plan: Plan,
@@ -58,6 +60,7 @@ fn run<W: Threads + Wait + Clock + Sync>(
     input: &mut MemSource,
     writes: &[u64],
     calls: &[u64],
+    gate: &G,
 ) -> Result<Ran, AllocError>
     requires some { 1 ≤ bundle }
     requires most { bundle ≤ MAX_BUNDLE }
@@ -87,7 +90,7 @@ fn run<W: Threads + Wait + Clock + Sync>(
             &mut out,
             &mut taps,
             &mut dropped,
-            &OpenGate,
+            gate,
         )
     };
     let rows = Vec::from_slice(alloc, sink.taken())?;
@@ -160,6 +163,7 @@ fn rows_do_not_depend_on_the_size_of_bundles(rt: HostRuntime) -> Result<(), Fail
                 &mut source(alloc, lines, &[])?,
                 &[],
                 &[],
+                &OpenGate,
             )?;
             assert_eq!(rt; ran.rows.as_slice(), rows.as_bytes());
             assert_eq!(rt; said(&ran.end), end);
@@ -176,7 +180,17 @@ fn rows_do_not_depend_on_the_number_of_workers(rt: HostRuntime) -> Result<(), Fa
             for bundle in [1, 2, 1_024] {
                 let plan = sums(alloc, every, LatePolicy::Refuse)?;
                 let mut input = source(alloc, lines, &[])?;
-                let ran = run(&rt, alloc, plan, workers, bundle, &mut input, &[], &[])?;
+                let ran = run(
+                    &rt,
+                    alloc,
+                    plan,
+                    workers,
+                    bundle,
+                    &mut input,
+                    &[],
+                    &[],
+                    &OpenGate,
+                )?;
                 assert_eq!(rt; ran.rows.as_slice(), rows.as_bytes());
                 assert_eq!(rt; said(&ran.end), end);
             }
@@ -201,7 +215,7 @@ fn faults_end_a_run_of_several_workers(rt: HostRuntime) -> Result<(), Fail> {
     ] {
         let plan = sums(alloc, 10, LatePolicy::Refuse)?;
         let mut input = source(alloc, FIRST, reads)?;
-        let ran = run(&rt, alloc, plan, 4, 1, &mut input, writes, calls)?;
+        let ran = run(&rt, alloc, plan, 4, 1, &mut input, writes, calls, &OpenGate)?;
         assert_eq!(rt; ran.rows.as_slice(), rows.as_bytes());
         assert_eq!(rt; said(&ran.end), end);
     }
@@ -233,6 +247,7 @@ fn faults_end_a_run_behind_what_was_written(rt: HostRuntime) -> Result<(), Fail>
             &mut source(alloc, FIRST, reads)?,
             writes,
             calls,
+            &OpenGate,
         )?;
         assert_eq!(rt; ran.rows.as_slice(), rows.as_bytes());
         assert_eq!(rt; said(&ran.end), end);
@@ -245,7 +260,7 @@ fn late_records_are_listed_if_the_plan_drops_them(rt: HostRuntime) -> Result<(),
     let alloc = rt.alloc();
     let plan = sums(alloc, 10, LatePolicy::Drop)?;
     let mut input = source(alloc, LATE, &[])?;
-    let ran = run(&rt, alloc, plan, 1, 2, &mut input, &[], &[])?;
+    let ran = run(&rt, alloc, plan, 1, 2, &mut input, &[], &[], &OpenGate)?;
     assert_eq!(rt; ran.rows.as_slice(), b"10,1,5\n20,1,4\n".as_slice());
     assert_eq!(rt; said(&ran.end), "done");
     let late = Dropped {
