@@ -5,6 +5,8 @@ mod claiming;
 mod closing;
 mod feeding;
 mod helping;
+#[cfg(test)]
+mod shelf_tests;
 mod step;
 #[cfg(test)]
 mod tests;
