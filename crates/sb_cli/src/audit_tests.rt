@@ -1,12 +1,13 @@
 //! Audits of diary texts: what is written, the status and the note.
 
-use crate::Status;
-use crate::tests::{run, run_in_pieces};
-use sb_outside::{MemSink, MemSource};
+use crate::trial::{Calls, SUM, Trial, try_out};
 use std::test::Fail;
 
-/// A diary text, the line of its audit, the exit code and the note.
-type Case = (&'static [u8], &'static str, u8, &'static str);
+/// The audit of a text, in which nothing fails.
+const AUDIT: Trial<'static> = Trial {
+    words: &["audit"],
+    ..SUM
+};
 
 /// The diary of a node: one bundle, and a closing.
 const SETTLED: &[u8] = b"transform 0 1\narrive 0 0 1 3\ntake 0 1\nfinish 0 1 3\n\
@@ -20,83 +21,133 @@ const LONGEST: &[u8] = b"transform 0 1\n\
 const TOO_LONG: &[u8] = b"0000000000000000000000000000000000000000000000000000000000000000\
     00000000000000000000000000000000000000000000000000000000000000000\n";
 
-const CASES: [Case; 13] = [
-    (b"", "transforms 0 events 0 settled\n", 0, ""),
-    (SETTLED, "transforms 1 events 6 settled\n", 0, ""),
-    (
-        b"transform 0 1\r\nseal 0 0 10\r\nbegin 0 0 10 0\r\nend 0 0\r\ntransform 1 2",
-        "transforms 2 events 3 settled\n",
-        0,
-        "",
-    ),
-    (
-        b"transform 0 1\narrive 0 0 1 1",
-        "transforms 1 events 1 running\n",
-        0,
-        "",
-    ),
-    (
-        b"transform 0 1\nseal 0 0 10\ntransform 1 1\n",
-        "transforms 2 events 1 running\n",
-        0,
-        "",
-    ),
-    (
-        b"transform 0 1\narrive 0 0 1 1\nseal 0 0 10\nbegin 0 0 10 0\n",
-        "",
-        9,
-        "line 4: not legal\n",
-    ),
-    (b"transform 1 1\n", "", 9, "line 1: not legal\n"),
-    (b"transform 0 3\n", "", 9, "line 1: malformed\n"),
-    (b"transform 0 1\n\n", "", 9, "line 2: malformed\n"),
-    (b"transform 0 1 \n", "", 9, "line 1: malformed\n"),
-    (b"# x\n", "", 9, "line 1: malformed\n"),
-    (LONGEST, "", 9, "line 2: malformed\n"),
-    (TOO_LONG, "", 9, "line 1: too long\n"),
+const CASES: [Trial; 13] = [
+    Trial {
+        rows: "transforms 0 events 0 settled\n",
+        ..AUDIT
+    },
+    Trial {
+        text: SETTLED,
+        rows: "transforms 1 events 6 settled\n",
+        ..AUDIT
+    },
+    Trial {
+        text: b"transform 0 1\r\nseal 0 0 10\r\nbegin 0 0 10 0\r\nend 0 0\r\ntransform 1 2",
+        rows: "transforms 2 events 3 settled\n",
+        ..AUDIT
+    },
+    Trial {
+        text: b"transform 0 1\narrive 0 0 1 1",
+        rows: "transforms 1 events 1 running\n",
+        ..AUDIT
+    },
+    Trial {
+        text: b"transform 0 1\nseal 0 0 10\ntransform 1 1\n",
+        rows: "transforms 2 events 1 running\n",
+        ..AUDIT
+    },
+    Trial {
+        text: b"transform 0 1\narrive 0 0 1 1\nseal 0 0 10\nbegin 0 0 10 0\n",
+        code: 9,
+        notes: "line 4: not legal\n",
+        ..AUDIT
+    },
+    Trial {
+        text: b"transform 1 1\n",
+        code: 9,
+        notes: "line 1: not legal\n",
+        ..AUDIT
+    },
+    Trial {
+        text: b"transform 0 3\n",
+        code: 9,
+        notes: "line 1: malformed\n",
+        ..AUDIT
+    },
+    Trial {
+        text: b"transform 0 1\n\n",
+        code: 9,
+        notes: "line 2: malformed\n",
+        ..AUDIT
+    },
+    Trial {
+        text: b"transform 0 1 \n",
+        code: 9,
+        notes: "line 1: malformed\n",
+        ..AUDIT
+    },
+    Trial {
+        text: b"# x\n",
+        code: 9,
+        notes: "line 1: malformed\n",
+        ..AUDIT
+    },
+    Trial {
+        text: LONGEST,
+        code: 9,
+        notes: "line 2: malformed\n",
+        ..AUDIT
+    },
+    Trial {
+        text: TOO_LONG,
+        code: 9,
+        notes: "line 1: too long\n",
+        ..AUDIT
+    },
 ];
 
 #[test]
 fn an_audit_says_what_a_text_says(rt: HostRuntime) -> Result<(), Fail> {
-    for size in [1, 7, 8192usize] {
-        for (text, said, code, note) in CASES {
-            let ran = run_in_pieces(&rt, &["audit"], text, size)?;
-            assert_eq!(rt; ran.rows.as_slice(), said.as_bytes(), "{said:?} {note:?}");
-            assert_eq!(rt; ran.status.code(), code, "{said:?} {note:?}");
-            assert_eq!(rt; ran.notes.as_slice(), note.as_bytes(), "{said:?} {note:?}");
+    for most in [1, 7, 8192usize] {
+        for trial in &CASES {
+            let reads = Calls { most, failing: &[] };
+            try_out(&rt, &Trial { reads, ..*trial }, None)?;
         }
     }
     Ok(())
 }
 
-#[test]
-fn an_audit_whose_read_fails_says_nothing(rt: HostRuntime) -> Result<(), Fail> {
-    let alloc = rt.alloc();
-    for given in [14, 30usize] {
-        let bytes = Vec::from_slice(alloc, SETTLED)?;
-        let mut input = MemSource::new(bytes, vec![in alloc; given]?, vec![in alloc; 2]?);
-        let mut out = MemSink::new(alloc, Vec::new(alloc), Vec::new(alloc));
-        let ran = run(&rt, &["audit"], &mut input, &mut out)?;
-        assert_eq!(rt; ran.status, Status::Input, "{given} bytes");
-        assert_eq!(rt; ran.rows.len(), 0, "{given} bytes");
-        assert_eq!(rt;
-            ran.notes.as_slice(),
-            b"input failed\n".as_slice(),
-            "{given} bytes"
-        );
-    }
-    Ok(())
-}
+/// An audit whose read fails says nothing, and one whose write fails writes a prefix.
+const FAULTS: [Trial; 3] = [
+    Trial {
+        text: SETTLED,
+        reads: Calls {
+            most: 14,
+            failing: &[2],
+        },
+        code: 4,
+        notes: "input failed\n",
+        faults: 1,
+        ..AUDIT
+    },
+    Trial {
+        text: SETTLED,
+        reads: Calls {
+            most: 30,
+            failing: &[2],
+        },
+        code: 4,
+        notes: "input failed\n",
+        faults: 1,
+        ..AUDIT
+    },
+    Trial {
+        text: SETTLED,
+        writes: Calls {
+            most: 10,
+            failing: &[2],
+        },
+        rows: "transforms",
+        code: 5,
+        notes: "output failed\n",
+        ..AUDIT
+    },
+];
 
 #[test]
-fn an_audit_whose_write_fails_writes_a_prefix(rt: HostRuntime) -> Result<(), Fail> {
-    let alloc = rt.alloc();
-    let bytes = Vec::from_slice(alloc, SETTLED)?;
-    let mut input = MemSource::new(bytes, Vec::new(alloc), Vec::new(alloc));
-    let mut out = MemSink::new(alloc, vec![in alloc; 10]?, vec![in alloc; 2]?);
-    let ran = run(&rt, &["audit"], &mut input, &mut out)?;
-    assert_eq!(rt; ran.status, Status::Output);
-    assert_eq!(rt; ran.rows.as_slice(), b"transforms".as_slice());
-    assert_eq!(rt; ran.notes.as_slice(), b"output failed\n".as_slice());
+fn a_fault_ends_an_audit(rt: HostRuntime) -> Result<(), Fail> {
+    for trial in &FAULTS {
+        try_out(&rt, trial, None)?;
+    }
     Ok(())
 }

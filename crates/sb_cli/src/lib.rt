@@ -16,6 +16,8 @@ mod ending;
 mod engine;
 #[cfg(test)]
 mod engine_tests;
+#[cfg(test)]
+mod fault_tests;
 mod input;
 mod kept;
 mod lent;
@@ -31,6 +33,8 @@ mod settings_tests;
 mod status;
 #[cfg(test)]
 mod tests;
+#[cfg(test)]
+mod trial;
 #[cfg(test)]
 mod width_tests;
 

@@ -1,8 +1,28 @@
 //! Whole runs of plans with sessions: rows that are worked by hand, and plans that are refused.
 
 use crate::plan_tests::check_plan;
+use crate::trial::{RUN, Trial};
 use std::alloc::Global;
+use std::process::Abort;
+use std::sync::Wait;
 use std::test::Fail;
+use std::thread::Threads;
+
+/// Runs a plan over lines, whose rows are these.
+fn check_rows(
+    rt: &(impl AllocGlobal + Abort + Threads + Wait + Sync),
+    plan: &str,
+    lines: &str,
+    rows: &str,
+) -> Result<(), Fail> {
+    let trial = Trial {
+        plan: plan.as_bytes(),
+        text: lines.as_bytes(),
+        rows,
+        ..RUN
+    };
+    check_plan(rt, &trial)
+}
 
 /// The plan of one transform of stream a that gives sessions, with these keys.
 fn session_with(alloc: Global, keys: &str) -> Result<String, Fail> {
@@ -10,58 +30,86 @@ fn session_with(alloc: Global, keys: &str) -> Result<String, Fail> {
     Ok(format!(in alloc; "{transform}{keys}\n")?)
 }
 
-/// Lines of an input, the rows of the sums of sessions with a gap of 5, the status and the note.
-const SUMS: [(&str, &str, u8, &str); 12] = [
+/// Sums of sessions with a gap of 5.
+const SUMS: [Trial; 12] = [
     // 5 is 4 after 1, and 10 is 5 after 5: the sessions are 1, 5 (end 5 + 5, sum 10 + 1) and 10 (end 10 + 5).
-    (
-        "r,a,1,1,10\nr,a,5,1,1\nr,a,10,1,2\n",
-        "10,1,11\n15,1,2\n",
-        0,
-        "",
-    ),
+    Trial {
+        text: b"r,a,1,1,10\nr,a,5,1,1\nr,a,10,1,2\n",
+        rows: "10,1,11\n15,1,2\n",
+        ..RUN
+    },
     // In order the times are 1, 5 and 9, each 4 after the one before it: one session, which ends at 9 + 5.
-    (
-        "r,a,1,1,1\nr,a,9,1,1\nw,a,1\nr,a,5,1,1\n",
-        "14,1,3\n",
-        0,
-        "",
-    ),
+    Trial {
+        text: b"r,a,1,1,1\nr,a,9,1,1\nw,a,1\nr,a,5,1,1\n",
+        rows: "14,1,3\n",
+        ..RUN
+    },
     // 6 is 5 after 1: two sessions, of which the first ends at the watermark.
-    ("r,a,1,1,1\nw,a,6\nr,a,6,1,1\n", "6,1,1\n11,1,1\n", 0, ""),
+    Trial {
+        text: b"r,a,1,1,1\nw,a,6\nr,a,6,1,1\n",
+        rows: "6,1,1\n11,1,1\n",
+        ..RUN
+    },
     // Of key 1 the times are 1, 4 and 9: the sessions are 1, 4 (end 9, sum 1 + 2) and 9 (end 14). Of key 2 they are 2, 6
     // and 7: one session, which ends at 12, with the sum 10 + 20 + 30.
-    (
-        "r,a,1,1,1\nr,a,2,2,10\nr,a,4,1,2\nr,a,6,2,20\nr,a,7,2,30\nr,a,9,1,4\n",
-        "9,1,3\n12,2,60\n14,1,4\n",
-        0,
-        "",
-    ),
+    Trial {
+        text: b"r,a,1,1,1\nr,a,2,2,10\nr,a,4,1,2\nr,a,6,2,20\nr,a,7,2,30\nr,a,9,1,4\n",
+        rows: "9,1,3\n12,2,60\n14,1,4\n",
+        ..RUN
+    },
     // Sessions of two keys that end together come in the order of the keys.
-    ("r,a,3,2,5\nr,a,3,1,7\n", "8,1,7\n8,2,5\n", 0, ""),
+    Trial {
+        text: b"r,a,3,2,5\nr,a,3,1,7\n",
+        rows: "8,1,7\n8,2,5\n",
+        ..RUN
+    },
     // The records of one time are in one session.
-    ("r,a,2,1,1\nr,a,2,1,2\nr,a,2,1,-4\n", "7,1,-1\n", 0, ""),
+    Trial {
+        text: b"r,a,2,1,1\nr,a,2,1,2\nr,a,2,1,-4\n",
+        rows: "7,1,-1\n",
+        ..RUN
+    },
     // The first record comes at the watermark: its session ends at 6 + 5.
-    ("w,a,6\nr,a,6,1,1\n", "11,1,1\n", 0, ""),
+    Trial {
+        text: b"w,a,6\nr,a,6,1,1\n",
+        rows: "11,1,1\n",
+        ..RUN
+    },
     // The session of 3 would end at 8, so it is open at the watermark 6, and 6 goes into it: it ends at 11.
-    ("r,a,3,1,1\nw,a,6\nr,a,6,1,2\n", "11,1,3\n", 0, ""),
+    Trial {
+        text: b"r,a,3,1,1\nw,a,6\nr,a,6,1,2\n",
+        rows: "11,1,3\n",
+        ..RUN
+    },
     // A line is refused: what ends by the watermark is written. The session of 1 ends at 6.
-    ("r,a,1,1,1\nw,a,6\nx\n", "6,1,1\n", 3, "line 3: malformed\n"),
-    ("r,a,1,1,1\nw,a,5\nx\n", "", 3, "line 3: malformed\n"),
+    Trial {
+        text: b"r,a,1,1,1\nw,a,6\nx\n",
+        rows: "6,1,1\n",
+        code: 3,
+        notes: "line 3: malformed\n",
+        ..RUN
+    },
+    Trial {
+        text: b"r,a,1,1,1\nw,a,5\nx\n",
+        code: 3,
+        notes: "line 3: malformed\n",
+        ..RUN
+    },
     // The greatest time.
-    (
-        "r,a,1000000000000000,1,1\n",
-        "1000000000000005,1,1\n",
-        0,
-        "",
-    ),
-    ("", "", 0, ""),
+    Trial {
+        text: b"r,a,1000000000000000,1,1\n",
+        rows: "1000000000000005,1,1\n",
+        ..RUN
+    },
+    Trial { ..RUN },
 ];
 
 #[test]
 fn sums_of_sessions(rt: HostRuntime) -> Result<(), Fail> {
     let plan = session_with(rt.alloc(), "gap = 5\ngive = \"sum\"")?;
-    for (lines, rows, code, note) in &SUMS {
-        check_plan(&rt, &plan, "", lines, rows, *code, note)?;
+    for trial in &SUMS {
+        let plan = plan.as_bytes();
+        check_plan(&rt, &Trial { plan, ..*trial })?;
     }
     Ok(())
 }
@@ -84,7 +132,7 @@ fn what_sessions_give(rt: HostRuntime) -> Result<(), Fail> {
         let keys = format!(in alloc; "gap = 5\ngive = \"{give}\"")?;
         let plan = session_with(alloc, &keys)?;
         let rows = format!(in alloc; "13,1,{first}\n18,1,{second}\n")?;
-        check_plan(&rt, &plan, "", lines, &rows, 0, "")?;
+        check_rows(&rt, &plan, lines, &rows)?;
     }
     Ok(())
 }
@@ -113,7 +161,7 @@ fn gaps_of_sessions(rt: HostRuntime) -> Result<(), Fail> {
     for (gap, lines, rows) in &GAPS {
         let keys = format!(in alloc; "gap = {gap}\ngive = \"sum\"")?;
         let plan = session_with(alloc, &keys)?;
-        check_plan(&rt, &plan, "", lines, rows, 0, "")?;
+        check_rows(&rt, &plan, lines, rows)?;
     }
     Ok(())
 }
@@ -128,25 +176,19 @@ const SUM_OF_SESSIONS: &str =
 fn sessions_and_sums_in_one_plan(rt: HostRuntime) -> Result<(), Fail> {
     // The windows of 10 end at 10, 20 and 50, so the sums 7, 4 and 1 have the times 9, 19 and 49. 19 is 10 after 9, and
     // 49 is 30 after 19: the sessions are 9, 19 (end 19 + 15, sum 7 + 4) and 49 (end 49 + 15).
-    check_plan(
+    check_rows(
         &rt,
         SESSIONS_OF_SUMS,
-        "",
         "r,a,3,1,5\nr,a,7,1,2\nr,a,12,1,4\nr,a,41,1,1\n",
         "34,1,11\n64,1,1\n",
-        0,
-        "",
     )?;
     // The sessions are 1, 5 (end 10, sum 11), 10 (end 15, sum 2) and 30 (end 35, sum 7), so their sums have the times 9,
     // 14 and 34: the windows of 20 end at 20 (sum 11 + 2) and 40.
-    check_plan(
+    check_rows(
         &rt,
         SUM_OF_SESSIONS,
-        "",
         "r,a,1,1,10\nr,a,5,1,1\nr,a,10,1,2\nr,a,30,1,7\n",
         "20,1,13\n40,1,7\n",
-        0,
-        "",
     )
 }
 
@@ -188,9 +230,16 @@ const REFUSED: [(&str, &str); 10] = [
 
 #[test]
 fn refused_sessions_are_named_before_the_input_is_read(rt: HostRuntime) -> Result<(), Fail> {
-    for (keys, note) in &REFUSED {
+    for (keys, note) in REFUSED {
         let plan = session_with(rt.alloc(), keys)?;
-        check_plan(&rt, &plan, "", "x\n", "", 2, note)?;
+        let trial = Trial {
+            plan: plan.as_bytes(),
+            text: b"x\n",
+            code: 2,
+            notes: note,
+            ..RUN
+        };
+        check_plan(&rt, &trial)?;
     }
     Ok(())
 }

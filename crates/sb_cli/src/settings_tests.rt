@@ -1,10 +1,8 @@
 //! Whole runs of plans that drop late records, and of plans whose keys are words.
 
 use crate::plan_tests::check_plan;
-use crate::streambox;
-use sb_outside::{MemFolder, MemSink, MemSource};
-use std::alloc::Global;
-use std::collections::BTreeMap;
+use crate::trial::{RUN, Trial};
+use std::process::Abort;
 use std::sync::Wait;
 use std::test::Fail;
 use std::thread::Threads;
@@ -31,7 +29,7 @@ const JOIN: &str =
 const LOOKUP: &str =
     "[[transform]]\nname = \"l\"\nkind = \"lookup\"\nfrom = \"a\"\ntable = \"ads.csv\"\n\n[[transform]]\nname = \"s\"\nkind = \"sum\"\nfrom = \"l\"\nsize = 10\n";
 
-const PETS: &str = "cat,pet\ndog,pet\n";
+const PETS: &[u8] = b"cat,pet\ndog,pet\n";
 
 /// The settings above the transforms, the transforms, lines, the rows, the status and the notes.
 type Case = (
@@ -252,14 +250,24 @@ const REFUSED: [(&str, &str); 8] = [
     ),
 ];
 
+/// Runs the plan of each case, beside the table of pets.
 fn check_cases(
-    rt: &(impl AllocGlobal + std::process::Abort + Threads + Wait + Sync),
+    rt: &(impl AllocGlobal + Abort + Threads + Wait + Sync),
     cases: &[Case],
 ) -> Result<(), Fail> {
     let alloc = rt.alloc();
     for (settings, transforms, lines, rows, code, notes) in cases {
         let plan = format!(in alloc; "{settings}{transforms}")?;
-        check_plan(rt, &plan, PETS, lines, rows, *code, notes)?;
+        let trial = Trial {
+            plan: plan.as_bytes(),
+            table: PETS,
+            text: lines.as_bytes(),
+            rows,
+            code: *code,
+            notes,
+            ..RUN
+        };
+        check_plan(rt, &trial)?;
     }
     Ok(())
 }
@@ -276,52 +284,8 @@ fn words_are_keys(rt: HostRuntime) -> Result<(), Fail> {
 
 #[test]
 fn refused_settings_are_named(rt: HostRuntime) -> Result<(), Fail> {
-    let alloc = rt.alloc();
     for (settings, note) in &REFUSED {
-        let plan = format!(in alloc; "{settings}{SUM}")?;
-        check_plan(&rt, &plan, PETS, "x\n", "", 2, note)?;
+        check_cases(&rt, &[(settings, SUM, "x\n", "", 2, note)])?;
     }
-    Ok(())
-}
-
-/// The folder of one plan.
-fn folder_with(alloc: Global, plan: &str) -> Result<MemFolder, Fail> {
-    let mut files = BTreeMap::new(alloc);
-    files.insert(
-        String::from_str(alloc, "p.toml")?,
-        Vec::from_slice(alloc, plan.as_bytes())?,
-    )?;
-    Ok(MemFolder::new(alloc, files, Vec::new(alloc)))
-}
-
-#[test]
-fn what_was_dropped_is_told_before_a_failed_read(rt: HostRuntime) -> Result<(), Fail> {
-    let alloc = rt.alloc();
-    let plan = format!(in alloc; "late = \"drop\"\n{SUM}")?;
-    let mut folder = folder_with(alloc, &plan)?;
-    let mut words = Vec::new(alloc);
-    words.push(String::from_str(alloc, "run")?)?;
-    words.push(String::from_str(alloc, "p.toml")?)?;
-    let text = Vec::from_slice(alloc, b"w,a,10\nr,a,9,1,1\n")?;
-    let mut input = MemSource::new(text, Vec::new(alloc), vec![in alloc; 2]?);
-    let mut out = MemSink::new(alloc, Vec::new(alloc), Vec::new(alloc));
-    let mut notes = MemSink::new(alloc, Vec::new(alloc), Vec::new(alloc));
-    let mut taps = Vec::new(alloc);
-    let status = streambox(
-        &rt,
-        alloc,
-        &words,
-        &mut input,
-        &mut out,
-        &mut notes,
-        &mut folder,
-        &mut taps,
-    );
-    assert_eq!(rt; status.code(), 4);
-    assert_eq!(rt; out.taken().len(), 0);
-    assert_eq!(rt;
-        notes.taken(),
-        b"line 2: dropped, time 9, watermark 10\ninput failed\n".as_slice()
-    );
     Ok(())
 }

@@ -1,113 +1,116 @@
-//! Whole runs with one worker over the longest line, bytes that are no lines, the widest numbers and many bundles.
+//! Whole runs over the longest line, bytes that are no lines, the widest numbers and many bundles.
 
-use crate::tests::run_in_pieces;
+use crate::trial::{SUM, Trial, try_by_workers, try_out};
 use std::alloc::{AllocError, Global};
 use std::process::Abort;
 use std::sync::Wait;
 use std::test::Fail;
 use std::thread::Threads;
 
-/// A text that is one piece again and again, and how the run ends.
-struct Case {
-    words: &'static [&'static str],
-    piece: &'static [u8],
-    times: usize,
-    rows: &'static str,
-    code: u8,
-    told: &'static str,
-}
+/// A trial's text is one piece so many times.
+type Repeated = (Trial<'static>, usize);
 
-/// Sums over windows of 10.
-const SUM: &[&str] = &["sum", "10", "--workers", "1"];
-
-const WIDE: [Case; 6] = [
-    Case {
-        words: SUM,
-        piece: b"\0",
-        times: 4096,
-        rows: "",
-        code: 3,
-        told: "line 1: too long\n",
-    },
+const WIDE: [Repeated; 4] = [
+    (
+        Trial {
+            text: b"\0",
+            code: 3,
+            notes: "line 1: too long\n",
+            ..SUM
+        },
+        4096,
+    ),
     // The first bytes of a compressed file.
-    Case {
-        words: SUM,
-        piece: b"\x1f\x8b\x08\x00\x0a",
-        times: 1,
-        rows: "",
-        code: 3,
-        told: "line 1: malformed\n",
-    },
-    Case {
-        words: SUM,
-        piece: b"r,a,3,1,5\nr,a,3,1",
-        times: 1,
-        rows: "",
-        code: 3,
-        told: "line 2: malformed\n",
-    },
-    Case {
-        words: SUM,
-        piece: b"r,a,3,1,5\n",
-        times: 1,
-        rows: "10,1,5\n",
-        code: 0,
-        told: "",
-    },
-    // Each record is a bundle, and each bundle is worked off before the next comes.
-    Case {
-        words: &[
-            "sum",
-            "10",
-            "--pending",
-            "1",
-            "--bundle",
-            "1",
-            "--workers",
-            "1",
-        ],
-        piece: b"r,a,3,1,1\n",
-        times: 10_000,
-        rows: "10,1,10000\n",
-        code: 0,
-        told: "",
-    },
-    Case {
-        words: SUM,
-        piece: b"r,a,1000000000000000,1000000000000000000,-9223372036854775808\n",
-        times: 1,
-        rows: "1000000000000010,1000000000000000000,-9223372036854775808\n",
-        code: 0,
-        told: "",
-    },
+    (
+        Trial {
+            text: b"\x1f\x8b\x08\x00\x0a",
+            code: 3,
+            notes: "line 1: malformed\n",
+            ..SUM
+        },
+        1,
+    ),
+    (
+        Trial {
+            text: b"r,a,3,1,5\nr,a,3,1",
+            code: 3,
+            notes: "line 2: malformed\n",
+            ..SUM
+        },
+        1,
+    ),
+    (
+        Trial {
+            text: b"r,a,1000000000000000,1000000000000000000,-9223372036854775808\n",
+            rows: "1000000000000010,1000000000000000000,-9223372036854775808\n",
+            ..SUM
+        },
+        1,
+    ),
 ];
 
-/// The text of a case.
-fn text_of(alloc: Global, case: &Case) -> Result<Vec<u8>, AllocError> {
+/// A text that is a piece so many times.
+fn repeated(alloc: Global, piece: &[u8], times: usize) -> Result<Vec<u8>, AllocError> {
     let mut text = Vec::new(alloc);
-    for _ in 0..case.times {
-        text.extend_from_slice(case.piece)?;
+    for _ in 0..times {
+        text.extend_from_slice(piece)?;
     }
     Ok(text)
 }
 
-fn check_case(
-    rt: &(impl AllocGlobal + Abort + Threads + Wait + Sync),
-    case: &Case,
-) -> Result<(), Fail> {
-    let alloc = rt.alloc();
-    let text = text_of(alloc, case)?;
-    let ran = run_in_pieces(rt, case.words, &text, 7)?;
-    assert_eq!(rt; ran.status.code(), case.code);
-    assert_eq!(rt; ran.rows.as_slice(), case.rows.as_bytes());
-    assert_eq!(rt; ran.notes.as_slice(), case.told.as_bytes());
+#[test]
+fn the_widest_inputs(rt: HostRuntime) -> Result<(), Fail> {
+    for (trial, times) in &WIDE {
+        let text = repeated(rt.alloc(), trial.text, *times)?;
+        try_by_workers(
+            &rt,
+            &Trial {
+                text: &text,
+                ..*trial
+            },
+        )?;
+    }
     Ok(())
 }
 
+/// Each record is a bundle, and no other may wait beside it.
+fn try_narrow(
+    rt: &(impl AllocGlobal + Abort + Threads + Wait + Sync),
+    workers: u32,
+) -> Result<(), Fail> {
+    let text = repeated(rt.alloc(), b"r,a,3,1,1\n", 10_000)?;
+    let trial = Trial {
+        words: &["sum", "10", "--pending", "1", "--bundle", "1"],
+        text: &text,
+        rows: "10,1,10000\n",
+        ..SUM
+    };
+    try_out(rt, &trial, Some(workers))
+}
+
+// These take long on a machine with much else to do, since workers wait for one another at each bundle.
 #[test]
-fn the_widest_inputs(rt: HostRuntime) -> Result<(), Fail> {
-    for case in &WIDE {
-        check_case(&rt, case)?;
-    }
-    Ok(())
+fn many_bundles_for_one_worker(rt: HostRuntime) -> Result<(), Fail> {
+    try_narrow(&rt, 1)
+}
+
+#[test]
+fn many_bundles_for_four_workers(rt: HostRuntime) -> Result<(), Fail> {
+    try_narrow(&rt, 4)
+}
+
+#[test]
+fn many_bundles_for_eight_workers(rt: HostRuntime) -> Result<(), Fail> {
+    try_narrow(&rt, 8)
+}
+
+#[test]
+fn the_most_workers(rt: HostRuntime) -> Result<(), Fail> {
+    let trial = Trial {
+        text: b"r,a,3,1,5\n",
+        rows: "10,1,5\n",
+        ..SUM
+    };
+    try_by_workers(&rt, &trial)?;
+    try_out(&rt, &trial, Some(64))
 }
