@@ -1,10 +1,10 @@
 //! Audits of diary texts: what is written, the status and the note.
 
-use crate::trial::{Calls, SUM, Trial, try_out};
+use crate::trial::{Calls, Row, SUM, Trial, try_out};
 use std::test::Fail;
 
 /// The audit of a text, in which nothing fails.
-const AUDIT: Trial<'static> = Trial {
+const AUDIT: Trial = Trial {
     words: &["audit"],
     ..SUM
 };
@@ -21,87 +21,93 @@ const LONGEST: &[u8] = b"transform 0 1\n\
 const TOO_LONG: &[u8] = b"0000000000000000000000000000000000000000000000000000000000000000\
     00000000000000000000000000000000000000000000000000000000000000000\n";
 
-const CASES: [Trial; 13] = [
-    Trial {
+const CASES: [Row; 13] = [
+    Row {
+        text: b"",
         rows: "transforms 0 events 0 settled\n",
-        ..AUDIT
+        code: 0,
+        notes: "",
     },
-    Trial {
+    Row {
         text: SETTLED,
         rows: "transforms 1 events 6 settled\n",
-        ..AUDIT
+        code: 0,
+        notes: "",
     },
-    Trial {
+    Row {
         text: b"transform 0 1\r\nseal 0 0 10\r\nbegin 0 0 10 0\r\nend 0 0\r\ntransform 1 2",
         rows: "transforms 2 events 3 settled\n",
-        ..AUDIT
+        code: 0,
+        notes: "",
     },
-    Trial {
+    Row {
         text: b"transform 0 1\narrive 0 0 1 1",
         rows: "transforms 1 events 1 running\n",
-        ..AUDIT
+        code: 0,
+        notes: "",
     },
-    Trial {
+    Row {
         text: b"transform 0 1\nseal 0 0 10\ntransform 1 1\n",
         rows: "transforms 2 events 1 running\n",
-        ..AUDIT
+        code: 0,
+        notes: "",
     },
-    Trial {
+    Row {
         text: b"transform 0 1\narrive 0 0 1 1\nseal 0 0 10\nbegin 0 0 10 0\n",
+        rows: "",
         code: 9,
         notes: "line 4: not legal\n",
-        ..AUDIT
     },
-    Trial {
+    Row {
         text: b"transform 1 1\n",
+        rows: "",
         code: 9,
         notes: "line 1: not legal\n",
-        ..AUDIT
     },
-    Trial {
+    Row {
         text: b"transform 0 3\n",
+        rows: "",
         code: 9,
         notes: "line 1: malformed\n",
-        ..AUDIT
     },
-    Trial {
+    Row {
         text: b"transform 0 1\n\n",
+        rows: "",
         code: 9,
         notes: "line 2: malformed\n",
-        ..AUDIT
     },
-    Trial {
+    Row {
         text: b"transform 0 1 \n",
+        rows: "",
         code: 9,
         notes: "line 1: malformed\n",
-        ..AUDIT
     },
-    Trial {
+    Row {
         text: b"# x\n",
+        rows: "",
         code: 9,
         notes: "line 1: malformed\n",
-        ..AUDIT
     },
-    Trial {
+    Row {
         text: LONGEST,
+        rows: "",
         code: 9,
         notes: "line 2: malformed\n",
-        ..AUDIT
     },
-    Trial {
+    Row {
         text: TOO_LONG,
+        rows: "",
         code: 9,
         notes: "line 1: too long\n",
-        ..AUDIT
     },
 ];
 
 #[test]
 fn an_audit_says_what_a_text_says(rt: HostRuntime) -> Result<(), Fail> {
     for most in [1, 7, 8192usize] {
-        for trial in &CASES {
+        for row in &CASES {
             let reads = Calls { most, failing: &[] };
-            try_out(&rt, &Trial { reads, ..*trial }, None)?;
+            try_out(&rt, &row.as_trial(&Trial { reads, ..AUDIT }), None)?;
         }
     }
     Ok(())

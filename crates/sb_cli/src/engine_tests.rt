@@ -8,7 +8,7 @@ use std::fs;
 use std::test::Fail;
 
 /// The sums of the first text.
-const SUM_FIRST: Trial<'static> = Trial {
+const SUM_FIRST: Trial = Trial {
     text: FIRST,
     rows: "10,1,7\n20,1,4\n",
     ..SUM

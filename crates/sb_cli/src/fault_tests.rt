@@ -9,7 +9,7 @@ use std::test::Fail;
 const FIRST_ROWS: &str = "10,1,7\n20,1,4\n";
 
 /// The sums of the first text.
-const SUM_FIRST: Trial<'static> = Trial { text: FIRST, ..SUM };
+const SUM_FIRST: Trial = Trial { text: FIRST, ..SUM };
 
 /// One fault, with each number of workers.
 const FAULTS: [Trial; 12] = [
@@ -147,7 +147,7 @@ fn one_fault_is_told(rt: HostRuntime) -> Result<(), Fail> {
 }
 
 /// Lines of which the last is refused.
-const REFUSED: Trial<'static> = Trial {
+const REFUSED: Trial = Trial {
     text: b"r,a,3,1,5\nw,a,10\nr,a,12,1,4\nx\n",
     rows: "10,1,5\n",
     ..SUM

@@ -1,10 +1,14 @@
 //! Whole runs of plan files: worked rows as tables, plans that are refused, and files that can't be loaded.
 
-use crate::trial::{RUN, Trial, try_by_workers, try_out};
+use crate::trial::{RUN, Row, Trial, WORKERS, try_by_workers, try_out, try_plan};
+use std::alloc::{AllocError, Global};
 use std::process::Abort;
 use std::sync::Wait;
 use std::test::Fail;
 use std::thread::Threads;
+
+/// The words of the plain program.
+const SLOW: &[&str] = &["slow", "p.toml"];
 
 /// Runs a plan with each number of workers, and by the plain program.
 pub(crate) fn check_plan(
@@ -13,10 +17,27 @@ pub(crate) fn check_plan(
 ) -> Result<(), Fail> {
     try_by_workers(rt, trial)?;
     let slow = Trial {
-        words: &["slow", "p.toml"],
+        words: SLOW,
         ..*trial
     };
     try_out(rt, &slow, None)
+}
+
+/// Runs a trial with another plan with each number of workers, and by the plain program: it has to leave these rows.
+pub(crate) fn check_made(
+    rt: &(impl AllocGlobal + Abort + Threads + Wait + Sync),
+    trial: &Trial,
+    plan: &str,
+    rows: &str,
+) -> Result<(), Fail> {
+    for workers in WORKERS {
+        try_plan(rt, trial, plan.as_bytes(), trial.table, rows, Some(workers))?;
+    }
+    let slow = Trial {
+        words: SLOW,
+        ..*trial
+    };
+    try_plan(rt, &slow, plan.as_bytes(), trial.table, rows, None)
 }
 
 pub(crate) const VIEWS: &[u8] =
@@ -61,123 +82,175 @@ const ORDERS: &[u8] =
     b"[[transform]]\nname = \"ordered\"\nkind = \"sum\"\nfrom = \"a\"\nsize = 100\n\n[[transform]]\nname = \"paid\"\nkind = \"sum\"\nfrom = \"b\"\nsize = 100\n\n[[transform]]\nname = \"left_to_pay\"\nkind = \"join\"\nfrom = \"ordered\"\nwith = \"paid\"\nsize = 100\ngive = \"sub\"\n\n[[transform]]\nname = \"owed\"\nkind = \"filter\"\nfrom = \"left_to_pay\"\nfield = \"value\"\ntest = \"more\"\nnumber = 0\n";
 
 /// A plan, beside the table of ads.
-const PLAN: Trial<'static> = Trial { table: ADS, ..RUN };
+const PLAN: Trial = Trial { table: ADS, ..RUN };
 
 /// Plans of every kind, and those of the examples.
-const CASES: [Trial; 17] = [
-    Trial {
-        plan: VIEWS,
-        text: VIEW_LINES,
-        rows: "10000,7,2\n10000,9,1\n20000,9,1\n",
-        ..PLAN
-    },
-    Trial {
-        plan: SLIDING,
-        text: b"r,a,7,1,2\n",
-        rows: "10,1,2\n15,1,2\n",
-        ..PLAN
-    },
-    Trial {
-        plan: SLIDING,
-        text: b"r,a,5,1,2\n",
-        rows: "10,1,2\n15,1,2\n",
-        ..PLAN
-    },
-    Trial {
-        plan: TOP,
-        text: b"r,a,1,1,5\nr,a,2,1,5\nr,a,3,1,3\n",
-        rows: "10,1,5\n10,1,5\n",
-        ..PLAN
-    },
-    Trial {
-        plan: MAX_OF_SUMS,
-        text: b"r,a,3,1,4\nr,a,13,1,6\n",
-        rows: "20,1,6\n",
-        ..PLAN
-    },
-    Trial {
-        plan: JOIN,
-        text: b"r,a,3,1,5\nr,a,4,1,6\nr,b,8,1,100\n",
-        rows: "10,1,105\n10,1,106\n",
-        ..PLAN
-    },
-    Trial {
-        plan: JOIN,
-        text: b"r,a,3,1,5\nr,a,4,1,6\nr,b,8,1,100\nw,a,100\nx\n",
-        code: 3,
-        notes: "line 5: malformed\n",
-        ..PLAN
-    },
-    Trial {
-        plan: JOIN,
-        text: b"r,a,1,1,5\nr,b,2,2,3\n",
-        ..PLAN
-    },
-    Trial {
-        plan: SUM_OF_JOIN,
-        text: b"r,a,3,1,5\nr,a,4,1,6\nr,b,8,1,100\n",
-        rows: "10,1,211\n",
-        ..PLAN
-    },
-    Trial {
-        plan: EXPAND,
-        text: b"r,a,3,1,5\n",
-        rows: "10,1,20\n",
-        ..PLAN
-    },
-    Trial {
-        plan: DISTINCT,
-        text: b"r,a,1,1,5\nr,a,2,1,5\nr,a,3,1,-1\n",
-        rows: "10,1,2\n",
-        ..PLAN
-    },
-    Trial {
-        plan: MIN,
-        text: b"r,b,1,3,5\nr,b,2,5,-5\nr,b,3,2,0\n",
-        rows: "10,0,0\n10,1,-5\n",
-        ..PLAN
-    },
-    Trial {
-        plan: MIN,
-        text: b"r,a,1,3,5\n",
-        code: 3,
-        notes: "line 1: stream not in the plan\n",
-        ..PLAN
-    },
-    Trial {
-        plan: MAX_OF_SUMS,
-        ..PLAN
-    },
-    Trial {
-        plan: PEAKS,
-        text: b"r,a,5,1,10\nr,a,25,1,30\nr,a,70,1,20\n",
-        rows: "20,1,10\n40,1,30\n60,1,30\n80,1,30\n100,1,20\n120,1,20\n",
-        ..PLAN
-    },
-    Trial {
-        plan: TALKERS,
-        text: b"r,a,1,1007,500\nr,a,2,1008,200\nr,a,3,1007,100\nr,a,4,1009,900\nr,a,5,2001,50\nw,a,60\nr,a,61,1008,70\n",
-        rows: "60,1,600\n60,1,900\n60,2,50\n120,1,70\n",
-        ..PLAN
-    },
-    Trial {
-        plan: ORDERS,
-        text: b"r,a,5,71,120\nr,b,5,71,0\nr,b,20,71,60\nr,b,30,71,60\nr,a,8,72,50\nr,b,8,72,0\nw,a,100\nw,b,100\nr,a,110,73,30\nr,b,110,73,0\nr,a,115,73,15\nr,b,190,73,10\n",
-        rows: "100,72,50\n200,73,35\n",
-        ..PLAN
-    },
+const CASES: [(&[u8], Row); 17] = [
+    (
+        VIEWS,
+        Row {
+            text: VIEW_LINES,
+            rows: "10000,7,2\n10000,9,1\n20000,9,1\n",
+            code: 0,
+            notes: "",
+        },
+    ),
+    (
+        SLIDING,
+        Row {
+            text: b"r,a,7,1,2\n",
+            rows: "10,1,2\n15,1,2\n",
+            code: 0,
+            notes: "",
+        },
+    ),
+    (
+        SLIDING,
+        Row {
+            text: b"r,a,5,1,2\n",
+            rows: "10,1,2\n15,1,2\n",
+            code: 0,
+            notes: "",
+        },
+    ),
+    (
+        TOP,
+        Row {
+            text: b"r,a,1,1,5\nr,a,2,1,5\nr,a,3,1,3\n",
+            rows: "10,1,5\n10,1,5\n",
+            code: 0,
+            notes: "",
+        },
+    ),
+    (
+        MAX_OF_SUMS,
+        Row {
+            text: b"r,a,3,1,4\nr,a,13,1,6\n",
+            rows: "20,1,6\n",
+            code: 0,
+            notes: "",
+        },
+    ),
+    (
+        JOIN,
+        Row {
+            text: b"r,a,3,1,5\nr,a,4,1,6\nr,b,8,1,100\n",
+            rows: "10,1,105\n10,1,106\n",
+            code: 0,
+            notes: "",
+        },
+    ),
+    (
+        JOIN,
+        Row {
+            text: b"r,a,3,1,5\nr,a,4,1,6\nr,b,8,1,100\nw,a,100\nx\n",
+            rows: "",
+            code: 3,
+            notes: "line 5: malformed\n",
+        },
+    ),
+    (
+        JOIN,
+        Row {
+            text: b"r,a,1,1,5\nr,b,2,2,3\n",
+            rows: "",
+            code: 0,
+            notes: "",
+        },
+    ),
+    (
+        SUM_OF_JOIN,
+        Row {
+            text: b"r,a,3,1,5\nr,a,4,1,6\nr,b,8,1,100\n",
+            rows: "10,1,211\n",
+            code: 0,
+            notes: "",
+        },
+    ),
+    (
+        EXPAND,
+        Row {
+            text: b"r,a,3,1,5\n",
+            rows: "10,1,20\n",
+            code: 0,
+            notes: "",
+        },
+    ),
+    (
+        DISTINCT,
+        Row {
+            text: b"r,a,1,1,5\nr,a,2,1,5\nr,a,3,1,-1\n",
+            rows: "10,1,2\n",
+            code: 0,
+            notes: "",
+        },
+    ),
+    (
+        MIN,
+        Row {
+            text: b"r,b,1,3,5\nr,b,2,5,-5\nr,b,3,2,0\n",
+            rows: "10,0,0\n10,1,-5\n",
+            code: 0,
+            notes: "",
+        },
+    ),
+    (
+        MIN,
+        Row {
+            text: b"r,a,1,3,5\n",
+            rows: "",
+            code: 3,
+            notes: "line 1: stream not in the plan\n",
+        },
+    ),
+    (
+        MAX_OF_SUMS,
+        Row {
+            text: b"",
+            rows: "",
+            code: 0,
+            notes: "",
+        },
+    ),
+    (
+        PEAKS,
+        Row {
+            text: b"r,a,5,1,10\nr,a,25,1,30\nr,a,70,1,20\n",
+            rows: "20,1,10\n40,1,30\n60,1,30\n80,1,30\n100,1,20\n120,1,20\n",
+            code: 0,
+            notes: "",
+        },
+    ),
+    (
+        TALKERS,
+        Row {
+            text: b"r,a,1,1007,500\nr,a,2,1008,200\nr,a,3,1007,100\nr,a,4,1009,900\nr,a,5,2001,50\nw,a,60\nr,a,61,1008,70\n",
+            rows: "60,1,600\n60,1,900\n60,2,50\n120,1,70\n",
+            code: 0,
+            notes: "",
+        },
+    ),
+    (
+        ORDERS,
+        Row {
+            text: b"r,a,5,71,120\nr,b,5,71,0\nr,b,20,71,60\nr,b,30,71,60\nr,a,8,72,50\nr,b,8,72,0\nw,a,100\nw,b,100\nr,a,110,73,30\nr,b,110,73,0\nr,a,115,73,15\nr,b,190,73,10\n",
+            rows: "100,72,50\n200,73,35\n",
+            code: 0,
+            notes: "",
+        },
+    ),
 ];
 
 #[test]
 fn plans_give_their_rows(rt: HostRuntime) -> Result<(), Fail> {
-    for trial in &CASES {
-        check_plan(&rt, trial)?;
+    for (plan, row) in CASES {
+        check_plan(&rt, &row.as_trial(&Trial { plan, ..PLAN }))?;
     }
     Ok(())
 }
 
 /// A plan that is refused before the input is read.
-const NO_PLAN: Trial<'static> = Trial {
+const NO_PLAN: Trial = Trial {
     text: b"x\n",
     code: 2,
     ..PLAN
@@ -263,42 +336,28 @@ fn files_that_are_not_there(rt: HostRuntime) -> Result<(), Fail> {
     Ok(())
 }
 
+/// A text of a length, blank behind its beginning.
+fn padded(alloc: Global, beginning: &[u8], length: usize) -> Result<Vec<u8>, AllocError> {
+    let mut text = Vec::from_slice(alloc, beginning)?;
+    text.resize(length, b'\n')?;
+    Ok(text)
+}
+
 #[test]
 fn long_files_are_refused(rt: HostRuntime) -> Result<(), Fail> {
     let alloc = rt.alloc();
-    // A plan of 1,048,576 bytes, most of them blank, is taken, and one of a byte more is not.
+    // A plan of 1,048,576 bytes is taken, and one of a byte more is not.
     for (length, code, notes) in [(1_048_576, 0, ""), (1_048_577, 2, "plan: file too long\n")] {
-        let mut plan = Vec::from_slice(alloc, SLIDING)?;
-        plan.resize(length, b'\n')?;
-        try_out(
-            &rt,
-            &Trial {
-                plan: &plan,
-                code,
-                notes,
-                ..PLAN
-            },
-            None,
-        )?;
+        let plan = padded(alloc, SLIDING, length)?;
+        try_plan(&rt, &Trial { code, notes, ..RUN }, &plan, b"", "", None)?;
     }
     // The same of a table of 4,194,304 bytes.
     for (length, code, notes) in [
         (4_194_304, 0, ""),
         (4_194_305, 2, "plan: transform 2: table too long\n"),
     ] {
-        let mut table = Vec::from_slice(alloc, ADS)?;
-        table.resize(length, b'\n')?;
-        try_out(
-            &rt,
-            &Trial {
-                plan: VIEWS,
-                table: &table,
-                code,
-                notes,
-                ..PLAN
-            },
-            None,
-        )?;
+        let table = padded(alloc, ADS, length)?;
+        try_plan(&rt, &Trial { code, notes, ..RUN }, VIEWS, &table, "", None)?;
     }
     Ok(())
 }

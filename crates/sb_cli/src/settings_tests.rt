@@ -1,6 +1,6 @@
 //! Whole runs of plans that drop late records, and of plans whose keys are words.
 
-use crate::plan_tests::check_plan;
+use crate::plan_tests::check_made;
 use crate::trial::{RUN, Trial};
 use std::process::Abort;
 use std::sync::Wait;
@@ -259,15 +259,13 @@ fn check_cases(
     for (settings, transforms, lines, rows, code, notes) in cases {
         let plan = format!(in alloc; "{settings}{transforms}")?;
         let trial = Trial {
-            plan: plan.as_bytes(),
             table: PETS,
             text: lines.as_bytes(),
-            rows,
             code: *code,
             notes,
             ..RUN
         };
-        check_plan(rt, &trial)?;
+        check_made(rt, &trial, &plan, rows)?;
     }
     Ok(())
 }
@@ -284,8 +282,16 @@ fn words_are_keys(rt: HostRuntime) -> Result<(), Fail> {
 
 #[test]
 fn refused_settings_are_named(rt: HostRuntime) -> Result<(), Fail> {
-    for (settings, note) in &REFUSED {
-        check_cases(&rt, &[(settings, SUM, "x\n", "", 2, note)])?;
+    let alloc = rt.alloc();
+    for (settings, notes) in REFUSED {
+        let plan = format!(in alloc; "{settings}{SUM}")?;
+        let trial = Trial {
+            text: b"x\n",
+            code: 2,
+            notes,
+            ..RUN
+        };
+        check_made(&rt, &trial, &plan, "")?;
     }
     Ok(())
 }

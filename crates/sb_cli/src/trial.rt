@@ -24,54 +24,76 @@ const LIMITED_CALLS: usize = 200;
 /// How the calls of a source or a sink go: each moves at most so many bytes, 0 for no limit, and those with these
 /// numbers, from 1, fail.
 #[derive(Clone, Copy)]
-pub(crate) struct Calls<'a> {
+pub(crate) struct Calls {
     pub most: usize,
-    pub failing: &'a [u64],
+    pub failing: &'static [u64],
 }
 
 /// Calls that move all, and do not fail.
-pub(crate) const WELL: Calls<'static> = Calls {
+pub(crate) const WELL: Calls = Calls {
     most: 0,
     failing: &[],
 };
 
 /// A tap of a run.
 #[derive(Clone, Copy)]
-pub(crate) enum Watch<'a> {
+pub(crate) enum Watch {
     /// It has enough from the row of this number on, at least 1.
     Head(u32),
     /// It counts rows, and fails at the calls with these numbers.
-    Count(&'a [u64]),
+    Count(&'static [u64]),
 }
 
 /// A run, and what it has to leave.
 #[derive(Clone, Copy)]
-pub(crate) struct Trial<'a> {
+pub(crate) struct Trial {
     /// The words, before those that say how many workers there are.
-    pub words: &'a [&'a str],
+    pub words: &'static [&'static str],
     /// The file `p.toml` of the folder, and `ads.csv`; and which loads fail.
-    pub plan: &'a [u8],
-    pub table: &'a [u8],
-    pub unloaded: &'a [u64],
+    pub plan: &'static [u8],
+    pub table: &'static [u8],
+    pub unloaded: &'static [u64],
     /// The input, and how it is read.
-    pub text: &'a [u8],
-    pub reads: Calls<'a>,
+    pub text: &'static [u8],
+    pub reads: Calls,
     /// How rows and notes are written.
-    pub writes: Calls<'a>,
-    pub tells: Calls<'a>,
-    pub taps: &'a [Watch<'a>],
+    pub writes: Calls,
+    pub tells: Calls,
+    pub taps: &'static [Watch],
     /// The rows, the exit code and the notes that it has to leave.
-    pub rows: &'a str,
+    pub rows: &'static str,
     pub code: u8,
-    pub notes: &'a str,
+    pub notes: &'static str,
     /// How often reads have failed, if there is one worker.
     pub faults: u64,
     /// How many rows the taps that are left have seen.
-    pub seen: &'a [u64],
+    pub seen: &'static [u64],
+}
+
+/// A text, and what a run over it has to leave.
+#[derive(Clone, Copy)]
+pub(crate) struct Row {
+    pub text: &'static [u8],
+    pub rows: &'static str,
+    pub code: u8,
+    pub notes: &'static str,
+}
+
+impl Row {
+    /// The run over the text that is else as this one.
+    pub(crate) fn as_trial(&self, base: &Trial) -> Trial {
+        Trial {
+            text: self.text,
+            rows: self.rows,
+            code: self.code,
+            notes: self.notes,
+            ..*base
+        }
+    }
 }
 
 /// The sums over windows of 10 of an input of nothing, in which nothing fails.
-pub(crate) const SUM: Trial<'static> = Trial {
+pub(crate) const SUM: Trial = Trial {
     words: &["sum", "10"],
     plan: b"",
     table: b"",
@@ -89,7 +111,7 @@ pub(crate) const SUM: Trial<'static> = Trial {
 };
 
 /// Of a plan file.
-pub(crate) const RUN: Trial<'static> = Trial {
+pub(crate) const RUN: Trial = Trial {
     words: &["run", "p.toml"],
     ..SUM
 };
@@ -145,7 +167,7 @@ fn folder_of(
     Ok(MemFolder::new(alloc, files, Vec::from_slice(alloc, failing)?))
 }
 
-fn surroundings_of(alloc: Global, trial: &Trial) -> Result<Around, AllocError> {
+fn around_of(alloc: Global, trial: &Trial) -> Result<Around, AllocError> {
     Ok(Around {
         input: source_of(alloc, trial.text, trial.reads)?,
         out: sink_of(alloc, trial.writes)?,
@@ -197,6 +219,7 @@ fn run(
 fn check_left(
     rt: &(impl AllocGlobal + Abort),
     trial: &Trial,
+    rows: &str,
     workers: Option<u32>,
     around: &Around,
     code: u8,
@@ -210,7 +233,12 @@ fn check_left(
     assert_eq!(rt; code, trial.code, "{words:?}, {workers:?}: {text:?}");
     assert_eq!(rt;
         around.out.taken(),
-        trial.rows.as_bytes(),
+        rows.as_bytes(),
+        "{words:?}, {workers:?}: {text:?}"
+    );
+    assert_eq!(rt;
+        around.folder.faults(),
+        usize::from(code == 6),
         "{words:?}, {workers:?}: {text:?}"
     );
 }
@@ -223,6 +251,25 @@ fn check_seen(rt: &(impl AllocGlobal + Abort), taps: &Taps, seen: &[u64]) {
     }
 }
 
+/// Runs the words of a trial past the taps, and compares what it leaves.
+fn run_and_check(
+    rt: &(impl AllocGlobal + Abort + Threads + Wait + Sync),
+    trial: &Trial,
+    rows: &str,
+    workers: Option<u32>,
+    around: &mut Around,
+    taps: &mut Taps,
+) -> Result<(), Fail> {
+    let words = words_of(rt.alloc(), trial.words, workers)?;
+    let status = run(rt, &words, around, taps)?;
+    check_left(rt, trial, rows, workers, around, status.code());
+    check_seen(rt, taps, trial.seen);
+    if workers.unwrap_or(1) == 1 {
+        assert_eq!(rt; around.input.faults(), trial.faults, "{:?}", trial.words);
+    }
+    Ok(())
+}
+
 /// Runs a trial with so many workers, past the taps, and compares what it leaves.
 pub(crate) fn try_past(
     rt: &(impl AllocGlobal + Abort + Threads + Wait + Sync),
@@ -230,22 +277,8 @@ pub(crate) fn try_past(
     workers: Option<u32>,
     taps: &mut Taps,
 ) -> Result<(), Fail> {
-    let alloc = rt.alloc();
-    let mut around = surroundings_of(alloc, trial)?;
-    let words = words_of(alloc, trial.words, workers)?;
-    let status = run(rt, &words, &mut around, taps)?;
-    check_left(rt, trial, workers, &around, status.code());
-    check_seen(rt, taps, trial.seen);
-    assert_eq!(rt;
-        around.folder.faults(),
-        usize::from(trial.code == 6),
-        "{:?}",
-        trial.words
-    );
-    if workers.unwrap_or(1) == 1 {
-        assert_eq!(rt; around.input.faults(), trial.faults, "{:?}", trial.words);
-    }
-    Ok(())
+    let mut around = around_of(rt.alloc(), trial)?;
+    run_and_check(rt, trial, trial.rows, workers, &mut around, taps)
 }
 
 /// Runs a trial with so many workers, or those that its words name, and compares what it leaves.
@@ -280,4 +313,48 @@ pub(crate) fn try_by_workers(
         try_out(rt, trial, Some(workers))?;
     }
     Ok(())
+}
+
+/// Runs a trial over another text, which has to leave these rows, with so many workers.
+pub(crate) fn try_over(
+    rt: &(impl AllocGlobal + Abort + Threads + Wait + Sync),
+    trial: &Trial,
+    text: &[u8],
+    rows: &str,
+    workers: Option<u32>,
+) -> Result<(), Fail> {
+    let alloc = rt.alloc();
+    let mut taps: Taps = Vec::new(alloc);
+    let mut around = around_of(alloc, trial)?;
+    around.input = source_of(alloc, text, trial.reads)?;
+    run_and_check(rt, trial, rows, workers, &mut around, &mut taps)
+}
+
+/// The same, with each number of workers.
+pub(crate) fn try_over_by_workers(
+    rt: &(impl AllocGlobal + Abort + Threads + Wait + Sync),
+    trial: &Trial,
+    text: &[u8],
+    rows: &str,
+) -> Result<(), Fail> {
+    for workers in WORKERS {
+        try_over(rt, trial, text, rows, Some(workers))?;
+    }
+    Ok(())
+}
+
+/// Runs a trial with another plan and another table, which has to leave these rows, with so many workers.
+pub(crate) fn try_plan(
+    rt: &(impl AllocGlobal + Abort + Threads + Wait + Sync),
+    trial: &Trial,
+    plan: &[u8],
+    table: &[u8],
+    rows: &str,
+    workers: Option<u32>,
+) -> Result<(), Fail> {
+    let alloc = rt.alloc();
+    let mut taps: Taps = Vec::new(alloc);
+    let mut around = around_of(alloc, trial)?;
+    around.folder = folder_of(alloc, plan, table, trial.unloaded)?;
+    run_and_check(rt, trial, rows, workers, &mut around, &mut taps)
 }

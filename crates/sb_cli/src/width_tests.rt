@@ -1,49 +1,50 @@
 //! Whole runs over the longest line, bytes that are no lines, the widest numbers and many bundles.
 
-use crate::trial::{SUM, Trial, try_by_workers, try_out};
+use crate::trial::{Row, SUM, Trial, try_by_workers, try_out, try_over, try_over_by_workers};
 use std::alloc::{AllocError, Global};
 use std::process::Abort;
 use std::sync::Wait;
 use std::test::Fail;
 use std::thread::Threads;
 
-/// A trial's text is one piece so many times.
-type Repeated = (Trial<'static>, usize);
+/// The text of a row, so many times, and what a run over that has to leave.
+type Repeated = (Row, usize);
 
 const WIDE: [Repeated; 4] = [
     (
-        Trial {
+        Row {
             text: b"\0",
+            rows: "",
             code: 3,
             notes: "line 1: too long\n",
-            ..SUM
         },
         4096,
     ),
     // The first bytes of a compressed file.
     (
-        Trial {
+        Row {
             text: b"\x1f\x8b\x08\x00\x0a",
+            rows: "",
             code: 3,
             notes: "line 1: malformed\n",
-            ..SUM
         },
         1,
     ),
     (
-        Trial {
+        Row {
             text: b"r,a,3,1,5\nr,a,3,1",
+            rows: "",
             code: 3,
             notes: "line 2: malformed\n",
-            ..SUM
         },
         1,
     ),
     (
-        Trial {
+        Row {
             text: b"r,a,1000000000000000,1000000000000000000,-9223372036854775808\n",
             rows: "1000000000000010,1000000000000000000,-9223372036854775808\n",
-            ..SUM
+            code: 0,
+            notes: "",
         },
         1,
     ),
@@ -60,15 +61,9 @@ fn repeated(alloc: Global, piece: &[u8], times: usize) -> Result<Vec<u8>, AllocE
 
 #[test]
 fn the_widest_inputs(rt: HostRuntime) -> Result<(), Fail> {
-    for (trial, times) in &WIDE {
-        let text = repeated(rt.alloc(), trial.text, *times)?;
-        try_by_workers(
-            &rt,
-            &Trial {
-                text: &text,
-                ..*trial
-            },
-        )?;
+    for (row, times) in &WIDE {
+        let text = repeated(rt.alloc(), row.text, *times)?;
+        try_over_by_workers(&rt, &row.as_trial(&SUM), &text, row.rows)?;
     }
     Ok(())
 }
@@ -81,11 +76,9 @@ fn try_narrow(
     let text = repeated(rt.alloc(), b"r,a,3,1,1\n", 10_000)?;
     let trial = Trial {
         words: &["sum", "10", "--pending", "1", "--bundle", "1"],
-        text: &text,
-        rows: "10,1,10000\n",
         ..SUM
     };
-    try_out(rt, &trial, Some(workers))
+    try_over(rt, &trial, &text, "10,1,10000\n", Some(workers))
 }
 
 // These take long on a machine with much else to do, since workers wait for one another at each bundle.

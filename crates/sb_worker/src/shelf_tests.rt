@@ -1,7 +1,7 @@
 //! Bundles that lie on the shelf are worked off before a node is asked for another: a pass that fills takes all that wait.
 
 ghost use Rattle.std.specs.Prelude.{◌≡◌, IfOk, OnOk};
-ghost use Rattle.sb_cascade.specs.Calls.{hands, setting_of};
+ghost use Rattle.sb_cascade.specs.Calls.{hands, passes_out, setting_of};
 ghost use Rattle.sb_cascade.specs.Views.{nothing_fed};
 ghost use Rattle.sb_worker.specs.Feeding.{IsFeeding};
 ghost use Rattle.sb_worker.specs.Helping.{IsFirst, IsHelper};
@@ -28,6 +28,7 @@ fn bring_one<R: Wait>(
 ) -> Result<BothFed, Fail>
     requires pass { IsFeeding cascade.now both pass.old }
     requires most { (setting_of cascade.now).bundle ≡ 1 }
+    ensures out { passes_out pass.new ≡ passes_out pass.old }
     ensures feeding { IfOk result (λ both. IsFeeding cascade.now both pass.new) }
 {
     let records = vec![in alloc;
@@ -121,6 +122,8 @@ fn shelf_first(rt: HostRuntime) -> Result<(), Fail> {
     cascade.join(&mut feeder, worker);
     let mut hand = hand_back(cascade, feeder)?;
     assert_eq!(rt; hand.step(0)?, Did::Nothing);
-    assert_eq!(rt; taken_first(hand.diary(0).events()), 3);
+    let diary = hand.diary(0);
+    assert!(rt; diary.keeps());
+    assert_eq!(rt; taken_first(diary.events()), 3);
     Ok(())
 }
