@@ -26,6 +26,7 @@ use sb_words::Options;
 use std::alloc::Global;
 use std::sync::Wait;
 use std::thread::Threads;
+use std::time::Clock;
 
 /// The plan in a file.
 fn load_plan<F: Folder>(alloc: Global, name: &str, folder: &mut F) -> Result<Plan, PlanStop>
@@ -43,7 +44,7 @@ fn load_plan<F: Folder>(alloc: Global, name: &str, folder: &mut F) -> Result<Pla
 }
 
 /// Answers with the sums over windows of a size.
-pub(crate) fn answer_sum<W: Threads + Wait + Sync, S: Source, K: Sink>(
+pub(crate) fn answer_sum<W: Threads + Wait + Clock + Sync, S: Source, K: Sink>(
     rt: &W,
     alloc: Global,
     size: u64,
@@ -80,7 +81,7 @@ pub(crate) fn answer_sum<W: Threads + Wait + Sync, S: Source, K: Sink>(
 }
 
 /// Answers with the rows of the plan in a file.
-pub(crate) fn answer_file<W: Threads + Wait + Sync, S: Source, K: Sink, F: Folder>(
+pub(crate) fn answer_file<W: Threads + Wait + Clock + Sync, S: Source, K: Sink, F: Folder>(
     rt: &W,
     alloc: Global,
     name: &str,

@@ -30,6 +30,7 @@ use sb_words::{Request, read_words};
 use std::alloc::Global;
 use std::sync::Wait;
 use std::thread::Threads;
+use std::time::Clock;
 
 /// Does what the words of a command line ask for: reads a plan and its tables from `folder` and records and watermarks
 /// from `input`, and writes rows to `out`, and to `notes` a line for each late record that the plan drops, the diaries
@@ -43,7 +44,7 @@ use std::thread::Threads;
 /// whatever `--workers`, `--bundle` and `--pending` say. What becomes of the notes does not change the status.
 ///
 /// With one worker it waits for nobody and starts no thread. With more, whether it returns is not said.
-pub fn streambox<W: Threads + Wait + Sync, S: Source, K: Sink, N: Sink, F: Folder>(
+pub fn streambox<W: Threads + Wait + Clock + Sync, S: Source, K: Sink, N: Sink, F: Folder>(
     rt: &W,
     alloc: Global,
     words: &[String],
@@ -125,7 +126,7 @@ pub fn streambox<W: Threads + Wait + Sync, S: Source, K: Sink, N: Sink, F: Folde
 }
 
 /// Does what the words ask for.
-fn respond<W: Threads + Wait + Sync, S: Source, K: Sink, F: Folder>(
+fn respond<W: Threads + Wait + Clock + Sync, S: Source, K: Sink, F: Folder>(
     rt: &W,
     alloc: Global,
     words: &[String],

@@ -25,9 +25,10 @@ use sb_work::OpenGate;
 use std::alloc::Global;
 use std::sync::Wait;
 use std::thread::Threads;
+use std::time::Clock;
 
 /// Answers with the rows of a plan, and offers each to the taps if the options say so.
-pub(crate) fn answer_run<W: Threads + Wait + Sync, S: Source, K: Sink>(
+pub(crate) fn answer_run<W: Threads + Wait + Clock + Sync, S: Source, K: Sink>(
     rt: &W,
     alloc: Global,
     plan: Plan,
@@ -65,7 +66,7 @@ pub(crate) fn answer_run<W: Threads + Wait + Sync, S: Source, K: Sink>(
 }
 
 /// Answers with the rows of a plan, past the taps.
-fn answer_past<W: Threads + Wait + Sync, S: Source, K: Sink>(
+fn answer_past<W: Threads + Wait + Clock + Sync, S: Source, K: Sink>(
     rt: &W,
     alloc: Global,
     plan: Plan,
@@ -148,7 +149,7 @@ fn run_alone<S: Source, K: Sink>(
 }
 
 /// Runs a plan over an input by several workers, and writes its rows to a sink.
-fn run_shared<W: Threads + Wait + Sync, S: Source, K: Sink>(
+fn run_shared<W: Threads + Wait + Clock + Sync, S: Source, K: Sink>(
     rt: &W,
     alloc: Global,
     plan: Plan,
@@ -175,7 +176,7 @@ fn run_shared<W: Threads + Wait + Sync, S: Source, K: Sink>(
 }
 
 /// Runs a plan over an input, and writes its rows to a sink.
-fn run_to<W: Threads + Wait + Sync, S: Source, K: Sink>(
+fn run_to<W: Threads + Wait + Clock + Sync, S: Source, K: Sink>(
     rt: &W,
     alloc: Global,
     plan: Plan,

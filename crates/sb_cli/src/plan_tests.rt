@@ -6,13 +6,14 @@ use std::process::Abort;
 use std::sync::Wait;
 use std::test::Fail;
 use std::thread::Threads;
+use std::time::Clock;
 
 /// The words of the plain program.
 const SLOW: &[&str] = &["slow", "p.toml"];
 
 /// Runs a plan with each number of workers, and by the plain program.
 pub(crate) fn check_plan(
-    rt: &(impl AllocGlobal + Abort + Threads + Wait + Sync),
+    rt: &(impl AllocGlobal + Abort + Threads + Wait + Clock + Sync),
     trial: &Trial,
 ) -> Result<(), Fail> {
     try_by_workers(rt, trial)?;
@@ -25,7 +26,7 @@ pub(crate) fn check_plan(
 
 /// Runs a trial with another plan with each number of workers, and by the plain program: it has to leave these rows.
 pub(crate) fn check_made(
-    rt: &(impl AllocGlobal + Abort + Threads + Wait + Sync),
+    rt: &(impl AllocGlobal + Abort + Threads + Wait + Clock + Sync),
     trial: &Trial,
     plan: &str,
     rows: &str,

@@ -6,6 +6,7 @@ use std::process::Abort;
 use std::sync::Wait;
 use std::test::Fail;
 use std::thread::Threads;
+use std::time::Clock;
 
 /// A sum over windows of 10.
 const SUM: &str = "[[transform]]\nname = \"s\"\nkind = \"sum\"\nfrom = \"a\"\nsize = 10\n";
@@ -252,7 +253,7 @@ const REFUSED: [(&str, &str); 8] = [
 
 /// Runs the plan of each case, beside the table of pets.
 fn check_cases(
-    rt: &(impl AllocGlobal + Abort + Threads + Wait + Sync),
+    rt: &(impl AllocGlobal + Abort + Threads + Wait + Clock + Sync),
     cases: &[Case],
 ) -> Result<(), Fail> {
     let alloc = rt.alloc();

@@ -6,12 +6,13 @@ use std::process::Abort;
 use std::sync::Wait;
 use std::test::Fail;
 use std::thread::Threads;
+use std::time::Clock;
 
 pub(crate) const FIRST: &[u8] = b"r,a,3,1,5\nr,a,7,1,2\nw,a,10\nr,a,12,1,4\n";
 
 /// Sums the text of each row, with the input in pieces of each of these sizes.
 fn try_in_pieces(
-    rt: &(impl AllocGlobal + Abort + Threads + Wait + Sync),
+    rt: &(impl AllocGlobal + Abort + Threads + Wait + Clock + Sync),
     rows: &[Row],
 ) -> Result<(), Fail> {
     for row in rows {

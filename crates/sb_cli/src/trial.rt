@@ -11,6 +11,7 @@ use std::process::Abort;
 use std::sync::Wait;
 use std::test::Fail;
 use std::thread::Threads;
+use std::time::Clock;
 
 /// Taps in a list.
 pub(crate) type Taps = Vec<Box<dyn Tap>>;
@@ -195,7 +196,7 @@ fn words_of(
 
 /// Runs the words, past taps.
 fn run(
-    rt: &(impl AllocGlobal + Threads + Wait + Sync),
+    rt: &(impl AllocGlobal + Threads + Wait + Clock + Sync),
     words: &[String],
     around: &mut Around,
     taps: &mut Taps,
@@ -253,7 +254,7 @@ fn check_seen(rt: &(impl AllocGlobal + Abort), taps: &Taps, seen: &[u64]) {
 
 /// Runs the words of a trial past the taps, and compares what it leaves.
 fn run_and_check(
-    rt: &(impl AllocGlobal + Abort + Threads + Wait + Sync),
+    rt: &(impl AllocGlobal + Abort + Threads + Wait + Clock + Sync),
     trial: &Trial,
     rows: &str,
     workers: Option<u32>,
@@ -272,7 +273,7 @@ fn run_and_check(
 
 /// Runs a trial with so many workers, past the taps, and compares what it leaves.
 pub(crate) fn try_past(
-    rt: &(impl AllocGlobal + Abort + Threads + Wait + Sync),
+    rt: &(impl AllocGlobal + Abort + Threads + Wait + Clock + Sync),
     trial: &Trial,
     workers: Option<u32>,
     taps: &mut Taps,
@@ -283,7 +284,7 @@ pub(crate) fn try_past(
 
 /// Runs a trial with so many workers, or those that its words name, and compares what it leaves.
 pub(crate) fn try_out(
-    rt: &(impl AllocGlobal + Abort + Threads + Wait + Sync),
+    rt: &(impl AllocGlobal + Abort + Threads + Wait + Clock + Sync),
     trial: &Trial,
     workers: Option<u32>,
 ) -> Result<(), Fail> {
@@ -306,7 +307,7 @@ pub(crate) fn try_out(
 
 /// Runs a trial with each number of workers.
 pub(crate) fn try_by_workers(
-    rt: &(impl AllocGlobal + Abort + Threads + Wait + Sync),
+    rt: &(impl AllocGlobal + Abort + Threads + Wait + Clock + Sync),
     trial: &Trial,
 ) -> Result<(), Fail> {
     for workers in WORKERS {
@@ -317,7 +318,7 @@ pub(crate) fn try_by_workers(
 
 /// Runs a trial over another text, which has to leave these rows, with so many workers.
 pub(crate) fn try_over(
-    rt: &(impl AllocGlobal + Abort + Threads + Wait + Sync),
+    rt: &(impl AllocGlobal + Abort + Threads + Wait + Clock + Sync),
     trial: &Trial,
     text: &[u8],
     rows: &str,
@@ -332,7 +333,7 @@ pub(crate) fn try_over(
 
 /// The same, with each number of workers.
 pub(crate) fn try_over_by_workers(
-    rt: &(impl AllocGlobal + Abort + Threads + Wait + Sync),
+    rt: &(impl AllocGlobal + Abort + Threads + Wait + Clock + Sync),
     trial: &Trial,
     text: &[u8],
     rows: &str,
@@ -345,7 +346,7 @@ pub(crate) fn try_over_by_workers(
 
 /// Runs a trial with another plan and another table, which has to leave these rows, with so many workers.
 pub(crate) fn try_plan(
-    rt: &(impl AllocGlobal + Abort + Threads + Wait + Sync),
+    rt: &(impl AllocGlobal + Abort + Threads + Wait + Clock + Sync),
     trial: &Trial,
     plan: &[u8],
     table: &[u8],

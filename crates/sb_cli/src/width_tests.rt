@@ -6,6 +6,7 @@ use std::process::Abort;
 use std::sync::Wait;
 use std::test::Fail;
 use std::thread::Threads;
+use std::time::Clock;
 
 /// The text of a row, so many times, and what a run over that has to leave.
 type Repeated = (Row, usize);
@@ -70,7 +71,7 @@ fn the_widest_inputs(rt: HostRuntime) -> Result<(), Fail> {
 
 /// Each record is a bundle, and no other may wait beside it.
 fn try_narrow(
-    rt: &(impl AllocGlobal + Abort + Threads + Wait + Sync),
+    rt: &(impl AllocGlobal + Abort + Threads + Wait + Clock + Sync),
     workers: u32,
 ) -> Result<(), Fail> {
     let text = repeated(rt.alloc(), b"r,a,3,1,1\n", 10_000)?;

@@ -12,6 +12,7 @@ use sb_outside::{MemSource, Source, SourceFault};
 use std::alloc::{AllocError, Global};
 use std::sync::Wait;
 use std::thread::Threads;
+use std::time::Clock;
 
 /// All bytes of the first source, and then those of the second. If the first does not end in a line feed, its last line
 /// goes on with the second.
@@ -38,7 +39,7 @@ impl<S: Source, T: Source> Source for EndToEnd<S, T> {
 }
 
 /// What the program gives for words and two texts that are read as one: the same as for the two texts joined.
-pub fn answer_to_both<W: Threads + Wait + Sync>(
+pub fn answer_to_both<W: Threads + Wait + Clock + Sync>(
     rt: &W,
     alloc: Global,
     words: &[String],

@@ -13,6 +13,7 @@ use std::alloc::{AllocError, Global};
 use std::collections::BTreeMap;
 use std::sync::Wait;
 use std::thread::Threads;
+use std::time::Clock;
 
 /// What the program gave: how the run ended, and the text of the rows.
 #[derive(Drop)]
@@ -23,7 +24,7 @@ pub struct Answer {
 
 /// What the program gives for words and an input, without files. The contract speaks of the words `sum SIZE` with any
 /// options.
-pub fn answer_to_source<W: Threads + Wait + Sync, S: Source>(
+pub fn answer_to_source<W: Threads + Wait + Clock + Sync, S: Source>(
     rt: &W,
     alloc: Global,
     words: &[String],
@@ -52,7 +53,7 @@ pub fn answer_to_source<W: Threads + Wait + Sync, S: Source>(
 }
 
 /// The same for a text.
-pub fn answer_to_text<W: Threads + Wait + Sync>(
+pub fn answer_to_text<W: Threads + Wait + Clock + Sync>(
     rt: &W,
     alloc: Global,
     words: &[String],
