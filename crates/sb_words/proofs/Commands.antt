@@ -8,8 +8,8 @@ use Rattle.sb_words.specs.declared.options.Options.{Options}
 use Rattle.sb_words.specs.declared.request.Request.{Request}
 use Rattle.sb_words.specs.Options.{AreOptions}
 use Rattle.sb_words.specs.Texts.{texts}
-use Rattle.sb_words.specs.Words.{Asked, IsCommand, IsFileName, IsNoCommand, IsSize, IsValid, asked}
-use Rattle.sb_words.specs.Words.Asked.{Sum, Run, Slow, Audit}
+use Rattle.sb_words.specs.Words.{Asked, AreSizesAlone, IsAmount, IsCommand, IsFileName, IsNoCommand, IsSize, IsValid, asked}
+use Rattle.sb_words.specs.Words.Asked.{Sum, Run, Slow, Audit, Work}
 
 -- the answer is what these words ask for
 abbrev pub Answers : Option Asked → List (List ℕ) → Type 0
@@ -41,6 +41,7 @@ no_run name words none (Run plan options) is = cc ((none options).1 is.3)
 no_run name [] none (Slow plan) is = search (rules, is.0)
 no_run name (word ∷ words) none (Slow plan) is = is
 no_run name words none Audit is = is
+no_run name words none (Work records options) is = cc ((none options).1 is.3)
 
 pub no_sum : (argument : List ℕ) (words : List (List ℕ)) → AreAnswered None words → IsNoCommand (codes "sum" ∷ argument ∷ words)
 no_sum argument words none (Sum size options) is = cc ((none options).1 is.3)
@@ -48,6 +49,26 @@ no_sum argument words none (Run plan options) is = cc ((none options).1 is.3)
 no_sum argument [] none (Slow plan) is = search (rules, is.0)
 no_sum argument (word ∷ words) none (Slow plan) is = is
 no_sum argument words none Audit is = is
+no_sum argument words none (Work records options) is = cc ((none options).1 is.3)
+
+pub no_work : (argument : List ℕ) (words : List (List ℕ)) → AreAnswered None words → IsNoCommand (codes "work" ∷ argument ∷ words)
+no_work argument words none (Sum size options) is = cc ((none options).1 is.3)
+no_work argument words none (Run plan options) is = cc ((none options).1 is.3)
+no_work argument [] none (Slow plan) is = search (rules, is.0)
+no_work argument (word ∷ words) none (Slow plan) is = is
+no_work argument words none Audit is = is
+no_work argument words none (Work records options) is = cc ((none options).1 is.3)
+
+-- options that `work` does not take make no command of it
+pub no_work_of : (argument : List ℕ) (words : List (List ℕ)) (options : Options) → AreAnswered (Some options) words → (AreSizesAlone options → ⊥)
+    → IsNoCommand (codes "work" ∷ argument ∷ words)
+no_work_of argument words options exact more (Sum size given) is = search (rules, is.0)
+no_work_of argument words options exact more (Run plan given) is = search (rules, is.0)
+no_work_of argument [] options exact more (Slow plan) is = search (rules, is.0)
+no_work_of argument (word ∷ words) options exact more (Slow plan) is = is
+no_work_of argument words options exact more Audit is = is
+no_work_of argument words options exact more (Work records given) is =
+    more (subst AreSizesAlone (sym (same_Some options given ((exact given).1 is.3))) is.4)
 
 -- words that ask for one thing alone
 only : (mine : Asked) (words : List (List ℕ)) → IsCommand mine words → ((wanted : Asked) → IsCommand wanted words → mine ≡ wanted)
@@ -70,6 +91,7 @@ is_sum argument words size is spelled options exact =
         let same = same_Some options given ((exact given).1 command.3) in
         cc
     one words exact (Run plan given) command = search (rules, command.0)
+    one words exact (Work records given) command = search (rules, command.0)
     one [] exact (Slow plan) command = search (rules, command.0)
     one (word ∷ words) exact (Slow plan) command = absurd command
     one words exact Audit command = absurd command
@@ -86,6 +108,25 @@ is_run name words is options exact =
         let same = same_Some options given ((exact given).1 command.3) in
         cc
     one words exact (Sum size given) command = search (rules, command.0)
+    one words exact (Work records given) command = search (rules, command.0)
+    one [] exact (Slow plan) command = search (rules, command.0)
+    one (word ∷ words) exact (Slow plan) command = absurd command
+    one words exact Audit command = absurd command
+
+-- a number of records and options
+pub is_work : (argument : List ℕ) (words : List (List ℕ)) (records : ℕ) → IsAmount records → argument ≡ decimal records
+    → (options : Options) → AreAnswered (Some options) words → AreSizesAlone options
+    → Answers (Some (Work records options)) (codes "work" ∷ argument ∷ words)
+is_work argument words records is spelled options exact alone =
+    only (Work records options) (codes "work" ∷ argument ∷ words) (refl, spelled, is, (exact options).0 refl, alone) (one words exact)
+  where
+    one : (words : List (List ℕ)) → AreAnswered (Some options) words → (wanted : Asked) → IsCommand wanted (codes "work" ∷ argument ∷ words) → Work records options ≡ wanted
+    one words exact (Work other given) command =
+        let amounts : records ≡ other = decimal_injective records other (omega (arith, is.1)) (omega (arith, command.2.1)) (sym spelled ∙ command.1) in
+        let same = same_Some options given ((exact given).1 command.3) in
+        cc
+    one words exact (Sum size given) command = search (rules, command.0)
+    one words exact (Run plan given) command = search (rules, command.0)
     one [] exact (Slow plan) command = search (rules, command.0)
     one (word ∷ words) exact (Slow plan) command = absurd command
     one words exact Audit command = absurd command
@@ -101,6 +142,7 @@ is_slow command name is file [] none =
     one (Slow plan) asks = let plans = asks.1 in cc
     one (Run plan given) asks = let same = sym is ∙ asks.0 in search (rules, same)
     one (Sum size given) asks = let same = sym is ∙ asks.0 in search (rules, same)
+    one (Work records given) asks = let same = sym is ∙ asks.0 in search (rules, same)
     one Audit asks = absurd asks
 
 -- what is read in the words of a command is its own reading

@@ -13,7 +13,7 @@ use Rattle.sb_words.specs.declared.options.Options.{Options}
 use Rattle.sb_words.specs.declared.setting.Setting.{Setting}
 use Rattle.sb_words.specs.Readings.{AreRead, IsReadAs}
 use Rattle.sb_words.specs.Words.{Asked, IsCommand, IsFileName}
-use Rattle.sb_words.specs.Words.Asked.{Sum, Run, Slow, Audit}
+use Rattle.sb_words.specs.Words.Asked.{Sum, Run, Slow, Audit, Work}
 use Rattle.sb_words.proofs.Taking.{IsPlainWord, built_of, is_plain, number_is_plain, rows_of_words, rules, words_taken}
 use Rattle.sb_words.proofs.Completing.{are_read, argument_given, argument_read, complete, in_range}
 
@@ -65,6 +65,10 @@ run_named = record { passes = refl; next = refl; found = refl }
 sum_named : IsNamed (codes "sum") (built_of (codes "sum"))
 unfolding clap_on_literals
 sum_named = record { passes = refl; next = refl; found = refl }
+
+work_named : IsNamed (codes "work") (built_of (codes "work"))
+unfolding clap_on_literals
+work_named = record { passes = refl; next = refl; found = refl }
 
 abbrev built_slow : Shape
 built_slow = built_leaf (inherited bare.top slow.top)
@@ -128,6 +132,12 @@ command_taken (Slow name) (command ∷ argument ∷ []) is =
     let taken = enters (codes "slow") built_slow slow_named (argument ∷ []) (slow_taken argument plain) in
     rw is.0 taken
 command_taken Audit (command ∷ []) is = rw is audit_taken
+command_taken (Work records options) (command ∷ argument ∷ words) is =
+    let given = is.3 in
+    let plain : IsPlainWord argument = subst IsPlainWord (sym is.1) (number_is_plain records (omega (arith, is.2.1))) in
+    let below = level_taken (codes "work") argument plain given.settings given.in_range given.once in
+    let taken = enters (codes "work") (built_of (codes "work")) work_named (argument ∷ flat_map spelled given.settings) below in
+    rw (is.0, given.exactly) taken
 command_taken (Sum size options) [] is = absurd is
 command_taken (Sum size options) (command ∷ []) is = absurd is
 command_taken (Run name options) [] is = absurd is
@@ -136,6 +146,8 @@ command_taken (Slow name) [] is = absurd is
 command_taken (Slow name) (command ∷ []) is = absurd is
 command_taken (Slow name) (command ∷ argument ∷ word ∷ words) is = absurd is
 command_taken Audit [] is = absurd is
+command_taken (Work records options) [] is = absurd is
+command_taken (Work records options) (command ∷ []) is = absurd is
 command_taken Audit (command ∷ word ∷ words) is = absurd is
 
 slow_rows : (name : Text) → IsPlainWord name → first_of (codes "argument") (rows_after built_slow.rules [] (name ∷ [])) ≡ Some name
@@ -178,6 +190,15 @@ command_read (Slow name) (command ∷ argument ∷ []) is =
 command_read Audit (command ∷ []) is =
     let rows : subcommand_of program (command ∷ []) ≡ Some (codes "audit", []) = ap (λ (w : Text). subcommand_of program (w ∷ [])) is ∙ audit_rows in
     subst (IsReadAs Audit) (sym rows) refl
+command_read (Work records options) (command ∷ argument ∷ words) is =
+    let given = is.3 in
+    let plain : IsPlainWord argument = subst IsPlainWord (sym is.1) (number_is_plain records (omega (arith, is.2.1))) in
+    let rows : subcommand_of program (command ∷ argument ∷ words) ≡ Some (codes "work", complete (rows_of_words argument given.settings)) =
+    ap (λ (ws : List Text). subcommand_of program ws) (λ i. is.0 i ∷ argument ∷ given.exactly i)
+    ∙ enters_rows (codes "work") (built_of (codes "work")) work_named (argument ∷ flat_map spelled given.settings)
+    ∙ ap (λ (r : List Row). Some (codes "work", r)) (level_rows (codes "work") argument plain given.settings given.in_range given.once) in
+    subst (IsReadAs (Work records options)) (sym rows)
+    (refl, argument_read argument given.settings ∙ ap (λ t. Some t) is.1, is.2, options_read argument options words given)
 command_read (Sum size options) [] is = absurd is
 command_read (Sum size options) (command ∷ []) is = absurd is
 command_read (Run name options) [] is = absurd is
@@ -186,4 +207,6 @@ command_read (Slow name) [] is = absurd is
 command_read (Slow name) (command ∷ []) is = absurd is
 command_read (Slow name) (command ∷ argument ∷ word ∷ words) is = absurd is
 command_read Audit [] is = absurd is
+command_read (Work records options) [] is = absurd is
+command_read (Work records options) (command ∷ []) is = absurd is
 command_read Audit (command ∷ word ∷ words) is = absurd is

@@ -21,7 +21,8 @@ flag name = record (new_rule name) { long = Some name; action = Some SetTrue }
 abbrev pub with_argument : Text → App → App
 with_argument name app = with_rule app (record (new_rule name) { required = true })
 
--- the command with the options of `sum` and `run`
+-- the command with the options of `sum` and `run`. `work` has them for clap, too: what words it takes of them is said of
+-- commands
 abbrev pub with_options : App → App
 with_options app =
     with_rule (with_rule (with_rule (with_rule (with_rule app (option (codes "workers"))) (option (codes "bundle")))
@@ -32,6 +33,9 @@ sum = with_options (with_argument (codes "argument") (new_app (codes "sum")))
 
 abbrev pub run : App
 run = with_options (with_argument (codes "argument") (new_app (codes "run")))
+
+abbrev pub work : App
+work = with_options (with_argument (codes "argument") (new_app (codes "work")))
 
 abbrev pub slow : App
 slow = with_argument (codes "argument") (new_app (codes "slow"))
@@ -51,4 +55,6 @@ bare = let app = new_app (codes "streambox") in record app {
 }
 
 abbrev pub program : App
-program = with_subcommand (with_subcommand (with_subcommand (with_subcommand bare sum.top) run.top) slow.top) audit.top
+program =
+    with_subcommand (with_subcommand (with_subcommand (with_subcommand (with_subcommand bare sum.top) run.top) work.top)
+    slow.top) audit.top

@@ -4,8 +4,8 @@ use Rattle.clap.specs.Words.{Row, Text, first_of, one_of}
 use Rattle.sb_words.specs.declared.options.Options.{Options}
 use Rattle.sb_words.specs.declared.options.TheConstants.{DEFAULT_WORKERS, DEFAULT_BUNDLE, DEFAULT_PENDING}
 use Rattle.sb_words.specs.Options.{AreInRange}
-use Rattle.sb_words.specs.Words.{Asked, IsSize}
-use Rattle.sb_words.specs.Words.Asked.{Sum, Run, Slow, Audit}
+use Rattle.sb_words.specs.Words.{Asked, IsAmount, IsSize}
+use Rattle.sb_words.specs.Words.Asked.{Sum, Run, Slow, Audit, Work}
 
 -- a number that is spelled, or the default if none is
 abbrev pub IsRead : ℕ → ℕ → Option Text → Type 0
@@ -34,4 +34,7 @@ IsReadAs (Run plan options) (Some (name, rows)) =
     (name ≡ codes "run") × (first_of (codes "argument") rows ≡ Some plan) × AreRead options rows
 IsReadAs (Slow plan) (Some (name, rows)) = (name ≡ codes "slow") × (first_of (codes "argument") rows ≡ Some plan)
 IsReadAs Audit (Some (name, rows)) = name ≡ codes "audit"
+IsReadAs (Work records options) (Some (name, rows)) =
+    (name ≡ codes "work") × (first_of (codes "argument") rows ≡ Some (decimal records)) × IsAmount records
+    × AreRead options rows
 IsReadAs wanted None = ⊥

@@ -1,5 +1,6 @@
 -- The words that ask for something.
-use Rattle.std.specs.Prelude.{◌≡◌, ◌≢◌, ◌≤◌, ℕ, List, [], ◌∷◌, decimal, codes}
+use Rattle.std.specs.Prelude.{◌≡◌, ◌≢◌, ◌≤◌, ℕ, false, List, [], ◌∷◌, decimal, codes}
+use Rattle.sb_generator.specs.declared.pattern.TheConstants.{MAX_RECORDS}
 use Rattle.sb_window.specs.declared.windows.TheConstants.{MAX_SIZE}
 use Rattle.sb_words.specs.declared.options.Options.{Options}
 use Rattle.sb_words.specs.declared.request.Request.{Request}
@@ -7,22 +8,33 @@ use Rattle.sb_words.specs.declared.request.Request.TheVariants as request
 use Rattle.sb_words.specs.Options.{AreOptions, AreInRange}
 
 -- what users may ask for: sums over windows of a size; the rows of a plan from a file, by the engine or by the plain
--- program; or the audit of a diary text
+-- program; the audit of a diary text; or the summary of sums over so many records that are made
 pub data Asked : Type 0 where
   Sum : (size : ℕ) → (options : Options) → Asked
   Run : (name : List ℕ) → (options : Options) → Asked
   Slow : (name : List ℕ) → Asked
   Audit : Asked
+  Work : (records : ℕ) → (options : Options) → Asked
 
 abbrev pub asked : Request → Asked
 asked (request.Sum size options) = Sum size options
 asked (request.Run name options) = Run name.now options
 asked (request.Slow name) = Slow name.now
 asked request.Audit = Audit
+asked (request.Work records options) = Work records options
 
 -- a size of windows that users may ask for
 abbrev pub IsSize : ℕ → Type 0
 IsSize size = (1 ≤ size) × (size ≤ MAX_SIZE)
+
+-- how many records users may ask to be made
+abbrev pub IsAmount : ℕ → Type 0
+IsAmount records = (1 ≤ records) × (records ≤ MAX_RECORDS)
+
+-- options that set sizes alone: no diary and no taps
+pub record AreSizesAlone (options : Options) : Type 0 where
+  pub no_diary : options.diary ≡ false
+  pub no_taps : options.taps ≡ false
 
 -- the name of a file, which is no option: it has at least one byte, and does not begin with `-`
 abbrev pub IsFileName : List ℕ → Type 0
@@ -35,6 +47,7 @@ IsValid (Sum size options) = IsSize size × AreInRange options
 IsValid (Run name options) = IsFileName name × AreInRange options
 IsValid (Slow name) = IsFileName name
 IsValid Audit = Unit {0}
+IsValid (Work records options) = IsAmount records × AreInRange options × AreSizesAlone options
 
 -- the words are the command for this: the word of the command, its argument, then options
 abbrev pub IsCommand : Asked → List (List ℕ) → Type 0
@@ -45,6 +58,9 @@ IsCommand (Run name options) (command ∷ argument ∷ words) =
 IsCommand (Slow name) (command ∷ argument ∷ []) =
     (command ≡ codes "slow") × (argument ≡ name) × IsFileName name
 IsCommand Audit (command ∷ []) = command ≡ codes "audit"
+IsCommand (Work records options) (command ∷ argument ∷ words) =
+    (command ≡ codes "work") × (argument ≡ decimal records) × IsAmount records × AreOptions options words
+    × AreSizesAlone options
 IsCommand wanted words = ⊥
 
 -- the words are no command

@@ -38,7 +38,7 @@ fn with_argument<'a>(alloc: Global, name: &'a str) -> Result<Command<'a>, AllocE
     Command::new(alloc, name).arg(Arg::new(alloc, "argument").required(true))
 }
 
-/// A command with one argument and the options of `sum` and `run`.
+/// A command with one argument and the options of `sum` and `run`. `work` has them here, too, and takes fewer.
 fn with_options<'a>(alloc: Global, name: &'a str) -> Result<Command<'a>, AllocError>
     ensures { IfOk result (λ command.
         IsAs command (spec.with_options (spec.with_argument (codes "argument") (new_app name.entry.now)))) }
@@ -68,11 +68,13 @@ fn program<'a>(alloc: Global) -> Result<Command<'a>, AllocError>
 {
     let sum = with_options(alloc, "sum")?;
     let run = with_options(alloc, "run")?;
+    let work = with_options(alloc, "work")?;
     let slow = with_argument(alloc, "slow")?;
     let audit = Command::new(alloc, "audit");
     bare(alloc)
         .subcommand(sum)?
         .subcommand(run)?
+        .subcommand(work)?
         .subcommand(slow)?
         .subcommand(audit)
 }

@@ -9,10 +9,12 @@ ghost use Rattle.sb_words.specs.Words.{Asked, asked};
 use crate::options::{
     DEFAULT_BUNDLE, DEFAULT_PENDING, DEFAULT_WORKERS, MAX_PENDING, MAX_WORKERS, Options,
 };
-use crate::request::{Request, read_size};
+use crate::request::{Request, read_amount};
 use crate::setting::read_count;
 use clap::ArgMatches;
 use sb_bundle::MAX_BUNDLE;
+use sb_generator::MAX_RECORDS;
+use sb_window::MAX_SIZE;
 
 /// The text of an argument, if it has one.
 fn text_of<'a>(matches: &ArgMatches<'a>, id: &str) -> Option<&'a str>
@@ -71,7 +73,11 @@ fn asked_by<'a>(name: &str, matches: &ArgMatches<'a>) -> Option<Request<'a>>
     if name == "run" {
         return Some(Request::Run(argument, options));
     }
-    let size = read_size(argument.as_bytes())?;
+    if name == "work" {
+        let records = read_amount(MAX_RECORDS, argument.as_bytes())?;
+        return Some(Request::Work(records, options));
+    }
+    let size = read_amount(MAX_SIZE, argument.as_bytes())?;
     Some(Request::Sum(size, options))
 }
 

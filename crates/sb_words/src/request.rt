@@ -1,12 +1,13 @@
 //! The words of a command line, and what they ask for.
 
-ghost use Rattle.std.specs.Prelude.{◌≡◌, ◌≤◌, ◌↔◌, ◌∷◌, [], ℕ, Some, None, IsTrue, IfOk, IfSome, codes, decimal};
+ghost use Rattle.std.specs.Prelude.{◌≡◌, ◌≤◌, ◌<◌, ◌^◌, ◌↔◌, ◌∷◌, [], ℕ, Some, None, IsTrue, IfOk, IfSome, codes, decimal};
 ghost use Rattle.std.specs.Option.{option_map};
 ghost use Rattle.sb_words.specs.Texts.{texts};
 ghost use Rattle.sb_words.specs.Words.{Asked, IsCommand, IsFileName, IsNoCommand, IsValid, asked};
 
 use crate::clapped::read_by_clap;
 use crate::options::{Options, read_options};
+use sb_generator::MAX_RECORDS;
 use sb_record::{NoMemory, read_number};
 use sb_window::MAX_SIZE;
 use std::alloc::Global;
@@ -22,6 +23,9 @@ pub enum Request<'a> {
     Slow(&'a str),
     /// What a diary text says.
     Audit,
+    /// The summary of sums over so many records that are made, 1 to [`MAX_RECORDS`]. The options have no diary and no
+    /// taps.
+    Work(u64, Options),
 }
 
 /// What the words ask for: none if they are no command. They are read with `clap`, and compared with the commands,
@@ -79,6 +83,9 @@ fn read_command<'a>(command: &str, argument: &'a str, rest: &[String]) -> Option
     if command == "sum" {
         return read_sum(argument, rest);
     }
+    if command == "work" {
+        return read_work(argument, rest);
+    }
     if !is_file_name(argument) {
         return None;
     }
@@ -97,7 +104,7 @@ fn read_sum<'a>(argument: &str, rest: &[String]) -> Option<Request<'a>>
         ↔ IsCommand wanted (codes "sum" ∷ argument.now ∷ texts rest.now) }
     ensures valid { IfSome result (λ request. IsValid (asked request)) }
 {
-    let size = read_size(argument.as_bytes())?;
+    let size = read_amount(MAX_SIZE, argument.as_bytes())?;
     let options = read_options(rest)?;
     Some(Request::Sum(size, options))
 }
@@ -113,12 +120,27 @@ fn read_run<'a>(name: &'a str, rest: &[String]) -> Option<Request<'a>>
     Some(Request::Run(name, options))
 }
 
-/// The size of a window, as users spell it.
-pub(crate) fn read_size(text: &[u8]) -> Option<u64>
-    ensures { (n : ℕ) → (result ≡ Some n) ↔ ((1 ≤ n) × (n ≤ MAX_SIZE) × (text.now ≡ decimal n)) }
+/// What the argument of `work` and the words behind it ask for.
+fn read_work<'a>(argument: &str, rest: &[String]) -> Option<Request<'a>>
+    ensures exact { (wanted : Asked) → (option_map asked result ≡ Some wanted)
+        ↔ IsCommand wanted (codes "work" ∷ argument.now ∷ texts rest.now) }
+    ensures valid { IfSome result (λ request. IsValid (asked request)) }
 {
-    let size = read_number(MAX_SIZE, text)?;
-    if size == 0 { None } else { Some(size) }
+    let records = read_amount(MAX_RECORDS, argument.as_bytes())?;
+    let options = read_options(rest)?;
+    if options.diary || options.taps {
+        return None;
+    }
+    Some(Request::Work(records, options))
+}
+
+/// The number, from 1 to `most`, that a text spells. The bound itself is below 10^19.
+pub(crate) fn read_amount(most: u64, text: &[u8]) -> Option<u64>
+    requires { most < 10 ^ 19 }
+    ensures { (n : ℕ) → (result ≡ Some n) ↔ ((1 ≤ n) × (n ≤ most) × (text.now ≡ decimal n)) }
+{
+    let number = read_number(most, text)?;
+    if number == 0 { None } else { Some(number) }
 }
 
 /// Whether a word is the name of a file, and no option.

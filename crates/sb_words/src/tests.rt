@@ -36,6 +36,23 @@ fn words_ask_for_what_they_say(rt: HostRuntime) -> Result<(), Fail> {
         ("run a--diary", Request::Run("a--diary", none)),
         ("slow p.toml", Request::Slow("p.toml")),
         ("audit", Request::Audit),
+        ("work 1", Request::Work(1, none)),
+        ("work 10000000", Request::Work(10_000_000, none)),
+        (
+            "work 8 --bundle 3 --workers 4",
+            Request::Work(
+                8,
+                Options {
+                    workers: 4,
+                    bundle: 3,
+                    ..none
+                },
+            ),
+        ),
+        (
+            "work 8 --pending 2",
+            Request::Work(8, options(1_024, 2, false, false)),
+        ),
         ("sum 10 --workers 1", Request::Sum(10, none)),
         (
             "sum 10 --workers 64",
@@ -109,6 +126,19 @@ fn other_words_ask_for_nothing(rt: HostRuntime) -> Result<(), Fail> {
         "slow -",
         "slow p --diary",
         "slow p x",
+        "work",
+        "work 0",
+        "work 08",
+        "work 10000001",
+        "work -1",
+        "work x",
+        "work 8 9",
+        "work 8 --diary",
+        "work 8 --bundle 3 --taps",
+        "work 8 --workers 65",
+        "work 8 --workers 4 --workers 4",
+        "work --workers 4",
+        "work --workers 4 8",
         "audit x",
         "audit --diary",
         "--help",
