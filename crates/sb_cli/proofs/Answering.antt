@@ -14,27 +14,34 @@ use Rattle.sb_pipeline.specs.Shapes.{Shape, streams_of}
 use Rattle.sb_pipeline.specs.Results.{output_of}
 use Rattle.sb_slow.specs.Inputs.{by_stream}
 use Rattle.sb_outside.specs.Folders.{Files, Load}
+use Rattle.sb_outside.specs.Sinks.{AppendsPrefix}
+use Rattle.sb_outside.specs.Sources.{Rose}
 use Rattle.sb_cli.specs.declared.ending.Ending.{Ending}
 use Rattle.sb_cli.specs.declared.status.Status.{Status}
 use Rattle.sb_cli.specs.declared.status.Status.TheVariants.{Done, Words, Plan, Line, Input, Output, Folder, Memory, Tap, Audit}
 use Rattle.sb_words.specs.Options.{defaults}
 use Rattle.sb_words.specs.Words.{Asked, Asked as ask}
-use Rattle.sb_words.specs.Words.Asked.{Sum, Run, Slow}
+use Rattle.sb_words.specs.Words.Asked.{Sum, Run, Slow, Work}
 use Rattle.sb_words.specs.declared.options.Options.{Options}
 use Rattle.sb_emit.specs.Taps.{TapState}
 use Rattle.sb_feed.specs.Due.{due_mark, due_rows, streams_in}
 use Rattle.sb_cli.specs.Offered.{BlamesTap, IsOfferedOf}
 use Rattle.sb_cli.specs.PlainSteps.{WritesDue}
 use Rattle.sb_cli.specs.Pipelines.{IsPlanFor, TellsPlan, all_rows, options_in}
+use Rattle.sb_cli.specs.Summaries.{summary_text, work_rows}
 use Rattle.sb_cli.specs.Told.{TellsDiaries}
 use Rattle.sb_cli.proofs.RunAnswers.{due_are_first, part_of_all_rows}
 use Rattle.sb_feed.specs.Given.{Given, items_of, lines_of, stop_at}
-use Rattle.sb_cli.specs.Answers.{ending_of, HasWritten, ListsDropped, WrotePrefix, HasNoPlan, IsAnswer, IsAnswerOf, IsAuditAnswer, IsPlanAnswer, HasAudited}
+use Rattle.sb_cli.specs.Answers.{ending_of, HasWritten, ListsDropped, WrotePrefix, HasNoPlan, IsAnswer, IsAnswerOf, IsAuditAnswer, IsPlanAnswer, IsWorkAnswer, HasAudited, HasPrinted}
 use Rattle.sb_cli.specs.Faults.{BlamesFile, Faults, HasCause, IsDoneOrMemory, NothingFails, NothingFailsInAudit}
+
+-- nothing is a prefix of any text
+pub nothing_printed : (text : List ℕ) (taken : Option (List ℕ)) → AppendsPrefix taken taken text
+nothing_printed text taken = record { prefix = []; rest = text; whole = refl; appends = Appends-nil taken }
 
 -- nothing is a prefix of any rows
 pub nothing_written : (taken : Option (List ℕ)) (rows : List Record) → WrotePrefix taken taken rows
-nothing_written taken rows = record { prefix = []; rest = text_of rows; whole = refl; appends = Appends-nil taken }
+nothing_written taken rows = nothing_printed (text_of rows) taken
 
 -- where there is no memory behind some reading, nothing was written, and nothing is listed or told
 pub memory_answer : (plan : Shape) (options : Options) (left left' taken : Option (List ℕ)) (ending : Ending) → Given left left' → ending.status ≡ Memory → ending.dropped ≡ [] → ending.diaries ≡ []
@@ -64,6 +71,7 @@ no_memory folder wanted left taken ending is none untold =
     for (Run name options) = inl (record { no_plan = tt; unread = refl; unwritten = refl; undropped = refl; untold = refl })
     for (Slow name) = inl (record { no_plan = tt; unread = refl; unwritten = refl; undropped = refl; untold = refl })
     for ask.Audit = record { given = unread left; audited = inl refl; undropped = refl; untold = refl }
+    for (Work records options) = record { printed = nothing_printed (summary_text records (work_rows records)) taken; undropped = refl; untold = refl }
 
 -- all late records are listed, whatever became of the rows
 pub all_listed : (items : List Item) (dropped : List Dropped) (rows : List Record) (stop : Stop) (taken taken' : Option (List ℕ)) (status : Status)
@@ -137,6 +145,7 @@ one_plan folder (Sum size options) plan told is tells = is ∙ sym tells
 one_plan folder (Run name options) plan told is tells = let same = sym (is.1 tells.0 tells.1) ∙ tells.2 in cc
 one_plan folder (Slow name) plan told is tells = let same = sym (is.1 tells.0 tells.1) ∙ tells.2 in cc
 one_plan folder ask.Audit plan told is tells = absurd is
+one_plan folder (Work records options) plan told is tells = absurd is
 
 -- if the folder's files give a plan there is no fault in it, and no load is blamed
 plan_is_had : (folder : Option Files) (wanted : Asked) (plan : Shape) (status : Status) → HasNoPlan folder wanted status → TellsPlan folder wanted plan → (status ≡ Folder → ⊥) → IsDoneOrMemory status
@@ -153,6 +162,7 @@ plan_is_had folder wanted plan Output none tells no_load = absurd none
 plan_is_had folder wanted plan (Tap place) none tells no_load = absurd none
 plan_is_had folder wanted plan (Audit fault) none tells no_load = absurd none
 plan_is_had folder ask.Audit plan (Plan fault) none tells no_load = absurd none
+plan_is_had folder (Work records options) plan (Plan fault) none tells no_load = absurd none
 
 -- no load is blamed if none failed
 not_blamed : (folder : Option Files) (wanted : Asked) (before now : List Load) → BlamesFile folder wanted before now → now ≡ before → ⊥
@@ -181,6 +191,7 @@ is_complete folder (Run name options) plan left left' taken taken' before now ta
 is_complete folder (Slow name) plan left left' taken taken' before now taps taps' ending is cause blames tap tells fine =
     by_plan folder (Slow name) plan left left' taken taken' before now taps taps' ending is cause blames tap tells fine
 is_complete folder ask.Audit plan left left' taken taken' before now taps taps' ending is cause blames tap tells fine = absurd tells
+is_complete folder (Work records options) plan left left' taken taken' before now taps taps' ending is cause blames tap tells fine = absurd tells
 
 -- an audit in which nothing fails is done
 audit_ends : (left left' taken taken' : Option (List ℕ)) (before now : Faults) (status : Status) (given : Given left left')
@@ -199,3 +210,17 @@ audit_ends left left' taken taken' before now (Tap place) given is cause fine = 
 pub audit_is_complete : (left left' taken taken' : Option (List ℕ)) (before now : Faults) (ending : Ending) → IsAuditAnswer left left' taken taken' ending
     → HasCause before now ending.status → NothingFailsInAudit left left' before now → IsDoneOrMemory ending.status
 audit_is_complete left left' taken taken' before now ending is cause fine = audit_ends left left' taken taken' before now ending.status is.given is.audited cause fine
+
+-- so is `work`, if no write fails
+pub work_is_complete : (text : List ℕ) (taken taken' : Option (List ℕ)) (before now : Faults) (status : Status) → HasPrinted text taken taken' status → HasCause before now status
+    → (Rose before.writes now.writes → ⊥) → IsDoneOrMemory status
+work_is_complete text taken taken' before now Done is cause fine = inl refl
+work_is_complete text taken taken' before now Memory is cause fine = inr refl
+work_is_complete text taken taken' before now Output is cause fine = absurd (fine cause)
+work_is_complete text taken taken' before now Words is cause fine = absurd is
+work_is_complete text taken taken' before now (Plan fault) is cause fine = absurd is
+work_is_complete text taken taken' before now (Line refusal) is cause fine = absurd is
+work_is_complete text taken taken' before now Input is cause fine = absurd is
+work_is_complete text taken taken' before now Folder is cause fine = absurd is
+work_is_complete text taken taken' before now (Tap place) is cause fine = absurd is
+work_is_complete text taken taken' before now (Audit fault) is cause fine = absurd is

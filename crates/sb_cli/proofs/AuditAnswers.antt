@@ -7,9 +7,10 @@ use Rattle.sb_cli.specs.declared.diary_input.DiaryInput.{DiaryInput}
 use Rattle.sb_cli.specs.declared.ending.Ending.{Ending}
 use Rattle.sb_cli.specs.declared.status.Status.{Status}
 use Rattle.sb_cli.specs.declared.status.Status.TheVariants.{Done, Words, Plan, Line, Input, Output, Folder, Memory, Tap, Audit}
-use Rattle.sb_cli.specs.Answers.{Audited, HasAudited, IsAuditAnswer}
-use Rattle.sb_cli.specs.AuditSteps.{AnswersHalt, WritesAudit}
+use Rattle.sb_cli.specs.Answers.{Audited, HasAudited, HasPrinted, IsAuditAnswer}
+use Rattle.sb_cli.specs.AuditSteps.{AnswersHalt}
 use Rattle.sb_cli.specs.DiaryReads.{IsReadUpTo, ReadsDiary}
+use Rattle.sb_cli.specs.Statuses.{audit_text}
 use Rattle.sb_feed.specs.Given.{lines_of}
 
 pub audit_answer : (left left' taken taken' : Option (List ℕ)) (input : DiaryInput) (why : DiaryHalt) (status : Status) (ending : Ending) → ReadsDiary left left' input
@@ -24,7 +25,7 @@ audit_answer left left' taken taken' input why status ending reads is answers st
     ls : List (List ℕ)
     ls = lines_of reads.given
 
-    by_status : (status : Status) → Audited ls reads.given.ended reads.text → WritesAudit (end_of reads.text) taken taken' status → HasAudited ls reads.given.ended taken taken' status
+    by_status : (status : Status) → Audited ls reads.given.ended reads.text → HasPrinted (audit_text (end_of reads.text)) taken taken' status → HasAudited ls reads.given.ended taken taken' status
     by_status Done read writes = (reads.text, read, writes)
     by_status Output read writes = (reads.text, read, writes)
     by_status Memory read writes = inr (reads.text, read, writes)

@@ -10,3 +10,4 @@ pub mod Blaming
 pub mod RunAnswers
 pub mod RunFaults
 pub mod Tellings
+pub mod WorkRuns

@@ -18,7 +18,7 @@ use Rattle.sb_feed.specs.Given.{Given, items_of, lines_of, stop_at}
 use Rattle.sb_outside.specs.Folders.{Files}
 use Rattle.sb_words.specs.Words.{Asked}
 use Rattle.sb_words.specs.Words.{Asked as ask}
-use Rattle.sb_words.specs.Words.Asked.{Sum, Run, Slow}
+use Rattle.sb_words.specs.Words.Asked.{Sum, Run, Slow, Work}
 use Rattle.sb_words.specs.declared.options.Options.{Options}
 use Rattle.sb_cli.specs.DiaryReads.{IsRefusedAmong}
 use Rattle.sb_cli.specs.Statuses.{audit_text}
@@ -26,6 +26,7 @@ use Rattle.sb_cli.specs.Told.{TellsDiaries}
 use Rattle.sb_diary.specs.Audits.{TextAudit, AreLegalTexts, begun, end_of}
 use Rattle.sb_diary.specs.Texts.{NodeDiary}
 use Rattle.sb_cli.specs.Pipelines.{IsPlanFor, IsFaultFor, AsksForFile, all_rows, options_in}
+use Rattle.sb_cli.specs.Summaries.{summary_text, work_rows}
 
 -- a run that ended so, lists these late records, and tells these diaries
 abbrev pub ending_of : Status → List Dropped → List NodeDiary → Ending
@@ -133,6 +134,26 @@ pub record IsAuditAnswer (left left' taken taken' : Option (List ℕ)) (ending :
   pub undropped : ending.dropped ≡ []
   pub untold : ending.diaries ≡ []
 
+-- what became of one text, by how the run ended: all of it was written, or a prefix of it if writing failed or there was
+-- no memory
+abbrev pub HasPrinted : List ℕ → Option (List ℕ) → Option (List ℕ) → Status → Type 0
+HasPrinted text taken taken' Done = Appends taken taken' text
+HasPrinted text taken taken' Output = AppendsPrefix taken taken' text
+HasPrinted text taken taken' Memory = AppendsPrefix taken taken' text
+HasPrinted text taken taken' Words = ⊥
+HasPrinted text taken taken' (Plan fault) = ⊥
+HasPrinted text taken taken' (Line refusal) = ⊥
+HasPrinted text taken taken' Input = ⊥
+HasPrinted text taken taken' Folder = ⊥
+HasPrinted text taken taken' (Tap place) = ⊥
+HasPrinted text taken taken' (Audit fault) = ⊥
+
+-- the answer of `work`: the summary of the rows over the records that are made
+pub record IsWorkAnswer (records : ℕ) (taken taken' : Option (List ℕ)) (ending : Ending) : Type 0 where
+  pub printed : HasPrinted (summary_text records (work_rows records)) taken taken' ending.status
+  pub undropped : ending.dropped ≡ []
+  pub untold : ending.diaries ≡ []
+
 -- the answer to what is asked for
 abbrev pub IsAnswer
     : Option Files → Asked → Option (List ℕ) → Option (List ℕ) → Option (List ℕ) → Option (List ℕ) → Ending → Type 0
@@ -142,6 +163,7 @@ IsAnswer folder (Run name options) left left' taken taken' ending =
     IsPlanAnswer folder (Run name options) left left' taken taken' ending
 IsAnswer folder (Slow name) left left' taken taken' ending = IsPlanAnswer folder (Slow name) left left' taken taken' ending
 IsAnswer folder ask.Audit left left' taken taken' ending = IsAuditAnswer left left' taken taken' ending
+IsAnswer folder (Work records options) left left' taken taken' ending = IsWorkAnswer records taken taken' ending
 
 -- a status at which the input was not read
 abbrev pub IsUnread : Status → Type 0

@@ -18,7 +18,7 @@ use Rattle.sb_cli.specs.Offered.{BlamesTap}
 use Rattle.sb_feed.specs.Given.{Given, lines_of, stop_at}
 use Rattle.sb_words.specs.Words.{Asked}
 use Rattle.sb_words.specs.Words.{Asked as ask}
-use Rattle.sb_words.specs.Words.Asked.{Sum, Run, Slow}
+use Rattle.sb_words.specs.Words.Asked.{Sum, Run, Slow, Work}
 
 -- how many reads and writes have failed, and which loads
 pub record Faults : Type 0 where
@@ -64,6 +64,7 @@ IsWanted folder (Sum size options) load = ⊥
 IsWanted folder (Run name options) load = IsWantedFor folder name load
 IsWanted folder (Slow name) load = IsWantedFor folder name load
 IsWanted folder ask.Audit load = ⊥
+IsWanted folder (Work records options) load = ⊥
 
 -- one load failed, which was wanted
 abbrev pub BlamesFile : Option Files → Asked → List Load → List Load → Type 0

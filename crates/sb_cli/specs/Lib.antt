@@ -5,11 +5,13 @@ pub mod DiaryReads
 pub mod Batches
 pub mod Pipelines
 pub mod Told
+pub mod Summaries
 pub mod Answers
 pub mod Offered
 pub mod Faults
 pub mod Notes
 pub mod AuditSteps
+pub mod WorkSteps
 pub mod Telling
 pub mod LentLaws
 pub mod RunSteps

@@ -14,7 +14,7 @@ use Rattle.sb_plan.specs.Failures.Failure.{Fails}
 use Rattle.sb_plan.specs.PlanFiles.{plan_of}
 use Rattle.sb_words.specs.Options.{defaults}
 use Rattle.sb_words.specs.Words.{Asked}
-use Rattle.sb_words.specs.Words.Asked.{Sum, Run, Slow, Audit}
+use Rattle.sb_words.specs.Words.Asked.{Sum, Run, Slow, Audit, Work}
 use Rattle.sb_words.specs.declared.options.Options.{Options}
 
 -- the options that are given: the plain program and an audit have none
@@ -23,6 +23,7 @@ options_in (Sum size options) = options
 options_in (Run name options) = options
 options_in (Slow name) = defaults
 options_in Audit = defaults
+options_in (Work records options) = options
 
 -- a run of the engine by one worker
 abbrev pub HasOneWorker : Asked → Type 0
@@ -30,6 +31,7 @@ HasOneWorker (Sum size options) = options.workers ≡ 1
 HasOneWorker (Run name options) = options.workers ≡ 1
 HasOneWorker (Slow name) = ⊥
 HasOneWorker Audit = ⊥
+HasOneWorker (Work records options) = options.workers ≡ 1
 
 -- the plan in a file, or its first fault, or that the file or one that it names is not there. One byte more than a plan may have shows that it is too long
 abbrev pub plan_in : Files → List ℕ → Result Shape (Failure PlanFault)
@@ -39,12 +41,13 @@ plan_in files name = in_file (λ bytes. plan_of files (take (MAX_PLAN_BYTES + 1)
 abbrev pub GivesPlan : Option Files → List ℕ → Result Shape (Failure PlanFault) → Type 0
 GivesPlan folder name found = (files : Files) → folder ≡ Some files → plan_in files name ≡ found
 
--- this is the plan that is asked for
+-- this is the plan that is asked for. None is asked for an input by an audit, and by `work`, which makes its records
 abbrev pub IsPlanFor : Option Files → Asked → Shape → Type 0
 IsPlanFor folder (Sum size options) plan = plan ≡ sum_shape size
 IsPlanFor folder (Run name options) plan = IsPlan plan × GivesPlan folder name (Ok plan)
 IsPlanFor folder (Slow name) plan = IsPlan plan × GivesPlan folder name (Ok plan)
 IsPlanFor folder Audit plan = ⊥
+IsPlanFor folder (Work records options) plan = ⊥
 
 -- there is no such plan: this is the first fault of its file
 abbrev pub IsFaultFor : Option Files → Asked → PlanFault → Type 0
@@ -52,6 +55,7 @@ IsFaultFor folder (Sum size options) fault = ⊥
 IsFaultFor folder (Run name options) fault = GivesPlan folder name (Err (Fails fault))
 IsFaultFor folder (Slow name) fault = GivesPlan folder name (Err (Fails fault))
 IsFaultFor folder Audit fault = ⊥
+IsFaultFor folder (Work records options) fault = ⊥
 
 -- a file is asked for
 abbrev pub AsksForFile : Asked → Type 0
@@ -59,6 +63,7 @@ AsksForFile (Sum size options) = ⊥
 AsksForFile (Run name options) = Unit {0}
 AsksForFile (Slow name) = Unit {0}
 AsksForFile Audit = ⊥
+AsksForFile (Work records options) = ⊥
 
 -- the folder tells its files, where one is asked for, and that gives this plan
 abbrev pub TellsPlan : Option Files → Asked → Shape → Type 0
@@ -66,6 +71,7 @@ TellsPlan folder (Sum size options) plan = plan ≡ sum_shape size
 TellsPlan folder (Run name options) plan = (files : Files) × (folder ≡ Some files) × (plan_in files name ≡ Ok plan)
 TellsPlan folder (Slow name) plan = (files : Files) × (folder ≡ Some files) × (plan_in files name ≡ Ok plan)
 TellsPlan folder Audit plan = ⊥
+TellsPlan folder (Work records options) plan = ⊥
 
 -- the rows of all windows
 abbrev pub all_rows : Shape → List Item → List Record

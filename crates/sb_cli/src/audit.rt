@@ -1,21 +1,17 @@
 //! The answer to `audit`: a diary text is read, and what it says is written as one line.
 
-ghost use Rattle.std.specs.Prelude.{◌≡◌, List};
+ghost use Rattle.std.specs.Prelude.{List};
 ghost use Rattle.sb_outside.specs.Folders.{Load};
-ghost use Rattle.sb_outside.specs.Sinks.{WritesAll};
-ghost use Rattle.sb_outside.specs.Sources.{Rose};
-ghost use Rattle.sb_cli.specs.Answers.{IsAuditAnswer, IsRead, IsWritten};
+ghost use Rattle.sb_cli.specs.Answers.{IsAuditAnswer, IsRead};
 ghost use Rattle.sb_cli.specs.Faults.{HasCause, HidesNoFault, faults_of};
 ghost use Rattle.sb_cli.specs.Offered.{IsNoTap};
-ghost use Rattle.sb_cli.specs.AuditSteps.{WritesAudit};
 
 use crate::diary_input::{DiaryHalt, read_diary};
 use crate::ending::Ending;
 use crate::note::audit_line;
-use crate::output::write_whole;
+use crate::output::print;
 use crate::status::Status;
-use sb_diary::AuditEnd;
-use sb_outside::{Sink, SinkFault, Source};
+use sb_outside::{Sink, Source};
 use std::alloc::Global;
 
 /// Answers with what a diary text says.
@@ -33,23 +29,9 @@ pub(crate) fn answer_audit<S: Source, K: Sink>(alloc: Global, source: &mut S, ou
 {
     let input = read_diary(alloc, source);
     match input.halt {
-        DiaryHalt::End => Ending::of(alloc, write_said(out, &input.said)),
+        DiaryHalt::End => Ending::of(alloc, print(out, audit_line(&input.said).as_slice())),
         DiaryHalt::Refused(fault) => Ending::of(alloc, Status::Audit(fault)),
         DiaryHalt::Fault => Ending::of(alloc, Status::Input),
         DiaryHalt::Memory => Ending::of(alloc, Status::Memory),
-    }
-}
-
-/// Writes what an audit says.
-fn write_said<K: Sink>(out: &mut K, said: &AuditEnd) -> Status
-    ensures written { WritesAudit said.now (K.taken out.old) (K.taken out.new) result }
-    ensures no_tap { IsNoTap result }
-    ensures cause { result ≡ Status.Output → Rose (K.sink_state out.old).faults (K.sink_state out.new).faults }
-    ensures told { IsWritten result → (K.sink_state out.new).faults ≡ (K.sink_state out.old).faults }
-{
-    match write_whole(out, audit_line(said).as_slice()) {
-        Ok(()) => Status::Done,
-        Err(SinkFault::Failed) => Status::Output,
-        Err(SinkFault::Memory) => Status::Memory,
     }
 }

@@ -3,6 +3,7 @@
 ghost use Rattle.std.specs.Prelude.{◌≡◌, ◌<◌, ◌^◌, false, IsTrue, ℕ, List, [], length, map};
 ghost use Rattle.sb_record.specs.declared.item.Dropped.{Dropped};
 ghost use Rattle.sb_outside.specs.Sinks.{SinkCause, WritesAll};
+ghost use Rattle.sb_outside.specs.Sources.{Rose};
 ghost use Rattle.sb_diary.specs.Texts.{NodeDiary};
 ghost use Rattle.sb_pipeline.specs.Shapes.{Shape};
 ghost use Rattle.sb_cli.specs.Answers.{IsAnswer, IsUnread, ending_of};
@@ -15,7 +16,7 @@ ghost use Rattle.sb_cli.specs.Statuses.{note_text, notes_text};
 ghost use Rattle.sb_words.specs.declared.options.Options.{Options};
 ghost use Rattle.sb_words.specs.Texts.{texts};
 ghost use Rattle.sb_words.specs.Words.{Asked, IsCommand, IsNoCommand};
-ghost use Rattle.sb_words.specs.Words.Asked.{Sum, Audit};
+ghost use Rattle.sb_words.specs.Words.Asked.{Sum, Audit, Work};
 
 use crate::answer::{answer_file, answer_slow, answer_sum};
 use crate::audit::answer_audit;
@@ -23,6 +24,7 @@ use crate::ending::Ending;
 use crate::note::note_of;
 use crate::output::write_dropped;
 use crate::status::Status;
+use crate::work::answer_work;
 use sb_emit::Tap;
 use sb_outside::{Folder, Sink, SinkFault, Source, write_all_of};
 use sb_record::NoMemory;
@@ -90,6 +92,11 @@ pub fn streambox<W: Threads + Wait + Clock + Sync, S: Source, K: Sink, N: Sink, 
         → IsCommand (Sum size options) (texts words.now) → folder.new ≡ folder.old }
     ensures audit_loads_nothing { IsCommand Audit (texts words.now) → folder.new ≡ folder.old }
 
+    // The records of `work` are made: of all that it was handed it uses `out` alone.
+    ensures work_uses_out_alone { (records : ℕ) (options : Options)
+        → IsCommand (Work records options) (texts words.now)
+        → (input.new ≡ input.old) × (folder.new ≡ folder.old) × (taps.new ≡ taps.old) }
+
     // Faults come from where they say: a read, a write, or the load of a file that is wanted at its turn.
     ensures cause { HasCause
         (faults_of (S.faults input.old) (K.sink_state out.old) (F.failed folder.old))
@@ -119,6 +126,9 @@ pub fn streambox<W: Threads + Wait + Clock + Sync, S: Source, K: Sink, N: Sink, 
         (faults_of (S.faults input.old) (K.sink_state out.old) (F.failed folder.old))
         (faults_of (S.faults input.new) (K.sink_state out.new) (F.failed folder.new))
         → IsDoneOrMemory result }
+    ensures work_complete { (records : ℕ) (options : Options)
+        → IsCommand (Work records options) (texts words.now)
+        → (Rose (K.sink_state out.old).faults (K.sink_state out.new).faults → ⊥) → IsDoneOrMemory result }
 {
     let ending = respond(rt, alloc, words, input, out, folder, taps);
     tell(notes, &ending);
@@ -154,6 +164,9 @@ fn respond<W: Threads + Wait + Clock + Sync, S: Source, K: Sink, F: Folder>(
     ensures sum_loads_nothing { (size : ℕ) (options : Options)
         → IsCommand (Sum size options) (texts words.now) → folder.new ≡ folder.old }
     ensures audit_loads_nothing { IsCommand Audit (texts words.now) → folder.new ≡ folder.old }
+    ensures work_uses_out_alone { (records : ℕ) (options : Options)
+        → IsCommand (Work records options) (texts words.now)
+        → (input.new ≡ input.old) × (folder.new ≡ folder.old) × (taps.new ≡ taps.old) }
     ensures cause { HasCause
         (faults_of (S.faults input.old) (K.sink_state out.old) (F.failed folder.old))
         (faults_of (S.faults input.new) (K.sink_state out.new) (F.failed folder.new)) result.status }
@@ -172,6 +185,9 @@ fn respond<W: Threads + Wait + Clock + Sync, S: Source, K: Sink, F: Folder>(
             rt, alloc, size, options, input, out, taps,
         ),
         Ok(Some(Request::Audit)) => answer_audit(alloc, input, out),
+        Ok(Some(Request::Work(records, options))) => {
+            answer_work(rt, alloc, records, options, out)
+        }
         Ok(Some(Request::Run(name, options))) => {
             answer_file(rt, alloc, name, options, input, out, folder, taps)
         }

@@ -113,7 +113,7 @@ fn answer_past<W: Threads + Wait + Clock + Sync, S: Source, K: Sink>(
 }
 
 /// The sizes of a run with these options.
-fn sizes_of(options: &Options) -> Sizes
+pub(crate) fn sizes_of(options: &Options) -> Sizes
     ensures { result ≡ sizes_from options.now }
 {
     Sizes {

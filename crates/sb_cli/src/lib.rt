@@ -37,6 +37,10 @@ mod tests;
 mod trial;
 #[cfg(test)]
 mod width_tests;
+mod work;
+#[cfg(test)]
+mod work_tests;
 
 pub use command::streambox;
 pub use status::Status;
+pub use work::WORK_WINDOW;

@@ -1,12 +1,16 @@
-//! Writing rows, and what is told of dropped records: many at a time.
+//! Writing rows, and what is told of dropped records: many at a time. And writing a text that is the whole answer.
 
 ghost use Rattle.std.specs.Prelude.{◌≡◌, ◌<◌, ◌≤◌, ◌+◌, All, OnOk, flat_map, length};
 ghost use Rattle.sb_record.specs.Rows.{text_of};
 ghost use Rattle.sb_outside.specs.Sinks.{SinkCause, WritesAll};
+ghost use Rattle.sb_outside.specs.Sources.{Rose};
+ghost use Rattle.sb_cli.specs.Answers.{HasPrinted, IsWritten};
 ghost use Rattle.sb_cli.specs.Batches.{Moves};
+ghost use Rattle.sb_cli.specs.Offered.{IsNoTap};
 ghost use Rattle.sb_cli.specs.Statuses.{dropped_text};
 
 use crate::note::dropped_note;
+use crate::status::Status;
 use sb_outside::{Sink, SinkFault, write_all_of};
 use sb_record::{Dropped, END_MARK, Record, TextBuf, row_bytes};
 
@@ -65,6 +69,20 @@ pub(crate) fn write_whole<K: Sink>(out: &mut K, text: &[u8]) -> Result<(), SinkF
 {
     write_all_of(out, text)?;
     out.finish()
+}
+
+/// Writes the text that is the whole answer: how the run ends.
+pub(crate) fn print<K: Sink>(out: &mut K, text: &[u8]) -> Status
+    ensures printed { HasPrinted text.now (K.taken out.old) (K.taken out.new) result }
+    ensures no_tap { IsNoTap result }
+    ensures cause { result ≡ Status.Output → Rose (K.sink_state out.old).faults (K.sink_state out.new).faults }
+    ensures told { IsWritten result → (K.sink_state out.new).faults ≡ (K.sink_state out.old).faults }
+{
+    match write_whole(out, text) {
+        Ok(()) => Status::Done,
+        Err(SinkFault::Failed) => Status::Output,
+        Err(SinkFault::Memory) => Status::Memory,
+    }
 }
 
 /// Writes the lines of late records that were dropped, and takes no memory for it.

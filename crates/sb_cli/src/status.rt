@@ -12,7 +12,7 @@ use sb_run::RunEnd;
 /// How a run ends.
 #[derive(Clone, Copy, Debug, PartialEq, Eq)]
 pub enum Status {
-    /// The input was read to its end, and all rows were written.
+    /// The input was read to its end, and all rows were written; or what else is asked for.
     Done,
     /// The words are no command.
     Words,

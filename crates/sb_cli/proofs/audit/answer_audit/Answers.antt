@@ -6,8 +6,8 @@ use Rattle.sb_cli.proofs.audit.answer_audit.Goals as goal
 
 pub returns-in-End-clause-answer : goal.returns-in-End-clause-answer
 returns-in-End-clause-answer g c =
-    audit_answer (g.S.Source.left c.args.source.now) (g.S.Source.left c.read_diary-input.new.source) (g.K.Sink.taken c.args.out.now) (g.K.Sink.taken c.write_said.new.out)
-    c.read_diary-input.result halt.End c.write_said.result c.of.result c.read_diary-input.ensures.reads c.in-End.is c.write_said.ensures.written c.of.ensures.status c.of.ensures.dropped c.of.ensures.diaries
+    audit_answer (g.S.Source.left c.args.source.now) (g.S.Source.left c.read_diary-input.new.source) (g.K.Sink.taken c.args.out.now) (g.K.Sink.taken c.print.new.out)
+    c.read_diary-input.result halt.End c.print.result c.of.result c.read_diary-input.ensures.reads c.in-End.is (rw (c.as_slice.ensures.bytes, c.audit_line.ensures) at c.print.ensures.printed) c.of.ensures.status c.of.ensures.dropped c.of.ensures.diaries
 
 pub returns-in-Refused-clause-answer : goal.returns-in-Refused-clause-answer
 returns-in-Refused-clause-answer g c =

@@ -1,6 +1,7 @@
 use Rattle.sb_cli.specs.Faults.{faults_of}
-use Rattle.sb_words.specs.Words.Asked.{Audit}
-use Rattle.sb_cli.proofs.Answering.{audit_is_complete, is_complete}
+use Rattle.sb_words.specs.Words.Asked.{Audit, Work}
+use Rattle.sb_cli.specs.Summaries.{summary_text, work_rows}
+use Rattle.sb_cli.proofs.Answering.{audit_is_complete, is_complete, work_is_complete}
 use Rattle.sb_cli.proofs.command.streambox.Goals as goal
 
 pub returns-clause-complete : goal.returns-clause-complete
@@ -19,3 +20,10 @@ returns-clause-audit_complete g c = λ is fine.
     (faults_of (g.S.Source.faults c.args.input.now) (g.K.Sink.sink_state c.args.out.now) (g.F.Folder.failed c.args.folder.now))
     (faults_of (g.S.Source.faults c.respond-ending.new.input) (g.K.Sink.sink_state c.respond-ending.new.out) (g.F.Folder.failed c.respond-ending.new.folder))
     c.respond-ending.result (c.respond-ending.ensures.answer Audit is) c.respond-ending.ensures.cause fine
+
+pub returns-clause-work_complete : goal.returns-clause-work_complete
+returns-clause-work_complete g c = λ records options is fine.
+    work_is_complete (summary_text records (work_rows records)) (g.K.Sink.taken c.args.out.now) (g.K.Sink.taken c.respond-ending.new.out)
+    (faults_of (g.S.Source.faults c.args.input.now) (g.K.Sink.sink_state c.args.out.now) (g.F.Folder.failed c.args.folder.now))
+    (faults_of (g.S.Source.faults c.respond-ending.new.input) (g.K.Sink.sink_state c.respond-ending.new.out) (g.F.Folder.failed c.respond-ending.new.folder))
+    c.respond-ending.result.status (c.respond-ending.ensures.answer (Work records options) is).printed c.respond-ending.ensures.cause fine

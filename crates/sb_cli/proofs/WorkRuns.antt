@@ -1,0 +1,85 @@
+-- How a run over the records that are made ends, and the text of its summary.
+use Rattle.std.proofs.Common.{◌≡◌, ◌++◌, ◌+◌, ◌%◌, ◌^◌, ◌≤◌, ℕ, Bool, true, false, List, [], ◌∷◌, Option, Some, None, refl, sym, ap, subst, ◌∙◌, append-nil, arith, length, map}
+use Rattle.std.specs.List.{sum_by}
+use Rattle.sb_record.specs.declared.intake.Refusal.{Refusal}
+use Rattle.sb_record.specs.declared.intake.Stop.{Stop}
+use Rattle.sb_record.specs.declared.intake.Stop.TheVariants as stop
+use Rattle.sb_record.specs.declared.item.Dropped.{Dropped}
+use Rattle.sb_record.specs.declared.item.Record.{Record}
+use Rattle.sb_record.specs.Inputs.{stop_of}
+use Rattle.sb_outside.specs.Sources.{Rose}
+use Rattle.sb_pipeline.specs.Shapes.{Shape, sum_shape}
+use Rattle.sb_emit.specs.Summaries.{Adds, AddsPrefix, Sums, check_of, no_faults, value_of}
+use Rattle.sb_emit.specs.Taps.{TapState}
+use Rattle.sb_feed.specs.Given.{Given, accepted_of, items_of, stop_at}
+use Rattle.sb_generator.specs.Generated.{generated_items, generated_text}
+use Rattle.sb_generator.specs.Laws.{AreAccepted}
+use Rattle.sb_generator.proofs.Acceptance.{text_accepted}
+use Rattle.sb_run.specs.declared.run_end.RunEnd.{RunEnd}
+use Rattle.sb_run.specs.declared.run_end.RunEnd.TheVariants.{Done, Refused, Input, Output, Tap, Memory}
+use Rattle.sb_run.specs.declared.sizes.Sizes.{Sizes}
+use Rattle.sb_run.specs.RunEnds.{Ends, EndsAt, OutputCause, SharedInputCause}
+use Rattle.sb_words.specs.Words.{IsAmount}
+use Rattle.sb_cli.specs.declared.work.TheConstants.{WORK_WINDOW}
+use Rattle.sb_cli.specs.Pipelines.{all_rows}
+use Rattle.sb_cli.specs.Summaries.{sums_of, sums_text, summary_text, work_rows}
+use Rattle.sb_cli.specs.WorkSteps.{SumsWork}
+use Rattle.sb_cli.proofs.Blaming.{none_stops}
+
+abbrev plan : Shape
+plan = sum_shape WORK_WINDOW
+
+-- reading stops as at the end only where the input has ended
+ended_at_end : (ended : Bool) (refused : Option Refusal) → stop_of ended refused ≡ stop.End → ended ≡ true
+ended_at_end true refused e = refl
+ended_at_end false None e = cc
+ended_at_end false (Some refusal) e = cc
+
+module _ (records : ℕ) (is : IsAmount records) (left' : Option (List ℕ)) (given : Given (Some (generated_text records)) left') where
+  made : AreAccepted records given.ended given.bytes
+  made = text_accepted records left' given.bytes given.ended is.1 given.were_left given.at_end
+
+  -- at the end the items are those that are made
+  items_made : stop_at plan given ≡ stop.End → items_of plan given ≡ generated_items records
+  items_made at = made.items (ended_at_end given.ended (accepted_of plan given).refused at)
+
+-- a source and an output that count no fault have none
+none_rose : Rose 0 0 → ⊥
+none_rose rose = omega (arith, rose)
+
+-- no element gives none
+pub none_mapped : {X Y : Type 0} (f : X → Y) (l : List X) → l ≡ [] → map f l ≡ []
+none_mapped f l none = ap (map f) none
+
+module _ (records : ℕ) (is : IsAmount records) (sizes : Sizes) (left' : Option (List ℕ)) (old new : Sums) (taps' : List TapState) (dropped dropped' : List Dropped) where
+  abbrev EndsSo : Shape → Option (List ℕ) → List TapState → RunEnd → Type 0
+  EndsSo p left taps end = Ends p sizes left left' Adds AddsPrefix old new taps taps' dropped dropped' end
+
+  by_end : (end : RunEnd) → EndsSo plan (Some (generated_text records)) [] end → SharedInputCause 0 0 end → OutputCause no_faults no_faults end → SumsWork records old new end
+  by_end (Done hand) e input output = subst (λ items. Adds old (all_rows plan items) new) (items_made records is left' e.0.given e.0.stopped) e.0.wrote
+  by_end (Refused refusal) e input output = (made records is left' e.given).no_refusal refusal e.stopped
+  by_end Input e input output = none_rose input
+  by_end Output e input output = none_rose (output.failed refl)
+  by_end (Tap place) e input output = none_stops e.rows place taps' e.offered
+  by_end Memory e input output = tt
+
+  pub ends_work : (p : Shape) (left : Option (List ℕ)) (taps : List TapState) (end : RunEnd) → p ≡ plan → left ≡ Some (generated_text records) → taps ≡ [] → EndsSo p left taps end
+      → SharedInputCause 0 0 end → OutputCause no_faults no_faults end → SumsWork records old new end
+  ends_work p left taps end is_plan is_text none e input output =
+      by_end end
+      (subst (λ t. EndsSo plan (Some (generated_text records)) t end) none
+      (subst (λ l. EndsSo plan l taps end) is_text
+      (subst (λ q. EndsSo q left taps end) is_plan e)))
+      input output
+
+from_none : (n : ℕ) → (0 + n) % 2 ^ 64 ≡ n % 2 ^ 64
+from_none n = let e : 0 + n ≡ n = omega arith in ap (λ k. k % 2 ^ 64) e
+
+-- a summary of rows prints what they say
+pub sums_printed : (records : ℕ) (old new : Sums) (rows : List Record) → old ≡ record { count = 0; sum = 0; check = 0 } → Adds old rows new
+    → sums_text records new ≡ summary_text records rows
+sums_printed records old new rows none adds =
+    let count : new.count % 2 ^ 64 ≡ length rows % 2 ^ 64 = adds.count ∙ ap (λ (s : Sums). (s.count + length rows) % 2 ^ 64) none ∙ from_none (length rows) in
+    let sum : new.sum % 2 ^ 64 ≡ sum_by value_of rows % 2 ^ 64 = adds.sum ∙ ap (λ (s : Sums). (s.sum + sum_by value_of rows) % 2 ^ 64) none ∙ from_none (sum_by value_of rows) in
+    let check : new.check % 2 ^ 64 ≡ sum_by check_of rows % 2 ^ 64 = adds.check ∙ ap (λ (s : Sums). (s.check + sum_by check_of rows) % 2 ^ 64) none ∙ from_none (sum_by check_of rows) in
+    rw (count, sum, check) refl
