@@ -6,8 +6,8 @@
 # each fault of the tables `| What is wrong | Plan | Answer |`. Three faults have no plan there, since it would be too
 # long: these are made here. Each folder with a plan is run with several numbers of workers and sizes of bundles, too, and
 # its diaries are audited; each plan of the guide is run with several workers. Each folder of runs/ is a run: its words
-# (args), its input, its rows, its note and its exit code. Not tried are the exit codes 7, 8 and 70, and what the guide
-# says in sentences. The last line counts what was as expected.
+# (args), its input, its rows, its note and its exit code. `work` prints the same lines with 1, 2 and 8 workers. Not tried
+# are the exit codes 7, 8 and 70, and what the guide says in sentences. The last line counts what was as expected.
 # shellcheck disable=SC2016 # Backquotes are those of the guide.
 set -euo pipefail
 shopt -s nullglob
@@ -133,6 +133,17 @@ tells_its_diary() {
   [[ $said == *' settled' ]] || fail "$how: the diary is $said"
 }
 
+# `work` prints the same lines with several numbers of workers, and no note.
+check_work() {
+  local workers
+  "$program" work 100000 < /dev/null > "$scratch/summary" || fail "work 100000: exit code $?"
+  head -n 3 "$scratch/summary" | cmp - <(printf 'records 100000\nrows 50000\nsum -47\n') || fail 'work 100000: other lines'
+  for workers in 1 2 8; do
+    gives "$scratch/summary" /dev/null work 100000 --workers "$workers" < /dev/null
+  done
+  echo '3 numbers of workers for work: as expected'
+}
+
 # Runs the commands of each example's README, if it has one, in a copy without the files that they make: they print what
 # stands there, and make the files of the folder.
 check_reports() {
@@ -249,6 +260,7 @@ gives first.rows /dev/null sum 10 < first.txt
 check_folders
 check_runs
 check_devices
+check_work
 check_reports
 tools/check.sh
 refuses 1 'words not understood'
@@ -257,6 +269,6 @@ cp views/ads.csv "$scratch"
 cd "$scratch"
 check_plans
 check_faults
-echo "All is as expected: $folders folders, $runs runs, $devices devices, $reports reports, the tools, $plans plans and \
+echo "All is as expected: $folders folders, $runs runs, $devices devices, work, $reports reports, the tools, $plans plans and \
 $faults faults of the guide."
-echo "$((folders + runs + devices + reports + 1 + plans + faults)) passed, 0 failed"
+echo "$((folders + runs + devices + 1 + reports + 1 + plans + faults)) passed, 0 failed"
