@@ -32,7 +32,7 @@ use Rattle.sb_cli.specs.Summaries.{summary_text, work_rows}
 use Rattle.sb_cli.specs.Told.{TellsDiaries}
 use Rattle.sb_cli.proofs.RunAnswers.{due_are_first, part_of_all_rows}
 use Rattle.sb_feed.specs.Given.{Given, items_of, lines_of, stop_at}
-use Rattle.sb_cli.specs.Answers.{ending_of, HasWritten, ListsDropped, WrotePrefix, HasNoPlan, IsAnswer, IsAnswerOf, IsAuditAnswer, IsPlanAnswer, IsWorkAnswer, HasAudited, HasPrinted}
+use Rattle.sb_cli.specs.Answers.{ending_of, HasWritten, ListsDropped, WrotePrefix, HasNoPlan, IsAnswer, IsAnswerOf, IsAuditAnswer, IsPlanAnswer, HasAudited, HasPrinted}
 use Rattle.sb_cli.specs.Faults.{BlamesFile, Faults, HasCause, IsDoneOrMemory, NothingFails, NothingFailsInAudit}
 
 -- nothing is a prefix of any text

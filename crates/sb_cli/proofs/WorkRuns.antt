@@ -1,15 +1,12 @@
--- How a run over the records that are made ends, and the text of its summary.
-use Rattle.std.proofs.Common.{◌≡◌, ◌++◌, ◌+◌, ◌%◌, ◌^◌, ◌≤◌, ℕ, Bool, true, false, List, [], ◌∷◌, Option, Some, None, refl, sym, ap, subst, ◌∙◌, append-nil, arith, length, map}
-use Rattle.std.specs.List.{sum_by}
+-- How a run over the records that are made ends.
+use Rattle.std.proofs.Common.{◌≡◌, ℕ, Bool, true, false, List, [], Option, Some, None, refl, ap, subst, arith, map}
 use Rattle.sb_record.specs.declared.intake.Refusal.{Refusal}
-use Rattle.sb_record.specs.declared.intake.Stop.{Stop}
 use Rattle.sb_record.specs.declared.intake.Stop.TheVariants as stop
 use Rattle.sb_record.specs.declared.item.Dropped.{Dropped}
-use Rattle.sb_record.specs.declared.item.Record.{Record}
 use Rattle.sb_record.specs.Inputs.{stop_of}
 use Rattle.sb_outside.specs.Sources.{Rose}
 use Rattle.sb_pipeline.specs.Shapes.{Shape, sum_shape}
-use Rattle.sb_emit.specs.Summaries.{Adds, AddsPrefix, Sums, check_of, no_faults, value_of}
+use Rattle.sb_emit.specs.Summaries.{Adds, AddsPrefix, Sums, no_faults}
 use Rattle.sb_emit.specs.Taps.{TapState}
 use Rattle.sb_feed.specs.Given.{Given, accepted_of, items_of, stop_at}
 use Rattle.sb_generator.specs.Generated.{generated_items, generated_text}
@@ -18,11 +15,10 @@ use Rattle.sb_generator.proofs.Acceptance.{text_accepted}
 use Rattle.sb_run.specs.declared.run_end.RunEnd.{RunEnd}
 use Rattle.sb_run.specs.declared.run_end.RunEnd.TheVariants.{Done, Refused, Input, Output, Tap, Memory}
 use Rattle.sb_run.specs.declared.sizes.Sizes.{Sizes}
-use Rattle.sb_run.specs.RunEnds.{Ends, EndsAt, OutputCause, SharedInputCause}
+use Rattle.sb_run.specs.RunEnds.{Ends, OutputCause, SharedInputCause}
 use Rattle.sb_words.specs.Words.{IsAmount}
 use Rattle.sb_cli.specs.declared.work.TheConstants.{WORK_WINDOW}
 use Rattle.sb_cli.specs.Pipelines.{all_rows}
-use Rattle.sb_cli.specs.Summaries.{sums_of, sums_text, summary_text, work_rows}
 use Rattle.sb_cli.specs.WorkSteps.{SumsWork}
 use Rattle.sb_cli.proofs.Blaming.{none_stops}
 
@@ -71,15 +67,3 @@ module _ (records : ℕ) (is : IsAmount records) (sizes : Sizes) (left' : Option
       (subst (λ l. EndsSo plan l taps end) is_text
       (subst (λ q. EndsSo q left taps end) is_plan e)))
       input output
-
-from_none : (n : ℕ) → (0 + n) % 2 ^ 64 ≡ n % 2 ^ 64
-from_none n = let e : 0 + n ≡ n = omega arith in ap (λ k. k % 2 ^ 64) e
-
--- a summary of rows prints what they say
-pub sums_printed : (records : ℕ) (old new : Sums) (rows : List Record) → old ≡ record { count = 0; sum = 0; check = 0 } → Adds old rows new
-    → sums_text records new ≡ summary_text records rows
-sums_printed records old new rows none adds =
-    let count : new.count % 2 ^ 64 ≡ length rows % 2 ^ 64 = adds.count ∙ ap (λ (s : Sums). (s.count + length rows) % 2 ^ 64) none ∙ from_none (length rows) in
-    let sum : new.sum % 2 ^ 64 ≡ sum_by value_of rows % 2 ^ 64 = adds.sum ∙ ap (λ (s : Sums). (s.sum + sum_by value_of rows) % 2 ^ 64) none ∙ from_none (sum_by value_of rows) in
-    let check : new.check % 2 ^ 64 ≡ sum_by check_of rows % 2 ^ 64 = adds.check ∙ ap (λ (s : Sums). (s.check + sum_by check_of rows) % 2 ^ 64) none ∙ from_none (sum_by check_of rows) in
-    rw (count, sum, check) refl

@@ -41,7 +41,7 @@ plan_in files name = in_file (λ bytes. plan_of files (take (MAX_PLAN_BYTES + 1)
 abbrev pub GivesPlan : Option Files → List ℕ → Result Shape (Failure PlanFault) → Type 0
 GivesPlan folder name found = (files : Files) → folder ≡ Some files → plan_in files name ≡ found
 
--- this is the plan that is asked for. None is asked for an input by an audit, and by `work`, which makes its records
+-- this is the plan that is asked for; an audit and `work` ask for none
 abbrev pub IsPlanFor : Option Files → Asked → Shape → Type 0
 IsPlanFor folder (Sum size options) plan = plan ≡ sum_shape size
 IsPlanFor folder (Run name options) plan = IsPlan plan × GivesPlan folder name (Ok plan)

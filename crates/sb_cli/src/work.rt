@@ -31,12 +31,13 @@ use sb_work::OpenGate;
 use std::alloc::Global;
 use std::sync::Wait;
 use std::thread::Threads;
+use std::time::Clock;
 
 /// The size of the windows whose sums `work` makes, in units of time.
 pub const WORK_WINDOW: u64 = 10;
 
 /// Answers with the summary of the sums over so many records that are made.
-pub(crate) fn answer_work<W: Threads + Wait + Sync, K: Sink>(
+pub(crate) fn answer_work<W: Threads + Wait + Clock + Sync, K: Sink>(
     rt: &W,
     alloc: Global,
     records: u64,
@@ -62,7 +63,7 @@ pub(crate) fn answer_work<W: Threads + Wait + Sync, K: Sink>(
 }
 
 /// The summary of all rows over so many records.
-fn summary_of<W: Threads + Wait + Sync>(
+fn summary_of<W: Threads + Wait + Clock + Sync>(
     rt: &W,
     alloc: Global,
     records: u64,
@@ -83,7 +84,7 @@ fn summary_of<W: Threads + Wait + Sync>(
 }
 
 /// Runs the plan over so many records, and adds the numbers of its rows to a summary.
-fn run_work<W: Threads + Wait + Sync>(
+fn run_work<W: Threads + Wait + Clock + Sync>(
     rt: &W,
     alloc: Global,
     plan: Plan,
