@@ -78,8 +78,33 @@ fn try_there(cascade: &Cascade, pass: &mut CascadePass, stream: Stream) -> Optio
     }
 }
 
-// Works off a bundle of the node that takes the stream, if its turn is free, or else makes a step. If there is nothing to
-// do, since all is in the hands of others, it leaves the processor to them.
+// Works off a bundle of the node that takes the stream, if its turn is free and one waits.
+fn work_there<W: Wait, G: Gate>(
+    rt: &W,
+    alloc: Global,
+    cascade: &Cascade,
+    pass: &mut CascadePass,
+    gate: &G,
+    stream: Stream,
+) -> Result<(), NoMemory>
+    requires pass { IsReady cascade.now pass.old × IsEmptyHanded pass.old }
+    ensures same { IsStill cascade.now pass.old pass.new }
+    ensures empty { OnOk result (IsEmptyHanded pass.new) }
+    ensures feeder { OnOk result ((f : Fed) (rows : List ARecord) → HasFed cascade.now pass.old f rows
+        → HasFed cascade.now pass.new f rows) }
+{
+    match try_there(cascade, pass, stream) {
+        Some(claim) => match work_off(rt, alloc, cascade, pass, gate, claim) {
+            Ok(()) => Ok(()),
+            Err(NoMemory) => Err(NoMemory),
+        },
+        None => Ok(()),
+    }
+}
+
+// Works off a bundle of the node that takes the stream, and makes a step: so bundles do not gather behind that node while
+// the feeder makes room in it. If there is nothing to do, since all is in the hands of others, it leaves the processor to
+// them.
 fn make_room<W: Wait, G: Gate>(
     rt: &W,
     alloc: Global,
@@ -93,19 +118,17 @@ fn make_room<W: Wait, G: Gate>(
     ensures feeder { OnOk result ((f : Fed) (rows : List ARecord) → HasFed cascade.now pass.old f rows
         → HasFed cascade.now pass.new f rows) }
 {
-    match try_there(cascade, pass, stream) {
-        Some(claim) => match work_off(rt, alloc, cascade, pass, gate, claim) {
-            Ok(()) => Ok(()),
-            Err(NoMemory) => Err(NoMemory),
-        },
-        None => match step_too(rt, alloc, cascade, pass, gate) {
-            Ok(Did::Bundle | Did::Closing) => Ok(()),
-            Ok(Did::Nothing) => {
-                thread::yield_now();
-                Ok(())
-            }
-            Err(NoMemory) => Err(NoMemory),
-        },
+    match work_there(rt, alloc, cascade, pass, gate, stream) {
+        Ok(()) => {}
+        Err(NoMemory) => return Err(NoMemory),
+    }
+    match step_too(rt, alloc, cascade, pass, gate) {
+        Ok(Did::Bundle | Did::Closing) => Ok(()),
+        Ok(Did::Nothing) => {
+            thread::yield_now();
+            Ok(())
+        }
+        Err(NoMemory) => Err(NoMemory),
     }
 }
 
