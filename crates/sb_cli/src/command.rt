@@ -37,7 +37,8 @@ use std::time::Clock;
 /// Does what the words of a command line ask for: reads a plan and its tables from `folder` and records and watermarks
 /// from `input`, and writes rows to `out`, and to `notes` a line for each late record that the plan drops, the diaries
 /// of a run that is done if they are asked for, and at most one line more. With `--taps` each row that was written is
-/// offered to `taps`, fewer than 2^32, and those that have enough are dropped.
+/// offered to `taps`, fewer than 2^32, and those that have enough are dropped. `work` makes its records itself: it
+/// reads nothing, calls no tap, and writes a summary of their rows to `out`.
 ///
 /// What is said of bytes holds of sources and sinks whose bytes are known, and what is said of files of a folder whose
 /// files are known. The words come first, then the plan, then the input: if the words are no command, or the plan is
