@@ -21,6 +21,10 @@ IsShelfBare entries = Does 0 0 entries × FoundNoneFull entries
 abbrev pub IsIdle : ℕ → List (Entry Change) → Type 0
 IsIdle sink entries = Does 0 0 entries × ((node : ℕ) → node ≤ sink → Has (is_idle_of node) entries)
 
+-- no place was full, and no bundle waits in a node
+abbrev pub IsBareAndIdle : ℕ → List (Entry Change) → Type 0
+IsBareAndIdle sink entries = IsIdle sink entries × FoundNoneFull entries
+
 -- the node was found without a bundle that waits
 abbrev pub IsIdleAt : ℕ → List (Entry Change) → Type 0
 IsIdleAt node entries = Does 0 0 entries × Has (is_idle_of node) entries
@@ -38,8 +42,7 @@ abbrev pub IsDone : ℕ → Did → List (Entry Change) → Type 0
 IsDone sink Bundle entries = Does 1 0 entries × (Has is_claimed entries ⊎ FoundNoneFree entries)
 IsDone sink Closing entries = Does 0 1 entries
 IsDone sink Nothing entries =
-    Does 0 0 entries × FoundNoneFull entries
-    × ((node : ℕ) → node ≤ sink → Has (is_not_yet_of node) entries × Has (is_idle_of node) entries)
+    IsBareAndIdle sink entries × ((node : ℕ) → node ≤ sink → Has (is_not_yet_of node) entries)
 
 -- why it stopped
 abbrev pub IsWhy : OneStop → List (Entry Change) → Type 0

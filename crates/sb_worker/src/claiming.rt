@@ -4,14 +4,14 @@ ghost use Rattle.std.specs.Prelude.{◌≤◌, false, length, IfNone, IfSome};
 ghost use Rattle.sb_cascade.specs.Calls.{HasBundle, IsEmptyHanded, IsReady, IsSame, plan_of, setting_of};
 ghost use Rattle.sb_cascade.specs.Found.{IsClaim};
 ghost use Rattle.sb_worker.specs.Entries.{Gains};
-ghost use Rattle.sb_worker.specs.Steps.{IsClaiming, IsIdle, IsIdleAt, IsShelfBare};
+ghost use Rattle.sb_worker.specs.Steps.{IsBareAndIdle, IsClaiming, IsIdle, IsIdleAt, IsShelfBare};
 
 use sb_cascade::{Cascade, CascadePass};
 use sb_work::Claim;
 use std::sync::Wait;
 
 /// A bundle of the shelf. It enters no turn.
-pub(crate) fn shelved_claim(cascade: &Cascade, pass: &mut CascadePass) -> Option<Claim>
+fn shelved_claim(cascade: &Cascade, pass: &mut CascadePass) -> Option<Claim>
     requires pass { IsReady cascade.now pass.old × IsEmptyHanded pass.old }
     ensures pass { IsReady cascade.now pass.new × IsSame pass.old pass.new }
     ensures some { IfSome result (λ c. IsClaim (setting_of cascade.now) c × HasBundle c false pass.new
@@ -35,11 +35,7 @@ fn claim_at<R: Wait>(rt: &R, cascade: &Cascade, pass: &mut CascadePass, node: u3
 }
 
 /// A bundle of the last node where one waits.
-pub(crate) fn waiting_claim<R: Wait>(
-    rt: &R,
-    cascade: &Cascade,
-    pass: &mut CascadePass,
-) -> Option<Claim>
+fn waiting_claim<R: Wait>(rt: &R, cascade: &Cascade, pass: &mut CascadePass) -> Option<Claim>
     requires pass { IsReady cascade.now pass.old × IsEmptyHanded pass.old }
     ensures pass { IsReady cascade.now pass.new × IsSame pass.old pass.new }
     ensures some { IfSome result (λ c. IsClaim (setting_of cascade.now) c × HasBundle c false pass.new
@@ -53,4 +49,23 @@ pub(crate) fn waiting_claim<R: Wait>(
         }
     }
     None
+}
+
+/// A bundle of the shelf, or else of the last node where one waits.
+pub(crate) fn next_claim<R: Wait>(
+    rt: &R,
+    cascade: &Cascade,
+    pass: &mut CascadePass,
+) -> Option<Claim>
+    requires pass { IsReady cascade.now pass.old × IsEmptyHanded pass.old }
+    ensures pass { IsReady cascade.now pass.new × IsSame pass.old pass.new }
+    ensures some { IfSome result (λ c. IsClaim (setting_of cascade.now) c × HasBundle c false pass.new
+        × Gains IsClaiming pass.old pass.new) }
+    ensures none { IfNone result (IsEmptyHanded pass.new
+        × Gains (IsBareAndIdle (length (plan_of cascade.now).steps)) pass.old pass.new) }
+{
+    if let Some(claim) = shelved_claim(cascade, pass) {
+        return Some(claim);
+    }
+    waiting_claim(rt, cascade, pass)
 }

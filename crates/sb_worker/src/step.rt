@@ -6,7 +6,7 @@ ghost use Rattle.sb_worker.specs.Entries.{Gains, Grows};
 ghost use Rattle.sb_worker.specs.Steps.{IsDone, IsWhy};
 ghost use Rattle.sb_worker.specs.declared.step.OneStop.TheVariants as stop;
 
-use crate::claiming::{shelved_claim, waiting_claim};
+use crate::claiming::next_claim;
 use crate::closing::close_any;
 use crate::working::work_off;
 use sb_cascade::{Cascade, CascadePass};
@@ -40,25 +40,21 @@ fn do_next<R: Wait, G: Gate>(
         × Gains (IsDone (length (plan_of cascade.now).steps) did) pass.old pass.new) }
     ensures failed { OnErr result (Grows pass.old pass.new) }
 {
-    if let Some(claim) = shelved_claim(cascade, pass) {
-        work_off(rt, alloc, cascade, pass, gate, claim)?;
-        return Ok(Did::Bundle);
-    }
     if close_any(rt, cascade, pass)? {
         return Ok(Did::Closing);
     }
-    let Some(claim) = waiting_claim(rt, cascade, pass) else {
+    let Some(claim) = next_claim(rt, cascade, pass) else {
         return Ok(Did::Nothing);
     };
     work_off(rt, alloc, cascade, pass, gate, claim)?;
     Ok(Did::Bundle)
 }
 
-/// One step of a worker: it works off a bundle of the shelf, or else makes a whole closing, or else works off a bundle that
-/// waits in a node. Of nodes the last comes first, so that what is under way leaves the engine before more is begun, and
-/// closings keep up with bundles. Nothing only if each place of the shelf was looked at and was not full, and each node
-/// was found, under its turn, with no closing that could begin and, under a later turn, without a bundle that waits. The
-/// gate is passed outside of every turn, between taking a bundle and processing it. It may wait for turns.
+/// One step of a worker: it makes a whole closing, or else works off a bundle of the shelf, or else one that waits in a
+/// node. Of nodes the last comes first, so that what is under way leaves the engine before more is begun, and closings
+/// keep up with bundles. Nothing only if each node was found, under its turn, with no closing that could begin and, under
+/// a later turn, without a bundle that waits, and each place of the shelf was looked at and was not full. The gate is
+/// passed outside of every turn, between taking a bundle and processing it. It may wait for turns.
 ///
 /// # Errors
 ///
