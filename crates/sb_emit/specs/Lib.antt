@@ -3,6 +3,7 @@ pub mod ByTime
 pub mod Outputs
 pub mod Printed
 pub mod TextLaws
+pub mod LentLaws
 pub mod Taps
 pub mod Offers
 pub mod OfferSteps

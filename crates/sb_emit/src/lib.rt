@@ -2,14 +2,15 @@
 //! takes all of them, and past taps, which look at them one at a time.
 //!
 //! [`SinkKept`] is what the sink keeps. A [`RowOut`] takes rows in the order of their windows: [`Printing`] writes their
-//! text to a sink of bytes, and [`Summary`] keeps three numbers of them. A [`Tap`] says behind each row whether it has
-//! enough: [`offer`] offers a row to a list of taps and drops those that have. [`HeadTap`] writes the first rows, and
-//! [`CountTap`] counts all. Only what the sink keeps takes memory.
+//! text to a sink of bytes, [`Lent`] to one that is lent, and [`Summary`] keeps three numbers of them. A [`Tap`] says
+//! behind each row whether it has enough: [`offer`] offers a row to a list of taps and drops those that have.
+//! [`HeadTap`] writes the first rows, and [`CountTap`] counts all. Only what the sink keeps takes memory.
 #![tactic(auto)]
 
 mod batch;
 mod count_tap;
 mod head_tap;
+mod lent;
 mod offering;
 mod output;
 mod printing;
@@ -22,6 +23,7 @@ mod tap;
 
 pub use count_tap::CountTap;
 pub use head_tap::HeadTap;
+pub use lent::Lent;
 pub use offering::{TapStop, offer};
 pub use output::RowOut;
 pub use printing::Printing;

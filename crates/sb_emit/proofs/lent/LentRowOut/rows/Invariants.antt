@@ -3,7 +3,7 @@ use Rattle.std.specs.Io.KnownBytes.{Appends}
 use Rattle.sb_record.specs.Rows.{text_of}
 use Rattle.sb_outside.specs.Sinks.{SinkCause}
 use Rattle.sb_emit.proofs.Writing.{Writing}
-use Rattle.sb_cli.proofs.lent.LentRowOut.rows.Given as goal
+use Rattle.sb_emit.proofs.lent.LentRowOut.rows.Given as goal
 
 abbrev pub invariant-batches : goal.invariant-batches
 invariant-batches g l = record {

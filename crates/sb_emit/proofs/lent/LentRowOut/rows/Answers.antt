@@ -5,7 +5,7 @@ use Rattle.sb_record.specs.Rows.{text_of}
 use Rattle.sb_outside.proofs.SinkCauses.{calls_then}
 use Rattle.sb_emit.proofs.Writing.{writes_more}
 use Rattle.sb_emit.proofs.Batches.{batch_written, batch_failed}
-use Rattle.sb_cli.proofs.lent.LentRowOut.rows.Goals as goal
+use Rattle.sb_emit.proofs.lent.LentRowOut.rows.Goals as goal
 
 pub writes-preserved : goal.writes-preserved
 writes-preserved g c = record {

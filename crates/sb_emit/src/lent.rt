@@ -5,15 +5,15 @@
 
 ghost use Rattle.std.specs.Prelude.{◌≡◌};
 
-use crate::batch::gather;
-use crate::output::BATCH;
-use sb_emit::RowOut;
+use crate::batch::{Batch, gather};
+use crate::output::RowOut;
 use sb_outside::{Sink, SinkFault};
-use sb_record::{Record, TextBuf};
+use sb_record::Record;
 
 /// Writes the text of rows to a sink that is lent, the rows of one window together. No text waits between calls.
 #[derive(Drop)]
-pub(crate) struct Lent<'a, K> {
+pub struct Lent<'a, K> {
+    /// The sink, which has taken all that was printed.
     pub sink: &'a mut K,
 }
 
@@ -22,7 +22,7 @@ impl<K: Sink> RowOut for Lent<'_, K> {
     ghost use Rattle.std.specs.Io.KnownBytes.{Appends};
     ghost use Rattle.sb_record.specs.Rows.{text_of};
     ghost use Rattle.sb_outside.specs.Sinks.{AppendsPrefix};
-    ghost use Rattle.sb_cli.specs.LentLaws as lent;
+    ghost use Rattle.sb_emit.specs.LentLaws as lent;
 
     ghost row_state = { λ o. K.sink_state o.sink.now };
 
@@ -47,7 +47,7 @@ impl<K: Sink> RowOut for Lent<'_, K> {
         (K.taken o.sink.now) (K.taken p.sink.now) l m };
 
     fn rows(&mut self, rows: &[Record]) -> Result<(), SinkFault> {
-        let mut batch = TextBuf::<BATCH>::new();
+        let mut batch = Batch::new();
         let mut done = 0usize;
         'batches: while done < rows.len() {
             let count = gather(&mut batch, &rows[done..]);
