@@ -1,6 +1,7 @@
 //! Reading the items of an input, one at a time.
 
-ghost use Rattle.std.specs.Prelude.{◌≡◌, ◌≤◌, ◌<◌, ◌+◌, IfOk, IfErr, OnOk};
+ghost use Rattle.std.specs.Prelude.{◌≡◌, ◌≤◌, ◌<◌, ◌+◌, Err, Some, IfOk, IfErr, OnOk};
+ghost use Rattle.sb_outside.specs.declared.lines.Halt.TheVariants as halt;
 ghost use Rattle.sb_outside.specs.Readings.{reading};
 ghost use Rattle.sb_feed.specs.Reads.{IsGoing, TakesNext, FaultCause};
 
@@ -24,6 +25,10 @@ pub fn next_item<S: Source>(
     ensures same { OnOk result (S.faults source.new ≡ S.faults source.old) }
     ensures cause { IfErr result (λ stop. FaultCause (S.faults source.old) (S.faults source.new) stop) }
     ensures room { OnOk result (intake.old.lines < MAX_LINES) }
+    ensures at_end { result ≡ Err Stop.End → lines.new.halt ≡ Some halt.End }
+    ensures end { (lines.old.halt ≡ Some halt.End → S.has_ended source.old)
+        → lines.new.halt ≡ Some halt.End → S.has_ended source.new }
+    ensures name { S.name source.new ≡ S.name source.old }
 {
     match lines.advance(source) {
         Step::Line => match intake.accept(lines.line()) {

@@ -1,8 +1,9 @@
 -- What a search keeps as it reads on, and what its answers say of the lines.
-use Rattle.std.proofs.Common.{◌≡◌, ℕ, ◌+◌, ◌-◌, ◌≤◌, ◌++◌, List, [], ◌∷◌, length, take, drop, true, false, refl, sym, ap, subst, ◌∙◌, arith, Some, None, Option, append-nil}
+use Rattle.std.proofs.Common.{◌≡◌, ℕ, ◌+◌, ◌-◌, ◌≤◌, ◌++◌, List, [], ◌∷◌, length, take, drop, true, false, refl, sym, ap, subst, ◌∙◌, arith, Some, None, Option, append-nil, append_assoc}
 use Rattle.std.specs.Prelude.{◌≢◌}
 use Rattle.std.specs.List.{slice_range}
-use Rattle.std.specs.Io.KnownBytes.{IsAtEnd}
+use Rattle.std.specs.Io.KnownBytes.{Consumes, IsAtEnd}
+use Rattle.std.proofs.KnownBytes.{Consumes-trans}
 use Rattle.std.proofs.lemmas.List.{take-take, length-take}
 use Rattle.sb_outside.specs.Lines.{lines, longest_line}
 use Rattle.sb_outside.specs.Looks.{IsFirstLine}
@@ -58,3 +59,13 @@ module _ {S : Type 0} (left : S → Option (List ℕ)) (faults : S → ℕ) wher
       → Advances left faults old.halt old new r
   advances seen old new r same e bytes gives tells unread =
       subst (λ (o : Reading S). Advances left faults o.halt o new r) same (goes_on seen.halt seen new r e bytes gives tells unread)
+
+-- a read goes on with what the source gave before
+pub gives_more : (left left' left2 : Option (List ℕ)) (held bytes bytes' more : List ℕ) → Gives left left' held bytes
+    → bytes' ≡ bytes ++ more → Consumes left' left2 more → Gives left left2 held bytes'
+gives_more left left' left2 held bytes bytes' more g is given =
+    record {
+      more = g.more ++ more;
+      given = Consumes-trans left left' left2 g.more more g.given given;
+      all = is ∙ ap (λ l. l ++ more) g.all ∙ append_assoc held g.more more;
+    }

@@ -1,5 +1,5 @@
 -- What a search for the next line gives.
-use Rattle.std.specs.Prelude.{◌≡◌, ◌≤◌, ℕ, true, false, List, [], ◌∷◌, ◌++◌, length, take, drop, Option}
+use Rattle.std.specs.Prelude.{◌≡◌, ◌≤◌, ℕ, true, false, List, [], ◌∷◌, ◌++◌, length, take, drop, Option, ⊤}
 use Rattle.std.specs.Io.KnownBytes.{Consumes, IsAtEnd}
 use Rattle.sb_outside.specs.Sources.{Rose}
 use Rattle.sb_outside.specs.Lines.{lines, longest_line}
@@ -31,3 +31,11 @@ IsLast bytes (found.Last len) = (lines true bytes ≡ take len bytes ∷ []) × 
 IsLast bytes found.End = lines true bytes ≡ []
 IsLast bytes found.TooLong = ⊥
 IsLast bytes found.Fault = ⊥
+
+-- the input was found to be at its end
+abbrev pub MeetsEnd : Found → Type 0
+MeetsEnd (found.Line len used) = ⊥
+MeetsEnd (found.Last len) = ⊤
+MeetsEnd found.End = ⊤
+MeetsEnd found.TooLong = ⊥
+MeetsEnd found.Fault = ⊥

@@ -1,6 +1,6 @@
 //! A fixed place for bytes that were read and not yet taken.
 
-ghost use Rattle.std.specs.Prelude.{◌≡◌, ◌≤◌, ◌<◌, ◌+◌, [], take, drop, length, slice_range, IfOk};
+ghost use Rattle.std.specs.Prelude.{◌≡◌, ◌≤◌, ◌<◌, ◌+◌, [], take, drop, length, slice_range, IfOk, Ok};
 ghost use Rattle.sb_outside.specs.declared.buffer.TheConstants.{CAPACITY};
 ghost use Rattle.sb_outside.specs.Fills.{Fills, ReadsBehind};
 ghost use Rattle.sb_outside.specs.Lines.{longest_line};
@@ -81,6 +81,8 @@ impl Buffer {
         ensures bytes { Fills (S.left source.old) (S.left source.new)
             (pending self.old) (pending self.new) result }
         ensures cause { SourceCause (S.faults source.old) (S.faults source.new) result }
+        ensures end { result ≡ Ok 0 → S.has_ended source.new }
+        ensures name { S.name source.new ≡ S.name source.old }
     {
         self.make_room();
         let count = read_behind(source, &mut self.bytes, self.end)?;
@@ -109,6 +111,8 @@ fn read_behind<S: Source>(
         end bytes.old bytes.new result }
     ensures within { IfOk result (λ n. end + n ≤ length bytes.old) }
     ensures cause { SourceCause (S.faults source.old) (S.faults source.new) result }
+    ensures end { result ≡ Ok 0 → S.has_ended source.new }
+    ensures name { S.name source.new ≡ S.name source.old }
 {
     source.read(&mut bytes[end..])
 }

@@ -4,7 +4,7 @@
 //! An empty rest after the last LF is no line. A line has at most 128 bytes after the CR is taken
 //! off; a longer one is refused as soon as its bytes show that, also where its end has not come yet.
 
-ghost use Rattle.std.specs.Prelude.{◌≡◌, ◌≢◌, ◌≤◌, [], None, length};
+ghost use Rattle.std.specs.Prelude.{◌≡◌, ◌≢◌, ◌≤◌, [], None, Some, length};
 ghost use Rattle.std.specs.Borrow.{sem};
 ghost use Rattle.sb_outside.specs.Lines.{longest_line};
 ghost use Rattle.sb_outside.specs.Readings.{Advances, reading, step_at};
@@ -120,6 +120,10 @@ impl LineBuffer {
             (reading source.old self.old) (reading source.new self.new) result }
         ensures short { result ≡ Step.Line → length self.new.line ≤ longest_line }
         ensures no_line { self.old.halt ≡ None → result ≢ Step.Line → self.new.line ≡ [] }
+        ensures at_end { result ≡ Step.End → self.new.halt ≡ Some Halt.End }
+        ensures end { (self.old.halt ≡ Some Halt.End → S.has_ended source.old)
+            → self.new.halt ≡ Some Halt.End → S.has_ended source.new }
+        ensures name { S.name source.new ≡ S.name source.old }
     {
         if let Some(halt) = self.halt {
             return halt.step();

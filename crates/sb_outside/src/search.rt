@@ -4,7 +4,7 @@ ghost use Rattle.std.specs.Prelude.{◌≡◌, ◌≢◌, [], false};
 ghost use Rattle.sb_outside.specs.Lines.{lines};
 ghost use Rattle.sb_outside.specs.Buffers.{pending};
 ghost use Rattle.sb_outside.specs.Looks.{IsOpen};
-ghost use Rattle.sb_outside.specs.Searches.{IsLast, Says, Gives};
+ghost use Rattle.sb_outside.specs.Searches.{IsLast, MeetsEnd, Says, Gives};
 
 use crate::buffer::Buffer;
 use crate::look::{Look, len_without_cr, look_at};
@@ -23,12 +23,15 @@ pub enum Found {
 }
 
 /// Reads until the bytes at hand show what the next line is.
+#[tactic(auto, using(crate::proofs::Searches::gives_more))]
 pub fn search<S: Source>(source: &mut S, buffer: &mut Buffer) -> Found
     ensures bytes { Gives (S.left source.old) (S.left source.new)
         (pending buffer.old) (pending buffer.new) }
     ensures says { Says (pending buffer.new) (S.left source.new)
         (S.faults source.old) (S.faults source.new) result }
     ensures unread { lines false (pending buffer.old) ≢ [] → source.new ≡ source.old }
+    ensures end { MeetsEnd result → S.has_ended source.new }
+    ensures name { S.name source.new ≡ S.name source.old }
 {
     'reads: loop {
         match look_at(buffer.held()) {

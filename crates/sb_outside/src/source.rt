@@ -1,6 +1,6 @@
 //! Sources: where bytes come from.
 
-ghost use Rattle.std.specs.Prelude.{◌<◌, ℕ, List, Option, length};
+ghost use Rattle.std.specs.Prelude.{◌≡◌, ◌<◌, ◌∷◌, [], ℕ, List, Ok, Option, length, ⊤};
 ghost use Rattle.std.specs.Io.{ReadsAtMost};
 ghost use Rattle.std.specs.Io.KnownBytes.{ReadConsumes};
 ghost use Rattle.sb_outside.specs.Sources.{SourceCause};
@@ -23,11 +23,16 @@ impl Error for SourceFault {}
 /// Where bytes come from.
 ///
 /// `left` is the list of bytes that the source has still to give, where it is told; `faults` is how
-/// many reads have failed.
+/// many reads have failed. `has_ended` holds once it has answered that it is at its end. `name` is what
+/// stays the same of a source whatever it gives: of one that is lent, which loan it is.
 pub trait Source: Send {
     ghost left: { Self → Option (List ℕ) };
 
     ghost faults: { Self → ℕ };
+
+    ghost has_ended: { Self → Type 0 } = { λ _. ⊤ };
+
+    ghost name: { Self → List ℕ } = { λ _. [] };
 
     /// Reads bytes to the front of `buf`, and answers how many: 0 only at the end.
     ///
@@ -39,13 +44,19 @@ pub trait Source: Send {
         requires { 0 < length buf.old }
         ensures bound { ReadsAtMost result buf.new }
         ensures bytes { ReadConsumes (left self.old) (left self.new) result buf.new }
-        ensures cause { SourceCause (faults self.old) (faults self.new) result };
+        ensures cause { SourceCause (faults self.old) (faults self.new) result }
+        ensures end { result ≡ Ok 0 → has_ended self.new }
+        ensures name { name self.new ≡ name self.old };
 }
 
 impl<S: Source> Source for &mut S {
     ghost left = { λ s. S.left s.now };
 
     ghost faults = { λ s. S.faults s.now };
+
+    ghost has_ended = { λ s. S.has_ended s.now };
+
+    ghost name = { λ s. s.ghost_name ∷ S.name s.now };
 
     fn read(&mut self, buf: &mut [u8]) -> Result<usize, SourceFault> {
         Source::read(&mut **self, buf)

@@ -9,6 +9,7 @@ abbrev pub invariant-reads : goal.invariant-reads
 invariant-reads g l =
     Gives (g.S.Source.left l.initial.source) (g.S.Source.left l.source) (pending l.initial.buffer) (pending l.buffer)
     × (g.S.Source.faults l.source ≡ g.S.Source.faults l.initial.source)
+    × (g.S.Source.name l.source ≡ g.S.Source.name l.initial.source)
     × (lines false (pending l.initial.buffer) ≢ [] → (l.source ≡ l.initial.source) × (pending l.buffer ≡ pending l.initial.buffer))
 
 abbrev pub decreases-reads : goal.decreases-reads
