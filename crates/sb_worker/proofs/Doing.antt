@@ -48,3 +48,18 @@ seen-first sink n Nothing l x =
       ),
       λ k le. has-after (is_not_yet_of k) first l (x.1 k le),
     )
+
+-- and before it the shelf was found bare
+pub bare-first : (sink : ℕ) (did : Did) (a l : List (Entry Change)) → IsShelfBare a → IsDone sink did l → IsDone sink did (a ++ l)
+bare-first sink Bundle a l bare x = (
+  does-then 0 0 1 0 a l bare.0 x.0,
+  ⊎_elim (λ h. inl (has-after is_claimed a l h)) (λ f. inr (free-after a l f)) x.1,
+)
+bare-first sink Closing a l bare x = does-then 0 0 0 1 a l bare.0 x
+bare-first sink Nothing a l bare x = (
+  (
+    (does-then 0 0 0 0 a l bare.0 x.0.0.0, λ k le. has-after (is_idle_of k) a l (x.0.0.1 k le)),
+    full-after a l x.0.1,
+  ),
+  λ k le. has-after (is_not_yet_of k) a l (x.1 k le),
+)

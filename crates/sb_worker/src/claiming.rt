@@ -11,7 +11,7 @@ use sb_work::Claim;
 use std::sync::Wait;
 
 /// A bundle of the shelf. It enters no turn.
-fn shelved_claim(cascade: &Cascade, pass: &mut CascadePass) -> Option<Claim>
+pub(crate) fn shelved_claim(cascade: &Cascade, pass: &mut CascadePass) -> Option<Claim>
     requires pass { IsReady cascade.now pass.old × IsEmptyHanded pass.old }
     ensures pass { IsReady cascade.now pass.new × IsSame pass.old pass.new }
     ensures some { IfSome result (λ c. IsClaim (setting_of cascade.now) c × HasBundle c false pass.new

@@ -8,7 +8,7 @@ ghost use Rattle.sb_worker.specs.Feeding.{IsFeeding, MayBring, MayMark};
 ghost use Rattle.sb_worker.specs.Helping.{IsFirst};
 ghost use Rattle.sb_worker.specs.declared.feeding.BothFed.{BothFed as Known};
 
-use crate::step::{OneStop, one_step};
+use crate::step::{First, OneStop, one_step};
 use sb_bundle::Bundle;
 use sb_cascade::{Cascade, CascadePass};
 use sb_hand::Did;
@@ -123,7 +123,7 @@ fn step_too<R: Wait, G: Gate>(
     ensures feeding { OnOk result ((both : Known) → IsFeeding cascade.now both pass.old
         → IsFeeding cascade.now both pass.new) }
 {
-    match one_step(rt, alloc, cascade, pass, gate) {
+    match one_step(rt, alloc, cascade, pass, gate, First::Closing) {
         Ok(did) => Ok(did),
         Err(OneStop::Stopped) => Err(FeedStop::Stopped),
         Err(OneStop::Memory) => Err(FeedStop::Memory),

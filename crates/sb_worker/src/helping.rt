@@ -4,7 +4,7 @@ ghost use Rattle.std.specs.Prelude.{IfSome};
 ghost use Rattle.sb_worker.specs.Entries.{Gains, Has, is_end_seen};
 ghost use Rattle.sb_worker.specs.Helping.{IsHelper};
 
-use crate::step::{OneStop, one_step};
+use crate::step::{First, OneStop, one_step};
 use crossbeam_utils::Backoff;
 use sb_cascade::{Cascade, CascadePass};
 use sb_hand::Did;
@@ -17,6 +17,28 @@ use std::time::{Clock, Duration};
 /// How many milliseconds a helper sleeps that has found nothing to do for a while.
 const REST_MILLIS: u64 = 1;
 
+/// How many bundles a helper works off before it looks for closings again: to look for one it waits for turns, and
+/// under them much of a heavy plan's work is done.
+const BUNDLES_A_LOOK: u32 = 8;
+
+/// How many bundles come before the next look for closings, behind a step that did this.
+fn till_look(before: u32, did: Did) -> u32 {
+    match did {
+        Did::Bundle if before == 0 => BUNDLES_A_LOOK - 1,
+        Did::Bundle => before - 1,
+        Did::Closing | Did::Nothing => 0,
+    }
+}
+
+/// What comes first where so many bundles come before the next look for closings.
+fn first_of(till_look: u32) -> First {
+    if till_look == 0 {
+        First::Closing
+    } else {
+        First::Bundle
+    }
+}
+
 /// Leaves the processor to others: the more often in a row, the longer, up to [`REST_MILLIS`].
 fn rest(clock: &impl Clock, backoff: &Backoff) {
     if backoff.is_completed() {
@@ -27,7 +49,7 @@ fn rest(clock: &impl Clock, backoff: &Backoff) {
 }
 
 /// Steps until the state word says that the work ends, and gives the pass back: it comes back only if a load of the state
-/// word said so. None if no memory was found: then the state word says so, and the pass is dropped with what it has in
+/// word said so. Behind a closing it looks for the next one, else only after some bundles. None if no memory was found: then the state word says so, and the pass is dropped with what it has in
 /// hand. Between steps that find nothing to do it rests. It may wait for turns, and whether it ends is not said.
 pub fn help<R: Wait + Clock, G: Gate>(
     rt: &R,
@@ -41,10 +63,17 @@ pub fn help<R: Wait + Clock, G: Gate>(
     ensures ended { IfSome result (λ back. Gains (Has is_end_seen) pass back) }
 {
     let backoff = Backoff::new();
+    let mut bundles = 0_u32;
     for _ in rt.forever() {
-        match one_step(rt, alloc, cascade, &mut pass, gate) {
-            Ok(Did::Nothing) => rest(rt, &backoff),
-            Ok(Did::Bundle | Did::Closing) => backoff.reset(),
+        match one_step(rt, alloc, cascade, &mut pass, gate, first_of(bundles)) {
+            Ok(did) => {
+                bundles = till_look(bundles, did);
+                if did == Did::Nothing {
+                    rest(rt, &backoff);
+                } else {
+                    backoff.reset();
+                }
+            }
             Err(OneStop::Stopped) => return Some(pass),
             Err(OneStop::Memory) => return None,
         }

@@ -13,5 +13,5 @@ mod tests;
 mod working;
 
 pub use helping::help;
-pub use step::{OneStop, one_step};
+pub use step::{First, OneStop, one_step};
 pub use working::work_off;

@@ -7,7 +7,7 @@ ghost use Rattle.sb_worker.specs.Feeding.{IsFeeding};
 ghost use Rattle.sb_worker.specs.Helping.{IsFirst, IsHelper};
 
 use crate::feeding::{BothFed, Fed, Feeding, feed_next};
-use crate::step::one_step;
+use crate::step::{First, one_step};
 use sb_cascade::{Cascade, CascadePass};
 use sb_diary::DiaryEvent;
 use sb_hand::{Did, Hand};
@@ -75,7 +75,7 @@ fn step_once<R: Wait>(
     requires pass { IsHelper cascade.now pass.old }
     ensures pass { OnOk result (IsHelper cascade.now pass.new) }
 {
-    match one_step(rt, alloc, cascade, pass, &OpenGate) {
+    match one_step(rt, alloc, cascade, pass, &OpenGate, First::Closing) {
         Ok(Did::Bundle) => Ok(()),
         Ok(Did::Closing | Did::Nothing) => Err("no bundle was there".into()),
         Err(_) => Err("the work ends".into()),

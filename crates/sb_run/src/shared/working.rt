@@ -18,7 +18,7 @@ use sb_hand::Did;
 use sb_lane::ArriveStop;
 use sb_record::{NoMemory, Stream};
 use sb_work::{Claim, Gate};
-use sb_worker::{OneStop, one_step, work_off};
+use sb_worker::{First, OneStop, one_step, work_off};
 use std::alloc::Global;
 use std::sync::Wait;
 use std::thread;
@@ -58,7 +58,7 @@ fn step_too<W: Wait, G: Gate>(
     ensures feeder { OnOk result ((f : Fed) (rows : List ARecord) → HasFed cascade.now pass.old f rows
         → HasFed cascade.now pass.new f rows) }
 {
-    match one_step(rt, alloc, cascade, pass, gate) {
+    match one_step(rt, alloc, cascade, pass, gate, First::Closing) {
         Ok(did) => Ok(did),
         Err(OneStop::Stopped | OneStop::Memory) => Err(NoMemory),
     }
