@@ -12,3 +12,4 @@ pub mod Sharing
 pub mod SoFar
 pub mod Standing
 pub mod Starting
+pub mod Through

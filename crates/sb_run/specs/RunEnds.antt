@@ -93,6 +93,15 @@ Ends plan sizes left left' after part o p taps taps' dropped dropped' (Tap place
 Ends plan sizes left left' after part o p taps taps' dropped dropped' Memory =
     EndsEarly plan left left' part o p (λ rows. ⊤) dropped dropped'
 
+-- the run is done
+abbrev pub IsDone : RunEnd → Type 0
+IsDone (Done hand) = ⊤
+IsDone (Refused refusal) = ⊥
+IsDone Input = ⊥
+IsDone Output = ⊥
+IsDone (Tap place) = ⊥
+IsDone Memory = ⊥
+
 -- a failed read is told by its own end alone
 abbrev pub InputCause : ℕ → ℕ → RunEnd → Type 0
 InputCause before now Input = Rose before now

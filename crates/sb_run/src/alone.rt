@@ -1,7 +1,7 @@
 //! A run with one worker.
 
-ghost use Rattle.std.specs.Prelude.{◌<◌, ◌^◌, map, length};
-ghost use Rattle.sb_run.specs.RunEnds.{AreSizes, Ends, InputCause, OutputCause};
+ghost use Rattle.std.specs.Prelude.{◌≡◌, ◌<◌, ◌^◌, map, length};
+ghost use Rattle.sb_run.specs.RunEnds.{AreSizes, Ends, InputCause, IsDone, OutputCause};
 
 use crate::ending::end_of;
 use crate::feeding::feed;
@@ -34,6 +34,8 @@ pub fn execute_alone<S: Source, R: RowOut>(
         (map (λ t. tap_state t) taps.old.items) (map (λ t. tap_state t) taps.new.items)
         dropped.old.items dropped.new.items result }
     ensures input { InputCause (S.faults input.old) (S.faults input.new) result }
+    ensures end { IsDone result → S.has_ended input.new }
+    ensures name { S.name input.new ≡ S.name input.old }
     ensures output { OutputCause (R.row_state out.old) (R.row_state out.new) result }
 {
     let _ = plan.transforms();

@@ -4,7 +4,7 @@
 //! epoch, arrives in the hand, and a watermark seals the epoch behind it. The end of the input counts as a watermark
 //! above every time on each stream of the plan.
 
-ghost use Rattle.std.specs.Prelude.{◌≡◌, ◌≤◌, ◌<◌, ◌^◌, ◌++◌, ◌∷◌, ◌+◌, [], List, map, length, OnOk, OnErr};
+ghost use Rattle.std.specs.Prelude.{◌≡◌, ◌≤◌, ◌<◌, ◌^◌, ◌++◌, ◌∷◌, ◌+◌, [], List, map, length, Ok, OnOk, OnErr};
 ghost use Rattle.sb_record.specs.declared.item.Item.{Item as AnItem};
 ghost use Rattle.sb_record.specs.declared.item.Item.TheVariants as item_spec;
 ghost use Rattle.sb_record.specs.declared.item.Record.{Record as ARecord};
@@ -217,6 +217,8 @@ pub(crate) fn feed<S: Source, R: RowOut>(
         dropped.old.items dropped.new.items result }
     ensures fewer { OnOk result (length taps.new.items ≤ length taps.old.items) }
     ensures source { FeedCause (S.faults input.old) (S.faults input.new) result }
+    ensures end { result ≡ Ok Stop.End → S.has_ended input.new }
+    ensures name { S.name input.new ≡ S.name input.old }
     ensures cause { GiveCause (R.row_state out.old) (R.row_state out.new) result }
 {
     let plan = hand.plan();

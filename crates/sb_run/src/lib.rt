@@ -5,6 +5,7 @@ mod alone;
 mod ending;
 mod feeding;
 mod run_end;
+mod running;
 mod shared;
 mod sizes;
 mod together;
@@ -12,6 +13,7 @@ mod working;
 
 pub use alone::execute_alone;
 pub use run_end::RunEnd;
+pub use running::run;
 pub use sizes::{MAX_WORKERS, Sizes};
 pub use together::execute;
 

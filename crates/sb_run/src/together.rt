@@ -1,6 +1,6 @@
 //! A run by several workers.
 
-ghost use Rattle.std.specs.Prelude.{◌≡◌, ◌≤◌, ◌<◌, ◌^◌, [], true, map, length, IfOk, OnOk};
+ghost use Rattle.std.specs.Prelude.{◌≡◌, ◌≤◌, ◌<◌, ◌^◌, [], true, map, length, IfOk, Ok, OnOk};
 ghost use Rattle.std.specs.List.{AllByRecursion};
 ghost use Rattle.std.specs.Thread.{IsSync};
 ghost use Rattle.sb_cascade.specs.Calls.{plan_of, setting_of};
@@ -8,7 +8,7 @@ ghost use Rattle.sb_feed.specs.Feeds.{nothing_fed};
 ghost use Rattle.sb_feed.specs.GiveCauses.{GiveCause};
 ghost use Rattle.sb_feed.specs.InputFeeds.{Feeds};
 ghost use Rattle.sb_run.specs.Feeders.{HasFed, IsBegun, IsStill};
-ghost use Rattle.sb_run.specs.RunEnds.{AreSizes, Ends, OutputCause, SharedFeedCause, SharedInputCause};
+ghost use Rattle.sb_run.specs.RunEnds.{AreSizes, Ends, IsDone, OutputCause, SharedFeedCause, SharedInputCause};
 ghost use Rattle.sb_worker.specs.Helping.{IsFirst, IsHelper};
 
 use crate::ending::{early_end, end_of};
@@ -92,6 +92,8 @@ fn work<W: Threads + Wait + Clock + Sync, S: Source, R: RowOut, G: Gate>(
         dropped.old.items dropped.new.items result.1 }
     ensures fewer { OnOk result.1 (length taps.new.items ≤ length taps.old.items) }
     ensures source { SharedFeedCause (S.faults input.old) (S.faults input.new) result.1 }
+    ensures end { result.1 ≡ Ok Stop.End → S.has_ended input.new }
+    ensures name { S.name input.new ≡ S.name input.old }
     ensures cause { GiveCause (R.row_state out.old) (R.row_state out.new) result.1 }
 {
     join_mut(
@@ -115,6 +117,8 @@ fn work<W: Threads + Wait + Clock + Sync, S: Source, R: RowOut, G: Gate>(
                 dropped.entry.now.items dropped.exit.now.items result }
             ensures fewer { OnOk result (length taps.exit.now.items ≤ length taps.entry.now.items) }
             ensures source { SharedFeedCause (S.faults input.entry.now) (S.faults input.exit.now) result }
+            ensures end { result ≡ Ok Stop.End → S.has_ended input.exit.now }
+            ensures name { S.name input.exit.now ≡ S.name input.entry.now }
             ensures cause { GiveCause (R.row_state out.entry.now) (R.row_state out.exit.now) result }
         {
             feed(
@@ -147,6 +151,8 @@ pub fn execute<W: Threads + Wait + Clock + Sync, S: Source, R: RowOut, G: Gate>(
         (map (λ t. tap_state t) taps.old.items) (map (λ t. tap_state t) taps.new.items)
         dropped.old.items dropped.new.items result }
     ensures input { SharedInputCause (S.faults input.old) (S.faults input.new) result }
+    ensures end { IsDone result → S.has_ended input.new }
+    ensures name { S.name input.new ≡ S.name input.old }
     ensures output { OutputCause (R.row_state out.old) (R.row_state out.new) result }
 {
     let begun = match begin(alloc, plan, sizes) {

@@ -1,6 +1,6 @@
 //! Feeding the lines of an input to a shared cascade, as [`crate::feeding`] feeds them to a hand.
 
-ghost use Rattle.std.specs.Prelude.{◌≡◌, ◌≤◌, ◌<◌, ◌^◌, ◌++◌, ◌∷◌, ◌+◌, [], List, map, length, OnOk, OnErr};
+ghost use Rattle.std.specs.Prelude.{◌≡◌, ◌≤◌, ◌<◌, ◌^◌, ◌++◌, ◌∷◌, ◌+◌, [], List, map, length, Ok, OnOk, OnErr};
 ghost use Rattle.sb_record.specs.declared.item.Item.{Item as AnItem};
 ghost use Rattle.sb_record.specs.declared.item.Item.TheVariants as item_spec;
 ghost use Rattle.sb_record.specs.declared.item.Record.{Record as ARecord};
@@ -253,6 +253,8 @@ fn feed_lines<W: Wait, G: Gate, S: Source, R: RowOut>(
         dropped.old.items dropped.new.items result }
     ensures fewer { OnOk result (length taps.new.items ≤ length taps.old.items) }
     ensures source { FeedCause (S.faults input.old) (S.faults input.new) result }
+    ensures end { result ≡ Ok Stop.End → S.has_ended input.new }
+    ensures name { S.name input.new ≡ S.name input.old }
     ensures cause { GiveCause (R.row_state out.old) (R.row_state out.new) result }
 {
     let plan = cascade.plan();
@@ -339,6 +341,8 @@ pub(crate) fn feed<W: Wait, G: Gate, S: Source, R: RowOut>(
         dropped.old.items dropped.new.items result }
     ensures fewer { OnOk result (length taps.new.items ≤ length taps.old.items) }
     ensures source { SharedFeedCause (S.faults input.old) (S.faults input.new) result }
+    ensures end { result ≡ Ok Stop.End → S.has_ended input.new }
+    ensures name { S.name input.new ≡ S.name input.old }
     ensures cause { GiveCause (R.row_state out.old) (R.row_state out.new) result }
 {
     let stop = match feed_lines(

@@ -1,5 +1,6 @@
-use Rattle.std.proofs.Common.{◌∙◌, ap, arith, refl}
+use Rattle.std.proofs.Common.{◌∙◌, ap, arith, refl, sym}
 use Rattle.sb_record.specs.Intake.{started}
+use Rattle.sb_outside.specs.Readings.{Held}
 use Rattle.sb_pipeline.specs.Shapes.{Shape, streams_of}
 use Rattle.sb_feed.proofs.FedSoFar.{all_fed, end_fails, fed_more, item_fails, may_end, may_take, nothing_fed_yet}
 use Rattle.sb_feed.proofs.GiveLaws.{cause_of_none, cause_then}
@@ -23,6 +24,8 @@ items-init g c =
       same = still_here c.args.cascade.now c.args.pass.now c.requires.begins.ready;
       cause = cause_of_none (g.R.RowOut.row_state c.args.out.now) _ (λ e. cc e);
       fewer = omega arith;
+      ends = λ e. absurd (cc (sym (ap (λ (l : Held). l.halt) c.new-lines.ensures), e));
+      name = refl;
       room = let none = ap (λ p. p.lines) c.new-intake.ensures in omega (arith, none);
     }
 
@@ -68,6 +71,8 @@ items-preserved g c =
       same = still_then c.args.cascade.now c.args.pass.now c.items.pass c.take_item.new.pass before.same c.in-Ok-take_item.ensures.same;
       cause = cause_then _ _ _ _ _ before.cause c.in-Ok-take_item.ensures.cause;
       fewer = let a = before.fewer in let b = c.in-Ok-take_item.ensures.fewer in omega (arith, a, b);
+      ends = c.in-Ok.ensures.end before.ends;
+      name = c.in-Ok.ensures.name ∙ before.name;
       room = more.read.room;
     }
 

@@ -1,5 +1,6 @@
-use Rattle.std.proofs.Common.{◌≤◌, ◌+◌, ◌-◌, Ok, length, map}
+use Rattle.std.proofs.Common.{◌≡◌, ◌≤◌, ◌+◌, ◌-◌, Ok, Some, length, map}
 use Rattle.sb_record.specs.declared.intake.TheConstants.{MAX_LINES}
+use Rattle.sb_outside.specs.declared.lines.Halt.TheVariants as halt
 use Rattle.sb_feed.specs.GiveCauses.{GiveCause}
 use Rattle.sb_feed.proofs.FedSoFar.{FedSoFar}
 use Rattle.sb_run.specs.Feeders.{HasFed, IsStill}
@@ -15,6 +16,8 @@ invariant-items g l =
       same : IsStill l.cascade l.fn.pass l.pass;
       cause : GiveCause {T = Unit {0}} (g.R.RowOut.row_state l.fn.out) (g.R.RowOut.row_state l.out) (Ok tt);
       fewer : length l.taps.items ≤ length l.fn.taps.items;
+      ends : l.lines.halt ≡ Some halt.End → g.S.Source.has_ended l.input;
+      name : g.S.Source.name l.input ≡ g.S.Source.name l.fn.input;
       room : l.intake.lines ≤ MAX_LINES;
     }
 

@@ -1,0 +1,65 @@
+-- How a run ends, said in other words.
+use Rattle.std.proofs.Common.{◌≡◌, ℕ, List, Option, Result, Ok, Err, inl, refl}
+use Rattle.sb_record.specs.declared.intake.Stop.{Stop}
+use Rattle.sb_record.specs.declared.intake.Stop.TheVariants as at
+use Rattle.sb_record.specs.declared.item.Dropped.{Dropped}
+use Rattle.sb_record.specs.declared.item.Record.{Record}
+use Rattle.sb_pipeline.specs.Shapes.{Shape}
+use Rattle.sb_emit.specs.Taps.{TapState}
+use Rattle.sb_hand.specs.Hands.{HandView}
+use Rattle.sb_feed.specs.declared.give.GiveStop.{GiveStop}
+use Rattle.sb_feed.specs.declared.give.GiveStop.TheVariants as stop
+use Rattle.sb_run.specs.Ending.{end_by}
+use Rattle.sb_run.specs.declared.run_end.RunEnd.{RunEnd}
+use Rattle.sb_run.specs.declared.run_end.RunEnd.TheVariants.{Done, Refused, Input, Output, Tap, Memory}
+use Rattle.sb_run.specs.declared.sizes.Sizes.{Sizes}
+use Rattle.sb_run.specs.RunEnds.{Ends, EndsAt, EndsEarly, InputCause, IsDone, SharedInputCause}
+
+-- what is said of an output by two relations is said by two others that follow from them
+module _ {O P : Type 0} (after part : O → List Record → O → Type 0) (after' part' : P → List Record → P → Type 0) (o p : O) (o' p' : P)
+    (whole : (l : List Record) → after o l p → after' o' l p') (some : (l : List Record) → part o l p → part' o' l p')
+    (plan : Shape) (left left' : Option (List ℕ)) (taps taps' : List TapState) (dropped dropped' : List Dropped) where
+  abbrev at_stop : (at : Stop) → EndsAt at plan left left' after o p taps taps' dropped dropped' → EndsAt at plan left left' after' o' p' taps taps' dropped dropped'
+  at_stop at e = record { given = e.given; stopped = e.stopped; wrote = whole _ e.wrote; offered = e.offered; listed = e.listed }
+
+  early : (Offered : List Record → Type 0) → EndsEarly plan left left' part o p Offered dropped dropped' → EndsEarly plan left left' part' o' p' Offered dropped dropped'
+  early Offered e =
+      record { given = e.given; rows = e.rows; first = e.first; wrote = some e.rows e.wrote; offered = e.offered; late = e.late; first_late = e.first_late; listed = e.listed }
+
+  pub ends_through : (sizes : Sizes) (end : RunEnd) → Ends plan sizes left left' after part o p taps taps' dropped dropped' end
+      → Ends plan sizes left left' after' part' o' p' taps taps' dropped dropped' end
+  ends_through sizes (Done hand) e = (at_stop _ e.0, e.1)
+  ends_through sizes (Refused refusal) e = at_stop _ e
+  ends_through sizes Input e = at_stop _ e
+  ends_through sizes Output e = early _ e
+  ends_through sizes (Tap place) e = early _ e
+  ends_through sizes Memory e = early _ e
+
+-- what follows both from all that was written and from a part of it
+module _ {O X : Type 0} (after part : O → List Record → O → Type 0) (o p : O) (whole : (l : List Record) → after o l p → X) (some : (l : List Record) → part o l p → X)
+    (plan : Shape) (left left' : Option (List ℕ)) (taps taps' : List TapState) (dropped dropped' : List Dropped) where
+  pub in_ends : (sizes : Sizes) (end : RunEnd) → Ends plan sizes left left' after part o p taps taps' dropped dropped' end → X
+  in_ends sizes (Done hand) e = whole _ e.0.wrote
+  in_ends sizes (Refused refusal) e = whole _ e.wrote
+  in_ends sizes Input e = whole _ e.wrote
+  in_ends sizes Output e = some _ e.wrote
+  in_ends sizes (Tap place) e = some _ e.wrote
+  in_ends sizes Memory e = some _ e.wrote
+
+-- of one worker the cause is the stronger one
+pub cause_alone : (before now : ℕ) (end : RunEnd) → InputCause before now end → SharedInputCause before now end
+cause_alone before now (Done hand) cause = cause
+cause_alone before now (Refused refusal) cause = cause
+cause_alone before now Input cause = cause
+cause_alone before now Output cause = inl cause
+cause_alone before now (Tap place) cause = inl cause
+cause_alone before now Memory cause = inl cause
+
+-- a run is done only if feeding came to the end of the input
+pub done-at-end : (h : HandView) (fed : Result Stop GiveStop) → IsDone (end_by h fed) → fed ≡ Ok at.End
+done-at-end h (Ok at.End) done = refl
+done-at-end h (Ok (at.Refused refusal)) done = absurd done
+done-at-end h (Ok at.Fault) done = absurd done
+done-at-end h (Err stop.Output) done = absurd done
+done-at-end h (Err (stop.Tap place)) done = absurd done
+done-at-end h (Err stop.Memory) done = absurd done
