@@ -1,6 +1,7 @@
 -- Rows that rise, among changes.
-use Rattle.std.proofs.Common.{◌≡◌, ℕ, ◌≤◌, List, [], ◌∷◌, ◌++◌, sym, refl, subst, ap, ◌∙◌, append-nil, arith}
-use Rattle.std.specs.Prelude.{fold, Option, Some, None, true, false, Bool, if◌then◌else◌}
+use Rattle.std.proofs.Common.{◌≡◌, ⊎_elim, ℕ, ◌≤◌, List, [], ◌∷◌, ◌++◌, sym, refl, subst, ap, ◌∙◌, arith}
+use Rattle.std.specs.Option.{option_map_or}
+use Rattle.std.specs.Prelude.{◌-◌, length, slice_get, fold, Option, Some, None, true, false, Bool, if◌then◌else◌}
 use Rattle.sb_record.specs.declared.item.Record.{Record}
 use Rattle.sb_record.specs.declared.key.Key.{Key}
 use Rattle.sb_record.specs.Keys.{same_key}
@@ -8,8 +9,8 @@ use Rattle.sb_live.specs.declared.change.Change.{Change}
 use Rattle.sb_live.specs.declared.change.Change.TheVariants.{Row, End}
 use Rattle.sb_live.specs.Changes.{IsPrefix, call_of, rows_in}
 use Rattle.sb_live.specs.Lasts.{last_of, later, nearer}
-use Rattle.sb_live.specs.ShowLaws.{rows_in-append}
-use Rattle.sb_live.specs.Showings.{Shows, ShowsPrefix}
+use Rattle.sb_live.specs.ShowLaws.{rows_in-append, latest-shows, rise_first, rise_after}
+use Rattle.sb_live.specs.Showings.{ShownRows, Shows, ShowsSome}
 use Rattle.sb_live.specs.Rising.{RiseFrom, last_time, latest_in, IsNoEarlier}
 
 pub rows_in-call_of : (rows : List Record) → rows_in (call_of rows) ≡ rows
@@ -20,27 +21,24 @@ rows_in-call_of (r ∷ rows) = ap (λ (l : List Record). r ∷ l) (rows_in-call_
 pub shows_call : (old new : List Change) (rows : List Record) → new ≡ old ++ call_of rows → Shows old rows new
 shows_call old new rows is = record { more = call_of rows; grown = is; shown = rows_in-call_of rows }
 
-pub shows_none : (old new : List Change) (rows : List Record) → new ≡ old → ShowsPrefix old rows new
-shows_none old new rows is =
-    record { prefix = []; rest = rows; whole = refl; shows = record { more = []; grown = is ∙ sym (append-nil old); shown = refl } }
-
-last_time-append : (floor : ℕ) (a b : List Record) → last_time floor (a ++ b) ≡ last_time (last_time floor a) b
-last_time-append floor [] b = refl
-last_time-append floor (r ∷ a) b = last_time-append r.time a b
-
 pub latest_after_call : (changes : List Change) (rows : List Record) → latest_in (changes ++ call_of rows) ≡ last_time (latest_in changes) rows
-latest_after_call changes rows =
-    ap (last_time 0) (rows_in-append changes (call_of rows) ∙ ap (λ (l : List Record). rows_in changes ++ l) (rows_in-call_of rows))
-    ∙ last_time-append 0 (rows_in changes) rows
+latest_after_call changes rows = latest-shows changes (changes ++ call_of rows) rows (shows_call changes (changes ++ call_of rows) rows refl)
+
+-- the last time is that of the last row, if there is one
+pub last_time-at : (floor : ℕ) (rows : List Record) → option_map_or (λ r. r.time) (slice_get rows (length rows - 1)) floor ≡ last_time floor rows
+last_time-at floor [] = refl
+last_time-at floor (r ∷ rows) =
+    let place : length (r ∷ rows) - 1 ≡ length rows = omega arith in
+    ap (λ k. option_map_or (λ s. s.time) (slice_get (r ∷ rows) k) floor) place ∙ from_first r rows
+  where
+    from_first : (r : Record) (rows : List Record) → option_map_or (λ s. s.time) (slice_get (r ∷ rows) (length rows)) floor ≡ last_time r.time rows
+    from_first r [] = refl
+    from_first r (s ∷ rows) = from_first s rows
 
 -- rows that rise go on with rows that rise from there
 pub rise_on : (floor : ℕ) (a b : List Record) → RiseFrom floor a → RiseFrom (last_time floor a) b → RiseFrom floor (a ++ b)
 rise_on floor [] b h k = k
 rise_on floor (r ∷ a) b h k = (h.0, rise_on r.time a b h.1 k)
-
-pub rise_after : (floor : ℕ) (a b : List Record) → RiseFrom floor (a ++ b) → RiseFrom (last_time floor a) b
-rise_after floor [] b h = h
-rise_after floor (r ∷ a) b h = rise_after r.time a b h.1
 
 -- changes whose rows rise go on with rows that rise from the last of them
 pub rising_on : (a b : List Change) → RiseFrom 0 (rows_in a) → RiseFrom (latest_in a) (rows_in b) → RiseFrom 0 (rows_in (a ++ b))
@@ -107,7 +105,7 @@ last_no_earlier front changes p up k =
     subst (λ (z : List Change). IsNoEarlier (last_of k front) (last_of k z)) p.1
     (subst (IsNoEarlier (last_of k front)) (sym (fold_on k None front rest))
     (found_no_earlier k (latest_in front) (last_of k front) rest (found_up_to k 0 None front tt first) (rise_after 0 (rows_in front) (rows_in rest) rises)))
-  where
-    rise_first : (floor : ℕ) (a b : List Record) → RiseFrom floor (a ++ b) → RiseFrom floor a
-    rise_first floor [] b h = tt
-    rise_first floor (r ∷ a) b h = (h.0, rise_first r.time a b h.1)
+
+-- rows that rise are not refused
+pub never_refused : (old new : ShownRows) (rows : List Record) → ShowsSome old rows new → RiseFrom (latest_in old.out.changes) rows → new.faults ≡ old.faults
+never_refused old new rows h rise = ⊎_elim (λ (e : new.faults ≡ old.faults). e) (λ (falls : RiseFrom (latest_in old.out.changes) rows → ⊥). absurd (falls rise)) h.falls

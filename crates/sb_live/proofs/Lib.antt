@@ -1,2 +1,4 @@
 pub mod Earlier
 pub mod Ends
+pub mod Rises
+pub mod Named

@@ -1,8 +1,9 @@
 -- The last row of a key.
-use Rattle.std.specs.Prelude.{List, fold, Option, Some, None, if◌then◌else◌}
+use Rattle.std.specs.Prelude.{ℕ, List, fold, Option, Some, None, bytes_eq, if◌then◌else◌}
+use Rattle.std.specs.Option.{option_and_then}
 use Rattle.sb_record.specs.declared.item.Record.{Record}
 use Rattle.sb_record.specs.declared.key.Key.{Key}
-use Rattle.sb_record.specs.Keys.{same_key}
+use Rattle.sb_record.specs.Keys.{key_text, same_key}
 use Rattle.sb_live.specs.declared.change.Change.{Change}
 use Rattle.sb_live.specs.declared.change.Change.TheVariants.{Row, End}
 
@@ -22,3 +23,15 @@ nearer k found r = if same_key r.key k then Some r else found
 -- the last row of the key k among the rows
 abbrev pub last_row : Key → List Record → Option Record
 last_row k rows = fold (nearer k) None rows
+
+-- the last row of the key, where there is a key
+abbrev pub last_if_any : Option Key → List Record → Option Record
+last_if_any key rows = option_and_then (λ k. last_row k rows) key
+
+-- the last row whose key has this text, after one row more
+abbrev pub nearer_named : List ℕ → Option Record → Record → Option Record
+nearer_named text found r = if bytes_eq (key_text r.key) text then Some r else found
+
+-- the last of the rows whose key has this text
+abbrev pub last_named : List ℕ → List Record → Option Record
+last_named text rows = fold (nearer_named text) None rows

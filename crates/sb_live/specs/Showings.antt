@@ -1,9 +1,10 @@
 -- What contracts see of a writer, and what rows make of it.
-use Rattle.std.specs.Prelude.{◌≡◌, ℕ, Bool, false, List, ◌++◌}
+use Rattle.std.specs.Prelude.{◌≡◌, ◌⊎◌, ℕ, Bool, false, List, ◌++◌}
 use Rattle.sb_record.specs.declared.item.Record.{Record}
 use Rattle.sb_outside.specs.Sinks.{SinkState}
 use Rattle.sb_live.specs.declared.change.Change.{Change}
 use Rattle.sb_live.specs.Changes.{rows_in}
+use Rattle.sb_live.specs.Rising.{RiseFrom, latest_in}
 
 -- what a writer has shown, and whether it has run out of memory and shows nothing more
 pub record Showing : Type 0 where
@@ -33,9 +34,12 @@ pub record ShowsPrefix (old : List Change) (rows : List Record) (new : List Chan
   pub whole : rows ≡ prefix ++ rest
   pub shows : Shows old prefix new
 
--- an output has shown exactly these rows; it has shown the first of them
-abbrev pub ShowsAll : ShownRows → List Record → ShownRows → Type 0
-ShowsAll old rows new = Shows old.out.changes rows new.out.changes
+-- an output has shown exactly these rows, and counted no fault
+pub record ShowsAll (old : ShownRows) (rows : List Record) (new : ShownRows) : Type 0 where
+  pub shows : Shows old.out.changes rows new.out.changes
+  pub faultless : new.faults ≡ old.faults
 
-abbrev pub ShowsSome : ShownRows → List Record → ShownRows → Type 0
-ShowsSome old rows new = ShowsPrefix old.out.changes rows new.out.changes
+-- an output has shown the first of the rows, and counted a fault only if the rows do not rise from the last one before
+pub record ShowsSome (old : ShownRows) (rows : List Record) (new : ShownRows) : Type 0 where
+  pub shows : ShowsPrefix old.out.changes rows new.out.changes
+  pub falls : (new.faults ≡ old.faults) ⊎ (RiseFrom (latest_in old.out.changes) rows → ⊥)

@@ -1,4 +1,4 @@
-//! What follows from the definitions alone.
+//! What follows from the definitions alone. Each function has its law for a contract, and does nothing.
 
 ghost use Rattle.sb_live.specs.Laws as law;
 
@@ -6,4 +6,25 @@ ghost use Rattle.sb_live.specs.Laws as law;
 /// matter.
 pub fn rows_alone_count()
     ensures { law.RowsAloneCount }
+{}
+
+/// An output that was handed rows that rise has counted no fault.
+pub fn rising_rows_are_never_refused()
+    ensures { law.RisingRowsAreNeverRefused }
+{}
+
+/// The first of sorted records rise, and the rows of a run are the first of sorted records.
+pub fn first_sorted_rows_rise()
+    ensures { law.FirstSortedRowsRise }
+{}
+
+/// A text names the key of which it is the text, and no other.
+pub fn keys_are_named_by_their_text()
+    ensures { law.KeysAreNamedByTheirText }
+{}
+
+/// The last row whose key has a text is the last row of the key that the text names, if lines can give all keys of the
+/// rows.
+pub fn named_rows_are_those_of_the_key()
+    ensures { law.NamedRowsAreThoseOfTheKey }
 {}

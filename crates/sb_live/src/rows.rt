@@ -17,7 +17,8 @@ use std::sync::Wait;
 /// An output whose rows are shown in a live table, those of each call all at once.
 ///
 /// Nothing promises an output that the times of its rows never fall, so it looks: a call in which one falls is refused
-/// as failed, and shows nothing.
+/// as failed, and shows nothing. Whoever knows that the rows rise knows that no fault was counted
+/// ([`laws`](crate::laws)).
 pub struct LiveRows<R: Wait + Drop> {
     out: LiveOut<R>,
     faults: u64,
@@ -67,15 +68,15 @@ impl<R: Wait + Drop + Send> RowOut for LiveRows<R> {
 
     ghost part = { ShowsSome };
 
-    ghost after_none = { λ o. shows.after_none o.out.changes };
+    ghost after_none = { shows.after_none };
 
-    ghost after_more = { λ o p q l m. shows.after_more o.out.changes p.out.changes q.out.changes l m };
+    ghost after_more = { shows.after_more };
 
-    ghost part_later = { λ o p q l m. shows.part_later o.out.changes p.out.changes q.out.changes l m };
+    ghost part_later = { shows.part_later };
 
-    ghost part_of_all = { λ o p l m. shows.part_of_all o.out.changes p.out.changes l m };
+    ghost part_of_all = { shows.part_of_all };
 
-    ghost part_of_more = { λ o p l m. shows.part_of_more o.out.changes p.out.changes l m };
+    ghost part_of_more = { shows.part_of_more };
 
     /// Shows rows, all of them at once. The time of each is below [`END_MARK`].
     ///

@@ -2,10 +2,10 @@
 
 ghost use Rattle.std.specs.Prelude.{◌<◌, All, IsTrue};
 
-use crate::{LiveOut, LiveReader, LiveRows, TableEnded, live};
+use crate::{LiveOut, LiveReader, LiveRows, TableEnded, key_named, live};
 use sb_emit::RowOut;
 use sb_outside::SinkFault;
-use sb_record::{END_MARK, Key, NoMemory, Record};
+use sb_record::{END_MARK, Key, Keys, MAX_KEY, NoMemory, Record, Word};
 use std::sync::Wait;
 use std::test::Fail;
 use std::thread::join;
@@ -110,6 +110,32 @@ fn an_output_shows_rows_and_refuses_those_that_fall(rt: HostRuntime) -> Result<(
     let out = shown.into_out();
     assert_eq!(rt; out.last(&key), row_of(1, Some((29, 5))));
     out.end();
+    Ok(())
+}
+
+/// The word as a key.
+fn word_key(text: &str) -> Option<Key> {
+    Word::new(text.as_bytes()).map(Key::Word)
+}
+
+#[test]
+fn a_text_names_a_key_of_the_kind(rt: HostRuntime) -> Result<(), Fail> {
+    for (text, number, word) in [
+        ("7", Some(Key::Number(7)), word_key("7")),
+        (
+            "1000000000000000000",
+            Some(Key::Number(MAX_KEY)),
+            word_key("1000000000000000000"),
+        ),
+        ("1000000000000000001", None, word_key("1000000000000000001")),
+        ("07", None, word_key("07")),
+        ("seven", None, word_key("seven")),
+        ("se,ven", None, None),
+        ("", None, None),
+    ] {
+        assert_eq!(rt; key_named(Keys::Numbers, text.as_bytes()), number);
+        assert_eq!(rt; key_named(Keys::Words, text.as_bytes()), word);
+    }
     Ok(())
 }
 

@@ -96,11 +96,10 @@ fn show_call<R: Wait>(
 fn last_time_of(floor: u64, rows: &[Record]) -> u64
     ensures { result ≡ last_time floor rows.now }
 {
-    let mut last = floor;
-    for row in rows {
-        last = row.time;
+    match rows.last() {
+        Some(row) => row.time,
+        None => floor,
     }
-    last
 }
 
 impl<R: Wait + Drop> LiveOut<R> {
