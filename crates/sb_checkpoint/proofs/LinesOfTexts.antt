@@ -31,7 +31,7 @@ abbrev pub IsPlain : List ℕ → Type 0
 IsPlain bytes = AllByRecursion (λ b. 13 < b) bytes
 
 -- ---- numbers, keys and items
-number-plain : (n : ℕ) → n < 2 ^ 64 → IsPlain (decimal n)
+pub number-plain : (n : ℕ) → n < 2 ^ 64 → IsPlain (decimal n)
 number-plain n fits = decimal_by_steps (λ _ ds. IsPlain ds) (λ k small. (omega arith, tt)) (λ k ds big all. All-join (λ b. 13 < b) ds ((48 + k % 10) ∷ []) all (omega arith, tt)) n fits
 
 signed-plain : (z : ℤ) → mag z < 2 ^ 63 → IsPlain (signed_decimal z)

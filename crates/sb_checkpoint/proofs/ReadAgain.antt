@@ -117,11 +117,11 @@ tested-passes p i h k few =
     third (nat_le 4294967295 p.lines) (nat_lt 128 (length (item_text i))) _ _ (timely_if p (p.lines + 1) (item_of p.keys (item_text i))) many long
     ∙ (ap (timely_if p (p.lines + 1)) (item_reads p.keys i (item_text i) (text-of p.streams p.keys i h)) ∙ timely-passes p (p.lines + 1) i k)
 
-abbrev AreTimely : Progress → List Item → Type 0
+abbrev pub AreTimely : Progress → List Item → Type 0
 AreTimely p [] = Unit {0}
 AreTimely p (u ∷ us) = IsInTime p u × AreTimely (after u p) us
 
-takes : (streams : Streams) (late : LatePolicy) (keys : Keys) (us base : List Item) → AllByRecursion (IsFit streams keys) us → AreTimely (progress_of streams late keys base) us → length base + length us ≤ 4294967295
+pub takes : (streams : Streams) (late : LatePolicy) (keys : Keys) (us base : List Item) → AllByRecursion (IsFit streams keys) us → AreTimely (progress_of streams late keys base) us → length base + length us ≤ 4294967295
     → accepted_after streams late keys base (map item_text us) ≡ record { items = base ++ us; refused = None }
 takes streams late keys [] base all timely few = ap (λ l. record { items = l; refused = None }) (sym (append-nil base))
 takes streams late keys (u ∷ us) base all timely few =
@@ -130,7 +130,7 @@ takes streams late keys (u ∷ us) base all timely few =
     ∙ ap (λ l. record { items = l; refused = None }) (join-assoc base (u ∷ []) us)
 
 -- ---- the lines of a checkpoint
-skips-timely : (p : Progress) (n : ℕ) → AreTimely p (replicate n Skip)
+pub skips-timely : (p : Progress) (n : ℕ) → AreTimely p (replicate n Skip)
 skips-timely p zero = tt
 skips-timely p (suc n) = (tt, skips-timely (after Skip p) n)
 
@@ -204,17 +204,15 @@ module _ (streams : Streams) (keys : Keys) where
       by_case true e = tt
       by_case false e = (h e, tt)
 
-  skips-fit : (n : ℕ) → AllByRecursion (IsFit streams keys) (replicate n Skip)
+  pub skips-fit : (n : ℕ) → AllByRecursion (IsFit streams keys) (replicate n Skip)
   skips-fit zero = tt
   skips-fit (suc n) = (tt, skips-fit n)
 
-pub resumed-fit : (plan : Shape) (items : List Item) → AllByRecursion (IsSound (streams_of plan) plan.keys) items → AllByRecursion (IsFit (streams_of plan) plan.keys) (resumed_items plan items)
-resumed-fit plan items all =
-    All-join (IsFit streams keys) (saved_items plan items) (replicate (length items - length (saved_items plan items)) Skip)
-    (All-join (IsFit streams keys) (kept_of plan items) (last_marks items)
+pub saved-fit : (plan : Shape) (items : List Item) → AllByRecursion (IsSound (streams_of plan) plan.keys) items → AllByRecursion (IsFit (streams_of plan) plan.keys) (saved_items plan items)
+saved-fit plan items all =
+    All-join (IsFit streams keys) (kept_of plan items) (last_marks items)
     (All-passed (IsSound streams keys) (IsFit streams keys) (is_kept (reach plan) (low_of plan items)) (λ i h k. kept-fit streams keys (reach plan) (low_of plan items) i h k) items all)
-    (All-join (IsFit streams keys) (mark_item A a) (mark_item B b) (mark_item-fit streams keys A a (mark-fit streams keys A items all)) (mark_item-fit streams keys B b (mark-fit streams keys B items all))))
-    (skips-fit streams keys (length items - length (saved_items plan items)))
+    (All-join (IsFit streams keys) (mark_item A a) (mark_item B b) (mark_item-fit streams keys A a (mark-fit streams keys A items all)) (mark_item-fit streams keys B b (mark-fit streams keys B items all)))
   where
     streams : Streams
     streams = streams_of plan
@@ -227,6 +225,10 @@ resumed-fit plan items all =
 
     b : ℕ
     b = last_watermark B items
+
+pub resumed-fit : (plan : Shape) (items : List Item) → AllByRecursion (IsSound (streams_of plan) plan.keys) items → AllByRecursion (IsFit (streams_of plan) plan.keys) (resumed_items plan items)
+resumed-fit plan items all =
+    All-join (IsFit (streams_of plan) plan.keys) (saved_items plan items) (replicate (length items - length (saved_items plan items)) Skip) (saved-fit plan items all) (skips-fit (streams_of plan) plan.keys (length items - length (saved_items plan items)))
 
 resumed-takes : (plan : Shape) (items : List Item) → AllByRecursion (IsSound (streams_of plan) plan.keys) items → length items ≤ 4294967295
     → accepted_in plan (map item_text (resumed_items plan items)) ≡ record { items = resumed_items plan items; refused = None }

@@ -1,17 +1,27 @@
 -- The lines of a checkpoint are read as what it kept.
-use Rattle.std.proofs.Common.{◌≡◌, ℕ, ◌+◌, true, cond, List, [], ◌∷◌, ◌++◌, map, length, Some, None, Result, Ok, Err, refl, sym, ap, ◌∙◌, append-nil}
+use Rattle.std.proofs.Common.{◌≡◌, ℕ, ◌+◌, Bool, true, false, cond, eqb, List, [], ◌∷◌, ◌++◌, map, length, Some, None, Ok, Err, refl, sym, ap, ◌∙◌, append-nil}
 use Rattle.std.specs.Prelude.{◌&&◌}
-use Rattle.std.proofs.lemmas.Bool.{eq-eqb}
+use Rattle.std.proofs.lemmas.Bool.{eq-eqb, eqb-true}
 use Rattle.sb_record.specs.declared.item.Item.{Item}
 use Rattle.sb_record.specs.declared.key.Keys.{Keys}
 use Rattle.sb_record.specs.Reading.{item_of}
 use Rattle.sb_pipeline.specs.Shapes.{Shape}
-use Rattle.sb_checkpoint.specs.Texts.{item_text, end_text, may_follow, may_stand, with_item, is_same, is_whole, if_last, read_pieces}
+use Rattle.sb_checkpoint.specs.Texts.{item_text, end_text, may_follow, may_stand, with_item, is_same, is_whole, if_last, read_pieces, read_lines}
 use Rattle.sb_checkpoint.proofs.Runs.{join-assoc}
 
-same-itself : (xs : List ℕ) → is_same xs xs ≡ true
+pub same-itself : (xs : List ℕ) → is_same xs xs ≡ true
 same-itself [] = refl
 same-itself (x ∷ xs) = (λ i. eq-eqb x x refl i && same-itself xs i)
+
+pub same-texts : (xs ys : List ℕ) → is_same xs ys ≡ true → xs ≡ ys
+same-texts [] [] h = refl
+same-texts [] (y ∷ ys) h = cc
+same-texts (x ∷ xs) [] h = cc
+same-texts (x ∷ xs) (y ∷ ys) h = by_case (eqb x y) refl h (same-texts xs ys)
+  where
+    by_case : (b : Bool) → eqb x y ≡ b → (b && is_same xs ys) ≡ true → (is_same xs ys ≡ true → xs ≡ ys) → x ∷ xs ≡ y ∷ ys
+    by_case true e h on = λ i. eqb-true x y e i ∷ on h i
+    by_case false e h on = cc
 
 end-no_item : (keys : Keys) (n : ℕ) → item_of keys (end_text n) ≡ None
 unfolding item_of
@@ -26,12 +36,8 @@ MayStand plan low items (u ∷ us) = (item_of plan.keys (item_text u) ≡ Some u
 abbrev pub texts_of : List Item → ℕ → List (List ℕ)
 texts_of us n = map item_text us ++ (end_text n ∷ [] ∷ [])
 
-abbrev pub reads-by : Shape → ℕ → ℕ → List Item → List (List ℕ) → Result (List Item) ℕ
-reads-by plan lines low items [] = Err (length items + 2)
-reads-by plan lines low items (line ∷ pieces) = read_pieces plan lines low items line pieces
-
 pub reads : (plan : Shape) (lines low : ℕ) (us items : List Item) (n : ℕ) → n ≡ length (items ++ us) → MayStand plan low items us → is_whole plan lines low (items ++ us) ≡ true
-    → reads-by plan lines low items (texts_of us n) ≡ Ok (items ++ us)
+    → read_lines plan lines low items (texts_of us n) ≡ Ok (items ++ us)
 reads plan lines low [] items n e stand whole =
     let none : item_of plan.keys (end_text n) ≡ None = end-no_item plan.keys n in
     let count : n ≡ length items = e ∙ ap length (append-nil items) in
@@ -54,6 +60,6 @@ reads plan lines low (u ∷ us) items n e stand whole =
         ∙ (λ i. cond (stand.1 i) (read_pieces plan lines low (items ++ u ∷ []) next pieces)
         (cond (is_same (item_text u) (end_text (length items)) && is_whole plan lines low items) (if_last items (next ∷ pieces)) (Err (length items + 2))))
 
-    next-by : (us : List Item) → reads-by plan lines low items (item_text u ∷ texts_of us n) ≡ reads-by plan lines low (items ++ u ∷ []) (texts_of us n)
+    next-by : (us : List Item) → read_lines plan lines low items (item_text u ∷ texts_of us n) ≡ read_lines plan lines low (items ++ u ∷ []) (texts_of us n)
     next-by [] = chosen (end_text n) ([] ∷ [])
     next-by (v ∷ vs) = chosen (item_text v) (texts_of vs n)

@@ -26,7 +26,7 @@ use Rattle.sb_record.proofs.Elements.{All-join}
 use Rattle.sb_pipeline.specs.Results.{rows_below}
 use Rattle.sb_pipeline.specs.Shapes.{Shape, streams_of}
 use Rattle.sb_checkpoint.specs.Reach.{reach, is_within}
-use Rattle.sb_checkpoint.specs.Checkpoints.{is_kept, low_of, kept_of, mark_item, saved_items, resumed_items, streams_in}
+use Rattle.sb_checkpoint.specs.Checkpoints.{is_kept, low_of, kept_of, mark_item, mark_items, saved_items, resumed_items, streams_in}
 use Rattle.sb_checkpoint.specs.Laws.{GivesTheRest, progress_in, accepted_behind, ResumedRunsGiveTheRest, InputsAreAcceptedInParts}
 use Rattle.sb_checkpoint.proofs.Resuming.{last_marks, resumed-rest}
 
@@ -52,7 +52,7 @@ watermarks-skips B zero = refl
 watermarks-skips A (suc n) = watermarks-skips A n
 watermarks-skips B (suc n) = watermarks-skips B n
 
-abbrev if_some : ℕ → List ℕ
+abbrev pub if_some : ℕ → List ℕ
 if_some t = cond (eqb t 0) [] (t ∷ [])
 
 watermarks-own : (s : Stream) (t : ℕ) → flat_map (watermark_in s) (mark_item s t) ≡ if_some t
@@ -73,21 +73,22 @@ watermarks-other s t = elim (eqb t 0) as (λ c. flat_map (watermark_in s) (cond 
     by_stream A = refl
     by_stream B = refl
 
-last-if_some : (t : ℕ) → last_or 0 (if_some t) ≡ t
+pub last-if_some : (t : ℕ) → last_or 0 (if_some t) ≡ t
 last-if_some t = by_case (eqb t 0) refl
   where
     by_case : (b : Bool) → eqb t 0 ≡ b → last_or 0 (cond b [] (t ∷ [])) ≡ t
     by_case true e = sym (eqb-true t 0 e)
     by_case false e = refl
 
+pub marks-a : (a b : ℕ) → flat_map (watermark_in A) (mark_items a b) ≡ if_some a
+marks-a a b = flat_map-append (watermark_in A) (mark_item A a) (mark_item B b) ∙ (λ i. watermarks-own A a i ++ watermarks-other A b i) ∙ append-nil _
+
+pub marks-b : (a b : ℕ) → flat_map (watermark_in B) (mark_items a b) ≡ if_some b
+marks-b a b = flat_map-append (watermark_in B) (mark_item A a) (mark_item B b) ∙ (λ i. watermarks-other B a i ++ watermarks-own B b i)
+
 watermarks-marks : (s : Stream) (items : List Item) → flat_map (watermark_in s) (last_marks items) ≡ if_some (last_watermark s items)
-watermarks-marks A items =
-    flat_map-append (watermark_in A) (mark_item A (last_watermark A items)) (mark_item B (last_watermark B items))
-    ∙ (λ i. watermarks-own A (last_watermark A items) i ++ watermarks-other A (last_watermark B items) i)
-    ∙ append-nil _
-watermarks-marks B items =
-    flat_map-append (watermark_in B) (mark_item A (last_watermark A items)) (mark_item B (last_watermark B items))
-    ∙ (λ i. watermarks-other B (last_watermark A items) i ++ watermarks-own B (last_watermark B items) i)
+watermarks-marks A items = marks-a (last_watermark A items) (last_watermark B items)
+watermarks-marks B items = marks-b (last_watermark A items) (last_watermark B items)
 
 pub last_watermark-resumed : (plan : Shape) (s : Stream) (items : List Item) → last_watermark s (resumed_items plan items) ≡ last_watermark s items
 last_watermark-resumed plan s items = ap (last_or 0) all ∙ last-if_some (last_watermark s items)
@@ -104,7 +105,7 @@ last_watermark-resumed plan s items = ap (last_or 0) all ∙ last-if_some (last_
         ∙ append-nil _
 
 -- ---- the number of lines
-length-skips : (n : ℕ) → length (replicate n Skip) ≡ n
+pub length-skips : (n : ℕ) → length (replicate n Skip) ≡ n
 length-skips zero = refl
 length-skips (suc n) = ap suc (length-skips n)
 

@@ -16,13 +16,13 @@ use Rattle.sb_record.proofs.InputLemmas.{progress-more, accepted-in_range, low_w
 use Rattle.sb_record.proofs.Grammar.{item_reads}
 use Rattle.sb_pipeline.specs.Shapes.{Shape, streams_of}
 use Rattle.sb_checkpoint.specs.Reach.{reach, is_within}
-use Rattle.sb_checkpoint.specs.Texts.{item_text, head_text, end_text, is_whole, IsRead}
+use Rattle.sb_checkpoint.specs.Texts.{item_text, head_text, end_text, is_whole, read_lines, IsHead, IsRead}
 use Rattle.sb_checkpoint.specs.Checkpoints.{is_kept, low_of, mark_item, saved_items}
 use Rattle.sb_checkpoint.specs.Laws.{accepted_in, CheckpointsAreReadBack}
 use Rattle.sb_checkpoint.proofs.Resuming.{last_marks}
 use Rattle.sb_checkpoint.proofs.Runs.{length_saved, last_watermark-saved}
 use Rattle.sb_checkpoint.proofs.ReadAgain.{IsFit, IsSound, IsFitMark, accepted-sound, text-of, mark-fit, mark-used}
-use Rattle.sb_checkpoint.proofs.ReadBack.{MayStand, texts_of, reads-by, reads}
+use Rattle.sb_checkpoint.proofs.ReadBack.{MayStand, texts_of, reads}
 
 module _ (plan : Shape) (low : ℕ) where
   reads-own : (i : Item) → IsFit (streams_of plan) plan.keys i → item_of plan.keys (item_text i) ≡ Some i
@@ -98,15 +98,18 @@ saved-read plan items all few small = by_items (saved_items plan items) (reads p
     low : ℕ
     low = low_of plan items
 
+    head : IsHead (head_text (length items) low) (length items) low
+    head = record { few_lines = omega (arith, few); small_low = omega (arith, small); text = refl }
+
     stands : MayStand plan low [] (saved_items plan items)
     stands =
         kept-stands plan low items [] (last_marks items) refl refl all
         (λ more za zb. a-stands plan low more (last_watermark A items) (last_watermark B items) za zb (mark-fit (streams_of plan) plan.keys A items all) (mark-fit (streams_of plan) plan.keys B items all))
 
-    by_items : (us : List Item) → reads-by plan (length items) low [] (texts_of us (length us)) ≡ Ok us → IsRead plan (head_text (length items) low ∷ texts_of us (length us)) (length items) low us
-    by_items [] h = record { head = head_text (length items) low; next = end_text 0; rest = [] ∷ []; split = refl; few_lines = omega (arith, few); small_low = omega (arith, small); first_line = refl; others = h }
+    by_items : (us : List Item) → read_lines plan (length items) low [] (texts_of us (length us)) ≡ Ok us → IsRead plan (head_text (length items) low ∷ texts_of us (length us)) (length items) low us
+    by_items [] h = record { head = head_text (length items) low; next = end_text 0; rest = [] ∷ []; split = refl; is_head = head; others = h }
     by_items (u ∷ us) h =
-        record { head = head_text (length items) low; next = item_text u; rest = texts_of us (length (u ∷ us)); split = refl; few_lines = omega (arith, few); small_low = omega (arith, small); first_line = refl; others = h }
+        record { head = head_text (length items) low; next = item_text u; rest = texts_of us (length (u ∷ us)); split = refl; is_head = head; others = h }
 
 pub read-back : CheckpointsAreReadBack
 read-back plan lines items is =

@@ -14,8 +14,8 @@ use Rattle.sb_outside.specs.Lines.{line_feed, lines}
 use Rattle.sb_pipeline.specs.Results.{output_of, rows_below}
 use Rattle.sb_pipeline.specs.Shapes.{Shape, streams_of}
 use Rattle.sb_checkpoint.specs.Reach.{HasNoSession, reach, within}
-use Rattle.sb_checkpoint.specs.Texts.{item_text, items_text, head_text, end_text, IsRead}
-use Rattle.sb_checkpoint.specs.Checkpoints.{low_of, streams_in, saved_items, resumed_items}
+use Rattle.sb_checkpoint.specs.Texts.{item_text, items_text, head_text, end_text, checkpoint_text, pieces, IsRead, IsFaultAt}
+use Rattle.sb_checkpoint.specs.Checkpoints.{low_of, streams_in, saved_items, filled, resumed_items}
 
 -- streams with the same records from the plan's reach before w on give the same rows from w on
 abbrev pub LaterRowsDependOnRecordsWithinReach : Type 0
@@ -138,3 +138,37 @@ CheckpointsAreReadBack =
     (plan : Shape) (lines : List (List ℕ)) (items : List Item) → items ≡ (accepted_in plan lines).items
     → IsRead plan (checkpoint_pieces (length items) (low_of plan items) (saved_items plan items))
     (length items) (low_of plan items) (saved_items plan items)
+
+-- the text of a checkpoint is read as what it kept, whatever lines the input had
+abbrev pub SavedTextsAreReadBack : Type 0
+SavedTextsAreReadBack =
+    (plan : Shape) (lines : List (List ℕ)) (items : List Item) → items ≡ (accepted_in plan lines).items
+    → IsRead plan (pieces (checkpoint_text (length items) (low_of plan items) (saved_items plan items)))
+    (length items) (low_of plan items) (saved_items plan items)
+
+-- the plan accepts the lines, and these items are theirs
+abbrev pub Accepts : Shape → List (List ℕ) → List Item → Type 0
+Accepts plan lines items = accepted_in plan lines ≡ record { items = items; refused = None }
+
+-- no line is refused that a run reads in place of an input, of which a checkpoint of so many lines was read
+abbrev pub ReadItemsAreAccepted : Type 0
+ReadItemsAreAccepted =
+    (plan : Shape) (parts : List (List ℕ)) (count low : ℕ) (items : List Item) → IsRead plan parts count low items
+    → Accepts plan (map item_text (filled count items)) (filled count items)
+    × Accepts plan (lines false (items_text (filled count items))) (filled count items)
+
+-- the pieces of a text are a checkpoint of one input, or have one first faulty line
+pub record IsReadOrFaulty (plan : Shape) (parts : List (List ℕ)) : Type 0 where
+  pub either :
+      ((lines : ℕ) × (low : ℕ) × (items : List Item) × IsRead plan parts lines low items)
+      ⊎ ((line : ℕ) × IsFaultAt plan parts line)
+  pub not_both :
+      (lines low line : ℕ) (items : List Item) → IsRead plan parts lines low items → IsFaultAt plan parts line → ⊥
+  pub one_checkpoint :
+      (l m v w : ℕ) (items others : List Item) → IsRead plan parts l v items → IsRead plan parts m w others
+      → (l ≡ m) × (v ≡ w) × (items ≡ others)
+  pub one_fault : (m n : ℕ) → IsFaultAt plan parts m → IsFaultAt plan parts n → m ≡ n
+
+-- so it is with every text
+abbrev pub CheckpointsAreReadOrFaulty : Type 0
+CheckpointsAreReadOrFaulty = (plan : Shape) (text : List ℕ) → IsReadOrFaulty plan (pieces text)

@@ -1,7 +1,8 @@
 -- How far back a plan reaches, and which records can still be part of a row.
-use Rattle.std.specs.Prelude.{◌≡◌, ℕ, ◌+◌, Bool, true, false, nat_lt, not, List, All, filter, sum_by}
+use Rattle.std.specs.Prelude.{◌≡◌, ℕ, ◌+◌, Bool, true, false, nat_lt, not, List, All, Some, filter, slice_get, sum_by, take}
 use Rattle.sb_record.specs.declared.item.Record.{Record}
 use Rattle.sb_pipeline.specs.declared.transform.Kind.{Kind}
+use Rattle.sb_pipeline.specs.declared.transform.Step.{Step}
 use Rattle.sb_pipeline.specs.declared.transform.Kind.TheVariants.{Do, Group, Session, Join}
 use Rattle.sb_pipeline.specs.Shapes.{Shape}
 
@@ -15,6 +16,13 @@ is_session (Join combine windows) = false
 -- no transform gathers records by session: a session can go on without end, so nothing bounds how far back it reaches
 abbrev pub HasNoSession : Shape → Type 0
 HasNoSession plan = All (λ s. is_session s.kind ≡ false) plan.steps
+
+-- the transform at this place gathers records by session, and none before it does
+pub record IsFirstSession (plan : Shape) (place : ℕ) : Type 0 where
+  pub before : All (λ s. is_session s.kind ≡ false) (take place plan.steps)
+  pub step : Step
+  pub there : slice_get plan.steps place ≡ Some step
+  pub is : is_session step.kind ≡ true
 
 -- how long the transform's windows are, 0 where it has none
 abbrev pub size_in : Kind → ℕ

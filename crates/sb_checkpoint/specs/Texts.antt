@@ -1,5 +1,7 @@
 -- The text of a checkpoint, and what a text means when it is read.
-use Rattle.std.specs.Prelude.{◌≡◌, ◌<◌, ◌^◌, ◌+◌, ◌==◌, ℕ, Bool, true, false, ◌&&◌, not, nat_le, if◌then◌else◌, List, [], ◌∷◌, ◌++◌, length, flat_map, decimal, Option, Some, None, Result, Ok, Err}
+use Rattle.std.specs.Prelude.{◌≡◌, ◌<◌, ◌^◌, ◌+◌, ◌==◌, ◌⊎◌, ℕ, Bool, true, false, ◌&&◌, not, nat_le, if◌then◌else◌, List, [], ◌∷◌, ◌++◌, length, flat_map, decimal, Option, Some, None, Result, Ok, Err}
+use Rattle.std.specs.List.{slice_split}
+use Rattle.sb_outside.specs.Lines.{line_feed}
 use Rattle.sb_record.specs.declared.intake.TheConstants.{MAX_LINES}
 use Rattle.sb_record.specs.declared.item.Item.{Item}
 use Rattle.sb_record.specs.declared.item.Item.TheVariants.{Rec, Mark, Skip, Late}
@@ -40,18 +42,19 @@ abbrev pub checkpoint_text : ℕ → ℕ → List Item → List ℕ
 checkpoint_text lines low items =
     with_end (head_text lines low) ++ (items_text items ++ with_end (end_text (length items)))
 
--- whether the item may stand after these: first records that can be part of a row from the low watermark on, then a
--- watermark of a, then one of b
+-- whether the item may come where these are the last watermarks of a and b: first records that can be part of a row
+-- from the low watermark on, then a watermark of a, then one of b
+abbrev pub may_come : Shape → ℕ → ℕ → ℕ → Item → Bool
+may_come plan low a b (Rec s r) =
+    uses (streams_of plan) s && (is_within (reach plan) low r.time && ((a == 0) && (b == 0)))
+may_come plan low a b (Mark A t) = uses (streams_of plan) A && (not (t == 0) && ((a == 0) && (b == 0)))
+may_come plan low a b (Mark B t) = uses (streams_of plan) B && (not (t == 0) && (b == 0))
+may_come plan low a b Skip = false
+may_come plan low a b (Late n t m) = false
+
+-- whether it may stand after these
 abbrev pub may_follow : Shape → ℕ → List Item → Item → Bool
-may_follow plan low items (Rec s r) =
-    uses (streams_of plan) s
-    && (is_within (reach plan) low r.time && ((last_watermark A items == 0) && (last_watermark B items == 0)))
-may_follow plan low items (Mark A t) =
-    uses (streams_of plan) A && (not (t == 0) && ((last_watermark A items == 0) && (last_watermark B items == 0)))
-may_follow plan low items (Mark B t) =
-    uses (streams_of plan) B && (not (t == 0) && (last_watermark B items == 0))
-may_follow plan low items Skip = false
-may_follow plan low items (Late n t m) = false
+may_follow plan low items item = may_come plan low (last_watermark A items) (last_watermark B items) item
 
 -- whether a checkpoint of so many lines, with this low watermark and these items, can be that of an input
 abbrev pub is_whole : Shape → ℕ → ℕ → List Item → Bool
@@ -89,14 +92,50 @@ read_pieces plan lines low items line (next ∷ pieces) =
     else if is_same line (end_text (length items)) && is_whole plan lines low items then if_last items (next ∷ pieces)
     else Err (length items + 2)
 
--- what the file says: how many lines there were, the low watermark and the items. The pieces of a text are what stands
--- between its line feeds
-pub record IsRead (plan : Shape) (pieces : List (List ℕ)) (lines low : ℕ) (items : List Item) : Type 0 where
+-- the same of all pieces behind the first line, if there are any
+abbrev pub read_lines : Shape → ℕ → ℕ → List Item → List (List ℕ) → Result (List Item) ℕ
+read_lines plan lines low items [] = Err (length items + 2)
+read_lines plan lines low items (line ∷ pieces) = read_pieces plan lines low items line pieces
+
+-- the items, or the number of the faulty line if there is one
+abbrev pub answer_of : List Item → Option ℕ → Result (List Item) ℕ
+answer_of items None = Ok items
+answer_of items (Some line) = Err line
+
+-- the parts of a text before, between and behind its line feeds: one more than it has of these
+abbrev pub pieces : List ℕ → List (List ℕ)
+pieces text = slice_split (λ b. b == line_feed) text
+
+-- the text is that of the number
+abbrev pub IsNumber : ℕ → List ℕ → Type 0
+IsNumber n text = (n < 2 ^ 64) × (text ≡ decimal n)
+
+-- the line is the first one of a checkpoint of so many lines with this low watermark
+pub record IsHead (line : List ℕ) (lines low : ℕ) : Type 0 where
+  pub few_lines : lines < 2 ^ 64
+  pub small_low : low < 2 ^ 64
+  pub text : line ≡ head_text lines low
+
+-- the first of the pieces is the first line, which says so many lines and this low watermark, and this is what the
+-- others give
+pub record Gives (plan : Shape) (pieces : List (List ℕ)) (lines low : ℕ) (answer : Result (List Item) ℕ) : Type 0 where
   pub head : List ℕ
   pub next : List ℕ
   pub rest : List (List ℕ)
   pub split : pieces ≡ head ∷ next ∷ rest
-  pub few_lines : lines < 2 ^ 64
-  pub small_low : low < 2 ^ 64
-  pub first_line : head ≡ head_text lines low
-  pub others : read_pieces plan lines low [] next rest ≡ Ok items
+  pub is_head : IsHead head lines low
+  pub others : read_pieces plan lines low [] next rest ≡ answer
+
+-- the pieces are a checkpoint of so many lines, with this low watermark and these items
+abbrev pub IsRead : Shape → List (List ℕ) → ℕ → ℕ → List Item → Type 0
+IsRead plan pieces lines low items = Gives plan pieces lines low (Ok items)
+
+-- there is no first line, since no line feed ends it, or it is not that of a checkpoint
+abbrev pub HasNoHead : List (List ℕ) → Type 0
+HasNoHead (head ∷ next ∷ rest) = (lines low : ℕ) → IsHead head lines low → ⊥
+HasNoHead pieces = Unit {0}
+
+-- the number of the first faulty line: the first line, or one behind it
+abbrev pub IsFaultAt : Shape → List (List ℕ) → ℕ → Type 0
+IsFaultAt plan pieces line =
+    (HasNoHead pieces × (line ≡ 1)) ⊎ ((lines : ℕ) × (low : ℕ) × Gives plan pieces lines low (Err line))

@@ -1,9 +1,10 @@
 //! Checkpoints: what of the accepted items of an input a run that goes on later has to know.
 
-ghost use Rattle.std.specs.Prelude.{◌≡◌, ◌≤◌, IfOk, filter, map, length};
+ghost use Rattle.std.specs.Prelude.{◌≡◌, ◌≤◌, ◌++◌, ◌∷◌, [], IfOk, OnOk, filter, map, length};
 ghost use Rattle.sb_record.specs.Streams.{last_or, last_watermark, least_of, watermark_in};
 ghost use Rattle.sb_checkpoint.specs.Reach.{HasNoSession};
 ghost use Rattle.sb_checkpoint.specs.Checkpoints as spec;
+ghost use Rattle.sb_checkpoint.specs.Keeping.{IsRecord};
 ghost use Rattle.sb_checkpoint.specs.Saved.{record_item, items_in};
 
 use crate::reaching::reach;
@@ -86,7 +87,7 @@ fn mark_after(last: u64, stream: Stream, item: &Item) -> u64
 }
 
 /// The least of the watermarks of the streams, 0 where there is no stream.
-fn least(streams: Streams, mark_a: u64, mark_b: u64) -> u64
+pub(crate) fn least(streams: Streams, mark_a: u64, mark_b: u64) -> u64
     ensures { result ≡ least_of streams mark_a mark_b }
 {
     match (streams.a, streams.b) {
@@ -118,4 +119,17 @@ fn kept_records(
         }
     }
     Ok(records)
+}
+
+/// Adds a record to the end of the list.
+pub(crate) fn push(records: &mut Vec<StreamRec>, next: &Item) -> Result<(), NoMemory>
+    requires { IsRecord next.now }
+    ensures { OnOk result (map record_item records.new.items ≡ map record_item records.old.items ++ next.now ∷ []) }
+{
+    if let Item::Rec(stream, rec) = next {
+        let stream = *stream;
+        let rec = Record { ..*rec };
+        records.push(StreamRec { stream, rec })?;
+    }
+    Ok(())
 }

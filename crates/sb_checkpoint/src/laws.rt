@@ -57,3 +57,18 @@ pub fn cut_inputs_give_the_whole()
 pub fn checkpoints_are_read_back()
     ensures { law.CheckpointsAreReadBack }
 {}
+
+/// What is written of a checkpoint is read as what it kept.
+pub fn saved_texts_are_read_back()
+    ensures { law.SavedTextsAreReadBack }
+{}
+
+/// A run that goes on refuses no line of a checkpoint that was read, whoever wrote it.
+pub fn read_items_are_accepted()
+    ensures { law.ReadItemsAreAccepted }
+{}
+
+/// Each text is a checkpoint of one input or has one first faulty line, and never both.
+pub fn checkpoints_are_read_or_faulty()
+    ensures { law.CheckpointsAreReadOrFaulty }
+{}

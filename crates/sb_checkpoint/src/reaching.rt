@@ -1,6 +1,6 @@
 //! How far back a plan reaches.
 
-ghost use Rattle.std.specs.Prelude.{◌≡◌, ◌≤◌, ◌↔◌, false};
+ghost use Rattle.std.specs.Prelude.{◌≡◌, ◌≤◌, ◌↔◌, ℕ, None, Some, false};
 ghost use Rattle.sb_checkpoint.specs.Reach as spec;
 
 use sb_pipeline::{Kind, MAX_TRANSFORMS, Plan};
@@ -20,16 +20,25 @@ fn window_size(kind: &Kind) -> u64
     }
 }
 
-/// Whether a transform of the plan gathers records by session. Nothing bounds how far back such a plan reaches.
-pub fn has_session(plan: &Plan) -> bool
-    ensures { (result ≡ false) ↔ spec.HasNoSession plan.now }
+/// The first transform of the plan, from 0, that gathers records by session, if one does. Nothing bounds how far back
+/// such a plan reaches.
+pub fn first_session(plan: &Plan) -> Option<u32>
+    ensures none { (result ≡ None) ↔ spec.HasNoSession plan.now }
+    ensures some { (place : ℕ) → result ≡ Some place → spec.IsFirstSession plan.now place }
 {
     for node in 0..plan.transforms() {
         if let Kind::Session(_, _) = plan.kind(node) {
-            return true;
+            return Some(node);
         }
     }
-    false
+    None
+}
+
+/// Whether a transform of the plan gathers records by session.
+pub fn has_session(plan: &Plan) -> bool
+    ensures { (result ≡ false) ↔ spec.HasNoSession plan.now }
+{
+    first_session(plan).is_some()
 }
 
 /// How far back the plan reaches, in the unit of the times of records: a record whose time is more than this before a

@@ -57,6 +57,10 @@ impl<S: Source> Source for Resumed<S> {
 
     ghost faults = { λ s. S.faults s.source };
 
+    ghost has_ended = { λ s. S.has_ended s.source };
+
+    ghost name = { λ s. S.name s.source };
+
     fn read(&mut self, buf: &mut [u8]) -> Result<usize, SourceFault> {
         match self.ahead.give(buf) {
             0 => self.source.read(buf),
