@@ -5,7 +5,6 @@ pub mod PlanNotes
 pub mod Wanting
 pub mod DiaryReading
 pub mod AuditAnswers
-pub mod RunEnding
 pub mod Blaming
 pub mod RunAnswers
 pub mod RunFaults

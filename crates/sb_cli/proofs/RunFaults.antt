@@ -1,5 +1,5 @@
 -- The faults that a run of the engine tells.
-use Rattle.std.proofs.Common.{◌≡◌, ℕ, ◌≤◌, Bool, true, false, List, Result, Ok, Err, refl, ◌∙◌, arith, inl}
+use Rattle.std.proofs.Common.{◌≡◌, ℕ, ◌≤◌, Bool, true, false, List, Result, Ok, Err, refl, ◌∙◌, arith}
 use Rattle.std.specs.Prelude.{OnOk}
 use Rattle.sb_outside.specs.Folders.{Load}
 use Rattle.sb_outside.specs.Sinks.{SinkCause, SinkState}
@@ -65,16 +65,7 @@ module _ (reads reads' : ℕ) (sink sink1 sink2 : SinkState) where
   run_hides_none (run.Tap place) (Ok x) loads input output cause told = (writes_same (run.Tap place) x output cause told tt, refl)
   run_hides_none run.Memory (Ok x) loads input output cause told = refl
 
--- of one worker the cause is the stronger one
-pub cause_alone : (before now : ℕ) (end : RunEnd) → InputCause before now end → SharedInputCause before now end
-cause_alone before now (run.Done hand) cause = cause
-cause_alone before now (run.Refused refusal) cause = cause
-cause_alone before now run.Input cause = cause
-cause_alone before now run.Output cause = inl cause
-cause_alone before now (run.Tap place) cause = inl cause
-cause_alone before now run.Memory cause = inl cause
-
--- and before a tap fails no read has failed
+-- before a tap fails no read of one worker has failed
 pub tap_alone : (before now place : ℕ) (end : RunEnd) (passed : Result (Unit {0}) SinkFault) → InputCause before now end → status_after end passed ≡ Tap place → now ≡ before
 tap_alone before now place end (Err fault.Failed) cause is = cc is
 tap_alone before now place end (Err fault.Memory) cause is = cc is

@@ -13,6 +13,5 @@ pub mod Notes
 pub mod AuditSteps
 pub mod WorkSteps
 pub mod Telling
-pub mod LentLaws
 pub mod RunSteps
 pub mod PlainSteps

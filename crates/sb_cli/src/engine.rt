@@ -4,7 +4,7 @@ ghost use Rattle.std.specs.Prelude.{◌≡◌, ◌<◌, ◌^◌, true, false, Is
 ghost use Rattle.std.specs.Io.KnownBytes.{Keeps};
 ghost use Rattle.sb_outside.specs.Folders.{Load};
 ghost use Rattle.sb_outside.specs.Sinks.{SinkCause};
-ghost use Rattle.sb_run.specs.RunEnds as run;
+ghost use Rattle.sb_run.specs.RunEnds as ends;
 ghost use Rattle.sb_words.specs.Options.{AreInRange};
 ghost use Rattle.sb_cli.specs.Answers.{IsAnswerOf, IsRead, Wrote, WrotePrefix};
 ghost use Rattle.sb_cli.specs.Faults.{HasCause, HidesNoFault, faults_of};
@@ -13,15 +13,13 @@ ghost use Rattle.sb_cli.specs.RunSteps.{CanTellAt, sizes_from, diaries_told, sta
 
 use crate::diaries::Diaries;
 use crate::ending::Ending;
-use crate::lent::Lent;
 use crate::status::Status;
-use sb_emit::Tap;
+use sb_emit::{Lent, Tap};
 use sb_outside::{Sink, SinkFault, Source};
 use sb_pipeline::Plan;
 use sb_record::{Dropped, Sequence};
-use sb_run::{RunEnd, Sizes, execute, execute_alone};
+use sb_run::{RunEnd, Sizes, run};
 use sb_words::Options;
-use sb_work::OpenGate;
 use std::alloc::Global;
 use std::sync::Wait;
 use std::thread::Threads;
@@ -124,57 +122,6 @@ pub(crate) fn sizes_of(options: &Options) -> Sizes
     }
 }
 
-/// Runs a plan over an input by one worker, and writes its rows to a sink.
-fn run_alone<S: Source, K: Sink>(
-    alloc: Global,
-    plan: Plan,
-    sizes: Sizes,
-    source: &mut S,
-    out: &mut K,
-    taps: &mut Vec<Box<dyn Tap>>,
-    dropped: &mut Vec<Dropped>,
-) -> RunEnd
-    requires sizes { run.AreSizes sizes }
-    requires few { length taps.old.items < 2 ^ 32 }
-    ensures ends { run.Ends plan sizes (S.left source.old) (S.left source.new)
-        (λ taken rows taken'. Wrote taken taken' rows) (λ taken rows taken'. WrotePrefix taken taken' rows)
-        (K.taken out.old) (K.taken out.new)
-        (map (λ t. tap_state t) taps.old.items) (map (λ t. tap_state t) taps.new.items)
-        dropped.old.items dropped.new.items result }
-    ensures input { run.InputCause (S.faults source.old) (S.faults source.new) result }
-    ensures output { run.OutputCause (K.sink_state out.old) (K.sink_state out.new) result }
-{
-    let mut lent = Lent { sink: &mut *out };
-    execute_alone(alloc, plan, sizes, source, &mut lent, taps, dropped)
-}
-
-/// Runs a plan over an input by several workers, and writes its rows to a sink.
-fn run_shared<W: Threads + Wait + Clock + Sync, S: Source, K: Sink>(
-    rt: &W,
-    alloc: Global,
-    plan: Plan,
-    sizes: Sizes,
-    source: &mut S,
-    out: &mut K,
-    taps: &mut Vec<Box<dyn Tap>>,
-    dropped: &mut Vec<Dropped>,
-) -> RunEnd
-    requires sizes { run.AreSizes sizes }
-    requires few { length taps.old.items < 2 ^ 32 }
-    ensures ends { run.Ends plan sizes (S.left source.old) (S.left source.new)
-        (λ taken rows taken'. Wrote taken taken' rows) (λ taken rows taken'. WrotePrefix taken taken' rows)
-        (K.taken out.old) (K.taken out.new)
-        (map (λ t. tap_state t) taps.old.items) (map (λ t. tap_state t) taps.new.items)
-        dropped.old.items dropped.new.items result }
-    ensures input { run.SharedInputCause (S.faults source.old) (S.faults source.new) result }
-    ensures output { run.OutputCause (K.sink_state out.old) (K.sink_state out.new) result }
-{
-    let mut lent = Lent { sink: &mut *out };
-    execute(
-        rt, alloc, plan, sizes, source, &mut lent, taps, dropped, &OpenGate,
-    )
-}
-
 /// Runs a plan over an input, and writes its rows to a sink.
 fn run_to<W: Threads + Wait + Clock + Sync, S: Source, K: Sink>(
     rt: &W,
@@ -186,29 +133,26 @@ fn run_to<W: Threads + Wait + Clock + Sync, S: Source, K: Sink>(
     taps: &mut Vec<Box<dyn Tap>>,
     dropped: &mut Vec<Dropped>,
 ) -> RunEnd
-    requires sizes { run.AreSizes sizes }
+    requires sizes { ends.AreSizes sizes }
     requires few { length taps.old.items < 2 ^ 32 }
-    ensures ends { run.Ends plan sizes (S.left source.old) (S.left source.new)
+    ensures ends { ends.Ends plan sizes (S.left source.old) (S.left source.new)
         (λ taken rows taken'. Wrote taken taken' rows) (λ taken rows taken'. WrotePrefix taken taken' rows)
         (K.taken out.old) (K.taken out.new)
         (map (λ t. tap_state t) taps.old.items) (map (λ t. tap_state t) taps.new.items)
         dropped.old.items dropped.new.items result }
-    ensures input { run.SharedInputCause (S.faults source.old) (S.faults source.new) result }
-    ensures alone { sizes.workers ≡ 1 → run.InputCause (S.faults source.old) (S.faults source.new) result }
-    ensures output { run.OutputCause (K.sink_state out.old) (K.sink_state out.new) result }
+    ensures input { ends.SharedInputCause (S.faults source.old) (S.faults source.new) result }
+    ensures alone { sizes.workers ≡ 1 → ends.InputCause (S.faults source.old) (S.faults source.new) result }
+    ensures output { ends.OutputCause (K.sink_state out.old) (K.sink_state out.new) result }
 {
-    if sizes.workers == 1 {
-        run_alone(alloc, plan, sizes, source, out, taps, dropped)
-    } else {
-        run_shared(rt, alloc, plan, sizes, source, out, taps, dropped)
-    }
+    let mut lent = Lent { sink: &mut *out };
+    run(rt, alloc, plan, sizes, source, &mut lent, taps, dropped)
 }
 
 /// Has the sink pass on all rows, unless writing failed or there was no memory.
 fn finish_after<K: Sink>(out: &mut K, end: &RunEnd) -> Result<(), SinkFault>
     ensures bytes { Keeps (K.taken out.old) (K.taken out.new) }
     ensures cause { SinkCause (K.sink_state out.old) (K.sink_state out.new) result }
-    ensures told { OnOk result (run.IsWritten end.now → (K.sink_state out.new).refuses ≡ false) }
+    ensures told { OnOk result (ends.IsWritten end.now → (K.sink_state out.new).refuses ≡ false) }
 {
     match end {
         RunEnd::Done(_) | RunEnd::Refused(_) | RunEnd::Input | RunEnd::Tap { .. } => out.finish(),

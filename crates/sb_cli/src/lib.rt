@@ -8,7 +8,6 @@ mod answer;
 mod audit;
 #[cfg(test)]
 mod audit_tests;
-mod batch;
 mod command;
 mod diaries;
 mod diary_input;
@@ -20,7 +19,6 @@ mod engine_tests;
 mod fault_tests;
 mod input;
 mod kept;
-mod lent;
 mod note;
 mod output;
 mod plain;

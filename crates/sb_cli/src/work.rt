@@ -6,7 +6,7 @@
 ghost use Rattle.std.specs.Prelude.{◌≡◌, ℕ, List, IfOk};
 ghost use Rattle.sb_outside.specs.Folders.{Load};
 ghost use Rattle.sb_pipeline.specs.Shapes.{sum_shape};
-ghost use Rattle.sb_run.specs.RunEnds as run;
+ghost use Rattle.sb_run.specs.RunEnds as ends;
 ghost use Rattle.sb_words.specs.Options.{AreInRange};
 ghost use Rattle.sb_words.specs.Words.{IsAmount};
 ghost use Rattle.sb_cli.specs.Answers.{IsRead, IsWorkAnswer};
@@ -25,9 +25,8 @@ use sb_generator::GenSource;
 use sb_outside::Sink;
 use sb_pipeline::{Plan, sum_plan};
 use sb_record::NoMemory;
-use sb_run::{RunEnd, Sizes, execute, execute_alone};
+use sb_run::{RunEnd, Sizes, run};
 use sb_words::Options;
-use sb_work::OpenGate;
 use std::alloc::Global;
 use std::sync::Wait;
 use std::thread::Threads;
@@ -70,7 +69,7 @@ fn summary_of<W: Threads + Wait + Clock + Sync>(
     sizes: Sizes,
 ) -> Result<Summary, NoMemory>
     requires amount { IsAmount records }
-    requires sizes { run.AreSizes sizes }
+    requires sizes { ends.AreSizes sizes }
     ensures { IfOk result (λ summary. sums_text records summary ≡ summary_text records (work_rows records)) }
 {
     let plan = sum_plan(alloc, WORK_WINDOW)?;
@@ -94,35 +93,22 @@ fn run_work<W: Threads + Wait + Clock + Sync>(
 ) -> RunEnd
     requires plan { plan ≡ sum_shape WORK_WINDOW }
     requires amount { IsAmount records }
-    requires sizes { run.AreSizes sizes }
+    requires sizes { ends.AreSizes sizes }
     ensures { SumsWork records summary.old summary.new result }
 {
     let mut source = GenSource::new(records);
     let mut taps = Vec::new(alloc);
     let mut dropped = Vec::new(alloc);
-    if sizes.workers == 1 {
-        execute_alone(
-            alloc,
-            plan,
-            sizes,
-            &mut source,
-            summary,
-            &mut taps,
-            &mut dropped,
-        )
-    } else {
-        execute(
-            rt,
-            alloc,
-            plan,
-            sizes,
-            &mut source,
-            summary,
-            &mut taps,
-            &mut dropped,
-            &OpenGate,
-        )
-    }
+    run(
+        rt,
+        alloc,
+        plan,
+        sizes,
+        &mut source,
+        summary,
+        &mut taps,
+        &mut dropped,
+    )
 }
 
 /// The four lines of a summary.
