@@ -1,0 +1,5 @@
+pub mod OpenEnds
+pub mod GatheredItems
+pub mod CutCauses
+pub mod SavedParts
+pub mod PartEnds

@@ -1,0 +1,4 @@
+pub mod FirstParts
+pub mod Parts
+pub mod Saves
+pub mod CutEnds
