@@ -89,12 +89,10 @@ fn what_is_saved_of_a_first_part(rt: HostRuntime) -> Result<(), Fail> {
 
 /// Sizes of a run by so many workers.
 fn sizes(workers: u32) -> Sizes
-    requires some { 1 ≤ workers }
-    requires most { workers ≤ MAX_WORKERS }
     ensures { AreSizes result }
 {
     Sizes {
-        workers,
+        workers: workers.clamp(1, MAX_WORKERS),
         bundle: 2,
         pending: 4,
         keeps_diaries: false,
