@@ -3,8 +3,6 @@
 //! [`watch`] is the one call.
 #![tactic(auto)]
 
-#[cfg(test)]
-mod tests;
 mod watching;
 
 pub use watching::{Watched, watch};
