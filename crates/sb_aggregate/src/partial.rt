@@ -1,7 +1,6 @@
 //! Partial values: what is kept of the values of a keyed window until it closes.
 
 ghost use Rattle.std.specs.Prelude.{◌≡◌, ◌∷◌, ◌++◌, [], ◌%◌, ◌^◌, length, IfOk, OnOk};
-ghost use Rattle.std.specs.BTreeSet.{IsOrdered};
 ghost use Rattle.std.specs.Ordering.{int_cmp};
 ghost use Rattle.sb_record.specs.Orders.{distinct};
 ghost use Rattle.sb_aggregate.specs.Aggregates.{IsValid};
@@ -187,15 +186,12 @@ fn with_values(alloc: Global, agg: Agg, held: Held, more: Held) -> Result<Held, 
     }
 }
 
-// The values of two sets.
+// The values of two sets, which are put together in one pass unless one of them has few.
 fn with_all(values: BTreeSet<i64>, more: BTreeSet<i64>) -> Result<BTreeSet<i64>, NoMemory>
-    requires { IsOrdered int_cmp values }
     ensures { IfOk result (λ all. all.keys ≡ distinct int_cmp (values.keys ++ more.keys)) }
 {
-    let mut all = values;
-    for value in more {
-        all.insert(value)?;
-    }
+    let (mut all, mut more) = (values, more);
+    all.append(&mut more)?;
     Ok(all)
 }
 

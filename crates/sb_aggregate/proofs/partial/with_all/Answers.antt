@@ -1,28 +1,18 @@
-use Rattle.std.proofs.Common.{◌≡◌, ℤ, ◌∷◌, ◌++◌, List, append-nil, SFits, w64, rules, sym, ap, ◌∙◌}
+use Rattle.std.proofs.Common.{◌≡◌, ℤ, ◌++◌, sym, ◌∙◌}
 use Rattle.std.specs.Cmp.{int_cmp_total}
-use Rattle.std.specs.BTreeSet.{insert_key}
-use Rattle.std.specs.Ordering.{int_cmp}
-use Rattle.std.proofs.lemmas.Int.{to_z-of_z}
-use Rattle.std.proofs.lemmas.Map.Iter.{rest_more, rest_all}
-use Rattle.std.proofs.lemmas.Map.Lookups.{exact_signed}
+use Rattle.std.specs.BTreeSet.{BTreeSet, InsertsAll}
+use Rattle.std.specs.Ordering.{int_cmp, eq_by_cmp}
+use Rattle.std.proofs.lemmas.List.Folds.{list_any-append}
+use Rattle.std.proofs.lemmas.Map.Lookups.{btree_set_from_contains, exact_signed}
 use Rattle.sb_record.specs.Orders.{distinct}
-use Rattle.sb_record.proofs.Different.{distinct-moved, distinct-sorted_keys}
+use Rattle.sb_record.proofs.Distinct.{distinct-sorted, any_distinct}
 use Rattle.sb_aggregate.proofs.partial.with_all.Goals as goal
 
-pub loop-value-preserved : goal.loop-value-preserved
-loop-value-preserved c =
-    let fits : SFits w64 c.in-Some.value = search rules in
-    let same = to_z-of_z w64 c.in-Some.value fits in
-    let e = rest_more (λ (x : ℤ). x) c.loop-value.value-iterator c.next.new.self c.next.result c.in-Some.value c.in-Some.is c.next.ensures.steps in
-    record {
-      so_far = ap (λ ks. distinct int_cmp (ks ++ c.next.new.self)) (c.in_ok-insert.ensures.keys ∙ ap (insert_key int_cmp c.loop-value.all.keys) same)
-          ∙ distinct-moved int_cmp_total exact_signed c.in-Some.value c.loop-value.all.keys c.next.new.self
-          ∙ ap (λ vs. distinct int_cmp (c.loop-value.all.keys ++ vs)) (sym e) ∙ c.loop-value.invariant.so_far;
-      ordered = c.in_ok-insert.ensures.ordered;
-    }
+-- a set with all of another has the different elements of both
+with_other : (s t n : BTreeSet ℤ) → InsertsAll int_cmp s t.keys n → n.keys ≡ distinct int_cmp (s.keys ++ t.keys)
+with_other s t n (has, up) =
+    btree_set_from_contains int_cmp_total n (record { keys = distinct int_cmp (s.keys ++ t.keys) }) up (distinct-sorted int_cmp_total (s.keys ++ t.keys))
+    (λ q. has q ∙ sym (list_any-append (eq_by_cmp int_cmp q) s.keys t.keys) ∙ sym (any_distinct int_cmp_total exact_signed q (s.keys ++ t.keys))) exact_signed
 
 pub returns : goal.returns
-returns c =
-    let none = rest_all (λ (x : ℤ). x) c.loop-value.value-iterator c.next.new.self c.next.result c.in-None.is c.next.ensures.steps in
-    sym (distinct-sorted_keys int_cmp_total exact_signed c.loop-value.all.keys c.loop-value.invariant.ordered)
-    ∙ ap (distinct int_cmp) (sym (append-nil c.loop-value.all.keys)) ∙ ap (λ vs. distinct int_cmp (c.loop-value.all.keys ++ vs)) (sym none) ∙ c.loop-value.invariant.so_far
+returns c = with_other c.args.values c.args.more c.append.new.self c.in_ok-append.ensures.inserts_all
