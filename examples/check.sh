@@ -2,12 +2,14 @@
 # Runs what the examples and docs/PLANS.md print, and compares rows, notes and exit codes. It takes ../streambox, or the
 # program that STREAMBOX names by an absolute path: STREAMBOX=/usr/local/bin/streambox ./check.sh
 #
-# Of the guide it tries, by `run` and by `slow`, each plan that stands with an input, rows and, if it has any, notes, and
-# each fault of the tables `| What is wrong | Plan | Answer |`. Three faults have no plan there, since it would be too
-# long: these are made here. Each folder with a plan is run with several numbers of workers and sizes of bundles, too, and
-# its diaries are audited; each plan of the guide is run with several workers. Each folder of runs/ is a run: its words
-# (args), its input, its rows, its note and its exit code. `work` prints the same lines with 1, 2 and 8 workers. Not tried
-# are the exit codes 7, 8 and 70, and what the guide says in sentences. The last line counts what was as expected.
+# Of the guide it tries, by `run` and by `slow`, each plan that stands with an input, rows and, if it has any, notes, by
+# `save` each checkpoint that stands there, and by all commands each fault of the tables with a plan and an answer. Three
+# faults have no plan there, since it would be too long: these are made here. Each folder with a plan is run with several
+# numbers of workers and sizes of bundles, too, and its diaries are audited; two of its keys are watched; and its input is
+# cut behind each line (cut/cut.sh). Each plan of the guide is run with several workers. Each folder of runs/ is a run: its
+# words (args), its input, its rows, its note and its exit code. cut/faults.sh tries faulty checkpoint files. `work` prints
+# the same lines with 1, 2 and 8 workers. Not tried are the exit codes 7, 8 and 70, and what the guide says in sentences.
+# The last line counts what was as expected.
 # shellcheck disable=SC2016 # Backquotes are those of the guide.
 set -euo pipefail
 shopt -s nullglob
@@ -52,21 +54,27 @@ some() {
   echo "$1 $2: as expected"
 }
 
-# Runs the words of each folder of runs/ there.
+# Runs the words of each folder of runs/ there, and those of three commands with 8 workers, too.
 check_runs() {
-  local args run status words
+  local args words
   runs=0
   for args in runs/*/args; do
-    run=${args%/args}
-    status=0
     mapfile -t words < "$args"
-    (cd "$run" && "$program" "${words[@]}" < stdin > "$scratch/rows" 2> "$scratch/note") || status=$?
-    [ "$status" = "$(cat "$run/status")" ] || fail "$run: exit code $status, $(cat "$scratch/note")"
-    cmp "$scratch/rows" "$run/stdout" || fail "$run: other rows"
-    cmp "$scratch/note" "$run/stderr" || fail "$run: another note"
+    check_run "${args%/args}" "${words[@]}"
+    if [[ ${words[0]} =~ ^(watch|part|resume)$ ]]; then check_run "${args%/args}" "${words[@]}" --workers 8; fi
     runs=$((runs + 1))
   done
   some "$runs" 'runs with a note and an exit code'
+}
+
+# check_run FOLDER WORD..
+check_run() {
+  local run=$1 status=0
+  shift
+  (cd "$run" && "$program" "$@" < stdin > "$scratch/rows" 2> "$scratch/note") || status=$?
+  [ "$status" = "$(cat "$run/status")" ] || fail "$run, $*: exit code $status, $(cat "$scratch/note")"
+  cmp "$scratch/rows" "$run/stdout" || fail "$run, $*: other rows"
+  cmp "$scratch/note" "$run/stderr" || fail "$run, $*: another note"
 }
 
 # ends STATUS NOTE: the last command, whose status is given, has left this note.
@@ -75,9 +83,10 @@ ends() {
   [ "$(cat "$scratch/note")" = "$3" ] || fail "$3: says $(cat "$scratch/note")"
 }
 
-# Devices that fail: a full one, a closed output, a folder as the input, a closed input, and full and closed notes.
+# Devices that fail: a full one, a closed output, a folder as the input, a closed input, and full and closed notes. The
+# full output and the folder are tried with the commands that take a plan, too.
 check_devices() {
-  local status=0
+  local status=0 run=runs/resume_the_rest words
   "$program" sum 10 < first.txt > /dev/full 2> "$scratch/note" || status=$?
   ends "$status" 5 'output failed'
   status=0
@@ -95,6 +104,19 @@ check_devices() {
     [ "$status" = 1 ] || fail "notes to $notes: exit code $status"
   done
   devices=6
+  for words in "run $run/plan.toml" "slow $run/plan.toml" "watch $run/plan.toml 1" "part $run/plan.toml" \
+    "save $run/plan.toml" "resume $run/plan.toml $run/checkpoint"; do
+    status=0
+    # shellcheck disable=SC2086 # words without blanks
+    "$program" $words < <(echo r,a,13,1,1; echo w,a,20) > /dev/full 2> "$scratch/note" || status=$?
+    ends "$status" 5 'output failed'
+    status=0
+    # shellcheck disable=SC2086
+    "$program" $words < . > "$scratch/rows" 2> "$scratch/note" || status=$?
+    ends "$status" 4 'input failed'
+    [ ! -s "$scratch/rows" ] || fail "$words, a folder as the input: prints rows"
+    devices=$((devices + 2))
+  done
   echo "$devices devices that fail: as expected"
 }
 
@@ -131,6 +153,85 @@ tells_its_diary() {
   head -n "$lines" "$scratch/note" | cmp - "$notes" || fail "$how: other notes than $notes"
   said=$(tail -n "+$((lines + 1))" "$scratch/note" | "$program" audit)
   [[ $said == *' settled' ]] || fail "$how: the diary is $said"
+}
+
+# Of each folder with a plan, the first key of its rows and the last one are watched.
+check_watch() {
+  local plan key workers
+  keys=0
+  for plan in */plan.toml; do
+    while IFS= read -r key; do
+      awk -F, -v key="$key" '$2 "" == key "" { last = $0 } END { print last }' "${plan%/*}/rows.txt" > "$scratch/last"
+      for workers in 1 2 8; do
+        (cd "${plan%/*}" && gives "$scratch/last" "$(or_empty notes.txt)" \
+          watch plan.toml "$key" --workers "$workers" < input.txt)
+      done
+      keys=$((keys + 1))
+    done < <(cut -d, -f2 "${plan%/*}/rows.txt" | sed -n '1p;$p')
+  done
+  some "$keys" 'keys that are watched'
+}
+
+# Cuts the input of each folder with a plan behind each of its lines, and tries faulty checkpoint files.
+check_cut() {
+  local plan
+  inputs=0
+  STREAMBOX=$program cut/cut.sh || fail 'an input that is cut'
+  for plan in */plan.toml; do
+    [ "$plan" != cut/plan.toml ] || continue
+    (cd "${plan%/*}" && STREAMBOX=$program ../cut/cut.sh plan.toml input.txt) > "$scratch/cuts" ||
+      fail "$plan: $(cat "$scratch/cuts")"
+    inputs=$((inputs + 1))
+  done
+  some "$inputs" 'other inputs that are cut'
+  STREAMBOX=$program cut/faults.sh || fail 'a checkpoint file'
+}
+
+# Words that are not understood: none, and those of each line.
+check_words() {
+  local words
+  refuses 1 'words not understood'
+  lists=1
+  while read -ra words; do
+    refuses 1 'words not understood' "${words[@]}"
+    lists=$((lists + 1))
+  done << 'WORDS'
+watch
+watch plan.toml
+watch plan.toml -1
+watch plan.toml 1,2
+watch plan.toml abcdefghijklmnopqrstuvwxy
+watch plan.toml 1 2
+watch plan.toml --workers 2 1
+watch plan.toml 1 --workers 0
+watch plan.toml 1 --diary
+watch plan.toml 1 --taps
+part
+part -p
+part plan.toml 1
+part plan.toml --diary
+part plan.toml --taps
+part plan.toml --bundle 65537
+part plan.toml --workers 2 --workers 2
+save
+save -p
+save plan.toml checkpoint
+save plan.toml --workers 2
+save plan.toml --bundle 1
+save plan.toml --pending 1
+save plan.toml --diary
+resume
+resume plan.toml
+resume plan.toml -c
+resume -p checkpoint
+resume plan.toml checkpoint rest
+resume plan.toml --workers 2 checkpoint
+resume plan.toml checkpoint --pending 1025
+resume plan.toml checkpoint --workers=2
+resume plan.toml checkpoint --diary
+resume plan.toml checkpoint --taps
+WORDS
+  some "$lists" 'lists of words that are not understood'
 }
 
 # `work` prints the same lines with several numbers of workers, and no note.
@@ -177,11 +278,12 @@ blocks() {
   awk -v opening="\`\`\`$1" '$0 == opening { is_in = 1; next } /^```/ { is_in = 0 } is_in' "$2"
 }
 
-# The guide's examples: a plan, an input and its rows, each in a block of its own.
+# The guide's examples: a plan, an input and its rows, each in a block of its own, and of some the checkpoint if the input is
+# a first part.
 check_plans() {
   local plan command workers
   plans=0
-  awk '/^```(toml|input|rows|notes)$/ { kind = substr($0, 4); if (kind == "toml") count++; next }
+  awk '/^```(toml|input|rows|notes|checkpoint)$/ { kind = substr($0, 4); if (kind == "toml") count++; next }
     /^```/ { kind = "" }
     kind != "" { print > (count "." kind) }' "$guide"
   for plan in [0-9]*.toml; do
@@ -192,6 +294,9 @@ check_plans() {
       gives "${plan%.toml}.rows" "$(or_empty "${plan%.toml}.notes")" \
         run "$plan" --workers "$workers" < "${plan%.toml}.input"
     done
+    if [ -e "${plan%.toml}.checkpoint" ]; then
+      gives "${plan%.toml}.checkpoint" /dev/null save "$plan" < "${plan%.toml}.input"
+    fi
     plans=$((plans + 1))
   done
   some "$plans" 'plans of the guide'
@@ -199,7 +304,7 @@ check_plans() {
 
 # The guide's faults: rows of tables with what is wrong, a plan or the rows of a table, and the line that is answered.
 check_faults() {
-  local text answer
+  local text answer command
   faults=0
   awk -F '[|]' 'NF == 5 && $4 ~ /^ `plan: .*` $/ {
     plan = $3; answer = $4
@@ -216,11 +321,29 @@ check_faults() {
     else
       printf '%s\n' "$text" > plan.toml
     fi
-    refuses 2 "$answer" run plan.toml
-    refuses 2 "$answer" slow plan.toml
+    for command in $(commands_of "$answer"); do
+      # shellcheck disable=SC2046 # one word, or none
+      refuses 2 "$answer" "$command" plan.toml $(argument_of "$command")
+    done
     faults=$((faults + 1))
   done < faults
   some "$faults" 'faults of the guide'
+}
+
+# The commands that give this answer.
+commands_of() {
+  case $1 in
+    *': session cannot be saved') echo save resume ;;
+    *) echo run slow watch part save resume ;;
+  esac
+}
+
+# What a command takes behind the plan, which is refused first.
+argument_of() {
+  case $1 in
+    watch) echo 1 ;;
+    resume) echo no-checkpoint ;;
+  esac
 }
 
 plan_with_table() {
@@ -258,17 +381,19 @@ lines_of_nothing() { head -c "$1" /dev/zero | tr '\0' '\n'; }
 # The first time, ../streambox proves and builds the program.
 gives first.rows /dev/null sum 10 < first.txt
 check_folders
+check_watch
+check_cut
 check_runs
+check_words
 check_devices
 check_work
 check_reports
 tools/check.sh
-refuses 1 'words not understood'
 refuses 6 'file failed' run "$scratch/missing.toml"
 cp views/ads.csv "$scratch"
 cd "$scratch"
 check_plans
 check_faults
-echo "All is as expected: $folders folders, $runs runs, $devices devices, work, $reports reports, the tools, $plans plans and \
-$faults faults of the guide."
-echo "$((folders + runs + devices + 1 + reports + 1 + plans + faults)) passed, 0 failed"
+echo "All is as expected: $folders folders, $keys keys, $((inputs + 1)) inputs that are cut, checkpoint files, $runs runs, \
+$lists lists of words, $devices devices, work, $reports reports, the tools, $plans plans and $faults faults of the guide."
+echo "$((folders + keys + inputs + 2 + runs + lists + devices + 1 + reports + 1 + plans + faults)) passed, 0 failed"
