@@ -1,23 +1,18 @@
 -- Which words are a command.
 use Rattle.std.proofs.Common.{◌≡◌, ◌↔◌, ℕ, List, [], ◌∷◌, Some, None, Option, refl, sym, ap, subst, ◌∙◌, arith, rules}
-use Rattle.std.specs.Prelude.{IfSome, String, codes, decimal, length}
+use Rattle.std.specs.Prelude.{IfSome, codes, decimal}
 use Rattle.std.specs.Option.{option_map}
 use Rattle.std.proofs.lemmas.Fmt.{decimal_injective}
 use Rattle.std.proofs.lemmas.Option.{same_Some}
 use Rattle.sb_words.specs.declared.options.Options.{Options}
 use Rattle.sb_words.specs.declared.request.Request.{Request}
-use Rattle.sb_words.specs.Options.{AreOptions}
-use Rattle.sb_words.specs.Texts.{texts}
-use Rattle.sb_words.specs.Words.{Asked, AreSizesAlone, IsAmount, IsCommand, IsFileName, IsNoCommand, IsSize, IsValid, asked}
-use Rattle.sb_words.specs.Words.Asked.{Sum, Run, Slow, Audit, Work}
+use Rattle.sb_words.specs.Words.{Asked, IsAmount, IsCommand, IsFileName, IsKeyWord, IsNoCommand, IsSize, IsValid, asked}
+use Rattle.sb_words.specs.Words.Asked.{Sum, Run, Slow, Audit, Work, Watch, Part, Save, Resume}
+use Rattle.sb_words.proofs.Sizes.{AreAnswered, AreSizesAnswered}
 
 -- the answer is what these words ask for
 abbrev pub Answers : Option Asked → List (List ℕ) → Type 0
 Answers answer words = (wanted : Asked) → (answer ≡ Some wanted) ↔ IsCommand wanted words
-
--- these words give options, if any do, as they are answered
-abbrev pub AreAnswered : Option Options → List (List ℕ) → Type 0
-AreAnswered answer words = (options : Options) → (answer ≡ Some options) ↔ AreOptions options words
 
 -- no answer where nothing is asked for
 pub no_answer : (r : Option Request) → r ≡ None → (words : List (List ℕ)) → IsNoCommand words → Answers (option_map asked r) words
@@ -34,41 +29,47 @@ refused r words exact = (λ is wanted command. absurd (cc (sym (ap (option_map a
     unanswered None exact silent = refl
     unanswered (Some request) exact silent = absurd (silent (asked request) ((exact (asked request)).0 refl))
 
--- options that are none make no command
-pub no_run : (name : List ℕ) (words : List (List ℕ)) → AreAnswered None words → IsNoCommand (codes "run" ∷ name ∷ words)
-no_run name words none (Sum size options) is = cc ((none options).1 is.3)
-no_run name words none (Run plan options) is = cc ((none options).1 is.3)
-no_run name [] none (Slow plan) is = search (rules, is.0)
-no_run name (word ∷ words) none (Slow plan) is = is
-no_run name words none Audit is = is
-no_run name words none (Work records options) is = cc ((none options).1 is.3)
+-- the word of a command
+abbrev pub word_of : Asked → List ℕ
+word_of (Sum size options) = codes "sum"
+word_of (Run name options) = codes "run"
+word_of (Slow name) = codes "slow"
+word_of Audit = codes "audit"
+word_of (Work records options) = codes "work"
+word_of (Watch name key options) = codes "watch"
+word_of (Part name options) = codes "part"
+word_of (Save name) = codes "save"
+word_of (Resume name checkpoint options) = codes "resume"
 
+-- a command begins with its word
+pub begins : (wanted : Asked) (command : List ℕ) (words : List (List ℕ)) → IsCommand wanted (command ∷ words) → command ≡ word_of wanted
+begins (Sum size options) command (argument ∷ words) is = is.0
+begins (Run name options) command (argument ∷ words) is = is.0
+begins (Slow name) command (argument ∷ []) is = is.0
+begins Audit command [] is = is
+begins (Work records options) command (argument ∷ words) is = is.0
+begins (Watch name key options) command (argument ∷ second ∷ words) is = is.0
+begins (Part name options) command (argument ∷ words) is = is.0
+begins (Save name) command (argument ∷ []) is = is.0
+begins (Resume name checkpoint options) command (argument ∷ second ∷ words) is = is.0
+begins wanted command words is = absurd is
+
+-- options that are none make no command
 pub no_sum : (argument : List ℕ) (words : List (List ℕ)) → AreAnswered None words → IsNoCommand (codes "sum" ∷ argument ∷ words)
 no_sum argument words none (Sum size options) is = cc ((none options).1 is.3)
-no_sum argument words none (Run plan options) is = cc ((none options).1 is.3)
-no_sum argument [] none (Slow plan) is = search (rules, is.0)
-no_sum argument (word ∷ words) none (Slow plan) is = is
-no_sum argument words none Audit is = is
-no_sum argument words none (Work records options) is = cc ((none options).1 is.3)
+no_sum argument words none wanted is = let same = begins wanted (codes "sum") (argument ∷ words) is in search rules
 
-pub no_work : (argument : List ℕ) (words : List (List ℕ)) → AreAnswered None words → IsNoCommand (codes "work" ∷ argument ∷ words)
-no_work argument words none (Sum size options) is = cc ((none options).1 is.3)
-no_work argument words none (Run plan options) is = cc ((none options).1 is.3)
-no_work argument [] none (Slow plan) is = search (rules, is.0)
-no_work argument (word ∷ words) none (Slow plan) is = is
-no_work argument words none Audit is = is
-no_work argument words none (Work records options) is = cc ((none options).1 is.3)
+pub no_work : (argument : List ℕ) (words : List (List ℕ)) → AreSizesAnswered None words → IsNoCommand (codes "work" ∷ argument ∷ words)
+no_work argument words none (Work records options) is = cc ((none options).1 (is.3, is.4))
+no_work argument words none wanted is = let same = begins wanted (codes "work") (argument ∷ words) is in search rules
 
--- options that `work` does not take make no command of it
-pub no_work_of : (argument : List ℕ) (words : List (List ℕ)) (options : Options) → AreAnswered (Some options) words → (AreSizesAlone options → ⊥)
-    → IsNoCommand (codes "work" ∷ argument ∷ words)
-no_work_of argument words options exact more (Sum size given) is = search (rules, is.0)
-no_work_of argument words options exact more (Run plan given) is = search (rules, is.0)
-no_work_of argument [] options exact more (Slow plan) is = search (rules, is.0)
-no_work_of argument (word ∷ words) options exact more (Slow plan) is = is
-no_work_of argument words options exact more Audit is = is
-no_work_of argument words options exact more (Work records given) is =
-    more (subst AreSizesAlone (sym (same_Some options given ((exact given).1 is.3))) is.4)
+pub no_run : (name : List ℕ) (words : List (List ℕ)) → AreAnswered None words → IsNoCommand (codes "run" ∷ name ∷ words)
+no_run name words none (Run plan options) is = cc ((none options).1 is.3)
+no_run name words none wanted is = let same = begins wanted (codes "run") (name ∷ words) is in search rules
+
+pub no_part : (name : List ℕ) (words : List (List ℕ)) → AreSizesAnswered None words → IsNoCommand (codes "part" ∷ name ∷ words)
+no_part name words none (Part plan options) is = cc ((none options).1 (is.3, is.4))
+no_part name words none wanted is = let same = begins wanted (codes "part") (name ∷ words) is in search rules
 
 -- words that ask for one thing alone
 only : (mine : Asked) (words : List (List ℕ)) → IsCommand mine words → ((wanted : Asked) → IsCommand wanted words → mine ≡ wanted)
@@ -83,67 +84,108 @@ pub is_sum : (argument : List ℕ) (words : List (List ℕ)) (size : ℕ) → Is
     → (options : Options) → AreAnswered (Some options) words
     → Answers (Some (Sum size options)) (codes "sum" ∷ argument ∷ words)
 is_sum argument words size is spelled options exact =
-    only (Sum size options) (codes "sum" ∷ argument ∷ words) (refl, spelled, is, (exact options).0 refl) (one words exact)
+    only (Sum size options) (codes "sum" ∷ argument ∷ words) (refl, spelled, is, (exact options).0 refl) one
   where
-    one : (words : List (List ℕ)) → AreAnswered (Some options) words → (wanted : Asked) → IsCommand wanted (codes "sum" ∷ argument ∷ words) → Sum size options ≡ wanted
-    one words exact (Sum other given) command =
+    one : (wanted : Asked) → IsCommand wanted (codes "sum" ∷ argument ∷ words) → Sum size options ≡ wanted
+    one (Sum other given) command =
         let sizes : size ≡ other = decimal_injective size other (omega (arith, is.1)) (omega (arith, command.2.1)) (sym spelled ∙ command.1) in
         let same = same_Some options given ((exact given).1 command.3) in
         cc
-    one words exact (Run plan given) command = search (rules, command.0)
-    one words exact (Work records given) command = search (rules, command.0)
-    one [] exact (Slow plan) command = search (rules, command.0)
-    one (word ∷ words) exact (Slow plan) command = absurd command
-    one words exact Audit command = absurd command
+    one wanted command = let same = begins wanted (codes "sum") (argument ∷ words) command in search rules
+
+-- a number of records and options
+pub is_work : (argument : List ℕ) (words : List (List ℕ)) (records : ℕ) → IsAmount records → argument ≡ decimal records
+    → (options : Options) → AreSizesAnswered (Some options) words
+    → Answers (Some (Work records options)) (codes "work" ∷ argument ∷ words)
+is_work argument words records is spelled options exact =
+    let sizes = (exact options).0 refl in
+    only (Work records options) (codes "work" ∷ argument ∷ words) (refl, spelled, is, sizes.0, sizes.1) one
+  where
+    one : (wanted : Asked) → IsCommand wanted (codes "work" ∷ argument ∷ words) → Work records options ≡ wanted
+    one (Work other given) command =
+        let amounts : records ≡ other = decimal_injective records other (omega (arith, is.1)) (omega (arith, command.2.1)) (sym spelled ∙ command.1) in
+        let same = same_Some options given ((exact given).1 (command.3, command.4)) in
+        cc
+    one wanted command = let same = begins wanted (codes "work") (argument ∷ words) command in search rules
 
 -- a plan and options
 pub is_run : (name : List ℕ) (words : List (List ℕ)) → IsFileName name → (options : Options) → AreAnswered (Some options) words
     → Answers (Some (Run name options)) (codes "run" ∷ name ∷ words)
 is_run name words is options exact =
-    only (Run name options) (codes "run" ∷ name ∷ words) (refl, refl, is, (exact options).0 refl) (one words exact)
+    only (Run name options) (codes "run" ∷ name ∷ words) (refl, refl, is, (exact options).0 refl) one
   where
-    one : (words : List (List ℕ)) → AreAnswered (Some options) words → (wanted : Asked) → IsCommand wanted (codes "run" ∷ name ∷ words) → Run name options ≡ wanted
-    one words exact (Run plan given) command =
+    one : (wanted : Asked) → IsCommand wanted (codes "run" ∷ name ∷ words) → Run name options ≡ wanted
+    one (Run plan given) command =
         let plans = command.1 in
         let same = same_Some options given ((exact given).1 command.3) in
         cc
-    one words exact (Sum size given) command = search (rules, command.0)
-    one words exact (Work records given) command = search (rules, command.0)
-    one [] exact (Slow plan) command = search (rules, command.0)
-    one (word ∷ words) exact (Slow plan) command = absurd command
-    one words exact Audit command = absurd command
+    one wanted command = let same = begins wanted (codes "run") (name ∷ words) command in search rules
 
--- a number of records and options
-pub is_work : (argument : List ℕ) (words : List (List ℕ)) (records : ℕ) → IsAmount records → argument ≡ decimal records
-    → (options : Options) → AreAnswered (Some options) words → AreSizesAlone options
-    → Answers (Some (Work records options)) (codes "work" ∷ argument ∷ words)
-is_work argument words records is spelled options exact alone =
-    only (Work records options) (codes "work" ∷ argument ∷ words) (refl, spelled, is, (exact options).0 refl, alone) (one words exact)
+pub is_part : (name : List ℕ) (words : List (List ℕ)) → IsFileName name → (options : Options) → AreSizesAnswered (Some options) words
+    → Answers (Some (Part name options)) (codes "part" ∷ name ∷ words)
+is_part name words is options exact =
+    let sizes = (exact options).0 refl in
+    only (Part name options) (codes "part" ∷ name ∷ words) (refl, refl, is, sizes.0, sizes.1) one
   where
-    one : (words : List (List ℕ)) → AreAnswered (Some options) words → (wanted : Asked) → IsCommand wanted (codes "work" ∷ argument ∷ words) → Work records options ≡ wanted
-    one words exact (Work other given) command =
-        let amounts : records ≡ other = decimal_injective records other (omega (arith, is.1)) (omega (arith, command.2.1)) (sym spelled ∙ command.1) in
-        let same = same_Some options given ((exact given).1 command.3) in
+    one : (wanted : Asked) → IsCommand wanted (codes "part" ∷ name ∷ words) → Part name options ≡ wanted
+    one (Part plan given) command =
+        let plans = command.1 in
+        let same = same_Some options given ((exact given).1 (command.3, command.4)) in
         cc
-    one words exact (Sum size given) command = search (rules, command.0)
-    one words exact (Run plan given) command = search (rules, command.0)
-    one [] exact (Slow plan) command = search (rules, command.0)
-    one (word ∷ words) exact (Slow plan) command = absurd command
-    one words exact Audit command = absurd command
+    one wanted command = let same = begins wanted (codes "part") (name ∷ words) command in search rules
 
--- a plan by the plain program
-pub is_slow : (command name : List ℕ) → command ≡ codes "slow" → IsFileName name → {Y : Type 0} (words : List (String Y)) → length words ≡ 0
-    → Answers (Some (Slow name)) (command ∷ name ∷ texts words)
-is_slow command name is file (word ∷ words) none = absurd (omega arith)
-is_slow command name is file [] none =
-    only (Slow name) (command ∷ name ∷ []) (is, refl, file) one
+-- a plan, a key and options
+pub is_watch : (name key : List ℕ) (words others : List (List ℕ)) → words ≡ key ∷ others → IsFileName name → IsKeyWord key
+    → (options : Options) → AreSizesAnswered (Some options) others
+    → Answers (Some (Watch name key options)) (codes "watch" ∷ name ∷ words)
+is_watch name key words others are is is_key options exact =
+    let sizes = (exact options).0 refl in
+    subst (λ ws. Answers (Some (Watch name key options)) (codes "watch" ∷ name ∷ ws)) (sym are)
+    (only (Watch name key options) (codes "watch" ∷ name ∷ key ∷ others) (refl, refl, is, refl, is_key, sizes.0, sizes.1) one)
   where
-    one : (wanted : Asked) → IsCommand wanted (command ∷ name ∷ []) → Slow name ≡ wanted
-    one (Slow plan) asks = let plans = asks.1 in cc
-    one (Run plan given) asks = let same = sym is ∙ asks.0 in search (rules, same)
-    one (Sum size given) asks = let same = sym is ∙ asks.0 in search (rules, same)
-    one (Work records given) asks = let same = sym is ∙ asks.0 in search (rules, same)
-    one Audit asks = absurd asks
+    one : (wanted : Asked) → IsCommand wanted (codes "watch" ∷ name ∷ key ∷ others) → Watch name key options ≡ wanted
+    one (Watch plan word given) command =
+        let plans = command.1 in
+        let keys = command.3 in
+        let same = same_Some options given ((exact given).1 (command.5, command.6)) in
+        cc
+    one wanted command = let same = begins wanted (codes "watch") (name ∷ key ∷ others) command in search rules
+
+-- options that it does not take make no command
+pub no_watch : (name key : List ℕ) (words others : List (List ℕ)) → words ≡ key ∷ others → AreSizesAnswered None others
+    → IsNoCommand (codes "watch" ∷ name ∷ words)
+no_watch name key words others are none wanted is =
+    silent wanted (subst (λ ws. IsCommand wanted (codes "watch" ∷ name ∷ ws)) are is)
+  where
+    silent : (wanted : Asked) → IsCommand wanted (codes "watch" ∷ name ∷ key ∷ others) → ⊥
+    silent (Watch plan word options) command = cc ((none options).1 (command.5, command.6))
+    silent wanted command = let same = begins wanted (codes "watch") (name ∷ key ∷ others) command in search rules
+
+-- a plan, a checkpoint and options
+pub is_resume : (name checkpoint : List ℕ) (words others : List (List ℕ)) → words ≡ checkpoint ∷ others → IsFileName name → IsFileName checkpoint
+    → (options : Options) → AreSizesAnswered (Some options) others
+    → Answers (Some (Resume name checkpoint options)) (codes "resume" ∷ name ∷ words)
+is_resume name checkpoint words others are is is_file options exact =
+    let sizes = (exact options).0 refl in
+    subst (λ ws. Answers (Some (Resume name checkpoint options)) (codes "resume" ∷ name ∷ ws)) (sym are)
+    (only (Resume name checkpoint options) (codes "resume" ∷ name ∷ checkpoint ∷ others) (refl, refl, is, refl, is_file, sizes.0, sizes.1) one)
+  where
+    one : (wanted : Asked) → IsCommand wanted (codes "resume" ∷ name ∷ checkpoint ∷ others) → Resume name checkpoint options ≡ wanted
+    one (Resume plan file given) command =
+        let plans = command.1 in
+        let files = command.3 in
+        let same = same_Some options given ((exact given).1 (command.5, command.6)) in
+        cc
+    one wanted command = let same = begins wanted (codes "resume") (name ∷ checkpoint ∷ others) command in search rules
+
+pub no_resume : (name checkpoint : List ℕ) (words others : List (List ℕ)) → words ≡ checkpoint ∷ others → AreSizesAnswered None others
+    → IsNoCommand (codes "resume" ∷ name ∷ words)
+no_resume name checkpoint words others are none wanted is =
+    silent wanted (subst (λ ws. IsCommand wanted (codes "resume" ∷ name ∷ ws)) are is)
+  where
+    silent : (wanted : Asked) → IsCommand wanted (codes "resume" ∷ name ∷ checkpoint ∷ others) → ⊥
+    silent (Resume plan file options) command = cc ((none options).1 (command.5, command.6))
+    silent wanted command = let same = begins wanted (codes "resume") (name ∷ checkpoint ∷ others) command in search rules
 
 -- what is read in the words of a command is its own reading
 pub read_is : (read : Option Request) (own : Request) (words : List (List ℕ)) → Answers (Some (asked own)) words

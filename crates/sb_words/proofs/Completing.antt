@@ -1,5 +1,5 @@
 -- The rows of options, with those of the options that are not given.
-use Rattle.std.proofs.Common.{◌≡◌, List, [], ◌∷◌, map, Bool, true, false, Option, Some, None, refl, sym, ap, subst, ◌∙◌, arith}
+use Rattle.std.proofs.Common.{◌≡◌, ℕ, List, [], ◌∷◌, map, Bool, true, false, Option, Some, None, refl, sym, ap, subst, ◌∙◌, arith}
 use Rattle.std.specs.Prelude.{bytes_eq, codes, fold, is_some, option_and_then, slice_get}
 use Rattle.clap.specs.Simple.{filled, with_index}
 use Rattle.clap.specs.Takes.{is_given}
@@ -16,14 +16,15 @@ use Rattle.clap.specs.Facts.{explicit_source}
 use Rattle.sb_words.specs.Options.{AreInRange, IsSetting, options_of}
 use Rattle.sb_words.specs.Readings.{AreRead, IsFlag, IsRead}
 use Rattle.sb_words.proofs.Rows.{any_found, default_given, default_new, default_other, found, no_default, row}
-use Rattle.sb_words.proofs.Taking.{rows_of_words, rules, setting_row}
+use Rattle.sb_words.proofs.Taking.{Arguments, rows_of_words, rules, setting_row}
+use Rattle.sb_words.proofs.Taking.Arguments.{one, two}
 
 abbrev of_flag : Text → Rule
 of_flag name = with_index 2 (filled (flag name))
 
 -- the rows with the defaults
-abbrev pub complete : List Row → List Row
-complete base = fold with_default base rules
+abbrev pub complete : Arguments → List Row → List Row
+complete arguments base = fold with_default base (rules arguments)
 
 abbrev with_flags : List Row → List Row
 with_flags base = with_default (with_default base (of_flag (codes "diary"))) (of_flag (codes "taps"))
@@ -31,20 +32,35 @@ with_flags base = with_default (with_default base (of_flag (codes "diary"))) (of
 abbrev of_option : Text → Rule
 of_option name = with_index 2 (filled (option name))
 
-abbrev of_argument : Rule
-of_argument = with_index 1 (filled (record (new_rule (codes "argument")) { required = true }))
+-- the rows with the defaults of the options that have a value, of which there are none
+abbrev with_options : List Row → List Row
+with_options base = with_default (with_default (with_default base (of_option (codes "workers"))) (of_option (codes "bundle"))) (of_option (codes "pending"))
 
-complete_is : (base : List Row) → complete base ≡ with_flags base
-complete_is base = ap with_flags
-    (no_default (of_option (codes "pending")) (with_default (with_default (with_default base of_argument) (of_option (codes "workers"))) (of_option (codes "bundle"))) refl
-    ∙ no_default (of_option (codes "bundle")) (with_default (with_default base of_argument) (of_option (codes "workers"))) refl
-    ∙ no_default (of_option (codes "workers")) (with_default base of_argument) refl
-    ∙ no_default of_argument base refl)
+options_add_none : (base : List Row) → with_options base ≡ base
+options_add_none base =
+    no_default (of_option (codes "pending")) (with_default (with_default base (of_option (codes "workers"))) (of_option (codes "bundle"))) refl
+    ∙ no_default (of_option (codes "bundle")) (with_default base (of_option (codes "workers"))) refl
+    ∙ no_default (of_option (codes "workers")) base refl
+
+abbrev of_argument : ℕ → Text → Rule
+of_argument place id = with_index place (filled (record (new_rule id) { required = true }))
+
+abbrev first : Rule
+first = of_argument 1 (codes "argument")
+
+abbrev second : Rule
+second = of_argument 2 (codes "second")
+
+complete_is : (arguments : Arguments) (base : List Row) → complete arguments base ≡ with_flags base
+complete_is (one a) base = ap with_flags (options_add_none (with_default base first) ∙ no_default first base refl)
+complete_is (two a b) base = ap with_flags
+    (options_add_none (with_default (with_default base first) second) ∙ no_default second (with_default base first) refl ∙ no_default first base refl)
 
 -- an argument that is no flag keeps its row
-kept : (id : Text) → bytes_eq (codes "diary") id ≡ false → bytes_eq (codes "taps") id ≡ false → (base : List Row) → found id (complete base) ≡ found id base
-kept id diary taps base =
-    ap (found id) (complete_is base)
+kept : (arguments : Arguments) (id : Text) → bytes_eq (codes "diary") id ≡ false → bytes_eq (codes "taps") id ≡ false
+    → (base : List Row) → found id (complete arguments base) ≡ found id base
+kept arguments id diary taps base =
+    ap (found id) (complete_is arguments base)
     ∙ default_other (of_flag (codes "taps")) (codes "false") id (with_default base (of_flag (codes "diary"))) refl taps
     ∙ default_other (of_flag (codes "diary")) (codes "false") id base refl diary
 
@@ -109,41 +125,84 @@ has_taps (Taps ∷ settings) = refl
 abbrev first_in : Option Row → Option Text
 first_in = option_and_then (λ r. slice_get r.values 0)
 
-diary_is : (base : List Row) (b : Bool) → HasFlag (codes "diary") b (found (codes "diary") base) → IsFlag b (one_of (codes "diary") (complete base))
-diary_is base b has =
+diary_is : (arguments : Arguments) (base : List Row) (b : Bool) → HasFlag (codes "diary") b (found (codes "diary") base)
+    → IsFlag b (one_of (codes "diary") (complete arguments base))
+diary_is arguments base b has =
     let a = of_flag (codes "diary") in
     let read : IsFlag b (text_in (found (codes "diary") (with_default base a))) = flag_read a b base refl refl refl has in
-    let e : found (codes "diary") (complete base) ≡ found (codes "diary") (with_default base a) =
-    ap (found (codes "diary")) (complete_is base) ∙ default_other (of_flag (codes "taps")) (codes "false") (codes "diary") (with_default base a) refl refl in
+    let e : found (codes "diary") (complete arguments base) ≡ found (codes "diary") (with_default base a) =
+    ap (found (codes "diary")) (complete_is arguments base) ∙ default_other (of_flag (codes "taps")) (codes "false") (codes "diary") (with_default base a) refl refl in
     subst (λ o. IsFlag b (text_in o)) (sym e) read
 
-taps_is : (base : List Row) (b : Bool) → HasFlag (codes "taps") b (found (codes "taps") base) → IsFlag b (one_of (codes "taps") (complete base))
-taps_is base b has =
+taps_is : (arguments : Arguments) (base : List Row) (b : Bool) → HasFlag (codes "taps") b (found (codes "taps") base)
+    → IsFlag b (one_of (codes "taps") (complete arguments base))
+taps_is arguments base b has =
     let d = of_flag (codes "diary") in
     let before : found (codes "taps") (with_default base d) ≡ found (codes "taps") base = default_other d (codes "false") (codes "taps") base refl refl in
     let read : IsFlag b (text_in (found (codes "taps") (with_flags base))) =
     flag_read (of_flag (codes "taps")) b (with_default base d) refl refl refl (subst (HasFlag (codes "taps") b) (sym before) has) in
-    subst (λ o. IsFlag b (text_in o)) (sym (ap (found (codes "taps")) (complete_is base))) read
+    subst (λ o. IsFlag b (text_in o)) (sym (ap (found (codes "taps")) (complete_is arguments base))) read
 
--- the rows of an argument and options say the options
-pub are_read : (argument : Text) (settings : List Setting) → AreInRange (options_of settings) → AreRead (options_of settings) (complete (rows_of_words argument settings))
-are_read argument settings range =
-    let base = rows_of_words argument settings in
+-- the rows of arguments come before those of options, and have none of their ids
+record AreApart (arguments : Arguments) (settings : List Setting) : Type 0 where
+  pub workers : found (codes "workers") (rows_of_words arguments settings) ≡ found (codes "workers") (map setting_row settings)
+  pub bundle : found (codes "bundle") (rows_of_words arguments settings) ≡ found (codes "bundle") (map setting_row settings)
+  pub pending : found (codes "pending") (rows_of_words arguments settings) ≡ found (codes "pending") (map setting_row settings)
+  pub diary : found (codes "diary") (rows_of_words arguments settings) ≡ found (codes "diary") (map setting_row settings)
+  pub taps : found (codes "taps") (rows_of_words arguments settings) ≡ found (codes "taps") (map setting_row settings)
+
+apart : (arguments : Arguments) (settings : List Setting) → AreApart arguments settings
+apart (one a) settings = record { workers = refl; bundle = refl; pending = refl; diary = refl; taps = refl }
+apart (two a b) settings = record { workers = refl; bundle = refl; pending = refl; diary = refl; taps = refl }
+
+-- the rows of arguments and options say the options
+pub are_read : (arguments : Arguments) (settings : List Setting) → AreInRange (options_of settings)
+    → AreRead (options_of settings) (complete arguments (rows_of_words arguments settings))
+are_read arguments settings range =
+    let base = rows_of_words arguments settings in
+    let options = options_of settings in
+    let own = apart arguments settings in
     record {
       in_range = range;
-      workers = subst (λ o. IsRead (options_of settings).workers DEFAULT_WORKERS (first_in o)) (sym (kept (codes "workers") refl refl base)) (read_workers settings);
-      bundle = subst (λ o. IsRead (options_of settings).bundle DEFAULT_BUNDLE (first_in o)) (sym (kept (codes "bundle") refl refl base)) (read_bundle settings);
-      pending = subst (λ o. IsRead (options_of settings).pending DEFAULT_PENDING (first_in o)) (sym (kept (codes "pending") refl refl base)) (read_pending settings);
-      diary = diary_is base (options_of settings).diary (has_diary settings);
-      taps = taps_is base (options_of settings).taps (has_taps settings);
+      workers = subst (λ o. IsRead options.workers DEFAULT_WORKERS (first_in o)) (sym (kept arguments (codes "workers") refl refl base ∙ own.workers)) (read_workers settings);
+      bundle = subst (λ o. IsRead options.bundle DEFAULT_BUNDLE (first_in o)) (sym (kept arguments (codes "bundle") refl refl base ∙ own.bundle)) (read_bundle settings);
+      pending = subst (λ o. IsRead options.pending DEFAULT_PENDING (first_in o)) (sym (kept arguments (codes "pending") refl refl base ∙ own.pending)) (read_pending settings);
+      diary = diary_is arguments base options.diary (subst (HasFlag (codes "diary") options.diary) (sym own.diary) (has_diary settings));
+      taps = taps_is arguments base options.taps (subst (HasFlag (codes "taps") options.taps) (sym own.taps) (has_taps settings));
     }
 
--- and they have the argument
-pub argument_read : (argument : Text) (settings : List Setting) → first_of (codes "argument") (complete (rows_of_words argument settings)) ≡ Some argument
-argument_read argument settings = ap first_in (kept (codes "argument") refl refl (rows_of_words argument settings))
+-- and they have the arguments
+abbrev pub HasArguments : Arguments → List Row → Type 0
+HasArguments (one argument) rows = first_of (codes "argument") rows ≡ Some argument
+HasArguments (two argument second) rows = (first_of (codes "argument") rows ≡ Some argument) × (first_of (codes "second") rows ≡ Some second)
 
-pub argument_given : (argument : Text) (settings : List Setting) → is_given (codes "argument") (complete (rows_of_words argument settings)) ≡ true
-argument_given argument settings = ap (λ (o : Option Row). option_map_or (λ r. explicit_source r.source) o false) (kept (codes "argument") refl refl (rows_of_words argument settings))
+pub arguments_read : (arguments : Arguments) (settings : List Setting) → HasArguments arguments (complete arguments (rows_of_words arguments settings))
+arguments_read (one argument) settings = ap first_in (kept (one argument) (codes "argument") refl refl (rows_of_words (one argument) settings))
+arguments_read (two argument second) settings =
+    let arguments = two argument second in
+    let base = rows_of_words arguments settings in
+    (ap first_in (kept arguments (codes "argument") refl refl base), ap first_in (kept arguments (codes "second") refl refl base))
+
+-- an argument that has a row of the command line is given
+given_by : (id : Text) (values : List Text) (rows : List Row) → found id rows ≡ Some (row id values) → is_given id rows ≡ true
+given_by id values rows is = ap (λ (o : Option Row). option_map_or (λ r. explicit_source r.source) o false) is
+
+-- the arguments are given
+pub argument_given : (argument : Text) (settings : List Setting)
+    → is_given (codes "argument") (complete (one argument) (rows_of_words (one argument) settings)) ≡ true
+argument_given argument settings =
+    let base = rows_of_words (one argument) settings in
+    given_by (codes "argument") (argument ∷ []) (complete (one argument) base) (kept (one argument) (codes "argument") refl refl base)
+
+pub both_given : (argument second : Text) (settings : List Setting)
+    → let rows = complete (two argument second) (rows_of_words (two argument second) settings) in
+    (is_given (codes "argument") rows ≡ true) × (is_given (codes "second") rows ≡ true)
+both_given argument second settings =
+    let base = rows_of_words (two argument second) settings in
+    let rows = complete (two argument second) base in (
+      given_by (codes "argument") (argument ∷ []) rows (kept (two argument second) (codes "argument") refl refl base),
+      given_by (codes "second") (second ∷ []) rows (kept (two argument second) (codes "second") refl refl base),
+    )
 
 -- options in their ranges
 pub in_range : (settings : List Setting) → AllByRecursion IsSetting settings → AreInRange (options_of settings)

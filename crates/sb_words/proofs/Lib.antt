@@ -2,6 +2,7 @@ pub mod Numbers
 pub mod Settings
 pub mod Naming
 pub mod Given
+pub mod Sizes
 pub mod Commands
 pub mod Rows
 pub mod Taking

@@ -5,7 +5,7 @@ use Rattle.std.specs.List.{AllByRecursion, IsDistinct, flat_map}
 use Rattle.std.proofs.lemmas.Bool.{ne_eqb}
 use Rattle.std.proofs.lemmas.List.Folds.{list_any-append}
 use Rattle.clap.specs.Lexer.{long_of, short_of}
-use Rattle.clap.specs.Simple.{Shape, built_leaf, inherited, new_app}
+use Rattle.clap.specs.Simple.{App, Shape, built_leaf, inherited}
 use Rattle.clap.specs.Takes.{settle_passes, turn_passes, walk_passes}
 use Rattle.clap.specs.Walk.{Names, Row, Rule, Text, Walk, has_row, nothing_held, settled, walk_from, walked, with_values, without}
 use Rattle.clap.specs.declared.parser.matches.ValueSource.TheVariants.{CommandLine}
@@ -14,44 +14,61 @@ use Rattle.clap.specs.Walk.Waiting.{idle, option}
 use Rattle.clap.proofs.OnLiterals.{clap_on_literals}
 use Rattle.sb_words.specs.declared.setting.Setting.{Setting}
 use Rattle.sb_words.specs.declared.setting.Setting.TheVariants.{Workers, Bundle, Pending, Diary, Taps}
-use Rattle.sb_words.specs.Clapped.{bare, with_argument, with_options}
+use Rattle.sb_words.specs.Clapped.{bare, of_one, of_two, with_options}
 use Rattle.sb_words.specs.Options.{IsSetting, name_of, spelled}
 use Rattle.sb_words.proofs.Naming.{decimal_begins}
 use Rattle.sb_words.proofs.Rows.{row, used_new}
 
--- a command with an argument and options, as clap has built it
-abbrev pub built_of : Text → Shape
-built_of name = built_leaf (inherited bare.top (with_options (with_argument (codes "argument") (new_app name))).top)
+-- the arguments of a command
+pub data Arguments : Type 0 where
+  one : (argument : Text) → Arguments
+  two : (argument second : Text) → Arguments
 
-abbrev pub rules : List Rule
-rules = (built_of []).rules
+-- a command with arguments and options, as clap has built it
+abbrev with_arguments : Arguments → App
+with_arguments (one argument) = of_one []
+with_arguments (two argument second) = of_two []
+
+abbrev unnamed : Arguments → Shape
+unnamed arguments = built_leaf (inherited bare.top (with_options (with_arguments arguments)).top)
+
+abbrev pub built_of : Arguments → Text → Shape
+built_of arguments name = record (unnamed arguments) { name = name }
+
+abbrev pub rules : Arguments → List Rule
+rules arguments = (unnamed arguments).rules
+
+-- the place behind the arguments
+abbrev pub place : Arguments → ℕ
+place (one argument) = 2
+place (two argument second) = 3
 
 abbrev Awaited : Type 0
 Awaited = Option (Text × List Text)
 
 -- between two options
-abbrev pub between : List Row → Awaited → ℕ → Walk
-between rows pending skip = record {
+abbrev pub between : Arguments → List Row → Awaited → ℕ → Walk
+between arguments rows pending skip = record {
   held = record { rows = rows; pending = pending; skip = skip };
   waiting = idle;
-  position = 2;
+  position = place arguments;
   is_trailing = false;
   stopped = None;
 }
 
 -- behind an option that waits for its value
-abbrev behind : Text → List Row → ℕ → Walk
-behind id rows skip = record {
+abbrev pub behind : Arguments → Text → List Row → ℕ → Walk
+behind arguments id rows skip = record {
   held = record { rows = rows; pending = Some (id, []); skip = skip };
   waiting = option id;
-  position = 2;
+  position = place arguments;
   is_trailing = false;
   stopped = None;
 }
 
 -- what is pending can be used
-abbrev pub Settles : List Row → Awaited → ℕ → Type 0
-Settles rows pending skip = settle_passes rules false (between rows pending skip).held ≡ true
+abbrev pub Settles : Arguments → List Row → Awaited → ℕ → Type 0
+Settles arguments rows pending skip = settle_passes (rules arguments) false (between arguments rows pending skip).held ≡ true
 
 -- the word is no option and no `--`
 pub record IsPlainWord (w : Text) : Type 0 where
@@ -97,62 +114,86 @@ kind_word bundle = codes "--bundle"
 kind_word pending = codes "--pending"
 
 -- the rows that are settled
-abbrev pub rows_at : List Row → Awaited → ℕ → List Row
-rows_at rows held skip = (settled rules (between rows held skip).held).rows
+abbrev pub rows_at : Arguments → List Row → Awaited → ℕ → List Row
+rows_at arguments rows held skip = (settled (rules arguments) (between arguments rows held skip).held).rows
 
-flag_passes : (flag : Flag) (name : Text) (rows : List Row) (held : Awaited) (skip : ℕ) → Settles rows held skip → has_row (flag_id flag) (rows_at rows held skip) ≡ false
-    → turn_passes (built_of name) [] (between rows held skip) (flag_word flag) ≡ true
+flag_passes : (arguments : Arguments) (flag : Flag) (name : Text) (rows : List Row) (held : Awaited) (skip : ℕ) → Settles arguments rows held skip
+    → has_row (flag_id flag) (rows_at arguments rows held skip) ≡ false
+    → turn_passes (built_of arguments name) [] (between arguments rows held skip) (flag_word flag) ≡ true
 unfolding clap_on_literals
-flag_passes diary name rows held skip settles new = use_of (settle_passes rules false (between rows held skip).held) (has_row (codes "diary") (rows_at rows held skip)) settles new
-flag_passes taps name rows held skip settles new = use_of (settle_passes rules false (between rows held skip).held) (has_row (codes "taps") (rows_at rows held skip)) settles new
+flag_passes (one a) diary name rows held skip settles new = use_of (settle_passes (rules (one a)) false (between (one a) rows held skip).held) (has_row (codes "diary") (rows_at (one a) rows held skip)) settles new
+flag_passes (one a) taps name rows held skip settles new = use_of (settle_passes (rules (one a)) false (between (one a) rows held skip).held) (has_row (codes "taps") (rows_at (one a) rows held skip)) settles new
+flag_passes (two a b) diary name rows held skip settles new = use_of (settle_passes (rules (two a b)) false (between (two a b) rows held skip).held) (has_row (codes "diary") (rows_at (two a b) rows held skip)) settles new
+flag_passes (two a b) taps name rows held skip settles new = use_of (settle_passes (rules (two a b)) false (between (two a b) rows held skip).held) (has_row (codes "taps") (rows_at (two a b) rows held skip)) settles new
 
 abbrev flag_rows : Flag → List Row → List Row
 flag_rows flag base = with_values (flag_id flag) AsWritten CommandLine (codes "true" ∷ []) (without (flag_id flag) base)
 
-flag_next : (flag : Flag) (rows : List Row) (held : Awaited) (skip : ℕ)
-    → walked rules [] (between rows held skip) (flag_word flag) ≡ between (flag_rows flag (rows_at rows held skip)) None skip
+flag_next : (arguments : Arguments) (flag : Flag) (rows : List Row) (held : Awaited) (skip : ℕ)
+    → walked (rules arguments) [] (between arguments rows held skip) (flag_word flag) ≡ between arguments (flag_rows flag (rows_at arguments rows held skip)) None skip
 unfolding clap_on_literals
-flag_next diary rows held skip = refl
-flag_next taps rows held skip = refl
+flag_next (one a) diary rows held skip = refl
+flag_next (one a) taps rows held skip = refl
+flag_next (two a b) diary rows held skip = refl
+flag_next (two a b) taps rows held skip = refl
 
-name_passes : (kind : Kind) (name : Text) (rows : List Row) (held : Awaited) (skip : ℕ) → Settles rows held skip
-    → turn_passes (built_of name) [] (between rows held skip) (kind_word kind) ≡ true
+name_passes : (arguments : Arguments) (kind : Kind) (name : Text) (rows : List Row) (held : Awaited) (skip : ℕ) → Settles arguments rows held skip
+    → turn_passes (built_of arguments name) [] (between arguments rows held skip) (kind_word kind) ≡ true
 unfolding clap_on_literals
-name_passes workers name rows held skip settles = and_true (settle_passes rules false (between rows held skip).held) settles
-name_passes bundle name rows held skip settles = and_true (settle_passes rules false (between rows held skip).held) settles
-name_passes pending name rows held skip settles = and_true (settle_passes rules false (between rows held skip).held) settles
+name_passes (one a) workers name rows held skip settles = and_true (settle_passes (rules (one a)) false (between (one a) rows held skip).held) settles
+name_passes (one a) bundle name rows held skip settles = and_true (settle_passes (rules (one a)) false (between (one a) rows held skip).held) settles
+name_passes (one a) pending name rows held skip settles = and_true (settle_passes (rules (one a)) false (between (one a) rows held skip).held) settles
+name_passes (two a b) workers name rows held skip settles = and_true (settle_passes (rules (two a b)) false (between (two a b) rows held skip).held) settles
+name_passes (two a b) bundle name rows held skip settles = and_true (settle_passes (rules (two a b)) false (between (two a b) rows held skip).held) settles
+name_passes (two a b) pending name rows held skip settles = and_true (settle_passes (rules (two a b)) false (between (two a b) rows held skip).held) settles
 
-name_next : (kind : Kind) (rows : List Row) (held : Awaited) (skip : ℕ)
-    → walked rules [] (between rows held skip) (kind_word kind) ≡ behind (kind_id kind) (settled rules (between rows held skip).held).rows skip
+name_next : (arguments : Arguments) (kind : Kind) (rows : List Row) (held : Awaited) (skip : ℕ)
+    → walked (rules arguments) [] (between arguments rows held skip) (kind_word kind) ≡ behind arguments (kind_id kind) (rows_at arguments rows held skip) skip
 unfolding clap_on_literals
-name_next workers rows held skip = refl
-name_next bundle rows held skip = refl
-name_next pending rows held skip = refl
+name_next (one a) workers rows held skip = refl
+name_next (one a) bundle rows held skip = refl
+name_next (one a) pending rows held skip = refl
+name_next (two a b) workers rows held skip = refl
+name_next (two a b) bundle rows held skip = refl
+name_next (two a b) pending rows held skip = refl
 
-value_passes : (kind : Kind) (name : Text) (rows : List Row) (skip : ℕ) (value : Text) → IsPlainWord value
-    → turn_passes (built_of name) [] (behind (kind_id kind) rows skip) value ≡ true
+value_passes : (arguments : Arguments) (kind : Kind) (name : Text) (rows : List Row) (skip : ℕ) (value : Text) → IsPlainWord value
+    → turn_passes (built_of arguments name) [] (behind arguments (kind_id kind) rows skip) value ≡ true
 unfolding clap_on_literals
-value_passes workers name rows skip value is = let a = is.long in let b = is.short in let c = is.dashes in simp (a, b, c)
-value_passes bundle name rows skip value is = let a = is.long in let b = is.short in let c = is.dashes in simp (a, b, c)
-value_passes pending name rows skip value is = let a = is.long in let b = is.short in let c = is.dashes in simp (a, b, c)
+value_passes (one a) workers name rows skip value is = let x = is.long in let y = is.short in let z = is.dashes in simp (x, y, z)
+value_passes (one a) bundle name rows skip value is = let x = is.long in let y = is.short in let z = is.dashes in simp (x, y, z)
+value_passes (one a) pending name rows skip value is = let x = is.long in let y = is.short in let z = is.dashes in simp (x, y, z)
+value_passes (two a b) workers name rows skip value is = let x = is.long in let y = is.short in let z = is.dashes in simp (x, y, z)
+value_passes (two a b) bundle name rows skip value is = let x = is.long in let y = is.short in let z = is.dashes in simp (x, y, z)
+value_passes (two a b) pending name rows skip value is = let x = is.long in let y = is.short in let z = is.dashes in simp (x, y, z)
 
-value_next : (kind : Kind) (rows : List Row) (skip : ℕ) (value : Text) → IsPlainWord value
-    → walked rules [] (behind (kind_id kind) rows skip) value ≡ between rows (Some (kind_id kind, value ∷ [])) skip
+value_next : (arguments : Arguments) (kind : Kind) (rows : List Row) (skip : ℕ) (value : Text) → IsPlainWord value
+    → walked (rules arguments) [] (behind arguments (kind_id kind) rows skip) value ≡ between arguments rows (Some (kind_id kind, value ∷ [])) skip
 unfolding clap_on_literals
-value_next workers rows skip value is = let a = is.long in let b = is.short in let c = is.dashes in simp (a, b, c)
-value_next bundle rows skip value is = let a = is.long in let b = is.short in let c = is.dashes in simp (a, b, c)
-value_next pending rows skip value is = let a = is.long in let b = is.short in let c = is.dashes in simp (a, b, c)
+value_next (one a) workers rows skip value is = let x = is.long in let y = is.short in let z = is.dashes in simp (x, y, z)
+value_next (one a) bundle rows skip value is = let x = is.long in let y = is.short in let z = is.dashes in simp (x, y, z)
+value_next (one a) pending rows skip value is = let x = is.long in let y = is.short in let z = is.dashes in simp (x, y, z)
+value_next (two a b) workers rows skip value is = let x = is.long in let y = is.short in let z = is.dashes in simp (x, y, z)
+value_next (two a b) bundle rows skip value is = let x = is.long in let y = is.short in let z = is.dashes in simp (x, y, z)
+value_next (two a b) pending rows skip value is = let x = is.long in let y = is.short in let z = is.dashes in simp (x, y, z)
 
-value_settles : (kind : Kind) (rows : List Row) (skip : ℕ) (value : Text) → has_row (kind_id kind) rows ≡ false → Settles rows (Some (kind_id kind, value ∷ [])) skip
-value_settles workers rows skip value new = new_use (has_row (codes "workers") rows) new
-value_settles bundle rows skip value new = new_use (has_row (codes "bundle") rows) new
-value_settles pending rows skip value new = new_use (has_row (codes "pending") rows) new
+value_settles : (arguments : Arguments) (kind : Kind) (rows : List Row) (skip : ℕ) (value : Text) → has_row (kind_id kind) rows ≡ false
+    → Settles arguments rows (Some (kind_id kind, value ∷ [])) skip
+value_settles (one a) workers rows skip value new = new_use (has_row (codes "workers") rows) new
+value_settles (one a) bundle rows skip value new = new_use (has_row (codes "bundle") rows) new
+value_settles (one a) pending rows skip value new = new_use (has_row (codes "pending") rows) new
+value_settles (two a b) workers rows skip value new = new_use (has_row (codes "workers") rows) new
+value_settles (two a b) bundle rows skip value new = new_use (has_row (codes "bundle") rows) new
+value_settles (two a b) pending rows skip value new = new_use (has_row (codes "pending") rows) new
 
-value_rows : (kind : Kind) (rows : List Row) (skip : ℕ) (value : Text)
-    → rows_at rows (Some (kind_id kind, value ∷ [])) skip ≡ with_values (kind_id kind) AsWritten CommandLine (value ∷ []) (without (kind_id kind) rows)
-value_rows workers rows skip value = refl
-value_rows bundle rows skip value = refl
-value_rows pending rows skip value = refl
+value_rows : (arguments : Arguments) (kind : Kind) (rows : List Row) (skip : ℕ) (value : Text)
+    → rows_at arguments rows (Some (kind_id kind, value ∷ [])) skip ≡ with_values (kind_id kind) AsWritten CommandLine (value ∷ []) (without (kind_id kind) rows)
+value_rows (one a) workers rows skip value = refl
+value_rows (one a) bundle rows skip value = refl
+value_rows (one a) pending rows skip value = refl
+value_rows (two a b) workers rows skip value = refl
+value_rows (two a b) bundle rows skip value = refl
+value_rows (two a b) pending rows skip value = refl
 
 -- the words come to where another walk stands before the rest of them
 pub record Comes (s : Shape) (names : Names) (w : Walk) (words : List Text) (after : Walk) (rest : List Text) : Type 0 where
@@ -173,42 +214,42 @@ then : (s : Shape) (names : Names) (u v w : Walk) (words more rest : List Text) 
 then s names u v w words more rest a b = record { passes = a.passes ∙ b.passes; ends = a.ends ∙ b.ends }
 
 -- where clap stands after an option, with these rows
-record After (name : Text) (base : List Row) (w : Walk) (words rest : List Text) : Type 0 where
+record After (arguments : Arguments) (name : Text) (base : List Row) (w : Walk) (words rest : List Text) : Type 0 where
   pub rows : List Row
   pub held : Awaited
   pub skip : ℕ
-  pub settles : Settles rows held skip
-  pub becomes : rows_at rows held skip ≡ base
-  pub comes : Comes (built_of name) [] w words (between rows held skip) rest
+  pub settles : Settles arguments rows held skip
+  pub becomes : rows_at arguments rows held skip ≡ base
+  pub comes : Comes (built_of arguments name) [] w words (between arguments rows held skip) rest
 
-flag_after : (flag : Flag) (name : Text) (rows : List Row) (held : Awaited) (skip : ℕ) → Settles rows held skip
-    → (base : List Row) → rows_at rows held skip ≡ base → has_row (flag_id flag) base ≡ false → (rest : List Text)
-    → After name (base ++ row (flag_id flag) (codes "true" ∷ []) ∷ []) (between rows held skip) (flag_word flag ∷ rest) rest
-flag_after flag name rows held skip settles base now new rest = record {
-  rows = flag_rows flag (rows_at rows held skip);
+flag_after : (arguments : Arguments) (flag : Flag) (name : Text) (rows : List Row) (held : Awaited) (skip : ℕ) → Settles arguments rows held skip
+    → (base : List Row) → rows_at arguments rows held skip ≡ base → has_row (flag_id flag) base ≡ false → (rest : List Text)
+    → After arguments name (base ++ row (flag_id flag) (codes "true" ∷ []) ∷ []) (between arguments rows held skip) (flag_word flag ∷ rest) rest
+flag_after arguments flag name rows held skip settles base now new rest = record {
+  rows = flag_rows flag (rows_at arguments rows held skip);
   held = None;
   skip = skip;
   settles = refl;
   becomes = ap (flag_rows flag) now ∙ used_new (flag_id flag) (codes "true" ∷ []) base new;
-  comes = one_word (built_of name) [] (between rows held skip) (flag_word flag) _ rest (flag_passes flag name rows held skip settles (ap (has_row (flag_id flag)) now ∙ new)) (flag_next flag rows held skip);
+  comes = one_word (built_of arguments name) [] (between arguments rows held skip) (flag_word flag) _ rest (flag_passes arguments flag name rows held skip settles (ap (has_row (flag_id flag)) now ∙ new)) (flag_next arguments flag rows held skip);
 }
 
-value_after : (kind : Kind) (name : Text) (rows : List Row) (held : Awaited) (skip : ℕ) → Settles rows held skip
-    → (base : List Row) → rows_at rows held skip ≡ base → has_row (kind_id kind) base ≡ false
+value_after : (arguments : Arguments) (kind : Kind) (name : Text) (rows : List Row) (held : Awaited) (skip : ℕ) → Settles arguments rows held skip
+    → (base : List Row) → rows_at arguments rows held skip ≡ base → has_row (kind_id kind) base ≡ false
     → (value : Text) → IsPlainWord value → (rest : List Text)
-    → After name (base ++ row (kind_id kind) (value ∷ []) ∷ []) (between rows held skip) (kind_word kind ∷ value ∷ rest) rest
-value_after kind name rows held skip settles base now new value is rest = record {
-  rows = rows_at rows held skip;
+    → After arguments name (base ++ row (kind_id kind) (value ∷ []) ∷ []) (between arguments rows held skip) (kind_word kind ∷ value ∷ rest) rest
+value_after arguments kind name rows held skip settles base now new value is rest = record {
+  rows = rows_at arguments rows held skip;
   held = Some (kind_id kind, value ∷ []);
   skip = skip;
-  settles = value_settles kind (rows_at rows held skip) skip value (ap (has_row (kind_id kind)) now ∙ new);
-  becomes = value_rows kind (rows_at rows held skip) skip value
+  settles = value_settles arguments kind (rows_at arguments rows held skip) skip value (ap (has_row (kind_id kind)) now ∙ new);
+  becomes = value_rows arguments kind (rows_at arguments rows held skip) skip value
       ∙ ap (λ b. with_values (kind_id kind) AsWritten CommandLine (value ∷ []) (without (kind_id kind) b)) now
       ∙ used_new (kind_id kind) (value ∷ []) base new;
-  comes = then (built_of name) [] (between rows held skip) _ _ (kind_word kind ∷ value ∷ rest) (value ∷ rest) rest
-      (one_word (built_of name) [] (between rows held skip) (kind_word kind) _ (value ∷ rest) (name_passes kind name rows held skip settles) (name_next kind rows held skip))
-      (one_word (built_of name) [] (behind (kind_id kind) (rows_at rows held skip) skip) value _ rest
-      (value_passes kind name (rows_at rows held skip) skip value is) (value_next kind (rows_at rows held skip) skip value is));
+  comes = then (built_of arguments name) [] (between arguments rows held skip) _ _ (kind_word kind ∷ value ∷ rest) (value ∷ rest) rest
+      (one_word (built_of arguments name) [] (between arguments rows held skip) (kind_word kind) _ (value ∷ rest) (name_passes arguments kind name rows held skip settles) (name_next arguments kind rows held skip))
+      (one_word (built_of arguments name) [] (behind arguments (kind_id kind) (rows_at arguments rows held skip) skip) value _ rest
+      (value_passes arguments kind name (rows_at arguments rows held skip) skip value is) (value_next arguments kind (rows_at arguments rows held skip) skip value is));
 }
 
 -- a word that does not begin with a dash
@@ -243,14 +284,14 @@ setting_values Taps = codes "true" ∷ []
 abbrev pub setting_row : Setting → Row
 setting_row setting = row (setting_id setting) (setting_values setting)
 
-setting_after : (setting : Setting) → IsSetting setting → (name : Text) (rows : List Row) (held : Awaited) (skip : ℕ) → Settles rows held skip
-    → (base : List Row) → rows_at rows held skip ≡ base → has_row (setting_id setting) base ≡ false → (rest : List Text)
-    → After name (base ++ setting_row setting ∷ []) (between rows held skip) (spelled setting ++ rest) rest
-setting_after (Workers n) is name rows held skip settles base now new rest = value_after workers name rows held skip settles base now new (decimal n) (number_is_plain n (omega arith)) rest
-setting_after (Bundle n) is name rows held skip settles base now new rest = value_after bundle name rows held skip settles base now new (decimal n) (number_is_plain n (omega arith)) rest
-setting_after (Pending n) is name rows held skip settles base now new rest = value_after pending name rows held skip settles base now new (decimal n) (number_is_plain n (omega arith)) rest
-setting_after Diary is name rows held skip settles base now new rest = flag_after diary name rows held skip settles base now new rest
-setting_after Taps is name rows held skip settles base now new rest = flag_after taps name rows held skip settles base now new rest
+setting_after : (setting : Setting) → IsSetting setting → (arguments : Arguments) (name : Text) (rows : List Row) (held : Awaited) (skip : ℕ) → Settles arguments rows held skip
+    → (base : List Row) → rows_at arguments rows held skip ≡ base → has_row (setting_id setting) base ≡ false → (rest : List Text)
+    → After arguments name (base ++ setting_row setting ∷ []) (between arguments rows held skip) (spelled setting ++ rest) rest
+setting_after (Workers n) is arguments name rows held skip settles base now new rest = value_after arguments workers name rows held skip settles base now new (decimal n) (number_is_plain n (omega arith)) rest
+setting_after (Bundle n) is arguments name rows held skip settles base now new rest = value_after arguments bundle name rows held skip settles base now new (decimal n) (number_is_plain n (omega arith)) rest
+setting_after (Pending n) is arguments name rows held skip settles base now new rest = value_after arguments pending name rows held skip settles base now new (decimal n) (number_is_plain n (omega arith)) rest
+setting_after Diary is arguments name rows held skip settles base now new rest = flag_after arguments diary name rows held skip settles base now new rest
+setting_after Taps is arguments name rows held skip settles base now new rest = flag_after arguments taps name rows held skip settles base now new rest
 
 -- options of different names are different for clap
 ids_apart : (s t : Setting) → bytes_eq (name_of s) (name_of t) ≡ false → bytes_eq (setting_id s) (setting_id t) ≡ false
@@ -274,53 +315,109 @@ stay_new base setting (s ∷ settings) new apart =
     (list_any-append (λ (r : Row). bytes_eq r.id (setting_id s)) base (setting_row setting ∷ []) ∙ rw (before, other) refl, stay_new base setting settings new.1 apart.1)
 
 -- clap takes options, can use what is pending at their end, and has these rows
-pub record Taken (name : Text) (base : List Row) (w : Walk) (words : List Text) : Type 0 where
-  pub passes : walk_passes (built_of name) [] w words ≡ true
-  pub settles : settle_passes rules false (fold (walked rules []) w words).held ≡ true
-  pub rows : (settled rules (fold (walked rules []) w words).held).rows ≡ base
+pub record Taken (arguments : Arguments) (name : Text) (base : List Row) (w : Walk) (words : List Text) : Type 0 where
+  pub passes : walk_passes (built_of arguments name) [] w words ≡ true
+  pub settles : settle_passes (rules arguments) false (fold (walked (rules arguments) []) w words).held ≡ true
+  pub rows : (settled (rules arguments) (fold (walked (rules arguments) []) w words).held).rows ≡ base
 
-comes_taken : (name : Text) (base : List Row) (w after : Walk) (words rest : List Text) → Comes (built_of name) [] w words after rest → Taken name base after rest → Taken name base w words
-comes_taken name base w after words rest comes taken = record {
+comes_taken : (arguments : Arguments) (name : Text) (base : List Row) (w after : Walk) (words rest : List Text) → Comes (built_of arguments name) [] w words after rest → Taken arguments name base after rest → Taken arguments name base w words
+comes_taken arguments name base w after words rest comes taken = record {
   passes = comes.passes ∙ taken.passes;
-  settles = ap (λ (v : Walk). settle_passes rules false v.held) comes.ends ∙ taken.settles;
-  rows = ap (λ (v : Walk). (settled rules v.held).rows) comes.ends ∙ taken.rows;
+  settles = ap (λ (v : Walk). settle_passes (rules arguments) false v.held) comes.ends ∙ taken.settles;
+  rows = ap (λ (v : Walk). (settled (rules arguments) v.held).rows) comes.ends ∙ taken.rows;
 }
 
-settings_taken : (name : Text) (settings : List Setting) → AllByRecursion IsSetting settings → IsDistinct bytes_eq (map name_of settings)
-    → (rows : List Row) (held : Awaited) (skip : ℕ) → Settles rows held skip → (base : List Row) → rows_at rows held skip ≡ base → AreNew base settings
-    → Taken name (base ++ map setting_row settings) (between rows held skip) (flat_map spelled settings)
+settings_taken : (arguments : Arguments) (name : Text) (settings : List Setting) → AllByRecursion IsSetting settings → IsDistinct bytes_eq (map name_of settings)
+    → (rows : List Row) (held : Awaited) (skip : ℕ) → Settles arguments rows held skip → (base : List Row) → rows_at arguments rows held skip ≡ base → AreNew base settings
+    → Taken arguments name (base ++ map setting_row settings) (between arguments rows held skip) (flat_map spelled settings)
 unfolding walk_passes IsDistinct
-settings_taken name [] range once rows held skip settles base now new = record { passes = refl; settles = settles; rows = now ∙ sym (append-nil base) }
-settings_taken name (setting ∷ settings) range once rows held skip settles base now new =
-    let after = setting_after setting range.0 name rows held skip settles base now new.0 (flat_map spelled settings) in
-    let more = settings_taken name settings range.1 once.1 after.rows after.held after.skip after.settles (base ++ setting_row setting ∷ []) after.becomes
+settings_taken arguments name [] range once rows held skip settles base now new = record { passes = refl; settles = settles; rows = now ∙ sym (append-nil base) }
+settings_taken arguments name (setting ∷ settings) range once rows held skip settles base now new =
+    let after = setting_after setting range.0 arguments name rows held skip settles base now new.0 (flat_map spelled settings) in
+    let more = settings_taken arguments name settings range.1 once.1 after.rows after.held after.skip after.settles (base ++ setting_row setting ∷ []) after.becomes
     (stay_new base setting settings new.1 once.0) in
-    comes_taken name (base ++ map setting_row (setting ∷ settings)) (between rows held skip) (between after.rows after.held after.skip) (spelled setting ++ flat_map spelled settings) (flat_map spelled settings)
-    after.comes (subst (λ all. Taken name all (between after.rows after.held after.skip) (flat_map spelled settings)) (append_assoc base (setting_row setting ∷ []) (map setting_row settings)) more)
+    comes_taken arguments name (base ++ map setting_row (setting ∷ settings)) (between arguments rows held skip) (between arguments after.rows after.held after.skip) (spelled setting ++ flat_map spelled settings) (flat_map spelled settings)
+    after.comes (subst (λ all. Taken arguments name all (between arguments after.rows after.held after.skip) (flat_map spelled settings)) (append_assoc base (setting_row setting ∷ []) (map setting_row settings)) more)
 
-argument_passes : (name argument : Text) → IsPlainWord argument → turn_passes (built_of name) [] (walk_from nothing_held) argument ≡ true
+-- the words of arguments, which are plain, and their rows
+abbrev pub texts_of : Arguments → List Text
+texts_of (one argument) = argument ∷ []
+texts_of (two argument second) = argument ∷ second ∷ []
+
+abbrev pub ArePlain : Arguments → Type 0
+ArePlain (one argument) = IsPlainWord argument
+ArePlain (two argument second) = IsPlainWord argument × IsPlainWord second
+
+abbrev pub rows_of_arguments : Arguments → List Row
+rows_of_arguments (one argument) = row (codes "argument") (argument ∷ []) ∷ []
+rows_of_arguments (two argument second) = row (codes "argument") (argument ∷ []) ∷ row (codes "second") (second ∷ []) ∷ []
+
+-- the rows of arguments and options
+abbrev pub rows_of_words : Arguments → List Setting → List Row
+rows_of_words arguments settings = rows_of_arguments arguments ++ map setting_row settings
+
+all_new : (arguments : Arguments) (settings : List Setting) → AreNew (rows_of_arguments arguments) settings
+all_new (one a) settings = one_new settings
+  where
+    one_new : (settings : List Setting) → AreNew (rows_of_arguments (one a)) settings
+    one_new [] = tt
+    one_new (Workers n ∷ settings) = (refl, one_new settings)
+    one_new (Bundle n ∷ settings) = (refl, one_new settings)
+    one_new (Pending n ∷ settings) = (refl, one_new settings)
+    one_new (Diary ∷ settings) = (refl, one_new settings)
+    one_new (Taps ∷ settings) = (refl, one_new settings)
+all_new (two a b) settings = two_new settings
+  where
+    two_new : (settings : List Setting) → AreNew (rows_of_arguments (two a b)) settings
+    two_new [] = tt
+    two_new (Workers n ∷ settings) = (refl, two_new settings)
+    two_new (Bundle n ∷ settings) = (refl, two_new settings)
+    two_new (Pending n ∷ settings) = (refl, two_new settings)
+    two_new (Diary ∷ settings) = (refl, two_new settings)
+    two_new (Taps ∷ settings) = (refl, two_new settings)
+
+argument_passes : (arguments : Arguments) (name argument : Text) → IsPlainWord argument → turn_passes (built_of arguments name) [] (walk_from nothing_held) argument ≡ true
 unfolding clap_on_literals
-argument_passes name argument is = let a = is.long in let b = is.short in let c = is.dashes in simp (a, b, c)
+argument_passes (one a) name argument is = let x = is.long in let y = is.short in let z = is.dashes in simp (x, y, z)
+argument_passes (two a b) name argument is = let x = is.long in let y = is.short in let z = is.dashes in simp (x, y, z)
 
-argument_next : (argument : Text) → IsPlainWord argument → walked rules [] (walk_from nothing_held) argument ≡ between [] (Some (codes "argument", argument ∷ [])) 0
+-- behind the first argument
+abbrev behind_first : Text → Walk
+behind_first argument = record {
+  held = record { rows = []; pending = Some (codes "argument", argument ∷ []); skip = 0 };
+  waiting = idle;
+  position = 2;
+  is_trailing = false;
+  stopped = None;
+}
+
+argument_next : (arguments : Arguments) (argument : Text) → IsPlainWord argument → walked (rules arguments) [] (walk_from nothing_held) argument ≡ behind_first argument
 unfolding clap_on_literals
-argument_next argument is = let a = is.long in let b = is.short in let c = is.dashes in simp (a, b, c)
+argument_next (one a) argument is = let x = is.long in let y = is.short in let z = is.dashes in simp (x, y, z)
+argument_next (two a b) argument is = let x = is.long in let y = is.short in let z = is.dashes in simp (x, y, z)
 
-all_new : (argument : Text) (settings : List Setting) → AreNew (row (codes "argument") (argument ∷ []) ∷ []) settings
-all_new argument [] = tt
-all_new argument (Workers n ∷ settings) = (refl, all_new argument settings)
-all_new argument (Bundle n ∷ settings) = (refl, all_new argument settings)
-all_new argument (Pending n ∷ settings) = (refl, all_new argument settings)
-all_new argument (Diary ∷ settings) = (refl, all_new argument settings)
-all_new argument (Taps ∷ settings) = (refl, all_new argument settings)
+second_passes : (name argument second : Text) → IsPlainWord second → turn_passes (built_of (two argument second) name) [] (behind_first argument) second ≡ true
+unfolding clap_on_literals
+second_passes name argument second is = let x = is.long in let y = is.short in let z = is.dashes in simp (x, y, z)
 
--- the rows of an argument and options
-abbrev pub rows_of_words : Text → List Setting → List Row
-rows_of_words argument settings = row (codes "argument") (argument ∷ []) ∷ map setting_row settings
+second_next : (argument second : Text) → IsPlainWord second
+    → walked (rules (two argument second)) [] (behind_first argument) second
+    ≡ between (two argument second) (row (codes "argument") (argument ∷ []) ∷ []) (Some (codes "second", second ∷ [])) 0
+unfolding clap_on_literals
+second_next argument second is = let x = is.long in let y = is.short in let z = is.dashes in simp (x, y, z)
 
-pub words_taken : (name argument : Text) → IsPlainWord argument → (settings : List Setting) → AllByRecursion IsSetting settings → IsDistinct bytes_eq (map name_of settings)
-    → Taken name (rows_of_words argument settings) (walk_from nothing_held) (argument ∷ flat_map spelled settings)
-words_taken name argument is settings range once =
-    comes_taken name (rows_of_words argument settings) (walk_from nothing_held) (between [] (Some (codes "argument", argument ∷ [])) 0) (argument ∷ flat_map spelled settings) (flat_map spelled settings)
-    (one_word (built_of name) [] (walk_from nothing_held) argument _ (flat_map spelled settings) (argument_passes name argument is) (argument_next argument is))
-    (settings_taken name settings range once [] (Some (codes "argument", argument ∷ [])) 0 refl (row (codes "argument") (argument ∷ []) ∷ []) refl (all_new argument settings))
+-- clap takes the words of arguments and options, and has their rows
+pub words_taken : (arguments : Arguments) (name : Text) → ArePlain arguments → (settings : List Setting) → AllByRecursion IsSetting settings → IsDistinct bytes_eq (map name_of settings)
+    → Taken arguments name (rows_of_words arguments settings) (walk_from nothing_held) (texts_of arguments ++ flat_map spelled settings)
+words_taken (one argument) name is settings range once =
+    comes_taken (one argument) name (rows_of_words (one argument) settings) (walk_from nothing_held) (behind_first argument) (argument ∷ flat_map spelled settings) (flat_map spelled settings)
+    (one_word (built_of (one argument) name) [] (walk_from nothing_held) argument _ (flat_map spelled settings) (argument_passes (one argument) name argument is) (argument_next (one argument) argument is))
+    (settings_taken (one argument) name settings range once [] (Some (codes "argument", argument ∷ [])) 0 refl (rows_of_arguments (one argument)) refl (all_new (one argument) settings))
+words_taken (two argument second) name is settings range once =
+    let arguments = two argument second in
+    let rest = flat_map spelled settings in
+    comes_taken arguments name (rows_of_words arguments settings) (walk_from nothing_held) _ (argument ∷ second ∷ rest) rest
+    (then (built_of arguments name) [] (walk_from nothing_held) _ _ (argument ∷ second ∷ rest) (second ∷ rest) rest
+    (one_word (built_of arguments name) [] (walk_from nothing_held) argument _ (second ∷ rest) (argument_passes arguments name argument is.0) (argument_next arguments argument is.0))
+    (one_word (built_of arguments name) [] (behind_first argument) second _ rest (second_passes name argument second is.1) (second_next argument second is.1)))
+    (settings_taken arguments name settings range once (row (codes "argument") (argument ∷ []) ∷ []) (Some (codes "second", second ∷ [])) 0 refl (rows_of_arguments arguments) refl (all_new arguments settings))

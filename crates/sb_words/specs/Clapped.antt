@@ -21,27 +21,19 @@ flag name = record (new_rule name) { long = Some name; action = Some SetTrue }
 abbrev pub with_argument : Text → App → App
 with_argument name app = with_rule app (record (new_rule name) { required = true })
 
--- the command with the options of `sum` and `run`. `work` has them for clap, too: what words it takes of them is said of
--- commands
+-- the command of this name with one argument, and with two
+abbrev pub of_one : Text → App
+of_one name = with_argument (codes "argument") (new_app name)
+
+abbrev pub of_two : Text → App
+of_two name = with_argument (codes "second") (of_one name)
+
+-- the command with the options of `sum` and `run`. Commands that take fewer have them for clap, too: what words they take
+-- of them is said of commands
 abbrev pub with_options : App → App
 with_options app =
     with_rule (with_rule (with_rule (with_rule (with_rule app (option (codes "workers"))) (option (codes "bundle")))
     (option (codes "pending"))) (flag (codes "diary"))) (flag (codes "taps"))
-
-abbrev pub sum : App
-sum = with_options (with_argument (codes "argument") (new_app (codes "sum")))
-
-abbrev pub run : App
-run = with_options (with_argument (codes "argument") (new_app (codes "run")))
-
-abbrev pub work : App
-work = with_options (with_argument (codes "argument") (new_app (codes "work")))
-
-abbrev pub slow : App
-slow = with_argument (codes "argument") (new_app (codes "slow"))
-
-abbrev pub audit : App
-audit = new_app (codes "audit")
 
 -- the command itself, without its subcommands
 abbrev pub bare : App
@@ -54,7 +46,23 @@ bare = let app = new_app (codes "streambox") in record app {
   };
 }
 
+-- the command with the subcommands over a number
+abbrev pub with_numbers : App → App
+with_numbers app =
+    with_subcommand (with_subcommand app (with_options (of_one (codes "sum"))).top)
+    (with_options (of_one (codes "work"))).top
+
+-- the command with the subcommands over a plan and its whole input
+abbrev pub with_plans : App → App
+with_plans app =
+    with_subcommand (with_subcommand (with_subcommand app (with_options (of_one (codes "run"))).top)
+    (of_one (codes "slow")).top) (with_options (of_two (codes "watch"))).top
+
+-- the command with the subcommands over a plan and a part of its input
+abbrev pub with_parts : App → App
+with_parts app =
+    with_subcommand (with_subcommand (with_subcommand app (with_options (of_one (codes "part"))).top)
+    (of_one (codes "save")).top) (with_options (of_two (codes "resume"))).top
+
 abbrev pub program : App
-program =
-    with_subcommand (with_subcommand (with_subcommand (with_subcommand (with_subcommand bare sum.top) run.top) work.top)
-    slow.top) audit.top
+program = with_subcommand (with_parts (with_plans (with_numbers bare))) (new_app (codes "audit")).top

@@ -1,11 +1,13 @@
 -- What is read of the matches of clap: the rows of a command's argument and options.
 use Rattle.std.specs.Prelude.{◌≡◌, ℕ, Bool, true, false, List, Option, Some, None, decimal, codes}
+use Rattle.std.specs.Option.{option_map}
 use Rattle.clap.specs.Words.{Row, Text, first_of, one_of}
 use Rattle.sb_words.specs.declared.options.Options.{Options}
 use Rattle.sb_words.specs.declared.options.TheConstants.{DEFAULT_WORKERS, DEFAULT_BUNDLE, DEFAULT_PENDING}
+use Rattle.sb_words.specs.declared.request.Request.{Request}
 use Rattle.sb_words.specs.Options.{AreInRange}
-use Rattle.sb_words.specs.Words.{Asked, IsAmount, IsSize}
-use Rattle.sb_words.specs.Words.Asked.{Sum, Run, Slow, Audit, Work}
+use Rattle.sb_words.specs.Words.{Asked, IsAmount, IsSize, asked}
+use Rattle.sb_words.specs.Words.Asked.{Sum, Run, Slow, Audit, Work, Watch, Part, Save, Resume}
 
 -- a number that is spelled, or the default if none is
 abbrev pub IsRead : ℕ → ℕ → Option Text → Type 0
@@ -37,4 +39,18 @@ IsReadAs Audit (Some (name, rows)) = name ≡ codes "audit"
 IsReadAs (Work records options) (Some (name, rows)) =
     (name ≡ codes "work") × (first_of (codes "argument") rows ≡ Some (decimal records)) × IsAmount records
     × AreRead options rows
+IsReadAs (Watch plan key options) (Some (name, rows)) =
+    (name ≡ codes "watch") × (first_of (codes "argument") rows ≡ Some plan)
+    × (first_of (codes "second") rows ≡ Some key) × AreRead options rows
+IsReadAs (Part plan options) (Some (name, rows)) =
+    (name ≡ codes "part") × (first_of (codes "argument") rows ≡ Some plan) × AreRead options rows
+IsReadAs (Save plan) (Some (name, rows)) = (name ≡ codes "save") × (first_of (codes "argument") rows ≡ Some plan)
+IsReadAs (Resume plan checkpoint options) (Some (name, rows)) =
+    (name ≡ codes "resume") × (first_of (codes "argument") rows ≡ Some plan)
+    × (first_of (codes "second") rows ≡ Some checkpoint) × AreRead options rows
 IsReadAs wanted None = ⊥
+
+-- the answer is what the subcommand of this name and its rows say
+abbrev pub IsReading : Option Request → Text → List Row → Type 0
+IsReading answer name rows =
+    (wanted : Asked) → IsReadAs wanted (Some (name, rows)) → option_map asked answer ≡ Some wanted

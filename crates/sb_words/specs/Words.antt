@@ -1,6 +1,7 @@
 -- The words that ask for something.
-use Rattle.std.specs.Prelude.{◌≡◌, ◌≢◌, ◌≤◌, ℕ, false, List, [], ◌∷◌, decimal, codes}
+use Rattle.std.specs.Prelude.{◌≡◌, ◌≢◌, ◌≤◌, ℕ, false, List, [], ◌∷◌, IsTrue, decimal, codes}
 use Rattle.sb_generator.specs.declared.pattern.TheConstants.{MAX_RECORDS}
+use Rattle.sb_record.specs.Words.{is_word}
 use Rattle.sb_window.specs.declared.windows.TheConstants.{MAX_SIZE}
 use Rattle.sb_words.specs.declared.options.Options.{Options}
 use Rattle.sb_words.specs.declared.request.Request.{Request}
@@ -8,13 +9,19 @@ use Rattle.sb_words.specs.declared.request.Request.TheVariants as request
 use Rattle.sb_words.specs.Options.{AreOptions, AreInRange}
 
 -- what users may ask for: sums over windows of a size; the rows of a plan from a file, by the engine or by the plain
--- program; the audit of a diary text; or the summary of sums over so many records that are made
+-- program; the audit of a diary text; the summary of sums over so many records that are made; the last row of a key over
+-- the rows of a plan; the rows of a first part of an input, or its checkpoint; or the rows of the rest, from a
+-- checkpoint
 pub data Asked : Type 0 where
   Sum : (size : ℕ) → (options : Options) → Asked
   Run : (name : List ℕ) → (options : Options) → Asked
   Slow : (name : List ℕ) → Asked
   Audit : Asked
   Work : (records : ℕ) → (options : Options) → Asked
+  Watch : (name key : List ℕ) → (options : Options) → Asked
+  Part : (name : List ℕ) → (options : Options) → Asked
+  Save : (name : List ℕ) → Asked
+  Resume : (name checkpoint : List ℕ) → (options : Options) → Asked
 
 abbrev pub asked : Request → Asked
 asked (request.Sum size options) = Sum size options
@@ -22,6 +29,10 @@ asked (request.Run name options) = Run name.now options
 asked (request.Slow name) = Slow name.now
 asked request.Audit = Audit
 asked (request.Work records options) = Work records options
+asked (request.Watch name key options) = Watch name.now key.now options
+asked (request.Part name options) = Part name.now options
+asked (request.Save name) = Save name.now
+asked (request.Resume name checkpoint options) = Resume name.now checkpoint.now options
 
 -- a size of windows that users may ask for
 abbrev pub IsSize : ℕ → Type 0
@@ -41,6 +52,11 @@ abbrev pub IsFileName : List ℕ → Type 0
 IsFileName [] = ⊥
 IsFileName (byte ∷ bytes) = byte ≢ 45
 
+-- a word that a record may have as its key, and that is no option: it does not begin with `-`
+abbrev pub IsKeyWord : List ℕ → Type 0
+IsKeyWord [] = ⊥
+IsKeyWord (byte ∷ bytes) = (byte ≢ 45) × IsTrue (is_word (byte ∷ bytes))
+
 -- what users may ask for
 abbrev pub IsValid : Asked → Type 0
 IsValid (Sum size options) = IsSize size × AreInRange options
@@ -48,8 +64,13 @@ IsValid (Run name options) = IsFileName name × AreInRange options
 IsValid (Slow name) = IsFileName name
 IsValid Audit = Unit {0}
 IsValid (Work records options) = IsAmount records × AreInRange options × AreSizesAlone options
+IsValid (Watch name key options) = IsFileName name × IsKeyWord key × AreInRange options × AreSizesAlone options
+IsValid (Part name options) = IsFileName name × AreInRange options × AreSizesAlone options
+IsValid (Save name) = IsFileName name
+IsValid (Resume name checkpoint options) =
+    IsFileName name × IsFileName checkpoint × AreInRange options × AreSizesAlone options
 
--- the words are the command for this: the word of the command, its argument, then options
+-- the words are the command for this: the word of the command, its arguments, then options
 abbrev pub IsCommand : Asked → List (List ℕ) → Type 0
 IsCommand (Sum size options) (command ∷ argument ∷ words) =
     (command ≡ codes "sum") × (argument ≡ decimal size) × IsSize size × AreOptions options words
@@ -61,6 +82,16 @@ IsCommand Audit (command ∷ []) = command ≡ codes "audit"
 IsCommand (Work records options) (command ∷ argument ∷ words) =
     (command ≡ codes "work") × (argument ≡ decimal records) × IsAmount records × AreOptions options words
     × AreSizesAlone options
+IsCommand (Watch name key options) (command ∷ argument ∷ second ∷ words) =
+    (command ≡ codes "watch") × (argument ≡ name) × IsFileName name × (second ≡ key) × IsKeyWord key
+    × AreOptions options words × AreSizesAlone options
+IsCommand (Part name options) (command ∷ argument ∷ words) =
+    (command ≡ codes "part") × (argument ≡ name) × IsFileName name × AreOptions options words × AreSizesAlone options
+IsCommand (Save name) (command ∷ argument ∷ []) =
+    (command ≡ codes "save") × (argument ≡ name) × IsFileName name
+IsCommand (Resume name checkpoint options) (command ∷ argument ∷ second ∷ words) =
+    (command ≡ codes "resume") × (argument ≡ name) × IsFileName name × (second ≡ checkpoint) × IsFileName checkpoint
+    × AreOptions options words × AreSizesAlone options
 IsCommand wanted words = ⊥
 
 -- the words are no command

@@ -1,8 +1,8 @@
 //! The command as `clap` has it, and what `clap` reads in words.
 
-ghost use Rattle.std.specs.Prelude.{◌≡◌, ◌≢◌, false, codes, IfOk, None, OnErr, OnOk, Some};
+ghost use Rattle.std.specs.Prelude.{◌≡◌, ◌≢◌, false, IfOk, None, OnErr, OnOk, Some};
 ghost use Rattle.std.specs.Option.{option_map};
-ghost use Rattle.clap.specs.Words.{kind_of, new_app, rule_of};
+ghost use Rattle.clap.specs.Words.{App, kind_of, rule_of};
 ghost use Rattle.sb_words.specs.Clapped.{IsAs};
 ghost use Rattle.sb_words.specs.Clapped as spec;
 ghost use Rattle.sb_words.specs.Texts.{texts};
@@ -32,18 +32,24 @@ fn flag<'a>(alloc: Global, name: &'a str) -> Arg<'a>
 }
 
 /// A command with one argument.
-fn with_argument<'a>(alloc: Global, name: &'a str) -> Result<Command<'a>, AllocError>
-    ensures { IfOk result (λ command. IsAs command (spec.with_argument (codes "argument") (new_app name.entry.now))) }
+fn of_one<'a>(alloc: Global, name: &'a str) -> Result<Command<'a>, AllocError>
+    ensures { IfOk result (λ command. IsAs command (spec.of_one name.entry.now)) }
 {
     Command::new(alloc, name).arg(Arg::new(alloc, "argument").required(true))
 }
 
-/// A command with one argument and the options of `sum` and `run`. `work` has them here, too, and takes fewer.
-fn with_options<'a>(alloc: Global, name: &'a str) -> Result<Command<'a>, AllocError>
-    ensures { IfOk result (λ command.
-        IsAs command (spec.with_options (spec.with_argument (codes "argument") (new_app name.entry.now)))) }
+/// A command with two arguments.
+fn of_two<'a>(alloc: Global, name: &'a str) -> Result<Command<'a>, AllocError>
+    ensures { IfOk result (λ command. IsAs command (spec.of_two name.entry.now)) }
 {
-    with_argument(alloc, name)?
+    of_one(alloc, name)?.arg(Arg::new(alloc, "second").required(true))
+}
+
+/// The command with the options of `sum` and `run`. Commands that take fewer have them here, too.
+fn with_options<'a>(alloc: Global, command: Command<'a>) -> Result<Command<'a>, AllocError>
+    ensures { (app : App) → IsAs command.entry app → IfOk result (λ changed. IsAs changed (spec.with_options app)) }
+{
+    command
         .arg(option(alloc, "workers"))?
         .arg(option(alloc, "bundle"))?
         .arg(option(alloc, "pending"))?
@@ -62,21 +68,60 @@ fn bare<'a>(alloc: Global) -> Command<'a>
         .subcommand_required(true)
 }
 
+/// A command with one argument and options.
+fn of_one_with_options<'a>(alloc: Global, name: &'a str) -> Result<Command<'a>, AllocError>
+    ensures { IfOk result (λ command. IsAs command (spec.with_options (spec.of_one name.entry.now))) }
+{
+    with_options(alloc, of_one(alloc, name)?)
+}
+
+/// A command with two arguments and options.
+fn of_two_with_options<'a>(alloc: Global, name: &'a str) -> Result<Command<'a>, AllocError>
+    ensures { IfOk result (λ command. IsAs command (spec.with_options (spec.of_two name.entry.now))) }
+{
+    with_options(alloc, of_two(alloc, name)?)
+}
+
+/// The command with the subcommands over a number.
+fn with_numbers<'a>(alloc: Global, command: Command<'a>) -> Result<Command<'a>, AllocError>
+    ensures { (app : App) → IsAs command.entry app → IfOk result (λ changed. IsAs changed (spec.with_numbers app)) }
+{
+    let sum = of_one_with_options(alloc, "sum")?;
+    let work = of_one_with_options(alloc, "work")?;
+    command.subcommand(sum)?.subcommand(work)
+}
+
+/// The command with the subcommands over a plan and its whole input.
+fn with_plans<'a>(alloc: Global, command: Command<'a>) -> Result<Command<'a>, AllocError>
+    ensures { (app : App) → IsAs command.entry app → IfOk result (λ changed. IsAs changed (spec.with_plans app)) }
+{
+    let run = of_one_with_options(alloc, "run")?;
+    let slow = of_one(alloc, "slow")?;
+    let watch = of_two_with_options(alloc, "watch")?;
+    command.subcommand(run)?.subcommand(slow)?.subcommand(watch)
+}
+
+/// The command with the subcommands over a plan and a part of its input.
+fn with_parts<'a>(alloc: Global, command: Command<'a>) -> Result<Command<'a>, AllocError>
+    ensures { (app : App) → IsAs command.entry app → IfOk result (λ changed. IsAs changed (spec.with_parts app)) }
+{
+    let part = of_one_with_options(alloc, "part")?;
+    let save = of_one(alloc, "save")?;
+    let resume = of_two_with_options(alloc, "resume")?;
+    command
+        .subcommand(part)?
+        .subcommand(save)?
+        .subcommand(resume)
+}
+
 /// The command with its subcommands.
 fn program<'a>(alloc: Global) -> Result<Command<'a>, AllocError>
     ensures { IfOk result (λ command. IsAs command spec.program) }
 {
-    let sum = with_options(alloc, "sum")?;
-    let run = with_options(alloc, "run")?;
-    let work = with_options(alloc, "work")?;
-    let slow = with_argument(alloc, "slow")?;
-    let audit = Command::new(alloc, "audit");
-    bare(alloc)
-        .subcommand(sum)?
-        .subcommand(run)?
-        .subcommand(work)?
-        .subcommand(slow)?
-        .subcommand(audit)
+    let numbers = with_numbers(alloc, bare(alloc))?;
+    let plans = with_plans(alloc, numbers)?;
+    let parts = with_parts(alloc, plans)?;
+    parts.subcommand(Command::new(alloc, "audit"))
 }
 
 /// What `clap` reads in the words: none if it refuses them. It reads every command as it is meant, and it reads some

@@ -7,9 +7,14 @@
 //! | `slow PLAN` | the same rows, by the plain program |
 //! | `audit` | what the diary text on the input says, if it is legal |
 //! | `work N`, then options | the summary of sums over N records that are made, 1 to [`sb_generator::MAX_RECORDS`] |
+//! | `watch PLAN KEY`, then options | the last row of a key over the plan's rows |
+//! | `part PLAN`, then options | the rows of a first part of an input |
+//! | `save PLAN` | the checkpoint of a first part of an input |
+//! | `resume PLAN CHECKPOINT`, then options | the rows of the rest of an input |
 //!
-//! A PLAN has at least one byte and does not begin with `-`. The options stand behind the argument in any order, each at
-//! most once. An option and its value are two words.
+//! PLAN and CHECKPOINT are names of files: such a name has at least one byte and does not begin with `-`. A KEY is a
+//! [`sb_record::Word`] of 1 to 24 bytes that does not begin with `-`. The options stand behind the arguments in any
+//! order, each at most once. An option and its value are two words.
 //!
 //! | Option | Range | Without it | What it sets |
 //! |---|---|---|---|
@@ -19,7 +24,7 @@
 //! | `--diary` | | no | whether diaries are kept and written |
 //! | `--taps` | | no | whether rows are offered to the taps |
 //!
-//! `work` takes neither `--diary` nor `--taps`.
+//! `work`, `watch`, `part` and `resume` take neither `--diary` nor `--taps`.
 //!
 //! A number is decimal digits, without a sign and without leading zeros. Nothing else is taken: no `--bundle=8`, no
 //! abbreviation, no `--`, no `--help`.
@@ -29,6 +34,7 @@ mod clapped;
 pub mod laws;
 mod matched;
 mod options;
+mod planned;
 mod request;
 mod setting;
 #[cfg(test)]

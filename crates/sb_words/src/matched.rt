@@ -1,9 +1,9 @@
 //! What the matches of `clap` say.
 
-ghost use Rattle.std.specs.Prelude.{◌≡◌, ◌≤◌, ℕ, Bool, Some};
+ghost use Rattle.std.specs.Prelude.{◌≡◌, ◌≤◌, ℕ, Bool, Some, codes};
 ghost use Rattle.std.specs.Option.{option_map};
 ghost use Rattle.clap.specs.Words.{first_of, found_of, one_of, rows_of, subcommand_rows_of};
-ghost use Rattle.sb_words.specs.Readings.{AreRead, IsFlag, IsRead, IsReadAs};
+ghost use Rattle.sb_words.specs.Readings.{AreRead, IsFlag, IsRead, IsReadAs, IsReading};
 ghost use Rattle.sb_words.specs.Words.{Asked, asked};
 
 use crate::options::{
@@ -57,28 +57,109 @@ fn options_of(matches: &ArgMatches<'_>) -> Option<Options>
     })
 }
 
+/// What the matches of `sum` ask for.
+fn sum_of<'a>(matches: &ArgMatches<'a>) -> Option<Request<'a>>
+    ensures { IsReading result (codes "sum") (rows_of (found_of matches.now)) }
+{
+    let argument = text_of(matches, "argument")?;
+    let size = read_amount(MAX_SIZE, argument.as_bytes())?;
+    let options = options_of(matches)?;
+    Some(Request::Sum(size, options))
+}
+
+/// What the matches of `run` ask for.
+fn run_of<'a>(matches: &ArgMatches<'a>) -> Option<Request<'a>>
+    ensures { IsReading result (codes "run") (rows_of (found_of matches.now)) }
+{
+    let plan = text_of(matches, "argument")?;
+    let options = options_of(matches)?;
+    Some(Request::Run(plan, options))
+}
+
+/// What the matches of `slow` ask for.
+fn slow_of<'a>(matches: &ArgMatches<'a>) -> Option<Request<'a>>
+    ensures { IsReading result (codes "slow") (rows_of (found_of matches.now)) }
+{
+    let plan = text_of(matches, "argument")?;
+    Some(Request::Slow(plan))
+}
+
+/// What the matches of `work` ask for.
+fn work_of<'a>(matches: &ArgMatches<'a>) -> Option<Request<'a>>
+    ensures { IsReading result (codes "work") (rows_of (found_of matches.now)) }
+{
+    let argument = text_of(matches, "argument")?;
+    let records = read_amount(MAX_RECORDS, argument.as_bytes())?;
+    let options = options_of(matches)?;
+    Some(Request::Work(records, options))
+}
+
+/// What the matches of `watch` ask for.
+fn watch_of<'a>(matches: &ArgMatches<'a>) -> Option<Request<'a>>
+    ensures { IsReading result (codes "watch") (rows_of (found_of matches.now)) }
+{
+    let plan = text_of(matches, "argument")?;
+    let key = text_of(matches, "second")?;
+    let options = options_of(matches)?;
+    Some(Request::Watch(plan, key, options))
+}
+
+/// What the matches of `part` ask for.
+fn part_of<'a>(matches: &ArgMatches<'a>) -> Option<Request<'a>>
+    ensures { IsReading result (codes "part") (rows_of (found_of matches.now)) }
+{
+    let plan = text_of(matches, "argument")?;
+    let options = options_of(matches)?;
+    Some(Request::Part(plan, options))
+}
+
+/// What the matches of `save` ask for.
+fn save_of<'a>(matches: &ArgMatches<'a>) -> Option<Request<'a>>
+    ensures { IsReading result (codes "save") (rows_of (found_of matches.now)) }
+{
+    let plan = text_of(matches, "argument")?;
+    Some(Request::Save(plan))
+}
+
+/// What the matches of `resume` ask for.
+fn resume_of<'a>(matches: &ArgMatches<'a>) -> Option<Request<'a>>
+    ensures { IsReading result (codes "resume") (rows_of (found_of matches.now)) }
+{
+    let plan = text_of(matches, "argument")?;
+    let checkpoint = text_of(matches, "second")?;
+    let options = options_of(matches)?;
+    Some(Request::Resume(plan, checkpoint, options))
+}
+
 /// What a subcommand of this name and its matches ask for.
 fn asked_by<'a>(name: &str, matches: &ArgMatches<'a>) -> Option<Request<'a>>
-    ensures { (wanted : Asked) → IsReadAs wanted (Some (name.now, rows_of (found_of matches.now)))
-        → option_map asked result ≡ Some wanted }
+    ensures { IsReading result name.now (rows_of (found_of matches.now)) }
 {
-    if name == "audit" {
-        return Some(Request::Audit);
+    if name == "sum" {
+        return sum_of(matches);
     }
-    let argument = text_of(matches, "argument")?;
-    if name == "slow" {
-        return Some(Request::Slow(argument));
-    }
-    let options = options_of(matches)?;
     if name == "run" {
-        return Some(Request::Run(argument, options));
+        return run_of(matches);
+    }
+    if name == "slow" {
+        return slow_of(matches);
     }
     if name == "work" {
-        let records = read_amount(MAX_RECORDS, argument.as_bytes())?;
-        return Some(Request::Work(records, options));
+        return work_of(matches);
     }
-    let size = read_amount(MAX_SIZE, argument.as_bytes())?;
-    Some(Request::Sum(size, options))
+    if name == "watch" {
+        return watch_of(matches);
+    }
+    if name == "part" {
+        return part_of(matches);
+    }
+    if name == "save" {
+        return save_of(matches);
+    }
+    if name == "resume" {
+        return resume_of(matches);
+    }
+    Some(Request::Audit)
 }
 
 /// What the matches ask for.

@@ -5,6 +5,7 @@ ghost use Rattle.std.specs.List.{list_any};
 ghost use Rattle.std.specs.Str.{bytes_eq};
 ghost use Rattle.sb_words.specs.Options.{AreOptions, AreInRange, defaults, with_setting};
 ghost use Rattle.sb_words.specs.Texts.{texts};
+ghost use Rattle.sb_words.specs.Words.{AreSizesAlone};
 
 use crate::setting::{Setting, first_setting};
 
@@ -92,4 +93,17 @@ pub(crate) fn read_options(words: &[String]) -> Option<Options>
     }
     let options = read_options(rest)?;
     Some(options.with(setting))
+}
+
+/// The options that all of these words give, if they are options that set sizes alone.
+pub(crate) fn read_sizes(words: &[String]) -> Option<Options>
+    ensures exact { (options : Options) → (result ≡ Some options)
+        ↔ (AreOptions options (texts words.now) × AreSizesAlone options) }
+    ensures valid { IfSome result (λ options. AreInRange options × AreSizesAlone options) }
+{
+    let options = read_options(words)?;
+    if options.diary || options.taps {
+        return None;
+    }
+    Some(options)
 }

@@ -1,12 +1,13 @@
 //! The words of a command line, and what they ask for.
 
-ghost use Rattle.std.specs.Prelude.{◌≡◌, ◌≤◌, ◌<◌, ◌^◌, ◌↔◌, ◌∷◌, [], ℕ, Some, None, IsTrue, IfOk, IfSome, codes, decimal};
+ghost use Rattle.std.specs.Prelude.{◌≡◌, ◌≤◌, ◌<◌, ◌^◌, ◌↔◌, ◌∷◌, [], ℕ, Some, None, IfOk, IfSome, codes, decimal};
 ghost use Rattle.std.specs.Option.{option_map};
 ghost use Rattle.sb_words.specs.Texts.{texts};
-ghost use Rattle.sb_words.specs.Words.{Asked, IsCommand, IsFileName, IsNoCommand, IsValid, asked};
+ghost use Rattle.sb_words.specs.Words.{Asked, IsCommand, IsNoCommand, IsValid, asked};
 
 use crate::clapped::read_by_clap;
-use crate::options::{Options, read_options};
+use crate::options::{Options, read_options, read_sizes};
+use crate::planned::read_planned;
 use sb_generator::MAX_RECORDS;
 use sb_record::{NoMemory, read_number};
 use sb_window::MAX_SIZE;
@@ -26,6 +27,17 @@ pub enum Request<'a> {
     /// The summary of sums over so many records that are made, 1 to [`MAX_RECORDS`]. The options have no diary and no
     /// taps.
     Work(u64, Options),
+    /// The last row of a key over the rows of a plan: the name of the plan's file, and the key. The options have no
+    /// diary and no taps.
+    Watch(&'a str, &'a str, Options),
+    /// The rows of a first part of an input, by the plan in the file of this name. The options have no diary and no
+    /// taps.
+    Part(&'a str, Options),
+    /// The checkpoint of a first part of an input, by the plan in the file of this name.
+    Save(&'a str),
+    /// The rows of the rest of an input: the names of the plan's file and of the checkpoint's. The options have no diary
+    /// and no taps.
+    Resume(&'a str, &'a str, Options),
 }
 
 /// What the words ask for: none if they are no command. They are read with `clap`, and compared with the commands,
@@ -75,7 +87,7 @@ fn read_word(command: &str) -> Option<Request<'_>>
 }
 
 /// What a command, its argument and the words behind them ask for.
-fn read_command<'a>(command: &str, argument: &'a str, rest: &[String]) -> Option<Request<'a>>
+fn read_command<'a>(command: &str, argument: &'a str, rest: &'a [String]) -> Option<Request<'a>>
     ensures exact { (wanted : Asked) → (option_map asked result ≡ Some wanted)
         ↔ IsCommand wanted (command.now ∷ argument.now ∷ texts rest.now) }
     ensures valid { IfSome result (λ request. IsValid (asked request)) }
@@ -86,16 +98,7 @@ fn read_command<'a>(command: &str, argument: &'a str, rest: &[String]) -> Option
     if command == "work" {
         return read_work(argument, rest);
     }
-    if !is_file_name(argument) {
-        return None;
-    }
-    if command == "run" {
-        return read_run(argument, rest);
-    }
-    if command == "slow" && rest.is_empty() {
-        return Some(Request::Slow(argument));
-    }
-    None
+    read_planned(command, argument, rest)
 }
 
 /// What the argument of `sum` and the words behind it ask for.
@@ -109,17 +112,6 @@ fn read_sum<'a>(argument: &str, rest: &[String]) -> Option<Request<'a>>
     Some(Request::Sum(size, options))
 }
 
-/// What the plan's name and the words behind it ask for.
-fn read_run<'a>(name: &'a str, rest: &[String]) -> Option<Request<'a>>
-    requires { IsFileName name.now }
-    ensures exact { (wanted : Asked) → (option_map asked result ≡ Some wanted)
-        ↔ IsCommand wanted (codes "run" ∷ name.now ∷ texts rest.now) }
-    ensures valid { IfSome result (λ request. IsValid (asked request)) }
-{
-    let options = read_options(rest)?;
-    Some(Request::Run(name, options))
-}
-
 /// What the argument of `work` and the words behind it ask for.
 fn read_work<'a>(argument: &str, rest: &[String]) -> Option<Request<'a>>
     ensures exact { (wanted : Asked) → (option_map asked result ≡ Some wanted)
@@ -127,10 +119,7 @@ fn read_work<'a>(argument: &str, rest: &[String]) -> Option<Request<'a>>
     ensures valid { IfSome result (λ request. IsValid (asked request)) }
 {
     let records = read_amount(MAX_RECORDS, argument.as_bytes())?;
-    let options = read_options(rest)?;
-    if options.diary || options.taps {
-        return None;
-    }
+    let options = read_sizes(rest)?;
     Some(Request::Work(records, options))
 }
 
@@ -141,14 +130,4 @@ pub(crate) fn read_amount(most: u64, text: &[u8]) -> Option<u64>
 {
     let number = read_number(most, text)?;
     if number == 0 { None } else { Some(number) }
-}
-
-/// Whether a word is the name of a file, and no option.
-fn is_file_name(word: &str) -> bool
-    ensures { IsTrue result ↔ IsFileName word.now }
-{
-    match word.as_bytes().first() {
-        Some(byte) => *byte != b'-',
-        None => false,
-    }
 }

@@ -176,8 +176,101 @@ fn other_words_ask_for_nothing(rt: HostRuntime) -> Result<(), Fail> {
             "{text}"
         );
     }
-    let mut empty = words_of(rt.alloc(), "run")?;
-    empty.push(String::new(rt.alloc()))?;
-    assert_eq!(rt; read_words(rt.alloc(), empty.as_slice()), Ok(None));
+    Ok(())
+}
+
+#[test]
+fn commands_over_a_plan_ask_for_what_they_say(rt: HostRuntime) -> Result<(), Fail> {
+    let none = options(1_024, 256, false, false);
+    let some = Options {
+        workers: 4,
+        ..options(3, 2, false, false)
+    };
+    let longest = "abcdefghijklmnopqrstuvwx";
+    let taken = [
+        ("watch p.toml k", Request::Watch("p.toml", "k", none)),
+        (
+            "watch p abcdefghijklmnopqrstuvwx",
+            Request::Watch("p", longest, none),
+        ),
+        (
+            "watch p k --workers 4 --bundle 3 --pending 2",
+            Request::Watch("p", "k", some),
+        ),
+        ("part p.toml", Request::Part("p.toml", none)),
+        (
+            "part p --pending 2 --workers 4 --bundle 3",
+            Request::Part("p", some),
+        ),
+        ("save p.toml", Request::Save("p.toml")),
+        ("resume p.toml c", Request::Resume("p.toml", "c", none)),
+        (
+            "resume p c --bundle 3 --pending 2 --workers 4",
+            Request::Resume("p", "c", some),
+        ),
+    ];
+    for (text, wanted) in taken {
+        let words = words_of(rt.alloc(), text)?;
+        assert_eq!(rt;
+            read_words(rt.alloc(), words.as_slice()),
+            Ok(Some(wanted)),
+            "{text}"
+        );
+    }
+    Ok(())
+}
+
+#[test]
+fn other_words_over_a_plan_ask_for_nothing(rt: HostRuntime) -> Result<(), Fail> {
+    let faulty = [
+        "watch",
+        "watch p",
+        "watch -p k",
+        "watch p -x",
+        "watch p k,",
+        "watch p abcdefghijklmnopqrstuvwxy",
+        "watch p k x",
+        "watch p k --diary",
+        "watch p k --taps",
+        "watch p --workers 2 k",
+        "part",
+        "part -p",
+        "part p x",
+        "part p --taps",
+        "part p --diary",
+        "save",
+        "save -p",
+        "save p c",
+        "save p --workers 2",
+        "resume",
+        "resume p",
+        "resume p -c",
+        "resume p c --diary",
+        "resume p c --taps",
+        "resume p --workers 2 c",
+        "resume p --workers 2",
+    ];
+    for text in faulty {
+        let words = words_of(rt.alloc(), text)?;
+        assert_eq!(rt;
+            read_words(rt.alloc(), words.as_slice()),
+            Ok(None),
+            "{text}"
+        );
+    }
+    Ok(())
+}
+
+#[test]
+fn empty_words_ask_for_nothing(rt: HostRuntime) -> Result<(), Fail> {
+    for text in ["run", "watch p", "resume p"] {
+        let mut words = words_of(rt.alloc(), text)?;
+        words.push(String::new(rt.alloc()))?;
+        assert_eq!(rt;
+            read_words(rt.alloc(), words.as_slice()),
+            Ok(None),
+            "{text}"
+        );
+    }
     Ok(())
 }
