@@ -92,6 +92,8 @@ pub enum PlanCause {
     Unused,
     /// No transform is an aggregation, of windows or of sessions, or a join.
     NoWindow,
+    /// The plan has a session window, which can't be saved.
+    HasSession,
 }
 
 /// The first test that a plan file fails, and where.
