@@ -1,38 +1,45 @@
 -- What was written, by how a run ended, and why a run in which nothing fails is done.
-use Rattle.std.proofs.Common.{false, inl, inr, ◌≡◌, ℕ, List, [], ◌∷◌, ◌++◌, length, Option, refl, sym, ap, subst, ◌∙◌, arith, append-nil, length-append}
+use Rattle.std.proofs.Common.{true, false, inl, inr, ◌≡◌, ℕ, List, [], ◌∷◌, ◌++◌, length, Option, Some, Ok, Err, slice_get, refl, sym, ap, subst, ◌∙◌, arith, append-nil, length-append}
+use Rattle.std.specs.Prelude.{All}
 use Rattle.std.proofs.KnownBytes.{Appends-nil, Consumes-nil}
 use Rattle.sb_record.specs.declared.item.Dropped.{Dropped}
 use Rattle.sb_record.specs.declared.item.Item.{Item}
 use Rattle.sb_record.specs.declared.item.Record.{Record}
+use Rattle.sb_record.specs.declared.intake.Refusal.{Refusal}
 use Rattle.sb_record.specs.declared.intake.Stop.{Stop}
+use Rattle.sb_record.specs.declared.intake.Stop.TheVariants.{Refused}
 use Rattle.sb_record.specs.Records.{sorted, before}
 use Rattle.sb_record.specs.Rows.{text_of}
 use Rattle.sb_record.specs.declared.item.Stream.{Stream}
 use Rattle.sb_record.specs.declared.item.Stream.TheVariants.{A, B}
 use Rattle.sb_record.specs.Streams.{dropped_of, low_watermark, records_of}
 use Rattle.sb_pipeline.specs.Shapes.{Shape, streams_of}
+use Rattle.sb_pipeline.specs.declared.transform.Step.{Step}
+use Rattle.sb_pipeline.proofs.Steps.{All-at}
+use Rattle.sb_checkpoint.specs.Reach.{HasNoSession, is_session}
+use Rattle.sb_plan.specs.declared.fault.PlanFault.{PlanFault}
+use Rattle.sb_plan.specs.Failures.Failure.{Fails}
 use Rattle.sb_pipeline.specs.Results.{output_of}
 use Rattle.sb_slow.specs.Inputs.{by_stream}
 use Rattle.sb_outside.specs.Folders.{Files, Load}
 use Rattle.sb_outside.specs.Sinks.{AppendsPrefix}
 use Rattle.sb_outside.specs.Sources.{Rose}
+use Rattle.sb_outside.proofs.Appending.{prefix_of_more}
 use Rattle.sb_cli.specs.declared.ending.Ending.{Ending}
 use Rattle.sb_cli.specs.declared.status.Status.{Status}
-use Rattle.sb_cli.specs.declared.status.Status.TheVariants.{Done, Words, Plan, Line, Input, Output, Folder, Memory, Tap, Audit}
-use Rattle.sb_words.specs.Options.{defaults}
+use Rattle.sb_cli.specs.declared.status.Status.TheVariants.{Done, Words, Plan, Line, Input, Output, Folder, Memory, Tap, Audit, FileTooLong, Checkpoint}
 use Rattle.sb_words.specs.Words.{Asked, Asked as ask}
-use Rattle.sb_words.specs.Words.Asked.{Sum, Run, Slow, Work}
+use Rattle.sb_words.specs.Words.Asked.{Sum, Run, Slow, Work, Watch, Part, Save, Resume}
 use Rattle.sb_words.specs.declared.options.Options.{Options}
 use Rattle.sb_emit.specs.Taps.{TapState}
 use Rattle.sb_feed.specs.Due.{due_mark, due_rows, streams_in}
+use Rattle.sb_cli.specs.Courses.{Course, course_in}
 use Rattle.sb_cli.specs.Offered.{BlamesTap, IsOfferedOf}
-use Rattle.sb_cli.specs.PlainSteps.{WritesDue}
-use Rattle.sb_cli.specs.Pipelines.{IsPlanFor, TellsPlan, all_rows, options_in}
+use Rattle.sb_cli.specs.Pipelines.{GivesPlan, IsFaultOfCut, IsPlanFor, TellsCutPlan, TellsPlan, TellsPlanIn, all_rows}
 use Rattle.sb_cli.specs.Summaries.{summary_text, work_rows}
-use Rattle.sb_cli.specs.Told.{TellsDiaries}
-use Rattle.sb_cli.proofs.RunAnswers.{due_are_first, part_of_all_rows}
-use Rattle.sb_feed.specs.Given.{Given, items_of, lines_of, stop_at}
-use Rattle.sb_cli.specs.Answers.{ending_of, HasWritten, ListsDropped, WrotePrefix, HasNoPlan, IsAnswer, IsAnswerOf, IsAuditAnswer, IsPlanAnswer, HasAudited, HasPrinted}
+use Rattle.sb_cli.specs.Told.{AreToldIf, TellsDiaries}
+use Rattle.sb_feed.specs.Given.{Given, items_of, lines_of}
+use Rattle.sb_cli.specs.Answers.{ending_of, HasWritten, ListsDropped, WrotePrefix, HasNoPlan, IsAnswer, IsAnswerBy, IsAnswerOf, IsAuditAnswer, IsPlanAnswer, HasAudited, HasPrinted}
 use Rattle.sb_cli.specs.Faults.{BlamesFile, Faults, HasCause, IsDoneOrMemory, NothingFails, NothingFailsInAudit}
 
 -- nothing is a prefix of any text
@@ -72,48 +79,71 @@ no_memory folder wanted left taken ending is none untold =
     for (Slow name) = inl (record { no_plan = tt; unread = refl; unwritten = refl; undropped = refl; untold = refl })
     for ask.Audit = record { given = unread left; audited = inl refl; undropped = refl; untold = refl }
     for (Work records options) = record { printed = nothing_printed (summary_text records (work_rows records)) taken; undropped = refl; untold = refl }
+    for (Watch name key options) = inl (record { no_plan = tt; unread = refl; unwritten = refl; undropped = refl; untold = refl })
+    for (Part name options) = inl (record { no_plan = tt; unread = refl; unwritten = refl; undropped = refl; untold = refl })
+    for (Save name) = inl (record { no_plan = tt; unread = refl; unwritten = refl; undropped = refl; untold = refl })
+    for (Resume name checkpoint options) = inl (record { no_plan = tt; unread = refl; unwritten = refl; undropped = refl; untold = refl })
 
--- all late records are listed, whatever became of the rows
-pub all_listed : (items : List Item) (dropped : List Dropped) (rows : List Record) (stop : Stop) (taken taken' : Option (List ℕ)) (status : Status)
-    → WritesDue rows stop taken taken' status → dropped ≡ dropped_of items → ListsDropped items dropped status
-all_listed items dropped rows stop taken taken' Done written is = is
-all_listed items dropped rows stop taken taken' (Line refusal) written is = is
-all_listed items dropped rows stop taken taken' Input written is = is
-all_listed items dropped rows stop taken taken' Output written is = record { rest = []; are = sym is ∙ sym (append-nil dropped) }
-all_listed items dropped rows stop taken taken' Memory written is = record { rest = []; are = sym is ∙ sym (append-nil dropped) }
-all_listed items dropped rows stop taken taken' (Tap place) written is = absurd written
-all_listed items dropped rows stop taken taken' Words written is = absurd written
-all_listed items dropped rows stop taken taken' (Plan fault) written is = absurd written
-all_listed items dropped rows stop taken taken' Folder written is = absurd written
-all_listed items dropped rows stop taken taken' (Audit fault) written is = absurd written
+-- all late records are listed, whatever was written
+pub all_listed : (items : List Item) (dropped : List Dropped) (stop : Stop) (due whole : List ℕ) (taken taken' : Option (List ℕ)) (status : Status)
+    → HasWritten stop due whole taken taken' status → dropped ≡ dropped_of items → ListsDropped items dropped status
+all_listed items dropped stop due whole taken taken' Done written is = is
+all_listed items dropped stop due whole taken taken' (Line refusal) written is = is
+all_listed items dropped stop due whole taken taken' Input written is = is
+all_listed items dropped stop due whole taken taken' Output written is = record { rest = []; are = sym is ∙ sym (append-nil dropped) }
+all_listed items dropped stop due whole taken taken' Memory written is = record { rest = []; are = sym is ∙ sym (append-nil dropped) }
+all_listed items dropped stop due whole taken taken' (Tap place) written is = record { rest = []; are = sym is ∙ sym (append-nil dropped) }
+all_listed items dropped stop due whole taken taken' Words written is = absurd written
+all_listed items dropped stop due whole taken taken' (Plan fault) written is = absurd written
+all_listed items dropped stop due whole taken taken' Folder written is = absurd written
+all_listed items dropped stop due whole taken taken' (Audit fault) written is = absurd written
+all_listed items dropped stop due whole taken taken' FileTooLong written is = absurd written
+all_listed items dropped stop due whole taken taken' (Checkpoint line) written is = absurd written
 
--- the rows that are due were written, or a prefix of them, which is one of all rows
-pub due_written : (plan : Shape) {left left' : Option (List ℕ)} (given : Given left left') (taken taken' : Option (List ℕ)) (status : Status)
-    → WritesDue (due_rows plan (stop_at plan given) (items_of plan given)) (stop_at plan given) taken taken' status → HasWritten plan (stop_at plan given) (items_of plan given) taken taken' status
-due_written plan given taken taken' Done written = written
-due_written plan given taken taken' (Line refusal) written = written
-due_written plan given taken taken' Input written = written
-due_written plan given taken taken' Output written = part_of_all_rows plan _ _ taken taken' (due_are_first plan given (stop_at plan given)) written
-due_written plan given taken taken' Memory written = part_of_all_rows plan _ _ taken taken' (due_are_first plan given (stop_at plan given)) written
-due_written plan given taken taken' (Tap place) written = absurd written
-due_written plan given taken taken' Words written = absurd written
-due_written plan given taken taken' (Plan fault) written = absurd written
-due_written plan given taken taken' Folder written = absurd written
-due_written plan given taken taken' (Audit fault) written = absurd written
+-- a prefix of what is due is one of a text that begins with it
+pub due_written : (stop : Stop) (due whole more : List ℕ) (taken taken' : Option (List ℕ)) (status : Status) → whole ≡ due ++ more
+    → HasWritten stop due due taken taken' status → HasWritten stop due whole taken taken' status
+due_written stop due whole more taken taken' Done is written = written
+due_written stop due whole more taken taken' (Line refusal) is written = written
+due_written stop due whole more taken taken' Input is written = written
+due_written stop due whole more taken taken' Output is written = subst (AppendsPrefix taken taken') (sym is) (prefix_of_more taken taken' due more written)
+due_written stop due whole more taken taken' Memory is written = subst (AppendsPrefix taken taken') (sym is) (prefix_of_more taken taken' due more written)
+due_written stop due whole more taken taken' (Tap place) is written = subst (AppendsPrefix taken taken') (sym is) (prefix_of_more taken taken' due more written)
+due_written stop due whole more taken taken' Words is written = written
+due_written stop due whole more taken taken' (Plan fault) is written = written
+due_written stop due whole more taken taken' Folder is written = written
+due_written stop due whole more taken taken' (Audit fault) is written = written
+due_written stop due whole more taken taken' FileTooLong is written = written
+due_written stop due whole more taken taken' (Checkpoint line) is written = written
 
--- the plain program tells no diary
-pub none_told : (plan : Shape) (items : List Item) (rows : List Record) (stop : Stop) (taken taken' : Option (List ℕ)) (status : Status)
-    → WritesDue rows stop taken taken' status → TellsDiaries plan defaults items [] status
-none_told plan items rows stop taken taken' Done written = refl
-none_told plan items rows stop taken taken' (Line refusal) written = refl
-none_told plan items rows stop taken taken' Input written = refl
-none_told plan items rows stop taken taken' Output written = refl
-none_told plan items rows stop taken taken' Memory written = refl
-none_told plan items rows stop taken taken' (Tap place) written = refl
-none_told plan items rows stop taken taken' Words written = absurd written
-none_told plan items rows stop taken taken' (Plan fault) written = absurd written
-none_told plan items rows stop taken taken' Folder written = absurd written
-none_told plan items rows stop taken taken' (Audit fault) written = absurd written
+-- without diaries none is told
+pub none_told : (plan : Shape) (options : Options) (items : List Item) (stop : Stop) (due whole : List ℕ) (taken taken' : Option (List ℕ)) (status : Status)
+    → options.diary ≡ false → HasWritten stop due whole taken taken' status → TellsDiaries plan options items [] status
+none_told plan options items stop due whole taken taken' Done off written = subst (λ keep. AreToldIf keep plan options.bundle items []) (sym off) refl
+none_told plan options items stop due whole taken taken' (Line refusal) off written = refl
+none_told plan options items stop due whole taken taken' Input off written = refl
+none_told plan options items stop due whole taken taken' Output off written = refl
+none_told plan options items stop due whole taken taken' Memory off written = refl
+none_told plan options items stop due whole taken taken' (Tap place) off written = refl
+none_told plan options items stop due whole taken taken' Words off written = absurd written
+none_told plan options items stop due whole taken taken' (Plan fault) off written = absurd written
+none_told plan options items stop due whole taken taken' Folder off written = absurd written
+none_told plan options items stop due whole taken taken' (Audit fault) off written = absurd written
+none_told plan options items stop due whole taken taken' FileTooLong off written = absurd written
+none_told plan options items stop due whole taken taken' (Checkpoint line) off written = absurd written
+
+-- so it is of an answer of which what was written is known
+pub plain_answer : (plan : Shape) (options : Options) {left left' : Option (List ℕ)} (given : Given left left') (course : Given left left' → Course) (taken taken' : Option (List ℕ)) (status : Status)
+    (dropped : List Dropped) → options.diary ≡ false → HasWritten (course given).stop (course given).due (course given).whole taken taken' status → dropped ≡ dropped_of (course given).items
+    → IsAnswerBy plan options left left' taken taken' course (ending_of status dropped [])
+plain_answer plan options given course taken taken' status dropped off written listed =
+    let c = course given in
+    record {
+      given = given;
+      written = written;
+      lists = all_listed c.items dropped c.stop c.due c.whole taken taken' status written listed;
+      tells = none_told plan options c.items c.stop c.due c.whole taken taken' status off written;
+    }
 
 -- the rows below the watermark are those that are due
 pub rows_are_due : (plan : Shape) (below low : ℕ) (stop : Stop) (items : List Item) (a b rows : List Record) → rows ≡ sorted (before below (output_of plan (by_stream a b)))
@@ -124,36 +154,68 @@ rows_are_due plan below low stop items a b rows are of_a of_b at is_low = are �
     each A = of_a
     each B = of_b
 
--- a run for a plan in which nothing fails is done
-complete_for : (plan : Shape) (left left' taken taken' : Option (List ℕ)) (before now : Faults) (taps taps' : List TapState) (status : Status) (given : Given left left')
-    → HasWritten plan (stop_at plan given) (items_of plan given) taken taken' status → HasCause before now status → ((place : ℕ) → status ≡ Tap place → BlamesTap place taps taps')
-    → NothingFails plan left left' before now taps taps' → IsDoneOrMemory status
-complete_for plan left left' taken taken' before now taps taps' Done given is cause tap fine = inl refl
-complete_for plan left left' taken taken' before now taps taps' Words given is cause tap fine = absurd is
-complete_for plan left left' taken taken' before now taps taps' (Plan fault) given is cause tap fine = absurd is
-complete_for plan left left' taken taken' before now taps taps' (Line refusal) given is cause tap fine = absurd (fine.no_refusal given refusal is.0)
-complete_for plan left left' taken taken' before now taps taps' Input given is cause tap fine = absurd (fine.no_read_failed cause)
-complete_for plan left left' taken taken' before now taps taps' Output given is cause tap fine = absurd (fine.no_write_failed cause)
-complete_for plan left left' taken taken' before now taps taps' Folder given is cause tap fine = absurd is
-complete_for plan left left' taken taken' before now taps taps' Memory given is cause tap fine = inr refl
-complete_for plan left left' taken taken' before now taps taps' (Audit fault) given is cause tap fine = absurd is
-complete_for plan left left' taken taken' before now taps taps' (Tap place) given is cause tap fine = absurd (fine.no_tap_failed place (tap place refl))
+-- a run in which nothing fails is done
+pub complete_for : (stop : Stop) (due whole : List ℕ) (taken taken' : Option (List ℕ)) (before now : Faults) (status : Status)
+    → HasWritten stop due whole taken taken' status → HasCause before now status → ((refusal : Refusal) → stop ≡ Refused refusal → ⊥) → (Rose before.reads now.reads → ⊥)
+    → (Rose before.writes now.writes → ⊥) → ((place : ℕ) → status ≡ Tap place → ⊥) → IsDoneOrMemory status
+complete_for stop due whole taken taken' before now Done is cause accepted read wrote tap = inl refl
+complete_for stop due whole taken taken' before now Words is cause accepted read wrote tap = absurd is
+complete_for stop due whole taken taken' before now (Plan fault) is cause accepted read wrote tap = absurd is
+complete_for stop due whole taken taken' before now (Line refusal) is cause accepted read wrote tap = absurd (accepted refusal is.0)
+complete_for stop due whole taken taken' before now Input is cause accepted read wrote tap = absurd (read cause)
+complete_for stop due whole taken taken' before now Output is cause accepted read wrote tap = absurd (wrote cause)
+complete_for stop due whole taken taken' before now Folder is cause accepted read wrote tap = absurd is
+complete_for stop due whole taken taken' before now Memory is cause accepted read wrote tap = inr refl
+complete_for stop due whole taken taken' before now (Audit fault) is cause accepted read wrote tap = absurd is
+complete_for stop due whole taken taken' before now (Tap place) is cause accepted read wrote tap = absurd (tap place refl)
+complete_for stop due whole taken taken' before now FileTooLong is cause accepted read wrote tap = absurd is
+complete_for stop due whole taken taken' before now (Checkpoint line) is cause accepted read wrote tap = absurd is
+
+-- a file gives one plan
+pub same_plan : (folder : Option Files) (name : List ℕ) (plan told : Shape) → GivesPlan folder name (Ok plan) → TellsPlanIn folder name told → plan ≡ told
+same_plan folder name plan told gives tells = let same = sym (gives tells.0 tells.1) ∙ tells.2 in cc
 
 -- the plan that is answered for is the one that the folder's files give
 one_plan : (folder : Option Files) (wanted : Asked) (plan told : Shape) → IsPlanFor folder wanted plan → TellsPlan folder wanted told → plan ≡ told
 one_plan folder (Sum size options) plan told is tells = is ∙ sym tells
-one_plan folder (Run name options) plan told is tells = let same = sym (is.1 tells.0 tells.1) ∙ tells.2 in cc
-one_plan folder (Slow name) plan told is tells = let same = sym (is.1 tells.0 tells.1) ∙ tells.2 in cc
+one_plan folder (Run name options) plan told is tells = same_plan folder name plan told is.1 tells
+one_plan folder (Slow name) plan told is tells = same_plan folder name plan told is.1 tells
 one_plan folder ask.Audit plan told is tells = absurd is
 one_plan folder (Work records options) plan told is tells = absurd is
+one_plan folder (Watch name key options) plan told is tells = same_plan folder name plan told is.1 tells
+one_plan folder (Part name options) plan told is tells = same_plan folder name plan told is.1 tells
+one_plan folder (Save name) plan told is tells = same_plan folder name plan told is.1 tells.0
+one_plan folder (Resume name checkpoint options) plan told is tells = absurd tells
+
+-- a file that gives a plan has no fault
+no_fault : (folder : Option Files) (name : List ℕ) (plan : Shape) (fault : PlanFault) → GivesPlan folder name (Err (Fails fault)) → TellsPlanIn folder name plan → ⊥
+no_fault folder name plan fault fails tells = let same = sym (fails tells.0 tells.1) ∙ tells.2 in cc same
+
+-- a transform that is there among those that gather no records by session gathers none
+in_none : (steps : List Step) (place : ℕ) (step : Step) → All (λ s. is_session s.kind ≡ false) steps → slice_get steps place ≡ Some step → is_session step.kind ≡ true → ⊥
+in_none steps place step none there is = let no = All-at (λ s. is_session s.kind ≡ false) steps place step none there in cc (no, is)
+
+-- nor has it one for runs that are cut in two, if no transform gathers records by session
+pub no_fault_of_cut : (folder : Option Files) (name : List ℕ) (plan : Shape) (fault : PlanFault) → IsFaultOfCut folder name fault → TellsCutPlan folder name plan → ⊥
+no_fault_of_cut folder name plan fault (inl fails) tells = no_fault folder name plan fault fails tells.0
+no_fault_of_cut folder name plan fault (inr (found, gives, blames)) tells =
+    let same = same_plan folder name found plan gives tells.0 in
+    let none = subst HasNoSession (sym same) tells.1 in
+    in_none found.steps blames.place blames.first.step none blames.first.there blames.first.is
 
 -- if the folder's files give a plan there is no fault in it, and no load is blamed
 plan_is_had : (folder : Option Files) (wanted : Asked) (plan : Shape) (status : Status) → HasNoPlan folder wanted status → TellsPlan folder wanted plan → (status ≡ Folder → ⊥) → IsDoneOrMemory status
 plan_is_had folder wanted plan Memory none tells no_load = inr refl
 plan_is_had folder wanted plan Folder none tells no_load = absurd (no_load refl)
 plan_is_had folder (Sum size options) plan (Plan fault) none tells no_load = absurd none
-plan_is_had folder (Run name options) plan (Plan fault) none tells no_load = let same = sym (none tells.0 tells.1) ∙ tells.2 in cc
-plan_is_had folder (Slow name) plan (Plan fault) none tells no_load = let same = sym (none tells.0 tells.1) ∙ tells.2 in cc
+plan_is_had folder (Run name options) plan (Plan fault) none tells no_load = absurd (no_fault folder name plan fault none tells)
+plan_is_had folder (Slow name) plan (Plan fault) none tells no_load = absurd (no_fault folder name plan fault none tells)
+plan_is_had folder (Watch name key options) plan (Plan fault) none tells no_load = absurd (no_fault folder name plan fault none tells)
+plan_is_had folder (Part name options) plan (Plan fault) none tells no_load = absurd (no_fault folder name plan fault none tells)
+plan_is_had folder (Save name) plan (Plan fault) none tells no_load = absurd (no_fault_of_cut folder name plan fault none tells)
+plan_is_had folder (Resume name checkpoint options) plan (Plan fault) none tells no_load = absurd tells
+plan_is_had folder ask.Audit plan (Plan fault) none tells no_load = absurd none
+plan_is_had folder (Work records options) plan (Plan fault) none tells no_load = absurd none
 plan_is_had folder wanted plan Done none tells no_load = absurd none
 plan_is_had folder wanted plan Words none tells no_load = absurd none
 plan_is_had folder wanted plan (Line refusal) none tells no_load = absurd none
@@ -161,11 +223,27 @@ plan_is_had folder wanted plan Input none tells no_load = absurd none
 plan_is_had folder wanted plan Output none tells no_load = absurd none
 plan_is_had folder wanted plan (Tap place) none tells no_load = absurd none
 plan_is_had folder wanted plan (Audit fault) none tells no_load = absurd none
-plan_is_had folder ask.Audit plan (Plan fault) none tells no_load = absurd none
-plan_is_had folder (Work records options) plan (Plan fault) none tells no_load = absurd none
+plan_is_had folder (Sum size options) plan FileTooLong none tells no_load = absurd none
+plan_is_had folder (Run name options) plan FileTooLong none tells no_load = absurd none
+plan_is_had folder (Slow name) plan FileTooLong none tells no_load = absurd none
+plan_is_had folder ask.Audit plan FileTooLong none tells no_load = absurd none
+plan_is_had folder (Work records options) plan FileTooLong none tells no_load = absurd none
+plan_is_had folder (Watch name key options) plan FileTooLong none tells no_load = absurd none
+plan_is_had folder (Part name options) plan FileTooLong none tells no_load = absurd none
+plan_is_had folder (Save name) plan FileTooLong none tells no_load = absurd none
+plan_is_had folder (Resume name checkpoint options) plan FileTooLong none tells no_load = absurd tells
+plan_is_had folder (Sum size options) plan (Checkpoint line) none tells no_load = absurd none
+plan_is_had folder (Run name options) plan (Checkpoint line) none tells no_load = absurd none
+plan_is_had folder (Slow name) plan (Checkpoint line) none tells no_load = absurd none
+plan_is_had folder ask.Audit plan (Checkpoint line) none tells no_load = absurd none
+plan_is_had folder (Work records options) plan (Checkpoint line) none tells no_load = absurd none
+plan_is_had folder (Watch name key options) plan (Checkpoint line) none tells no_load = absurd none
+plan_is_had folder (Part name options) plan (Checkpoint line) none tells no_load = absurd none
+plan_is_had folder (Save name) plan (Checkpoint line) none tells no_load = absurd none
+plan_is_had folder (Resume name checkpoint options) plan (Checkpoint line) none tells no_load = absurd tells
 
 -- no load is blamed if none failed
-not_blamed : (folder : Option Files) (wanted : Asked) (before now : List Load) → BlamesFile folder wanted before now → now ≡ before → ⊥
+pub not_blamed : (folder : Option Files) (wanted : Asked) (before now : List Load) → BlamesFile folder wanted before now → now ≡ before → ⊥
 not_blamed folder wanted before now (load, is, more) same = no_longer before load (sym more ∙ same)
   where
     no_longer : (loads : List Load) (load : Load) → loads ++ load ∷ [] ≡ loads → ⊥
@@ -173,25 +251,37 @@ not_blamed folder wanted before now (load, is, more) same = no_longer before loa
 
 by_plan : (folder : Option Files) (wanted : Asked) (plan : Shape) (left left' taken taken' : Option (List ℕ)) (before now : Faults) (taps taps' : List TapState) (ending : Ending)
     → IsPlanAnswer folder wanted left left' taken taken' ending → HasCause before now ending.status → (ending.status ≡ Folder → BlamesFile folder wanted before.loads now.loads)
-    → ((place : ℕ) → ending.status ≡ Tap place → BlamesTap place taps taps') → TellsPlan folder wanted plan → NothingFails plan left left' before now taps taps' → IsDoneOrMemory ending.status
+    → ((place : ℕ) → ending.status ≡ Tap place → BlamesTap place taps taps') → TellsPlan folder wanted plan
+    → NothingFails left left' (λ given. course_in wanted plan given) before now taps taps' → IsDoneOrMemory ending.status
 by_plan folder wanted plan left left' taken taken' before now taps taps' ending (inl none) cause blames tap tells fine =
     plan_is_had folder wanted plan ending.status none.no_plan tells (λ is. not_blamed folder wanted before.loads now.loads (blames is) fine.no_load_failed)
 by_plan folder wanted plan left left' taken taken' before now taps taps' ending (inr found) cause blames tap tells fine =
-    let same : found.0 ≡ plan = one_plan folder wanted found.0 plan found.1 tells in
-    let is = subst (λ p. IsAnswerOf p (options_in wanted) left left' taken taken' ending) same found.2 in
-    complete_for plan left left' taken taken' before now taps taps' ending.status is.given is.written cause tap fine
+    let (other, is_plan, is) = found in
+    let same = one_plan folder wanted other plan is_plan tells in
+    let c = course_in wanted other is.given in
+    complete_for c.stop c.due c.whole taken taken' before now ending.status is.written cause
+    (λ refusal e. fine.no_refusal is.given refusal (subst (λ p. (course_in wanted p is.given).stop ≡ Refused refusal) same e))
+    fine.no_read_failed fine.no_write_failed (λ place e. fine.no_tap_failed place (tap place e))
 
 pub is_complete : (folder : Option Files) (wanted : Asked) (plan : Shape) (left left' taken taken' : Option (List ℕ)) (before now : Faults) (taps taps' : List TapState) (ending : Ending)
     → IsAnswer folder wanted left left' taken taken' ending → HasCause before now ending.status → (ending.status ≡ Folder → BlamesFile folder wanted before.loads now.loads)
-    → ((place : ℕ) → ending.status ≡ Tap place → BlamesTap place taps taps') → TellsPlan folder wanted plan → NothingFails plan left left' before now taps taps' → IsDoneOrMemory ending.status
+    → ((place : ℕ) → ending.status ≡ Tap place → BlamesTap place taps taps') → TellsPlan folder wanted plan
+    → NothingFails left left' (λ given. course_in wanted plan given) before now taps taps' → IsDoneOrMemory ending.status
 is_complete folder (Sum size options) plan left left' taken taken' before now taps taps' ending is cause blames tap tells fine =
     by_plan folder (Sum size options) plan left left' taken taken' before now taps taps' ending is cause blames tap tells fine
 is_complete folder (Run name options) plan left left' taken taken' before now taps taps' ending is cause blames tap tells fine =
     by_plan folder (Run name options) plan left left' taken taken' before now taps taps' ending is cause blames tap tells fine
 is_complete folder (Slow name) plan left left' taken taken' before now taps taps' ending is cause blames tap tells fine =
     by_plan folder (Slow name) plan left left' taken taken' before now taps taps' ending is cause blames tap tells fine
+is_complete folder (Watch name key options) plan left left' taken taken' before now taps taps' ending is cause blames tap tells fine =
+    by_plan folder (Watch name key options) plan left left' taken taken' before now taps taps' ending is cause blames tap tells fine
+is_complete folder (Part name options) plan left left' taken taken' before now taps taps' ending is cause blames tap tells fine =
+    by_plan folder (Part name options) plan left left' taken taken' before now taps taps' ending is cause blames tap tells fine
+is_complete folder (Save name) plan left left' taken taken' before now taps taps' ending is cause blames tap tells fine =
+    by_plan folder (Save name) plan left left' taken taken' before now taps taps' ending is cause blames tap tells fine
 is_complete folder ask.Audit plan left left' taken taken' before now taps taps' ending is cause blames tap tells fine = absurd tells
 is_complete folder (Work records options) plan left left' taken taken' before now taps taps' ending is cause blames tap tells fine = absurd tells
+is_complete folder (Resume name checkpoint options) plan left left' taken taken' before now taps taps' ending is cause blames tap tells fine = absurd tells
 
 -- an audit in which nothing fails is done
 audit_ends : (left left' taken taken' : Option (List ℕ)) (before now : Faults) (status : Status) (given : Given left left')
@@ -206,6 +296,8 @@ audit_ends left left' taken taken' before now (Plan fault) given is cause fine =
 audit_ends left left' taken taken' before now (Line refusal) given is cause fine = absurd is
 audit_ends left left' taken taken' before now Folder given is cause fine = absurd is
 audit_ends left left' taken taken' before now (Tap place) given is cause fine = absurd is
+audit_ends left left' taken taken' before now FileTooLong given is cause fine = absurd is
+audit_ends left left' taken taken' before now (Checkpoint line) given is cause fine = absurd is
 
 pub audit_is_complete : (left left' taken taken' : Option (List ℕ)) (before now : Faults) (ending : Ending) → IsAuditAnswer left left' taken taken' ending
     → HasCause before now ending.status → NothingFailsInAudit left left' before now → IsDoneOrMemory ending.status
@@ -224,3 +316,5 @@ work_is_complete text taken taken' before now Input is cause fine = absurd is
 work_is_complete text taken taken' before now Folder is cause fine = absurd is
 work_is_complete text taken taken' before now (Tap place) is cause fine = absurd is
 work_is_complete text taken taken' before now (Audit fault) is cause fine = absurd is
+work_is_complete text taken taken' before now FileTooLong is cause fine = absurd is
+work_is_complete text taken taken' before now (Checkpoint line) is cause fine = absurd is

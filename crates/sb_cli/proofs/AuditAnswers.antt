@@ -6,7 +6,7 @@ use Rattle.sb_cli.specs.declared.diary_input.DiaryHalt.TheVariants as halt
 use Rattle.sb_cli.specs.declared.diary_input.DiaryInput.{DiaryInput}
 use Rattle.sb_cli.specs.declared.ending.Ending.{Ending}
 use Rattle.sb_cli.specs.declared.status.Status.{Status}
-use Rattle.sb_cli.specs.declared.status.Status.TheVariants.{Done, Words, Plan, Line, Input, Output, Folder, Memory, Tap, Audit}
+use Rattle.sb_cli.specs.declared.status.Status.TheVariants.{Done, Words, Plan, Line, Input, Output, Folder, Memory, Tap, Audit, FileTooLong, Checkpoint}
 use Rattle.sb_cli.specs.Answers.{Audited, HasAudited, HasPrinted, IsAuditAnswer}
 use Rattle.sb_cli.specs.AuditSteps.{AnswersHalt}
 use Rattle.sb_cli.specs.DiaryReads.{IsReadUpTo, ReadsDiary}
@@ -34,6 +34,8 @@ audit_answer left left' taken taken' input why status ending reads is answers st
     by_status (Plan fault) read writes = absurd writes
     by_status (Line refusal) read writes = absurd writes
     by_status (Audit fault) read writes = absurd writes
+    by_status FileTooLong read writes = absurd writes
+    by_status (Checkpoint line) read writes = absurd writes
     by_status Folder read writes = absurd writes
     by_status (Tap place) read writes = absurd writes
 

@@ -7,7 +7,7 @@ use Rattle.sb_emit.specs.Taps.{TapState}
 use Rattle.sb_feed.specs.TapLists.{SawRows, StopsIn, stays_for}
 use Rattle.sb_pipeline.specs.Shapes.{Shape}
 use Rattle.sb_cli.specs.declared.status.Status.{Status}
-use Rattle.sb_cli.specs.declared.status.Status.TheVariants.{Done, Words, Plan, Line, Input, Output, Folder, Memory, Tap, Audit}
+use Rattle.sb_cli.specs.declared.status.Status.TheVariants.{Done, Words, Plan, Line, Input, Output, Folder, Memory, Tap, Audit, FileTooLong, Checkpoint}
 use Rattle.sb_cli.specs.Offered.{BlamesTap, IsNoTap, IsOfferedOf}
 
 -- x is in the list, between these
@@ -84,6 +84,8 @@ no_tap plan left left' taken taken' taps' Output is = tt
 no_tap plan left left' taken taken' taps' Folder is = tt
 no_tap plan left left' taken taken' taps' Memory is = tt
 no_tap plan left left' taken taken' taps' (Audit fault) is = tt
+no_tap plan left left' taken taken' taps' FileTooLong is = tt
+no_tap plan left left' taken taken' taps' (Checkpoint line) is = tt
 
 -- where no status tells of a tap, none is to blame
 pub none_to_blame : (place : ℕ) (status : Status) → IsNoTap status → status ≡ Tap place → ⊥

@@ -10,3 +10,13 @@ pub mod RunAnswers
 pub mod RunFaults
 pub mod Tellings
 pub mod WorkRuns
+pub mod CutAnswers
+pub mod CutFaults
+pub mod CutThrough
+pub mod WatchAnswers
+pub mod RestAnswers
+pub mod RestEnds
+pub mod CheckpointLoads
+pub mod SaveAnswers
+pub mod Sessions
+pub mod CutLaws

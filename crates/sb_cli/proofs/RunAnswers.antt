@@ -1,6 +1,6 @@
 -- From how a run of the engine ended to its answer.
 use Rattle.std.proofs.Common.{◌≡◌, ℕ, ◌+◌, ◌≤◌, Bool, true, false, List, [], ◌∷◌, ◌++◌, Option, Some, Result, Ok, Err, length, refl, sym, ap, subst, ◌∙◌, arith, append-nil, length-append, zero, suc, slice_get, map}
-use Rattle.std.specs.Io.KnownBytes.{Keeps}
+use Rattle.std.specs.Io.KnownBytes.{Appends, Keeps}
 use Rattle.std.specs.Option.{option_map}
 use Rattle.std.proofs.lemmas.Option.{same_Some, slice_get-map}
 use Rattle.std.proofs.lemmas.List.{length-map}
@@ -15,6 +15,7 @@ use Rattle.sb_record.specs.Streams.{low_watermark}
 use Rattle.sb_record.proofs.Earlier.{sorted_before-front}
 use Rattle.sb_record.proofs.InputLemmas.{accepted-in_range, low_watermark-in_range}
 use Rattle.sb_outside.specs.Lines.{lines}
+use Rattle.sb_outside.specs.Sinks.{AppendsPrefix}
 use Rattle.sb_outside.proofs.Appending.{appends_kept}
 use Rattle.sb_outside.specs.declared.sink.SinkFault.{SinkFault}
 use Rattle.sb_outside.specs.declared.sink.SinkFault.TheVariants as fault
@@ -23,6 +24,7 @@ use Rattle.sb_pipeline.specs.Operators.Operator.{Sink}
 use Rattle.sb_pipeline.specs.Results.{output_of}
 use Rattle.sb_pipeline.specs.Shapes.{Shape, streams_of}
 use Rattle.sb_pipeline.specs.declared.transform.Step.{Step}
+use Rattle.sb_checkpoint.specs.Laws.{accepted_in}
 use Rattle.sb_emit.specs.Taps.{TapState}
 use Rattle.sb_emit.specs.TextLaws.{part_of_more}
 use Rattle.sb_hand.specs.Hands.{HandView, settings_at, settings_for}
@@ -35,8 +37,9 @@ use Rattle.sb_run.specs.declared.run_end.RunEnd.TheVariants as run
 use Rattle.sb_run.specs.RunEnds.{Ends, EndsAt, EndsEarly, IsDoneHand}
 use Rattle.sb_words.specs.declared.options.Options.{Options}
 use Rattle.sb_cli.specs.declared.status.Status.{Status}
-use Rattle.sb_cli.specs.declared.status.Status.TheVariants.{Done, Words, Plan, Line, Input, Output, Folder, Memory, Tap, Audit}
-use Rattle.sb_cli.specs.Answers.{IsAnswerOf, Wrote, WrotePrefix, ending_of}
+use Rattle.sb_cli.specs.declared.status.Status.TheVariants.{Done, Words, Plan, Line, Input, Output, Folder, Memory, Tap, Audit, FileTooLong, Checkpoint}
+use Rattle.sb_cli.specs.Answers.{IsAnswerBy, Wrote, WrotePrefix, ending_of}
+use Rattle.sb_cli.specs.Courses.{Course, shown_course}
 use Rattle.sb_cli.specs.Offered.{BlamesTap, IsOfferedOf}
 use Rattle.sb_cli.specs.Pipelines.{all_rows}
 use Rattle.sb_cli.specs.RunSteps.{CanTellAt, diaries_told, kept_at, sizes_from, status_after}
@@ -48,18 +51,18 @@ use Rattle.sb_cli.proofs.Blaming.{stops_blames}
 pub prefix_kept : (a b c : Option (List ℕ)) (rows : List Record) → WrotePrefix a b rows → Keeps b c → WrotePrefix a c rows
 prefix_kept a b c rows w keeps = record { prefix = w.prefix; rest = w.rest; whole = w.whole; appends = appends_kept a b c w.prefix w.appends keeps }
 
--- a part of the first rows is one of all rows
-pub part_of_all_rows : (plan : Shape) (items : List Item) (rows : List Record) (a b : Option (List ℕ)) → AreFirstRows plan items rows → WrotePrefix a b rows → WrotePrefix a b (all_rows plan items)
-part_of_all_rows plan items rows a b first wrote = subst (WrotePrefix a b) (sym first.are) (part_of_more a b rows first.rest wrote)
-
 -- the rows below a watermark come first
-below_are_first : (plan : Shape) (items : List Item) (mark : ℕ) → mark ≤ END_MARK → AreFirstRows plan items (rows_below mark plan items)
+pub below_are_first : (plan : Shape) (items : List Item) (mark : ℕ) → mark ≤ END_MARK → AreFirstRows plan items (rows_below mark plan items)
 below_are_first plan items mark le = record { rest = _; are = sorted_before-front mark END_MARK (output_of plan (streams_in items)) le }
 
-low_mark : (plan : Shape) {left left' : Option (List ℕ)} (given : Given left left') → low_watermark (streams_of plan) (items_of plan given) ≤ END_MARK
-low_mark plan given =
-    let in_time = low_watermark-in_range plan.keys (streams_of plan) (items_of plan given) (accepted-in_range (streams_of plan) plan.late plan.keys (lines given.ended given.bytes)) in
+-- the low watermark of what is accepted of some lines
+pub low_at_most : (plan : Shape) (ls : List (List ℕ)) → low_watermark (streams_of plan) (accepted_in plan ls).items ≤ END_MARK
+low_at_most plan ls =
+    let in_time = low_watermark-in_range plan.keys (streams_of plan) (accepted_in plan ls).items (accepted-in_range (streams_of plan) plan.late plan.keys ls) in
     omega (arith, in_time)
+
+pub low_mark : (plan : Shape) {left left' : Option (List ℕ)} (given : Given left left') → low_watermark (streams_of plan) (items_of plan given) ≤ END_MARK
+low_mark plan given = low_at_most plan (lines given.ended given.bytes)
 
 -- the rows that are due where reading stopped are the first of all rows
 pub due_are_first : (plan : Shape) {left left' : Option (List ℕ)} (given : Given left left') (stop : Stop) → AreFirstRows plan (items_of plan given) (due_rows plan stop (items_of plan given))
@@ -71,16 +74,8 @@ due_are_first plan given at.Fault = below_are_first plan (items_of plan given) _
 pub wrote_is_prefix : (a b : Option (List ℕ)) (rows : List Record) → Wrote a b rows → WrotePrefix a b rows
 wrote_is_prefix a b rows w = record { prefix = text_of rows; rest = []; whole = sym (append-nil _); appends = w }
 
--- a part of the first rows was written, and the first of the late records are listed
-record WroteSome (plan : Shape) (left left' taken taken' : Option (List ℕ)) (dropped : List Dropped) : Type 0 where
-  given : Given left left'
-  rows : List Record
-  first : AreFirstRows plan (items_of plan given) rows
-  wrote : WrotePrefix taken taken' rows
-  first_late : AreFirstDropped (items_of plan given) dropped
-
--- an answer of which that is all that is said
-abbrev AnswersSome : Status → Type 0
+-- an answer of which it is said that a part was written, and the first of the late records are listed
+abbrev pub AnswersSome : Status → Type 0
 AnswersSome Output = Unit {0}
 AnswersSome Memory = Unit {0}
 AnswersSome (Tap place) = Unit {0}
@@ -91,39 +86,74 @@ AnswersSome (Line refusal) = ⊥
 AnswersSome Input = ⊥
 AnswersSome Folder = ⊥
 AnswersSome (Audit fault) = ⊥
+AnswersSome FileTooLong = ⊥
+AnswersSome (Checkpoint line) = ⊥
 
-module _ (plan : Shape) (options : Options) (left left' taken taken1 taken2 : Option (List ℕ)) (taps taps' : List TapState) (dropped : List Dropped)
-    (keeps : Keeps taken1 taken2) where
+-- a prefix of the whole was written, and the first of the late records are listed
+pub record WroteSome (left left' taken taken' : Option (List ℕ)) (course : Given left left' → Course) (dropped : List Dropped) : Type 0 where
+  pub given : Given left left'
+  pub wrote : AppendsPrefix taken taken' (course given).whole
+  pub first_late : AreFirstDropped (course given).items dropped
+
+pub answers_some : (plan : Shape) (options : Options) (left left' taken taken' : Option (List ℕ)) (course : Given left left' → Course) (dropped : List Dropped) (status : Status)
+    → AnswersSome status → WroteSome left left' taken taken' course dropped → IsAnswerBy plan options left left' taken taken' course (ending_of status dropped [])
+answers_some plan options left left' taken taken' course dropped Output is w = record { given = w.given; written = w.wrote; lists = w.first_late; tells = refl }
+answers_some plan options left left' taken taken' course dropped Memory is w = record { given = w.given; written = w.wrote; lists = w.first_late; tells = refl }
+answers_some plan options left left' taken taken' course dropped (Tap place) is w = record { given = w.given; written = w.wrote; lists = w.first_late; tells = refl }
+answers_some plan options left left' taken taken' course dropped Done is w = absurd is
+answers_some plan options left left' taken taken' course dropped Words is w = absurd is
+answers_some plan options left left' taken taken' course dropped (Plan fault) is w = absurd is
+answers_some plan options left left' taken taken' course dropped (Line refusal) is w = absurd is
+answers_some plan options left left' taken taken' course dropped Input is w = absurd is
+answers_some plan options left left' taken taken' course dropped Folder is w = absurd is
+answers_some plan options left left' taken taken' course dropped (Audit fault) is w = absurd is
+answers_some plan options left left' taken taken' course dropped FileTooLong is w = absurd is
+answers_some plan options left left' taken taken' course dropped (Checkpoint line) is w = absurd is
+
+-- of the rows those that are shown of the first are the first that are shown
+abbrev pub AreShown : (List Record → List Record) → Type 0
+AreShown shown = (rows more : List Record) → shown (rows ++ more) ≡ shown rows ++ shown more
+
+-- a part of what is shown of the first rows is one of what is shown of all
+pub part_of_shown : (shown : List Record → List Record) → AreShown shown → (plan : Shape) (items : List Item) (rows : List Record) (a b : Option (List ℕ)) → AreFirstRows plan items rows
+    → WrotePrefix a b (shown rows) → WrotePrefix a b (shown (all_rows plan items))
+part_of_shown shown are plan items rows a b first wrote =
+    subst (WrotePrefix a b) (sym (ap shown first.are ∙ are rows first.rest)) (part_of_more a b (shown rows) (shown first.rest) wrote)
+
+module _ (shown : List Record → List Record) (are : AreShown shown) (plan : Shape) (options : Options) (left left' taken taken1 taken2 : Option (List ℕ)) (taps taps' : List TapState)
+    (dropped : List Dropped) (keeps : Keeps taken1 taken2) where
   abbrev W : Option (List ℕ) → List Record → Option (List ℕ) → Type 0
-  W a rows b = Wrote a b rows
+  W a rows b = Wrote a b (shown rows)
 
   abbrev P : Option (List ℕ) → List Record → Option (List ℕ) → Type 0
-  P a rows b = WrotePrefix a b rows
+  P a rows b = WrotePrefix a b (shown rows)
+
+  -- what has to be written
+  abbrev course : Given left left' → Course
+  course given = shown_course shown plan given
 
   abbrev EndsSo : RunEnd → Type 0
   EndsSo end = Ends plan (sizes_from options) left left' W P taken taken1 taps taps' [] dropped end
 
-  some_at : (at : Stop) → EndsAt at plan left left' W taken taken1 taps taps' [] dropped → WroteSome plan left left' taken taken2 dropped
+  some_at : (at : Stop) → EndsAt at plan left left' W taken taken1 taps taps' [] dropped → WroteSome left left' taken taken2 course dropped
   some_at at e =
       record {
         given = e.given;
-        rows = due_rows plan at (items_of plan e.given);
-        first = due_are_first plan e.given at;
-        wrote = prefix_kept taken taken1 taken2 _ (wrote_is_prefix taken taken1 _ e.wrote) keeps;
+        wrote =
+            part_of_shown shown are plan (items_of plan e.given) (due_rows plan at (items_of plan e.given)) taken taken2 (due_are_first plan e.given at)
+            (prefix_kept taken taken1 taken2 _ (wrote_is_prefix taken taken1 _ e.wrote) keeps);
         first_late = record { rest = []; are = sym e.listed ∙ sym (append-nil dropped) };
       }
 
-  some_early : (Offered : List Record → Type 0) → EndsEarly plan left left' P taken taken1 Offered [] dropped → WroteSome plan left left' taken taken2 dropped
+  some_early : (Offered : List Record → Type 0) → EndsEarly plan left left' P taken taken1 Offered [] dropped → WroteSome left left' taken taken2 course dropped
   some_early Offered e =
       record {
         given = e.given;
-        rows = e.rows;
-        first = e.first;
-        wrote = prefix_kept taken taken1 taken2 e.rows e.wrote keeps;
+        wrote = part_of_shown shown are plan (items_of plan e.given) e.rows taken taken2 e.first (prefix_kept taken taken1 taken2 (shown e.rows) e.wrote keeps);
         first_late = record { rest = e.first_late.rest; are = e.first_late.are ∙ ap (λ l. l ++ e.first_late.rest) (sym e.listed) };
       }
 
-  some : (end : RunEnd) → EndsSo end → WroteSome plan left left' taken taken2 dropped
+  some : (end : RunEnd) → EndsSo end → WroteSome left left' taken taken2 course dropped
   some (run.Done hand) e = some_at _ e.0
   some (run.Refused refusal) e = some_at _ e
   some run.Input e = some_at _ e
@@ -131,25 +161,14 @@ module _ (plan : Shape) (options : Options) (left left' taken taken1 taken2 : Op
   some (run.Tap place) e = some_early _ e
   some run.Memory e = some_early _ e
 
-  answers_some : (status : Status) → AnswersSome status → WroteSome plan left left' taken taken2 dropped → IsAnswerOf plan options left left' taken taken2 (ending_of status dropped [])
-  answers_some Output is w = record { given = w.given; written = part_of_all_rows plan _ w.rows taken taken2 w.first w.wrote; lists = w.first_late; tells = refl }
-  answers_some Memory is w = record { given = w.given; written = part_of_all_rows plan _ w.rows taken taken2 w.first w.wrote; lists = w.first_late; tells = refl }
-  answers_some (Tap place) is w = record { given = w.given; written = part_of_all_rows plan _ w.rows taken taken2 w.first w.wrote; lists = w.first_late; tells = refl }
-  answers_some Done is w = absurd is
-  answers_some Words is w = absurd is
-  answers_some (Plan fault) is w = absurd is
-  answers_some (Line refusal) is w = absurd is
-  answers_some Input is w = absurd is
-  answers_some Folder is w = absurd is
-  answers_some (Audit fault) is w = absurd is
+  some_answer : (status : Status) → AnswersSome status → WroteSome left left' taken taken2 course dropped → IsAnswerBy plan options left left' taken taken2 course (ending_of status dropped [])
+  some_answer status is w = answers_some plan options left left' taken taken2 course dropped status is w
 
   -- the rows that are due were written
-  due_written : (at : Stop) (e : EndsAt at plan left left' W taken taken1 taps taps' [] dropped) → Wrote taken taken2 (due_rows plan (stop_at plan e.given) (items_of plan e.given))
+  due_written : (at : Stop) (e : EndsAt at plan left left' W taken taken1 taps taps' [] dropped) → Appends taken taken2 (course e.given).due
   due_written at e =
-      subst (λ s. Wrote taken taken2 (due_rows plan s (items_of plan e.given))) (sym e.stopped) (appends_kept taken taken1 taken2 (text_of (due_rows plan at (items_of plan e.given))) e.wrote keeps)
-
-  due_offered : (at : Stop) (e : EndsAt at plan left left' W taken taken1 taps taps' [] dropped) → LeavesThoseThatStay (due_rows plan (stop_at plan e.given) (items_of plan e.given)) taps taps'
-  due_offered at e = subst (λ s. LeavesThoseThatStay (due_rows plan s (items_of plan e.given)) taps taps') (sym e.stopped) e.offered
+      subst (λ s. Appends taken taken2 (text_of (shown (due_rows plan s (items_of plan e.given))))) (sym e.stopped)
+      (appends_kept taken taken1 taken2 (text_of (shown (due_rows plan at (items_of plan e.given)))) e.wrote keeps)
 
   -- the diaries of a hand that is done
   nodes_of_done : (items : List Item) (h : HandView) → IsDoneHand plan (sizes_from options) items h → length h.nodes ≡ length plan.steps + 1
@@ -175,20 +194,43 @@ module _ (plan : Shape) (options : Options) (left left' taken taken1 taken2 : Op
   told_if false items h done = refl
 
   pub run_answer : (end : RunEnd) (passed : Result (Unit {0}) SinkFault) → EndsSo end
-      → IsAnswerOf plan options left left' taken taken2 (ending_of (status_after end passed) dropped (diaries_told options.diary end (status_after end passed)))
-  run_answer end (Err fault.Failed) e = answers_some Output tt (some end e)
-  run_answer end (Err fault.Memory) e = answers_some Memory tt (some end e)
+      → IsAnswerBy plan options left left' taken taken2 course (ending_of (status_after end passed) dropped (diaries_told options.diary end (status_after end passed)))
+  run_answer end (Err fault.Failed) e = some_answer Output tt (some end e)
+  run_answer end (Err fault.Memory) e = some_answer Memory tt (some end e)
   run_answer (run.Done hand) (Ok x) e =
       record { given = e.0.given; written = (e.0.stopped, due_written _ e.0); lists = e.0.listed; tells = told_if options.diary _ hand e.1 }
   run_answer (run.Refused refusal) (Ok x) e = record { given = e.given; written = (e.stopped, due_written _ e); lists = e.listed; tells = refl }
   run_answer run.Input (Ok x) e = record { given = e.given; written = (e.stopped, due_written _ e); lists = e.listed; tells = refl }
-  run_answer run.Output (Ok x) e = answers_some Output tt (some_early _ e)
-  run_answer (run.Tap place) (Ok x) e = answers_some (Tap place) tt (some_early _ e)
-  run_answer run.Memory (Ok x) e = answers_some Memory tt (some_early _ e)
+  run_answer run.Output (Ok x) e = some_answer Output tt (some_early _ e)
+  run_answer (run.Tap place) (Ok x) e = some_answer (Tap place) tt (some_early _ e)
+  run_answer run.Memory (Ok x) e = some_answer Memory tt (some_early _ e)
 
-  pub run_offered : (end : RunEnd) (passed : Result (Unit {0}) SinkFault) → EndsSo end → IsOfferedOf plan left left' taken taken2 taps taps' (status_after end passed)
-  run_offered end (Err fault.Failed) e = record { given = (some end e).given; offered = tt }
-  run_offered end (Err fault.Memory) e = record { given = (some end e).given; offered = tt }
+-- of a run past taps
+module _ (plan : Shape) (options : Options) (left left' taken taken1 taken2 : Option (List ℕ)) (taps taps' : List TapState) (dropped : List Dropped)
+    (keeps : Keeps taken1 taken2) where
+  abbrev Whole : Option (List ℕ) → List Record → Option (List ℕ) → Type 0
+  Whole a rows b = Wrote a b rows
+
+  abbrev Some_of : Option (List ℕ) → List Record → Option (List ℕ) → Type 0
+  Some_of a rows b = WrotePrefix a b rows
+
+  abbrev EndsPast : RunEnd → Type 0
+  EndsPast end = Ends plan (sizes_from options) left left' Whole Some_of taken taken1 taps taps' [] dropped end
+
+  given_in : (end : RunEnd) → EndsPast end → Given left left'
+  given_in (run.Done hand) e = e.0.given
+  given_in (run.Refused refusal) e = e.given
+  given_in run.Input e = e.given
+  given_in run.Output e = e.given
+  given_in (run.Tap place) e = e.given
+  given_in run.Memory e = e.given
+
+  due_offered : (at : Stop) (e : EndsAt at plan left left' Whole taken taken1 taps taps' [] dropped) → LeavesThoseThatStay (due_rows plan (stop_at plan e.given) (items_of plan e.given)) taps taps'
+  due_offered at e = subst (λ s. LeavesThoseThatStay (due_rows plan s (items_of plan e.given)) taps taps') (sym e.stopped) e.offered
+
+  pub run_offered : (end : RunEnd) (passed : Result (Unit {0}) SinkFault) → EndsPast end → IsOfferedOf plan left left' taken taken2 taps taps' (status_after end passed)
+  run_offered end (Err fault.Failed) e = record { given = given_in end e; offered = tt }
+  run_offered end (Err fault.Memory) e = record { given = given_in end e; offered = tt }
   run_offered (run.Done hand) (Ok x) e = record { given = e.0.given; offered = (e.0.stopped, due_offered _ e.0) }
   run_offered (run.Refused refusal) (Ok x) e = record { given = e.given; offered = (e.stopped, due_offered _ e) }
   run_offered run.Input (Ok x) e = record { given = e.given; offered = (e.stopped, due_offered _ e) }
@@ -197,7 +239,7 @@ module _ (plan : Shape) (options : Options) (left left' taken taken1 taken2 : Op
       record { given = e.given; offered = record { rows = e.rows; first = e.first; wrote = prefix_kept taken taken1 taken2 e.rows e.wrote keeps; stops = e.offered } }
   run_offered run.Memory (Ok x) e = record { given = e.given; offered = tt }
 
-  pub run_blames : (end : RunEnd) (passed : Result (Unit {0}) SinkFault) (place : ℕ) → EndsSo end → status_after end passed ≡ Tap place → BlamesTap place taps taps'
+  pub run_blames : (end : RunEnd) (passed : Result (Unit {0}) SinkFault) (place : ℕ) → EndsPast end → status_after end passed ≡ Tap place → BlamesTap place taps taps'
   run_blames end (Err fault.Failed) place e is = cc is
   run_blames end (Err fault.Memory) place e is = cc is
   run_blames (run.Done hand) (Ok x) place e is = cc is
@@ -219,7 +261,7 @@ module _ (plan : Shape) (options : Options) (left left' taken taken1 taken2 : Op
   can_tell_if true is items h done =
       record {
         unspent = done.unspent;
-        nodes = nodes_of_done items h done ∙ ap (λ (p : Shape). length p.steps + 1) (sym done.plan_is);
+        nodes = nodes_of_done (λ rows. rows) (λ rows more. refl) plan options left left' taken taken1 taken2 taps taps' dropped keeps items h done ∙ ap (λ (p : Shape). length p.steps + 1) (sym done.plan_is);
         keep = λ k own there.
             keeps_at plan.steps k _
             (ap (λ l. slice_get l k) (sym (done.settings ∙ ap (λ b. settings_at b options.pending plan) is)) ∙ slice_get-map _ h.nodes k ∙ ap (option_map _) there);
@@ -234,7 +276,7 @@ module _ (plan : Shape) (options : Options) (left left' taken taken1 taken2 : Op
   other_ends true (run.Tap place) done = tt
   other_ends true run.Memory done = tt
 
-  pub run_can_tell : (end : RunEnd) → EndsSo end → CanTellAt options.diary end
+  pub run_can_tell : (end : RunEnd) → EndsPast end → CanTellAt options.diary end
   run_can_tell (run.Done hand) e = can_tell_if options.diary refl _ hand e.1
   run_can_tell (run.Refused refusal) e = other_ends options.diary _ (λ h is. cc is)
   run_can_tell run.Input e = other_ends options.diary _ (λ h is. cc is)

@@ -15,14 +15,14 @@ use Rattle.sb_cli.specs.RunSteps.{status_after}
 use Rattle.sb_cli.specs.Answers.{IsRead}
 
 -- a sink that does not refuse now did not before
-still_open : (p q : Bool) → (p ≡ true → q ≡ true) → q ≡ false → p ≡ false
+pub still_open : (p q : Bool) → (p ≡ true → q ≡ true) → q ≡ false → p ≡ false
 still_open false q keeps now = refl
 still_open true q keeps now = absurd (cc (keeps refl, now))
 
-rose_later : (a b c : ℕ) → a ≤ b → Rose b c → Rose a c
+pub rose_later : (a b c : ℕ) → a ≤ b → Rose b c → Rose a c
 rose_later a b c h k = omega (arith, h, k)
 
-rose_before : (a b c : ℕ) → Rose a b → b ≤ c → Rose a c
+pub rose_before : (a b c : ℕ) → Rose a b → b ≤ c → Rose a c
 rose_before a b c h k = omega (arith, h, k)
 
 pub run_read : (end : RunEnd) (passed : Result (Unit {0}) SinkFault) → IsRead (status_after end passed)
@@ -51,7 +51,7 @@ module _ (reads reads' : ℕ) (sink sink1 sink2 : SinkState) where
   writes_same end x output cause told written =
       cause.passed (told written) ∙ output.passed written (still_open sink1.refuses sink2.refuses cause.keeps_refusing (told written))
 
-  same_faults : (loads : List Load) → reads' ≡ reads → sink2.faults ≡ sink.faults → faults_of reads' sink2 loads ≡ faults_of reads sink loads
+  pub same_faults : (loads : List Load) → reads' ≡ reads → sink2.faults ≡ sink.faults → faults_of reads' sink2 loads ≡ faults_of reads sink loads
   same_faults loads r w = λ i. record { reads = r i; writes = w i; loads = loads }
 
   pub run_hides_none : (end : RunEnd) (passed : Result (Unit {0}) SinkFault) (loads : List Load) → SharedInputCause reads reads' end → OutputCause sink sink1 end → SinkCause sink1 sink2 passed

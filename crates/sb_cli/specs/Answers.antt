@@ -1,6 +1,6 @@
 -- The answer to an input.
 use Rattle.std.specs.Prelude.{◌≡◌, ◌⊎◌, ℕ, Bool, true, false, List, [], Option, ⊤}
-use Rattle.std.specs.Io.KnownBytes.{Appends}
+use Rattle.std.specs.Io.KnownBytes.{Appends, prepend_known}
 use Rattle.sb_record.specs.declared.intake.Stop.{Stop}
 use Rattle.sb_record.specs.declared.intake.Stop.TheVariants.{End, Refused, Fault}
 use Rattle.sb_record.specs.declared.item.Dropped.{Dropped}
@@ -12,20 +12,24 @@ use Rattle.sb_pipeline.specs.Shapes.{Shape}
 use Rattle.sb_outside.specs.Sinks.{AppendsPrefix}
 use Rattle.sb_cli.specs.declared.ending.Ending.{Ending}
 use Rattle.sb_cli.specs.declared.status.Status.{Status}
-use Rattle.sb_cli.specs.declared.status.Status.TheVariants.{Done, Words, Plan, Line, Input, Output, Folder, Memory, Tap, Audit}
-use Rattle.sb_feed.specs.Due.{AreFirstDropped, due_rows}
-use Rattle.sb_feed.specs.Given.{Given, items_of, lines_of, stop_at}
+use Rattle.sb_cli.specs.declared.status.Status.TheVariants.{Done, Words, Plan, Line, Input, Output, Folder, Memory, Tap, Audit, FileTooLong, Checkpoint}
+use Rattle.sb_feed.specs.Due.{AreFirstDropped}
+use Rattle.sb_feed.specs.Given.{Given, lines_of}
 use Rattle.sb_outside.specs.Folders.{Files}
 use Rattle.sb_words.specs.Words.{Asked}
 use Rattle.sb_words.specs.Words.{Asked as ask}
-use Rattle.sb_words.specs.Words.Asked.{Sum, Run, Slow, Work}
+use Rattle.sb_words.specs.Words.Asked.{Sum, Run, Slow, Work, Watch, Part, Save, Resume}
 use Rattle.sb_words.specs.declared.options.Options.{Options}
 use Rattle.sb_cli.specs.DiaryReads.{IsRefusedAmong}
 use Rattle.sb_cli.specs.Statuses.{audit_text}
 use Rattle.sb_cli.specs.Told.{TellsDiaries}
 use Rattle.sb_diary.specs.Audits.{TextAudit, AreLegalTexts, begun, end_of}
 use Rattle.sb_diary.specs.Texts.{NodeDiary}
-use Rattle.sb_cli.specs.Pipelines.{IsPlanFor, IsFaultFor, AsksForFile, all_rows, options_in}
+use Rattle.sb_checkpoint.specs.Checkpoints.{filled}
+use Rattle.sb_checkpoint.specs.Texts.{items_text}
+use Rattle.sb_cli.specs.CheckpointFiles.{GivesCheckpoint, HasFaultyLine, IsTooLong, Said}
+use Rattle.sb_cli.specs.Courses.{Course, course_in, rest_course, run_course}
+use Rattle.sb_cli.specs.Pipelines.{IsCutPlan, IsPlanFor, IsFaultFor, AsksForFile, options_in}
 use Rattle.sb_cli.specs.Summaries.{summary_text, work_rows}
 
 -- a run that ended so, lists these late records, and tells these diaries
@@ -40,18 +44,20 @@ Wrote taken taken' rows = Appends taken taken' (text_of rows)
 abbrev pub WrotePrefix : Option (List ℕ) → Option (List ℕ) → List Record → Type 0
 WrotePrefix taken taken' rows = AppendsPrefix taken taken' (text_of rows)
 
--- what was written, by how the run ended: the rows that are due if writing went well, else a prefix of all rows
-abbrev pub HasWritten : Shape → Stop → List Item → Option (List ℕ) → Option (List ℕ) → Status → Type 0
-HasWritten plan stop items taken taken' Done = (stop ≡ End) × Wrote taken taken' (due_rows plan stop items)
-HasWritten plan stop items taken taken' (Line refusal) = (stop ≡ Refused refusal) × Wrote taken taken' (due_rows plan stop items)
-HasWritten plan stop items taken taken' Input = (stop ≡ Fault) × Wrote taken taken' (due_rows plan stop items)
-HasWritten plan stop items taken taken' Output = WrotePrefix taken taken' (all_rows plan items)
-HasWritten plan stop items taken taken' (Tap place) = WrotePrefix taken taken' (all_rows plan items)
-HasWritten plan stop items taken taken' Memory = WrotePrefix taken taken' (all_rows plan items)
-HasWritten plan stop items taken taken' Words = ⊥
-HasWritten plan stop items taken taken' (Plan fault) = ⊥
-HasWritten plan stop items taken taken' Folder = ⊥
-HasWritten plan stop items taken taken' (Audit fault) = ⊥
+-- what was written, by how the run ended: the text that is due if writing went well, else a prefix of the whole
+abbrev pub HasWritten : Stop → List ℕ → List ℕ → Option (List ℕ) → Option (List ℕ) → Status → Type 0
+HasWritten stop due whole taken taken' Done = (stop ≡ End) × Appends taken taken' due
+HasWritten stop due whole taken taken' (Line refusal) = (stop ≡ Refused refusal) × Appends taken taken' due
+HasWritten stop due whole taken taken' Input = (stop ≡ Fault) × Appends taken taken' due
+HasWritten stop due whole taken taken' Output = AppendsPrefix taken taken' whole
+HasWritten stop due whole taken taken' (Tap place) = AppendsPrefix taken taken' whole
+HasWritten stop due whole taken taken' Memory = AppendsPrefix taken taken' whole
+HasWritten stop due whole taken taken' Words = ⊥
+HasWritten stop due whole taken taken' (Plan fault) = ⊥
+HasWritten stop due whole taken taken' Folder = ⊥
+HasWritten stop due whole taken taken' (Audit fault) = ⊥
+HasWritten stop due whole taken taken' FileTooLong = ⊥
+HasWritten stop due whole taken taken' (Checkpoint line) = ⊥
 
 -- the late records that are listed, by how the run ended: all that were dropped if writing went well, else the first
 abbrev pub ListsDropped : List Item → List Dropped → Status → Type 0
@@ -65,17 +71,51 @@ ListsDropped items dropped Words = ⊥
 ListsDropped items dropped (Plan fault) = ⊥
 ListsDropped items dropped Folder = ⊥
 ListsDropped items dropped (Audit fault) = ⊥
+ListsDropped items dropped FileTooLong = ⊥
+ListsDropped items dropped (Checkpoint line) = ⊥
 
--- the answer to what the source gave, for a plan: what was written, the late records that are listed, and the diaries
--- that are told
-pub record IsAnswerOf
-    (plan : Shape) (options : Options) (left left' taken taken' : Option (List ℕ)) (ending : Ending) : Type 0 where
+-- the answer to what the source gave, for a plan and what has to be written: what was written, the late records that are
+-- listed, and the diaries that are told
+pub record IsAnswerBy
+    (plan : Shape) (options : Options) (left left' taken taken' : Option (List ℕ)) (course : Given left left' → Course)
+    (ending : Ending) : Type 0 where
   pub given : Given left left'
-  pub written : HasWritten plan (stop_at plan given) (items_of plan given) taken taken' ending.status
-  pub lists : ListsDropped (items_of plan given) ending.dropped ending.status
-  pub tells : TellsDiaries plan options (items_of plan given) ending.diaries ending.status
+  pub written : HasWritten (course given).stop (course given).due (course given).whole taken taken' ending.status
+  pub lists : ListsDropped (course given).items ending.dropped ending.status
+  pub tells : TellsDiaries plan options (course given).items ending.diaries ending.status
 
--- why there is no plan
+-- the answer with the rows of the plan
+abbrev pub IsAnswerOf
+    : Shape → Options → Option (List ℕ) → Option (List ℕ) → Option (List ℕ) → Option (List ℕ) → Ending → Type 0
+IsAnswerOf plan options left left' taken taken' ending =
+    IsAnswerBy plan options left left' taken taken' (λ given. run_course plan given) ending
+
+-- why no run begins behind a checkpoint: its file is too long
+abbrev pub IsTooLongFor : Option Files → Asked → Type 0
+IsTooLongFor folder (Resume name checkpoint options) = IsTooLong folder checkpoint
+IsTooLongFor folder (Sum size options) = ⊥
+IsTooLongFor folder (Run name options) = ⊥
+IsTooLongFor folder (Slow name) = ⊥
+IsTooLongFor folder ask.Audit = ⊥
+IsTooLongFor folder (Work records options) = ⊥
+IsTooLongFor folder (Watch name key options) = ⊥
+IsTooLongFor folder (Part name options) = ⊥
+IsTooLongFor folder (Save name) = ⊥
+
+-- or a line of it is faulty
+abbrev pub IsFaultyFor : Option Files → Asked → ℕ → Type 0
+IsFaultyFor folder (Resume name checkpoint options) line =
+    (plan : Shape) × IsCutPlan folder name plan × HasFaultyLine folder checkpoint plan line
+IsFaultyFor folder (Sum size options) line = ⊥
+IsFaultyFor folder (Run name options) line = ⊥
+IsFaultyFor folder (Slow name) line = ⊥
+IsFaultyFor folder ask.Audit line = ⊥
+IsFaultyFor folder (Work records options) line = ⊥
+IsFaultyFor folder (Watch name key options) line = ⊥
+IsFaultyFor folder (Part name options) line = ⊥
+IsFaultyFor folder (Save name) line = ⊥
+
+-- why no run begins
 abbrev pub HasNoPlan : Option Files → Asked → Status → Type 0
 HasNoPlan folder wanted (Plan fault) = IsFaultFor folder wanted fault
 HasNoPlan folder wanted Folder = AsksForFile wanted
@@ -87,8 +127,10 @@ HasNoPlan folder wanted Input = ⊥
 HasNoPlan folder wanted Output = ⊥
 HasNoPlan folder wanted (Tap place) = ⊥
 HasNoPlan folder wanted (Audit fault) = ⊥
+HasNoPlan folder wanted FileTooLong = IsTooLongFor folder wanted
+HasNoPlan folder wanted (Checkpoint line) = IsFaultyFor folder wanted line
 
--- there is no plan, and nothing was read, written or dropped
+-- no run begins, and nothing was read, written or dropped
 pub record IsAnswerOfNoPlan
     (folder : Option Files) (wanted : Asked) (left left' taken taken' : Option (List ℕ)) (ending : Ending) : Type 0 where
   pub no_plan : HasNoPlan folder wanted ending.status
@@ -102,7 +144,26 @@ abbrev pub IsPlanAnswer
     : Option Files → Asked → Option (List ℕ) → Option (List ℕ) → Option (List ℕ) → Option (List ℕ) → Ending → Type 0
 IsPlanAnswer folder wanted left left' taken taken' ending =
     IsAnswerOfNoPlan folder wanted left left' taken taken' ending
-    ⊎ ((plan : Shape) × IsPlanFor folder wanted plan × IsAnswerOf plan (options_in wanted) left left' taken taken' ending)
+    ⊎ ((plan : Shape) × IsPlanFor folder wanted plan
+    × IsAnswerBy plan (options_in wanted) left left' taken taken' (λ given. course_in wanted plan given) ending)
+
+-- the answer over the rest of an input, behind the checkpoint of its first part: that of a run over the lines of what the
+-- checkpoint says and then the input, but for the rows below the low watermark
+abbrev pub IsRestAnswer
+    : Shape → Options → Said → Option (List ℕ) → Option (List ℕ) → Option (List ℕ) → Option (List ℕ) → Ending → Type 0
+IsRestAnswer plan options said left left' taken taken' ending =
+    (rest : List ℕ) × IsAnswerBy plan options
+    (prepend_known (items_text (filled said.lines said.items)) left) (prepend_known rest left') taken taken'
+    (λ given. rest_course said.low plan given) ending
+
+-- the answer of `resume`: no run begins, or it is the answer for the plan and the checkpoint
+abbrev pub IsResumeAnswer
+    : Option Files → Asked → List ℕ → Option (List ℕ) → Option (List ℕ) → Option (List ℕ) → Option (List ℕ) → Ending
+    → Type 0
+IsResumeAnswer folder wanted checkpoint left left' taken taken' ending =
+    IsAnswerOfNoPlan folder wanted left left' taken taken' ending
+    ⊎ ((plan : Shape) × IsPlanFor folder wanted plan × (said : Said) × GivesCheckpoint folder checkpoint plan said
+    × IsRestAnswer plan (options_in wanted) said left left' taken taken' ending)
 
 -- a diary text was read to its end and is legal, and this is what an audit says of it
 pub record Audited (lines : List (List ℕ)) (ended : Bool) (text : TextAudit) : Type 0 where
@@ -126,6 +187,8 @@ HasAudited lines ended taken taken' (Plan fault) = ⊥
 HasAudited lines ended taken taken' (Line refusal) = ⊥
 HasAudited lines ended taken taken' Folder = ⊥
 HasAudited lines ended taken taken' (Tap place) = ⊥
+HasAudited lines ended taken taken' FileTooLong = ⊥
+HasAudited lines ended taken taken' (Checkpoint line) = ⊥
 
 -- the answer to what the source gave, for an audit
 pub record IsAuditAnswer (left left' taken taken' : Option (List ℕ)) (ending : Ending) : Type 0 where
@@ -147,6 +210,8 @@ HasPrinted text taken taken' Input = ⊥
 HasPrinted text taken taken' Folder = ⊥
 HasPrinted text taken taken' (Tap place) = ⊥
 HasPrinted text taken taken' (Audit fault) = ⊥
+HasPrinted text taken taken' FileTooLong = ⊥
+HasPrinted text taken taken' (Checkpoint line) = ⊥
 
 -- the answer of `work`: the summary of the rows over the records that are made
 pub record IsWorkAnswer (records : ℕ) (taken taken' : Option (List ℕ)) (ending : Ending) : Type 0 where
@@ -164,6 +229,13 @@ IsAnswer folder (Run name options) left left' taken taken' ending =
 IsAnswer folder (Slow name) left left' taken taken' ending = IsPlanAnswer folder (Slow name) left left' taken taken' ending
 IsAnswer folder ask.Audit left left' taken taken' ending = IsAuditAnswer left left' taken taken' ending
 IsAnswer folder (Work records options) left left' taken taken' ending = IsWorkAnswer records taken taken' ending
+IsAnswer folder (Watch name key options) left left' taken taken' ending =
+    IsPlanAnswer folder (Watch name key options) left left' taken taken' ending
+IsAnswer folder (Part name options) left left' taken taken' ending =
+    IsPlanAnswer folder (Part name options) left left' taken taken' ending
+IsAnswer folder (Save name) left left' taken taken' ending = IsPlanAnswer folder (Save name) left left' taken taken' ending
+IsAnswer folder (Resume name checkpoint options) left left' taken taken' ending =
+    IsResumeAnswer folder (Resume name checkpoint options) checkpoint left left' taken taken' ending
 
 -- a status at which the input was not read
 abbrev pub IsUnread : Status → Type 0
@@ -177,6 +249,8 @@ IsUnread Output = ⊥
 IsUnread Memory = ⊥
 IsUnread (Tap place) = ⊥
 IsUnread (Audit fault) = ⊥
+IsUnread FileTooLong = ⊤
+IsUnread (Checkpoint line) = ⊤
 
 -- a status at which the input was read, or out of memory
 abbrev pub IsRead : Status → Type 0
@@ -190,6 +264,8 @@ IsRead Output = ⊤
 IsRead Memory = ⊤
 IsRead (Tap place) = ⊤
 IsRead (Audit fault) = ⊤
+IsRead FileTooLong = ⊥
+IsRead (Checkpoint line) = ⊥
 
 -- a status at which all rows that are due were written
 abbrev pub IsWritten : Status → Type 0
@@ -203,3 +279,5 @@ IsWritten Folder = ⊥
 IsWritten Memory = ⊥
 IsWritten (Tap place) = ⊥
 IsWritten (Audit fault) = ⊥
+IsWritten FileTooLong = ⊥
+IsWritten (Checkpoint line) = ⊥

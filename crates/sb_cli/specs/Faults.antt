@@ -10,15 +10,20 @@ use Rattle.sb_plan.specs.Failures.Failure.{NoFile}
 use Rattle.sb_plan.specs.PlanFiles.{plan_of}
 use Rattle.sb_plan.specs.declared.TheConstants.{MAX_PLAN_BYTES, MAX_TABLE_BYTES}
 use Rattle.sb_cli.specs.declared.status.Status.{Status}
-use Rattle.sb_cli.specs.declared.status.Status.TheVariants.{Done, Words, Plan, Line, Input, Output, Folder, Memory, Tap, Audit}
+use Rattle.sb_cli.specs.declared.status.Status.TheVariants.{Done, Words, Plan, Line, Input, Output, Folder, Memory, Tap, Audit, FileTooLong, Checkpoint}
 use Rattle.sb_diary.specs.declared.audit.AuditFault.{AuditFault}
 use Rattle.sb_emit.specs.Taps.{TapState}
+use Rattle.std.specs.Io.KnownBytes.{prepend_known}
+use Rattle.sb_checkpoint.specs.Checkpoints.{filled}
+use Rattle.sb_checkpoint.specs.Texts.{items_text}
+use Rattle.sb_cli.specs.CheckpointFiles.{Said, checkpoint_load}
+use Rattle.sb_cli.specs.Courses.{Course}
 use Rattle.sb_cli.specs.DiaryReads.{IsRefusedAmong}
 use Rattle.sb_cli.specs.Offered.{BlamesTap}
 use Rattle.sb_feed.specs.Given.{Given, lines_of, stop_at}
 use Rattle.sb_words.specs.Words.{Asked}
 use Rattle.sb_words.specs.Words.{Asked as ask}
-use Rattle.sb_words.specs.Words.Asked.{Sum, Run, Slow, Work}
+use Rattle.sb_words.specs.Words.Asked.{Sum, Run, Slow, Work, Watch, Part, Save, Resume}
 
 -- how many reads and writes have failed, and which loads
 pub record Faults : Type 0 where
@@ -42,6 +47,8 @@ HasCause before now (Line refusal) = ⊤
 HasCause before now Memory = ⊤
 HasCause before now (Tap place) = ⊤
 HasCause before now (Audit fault) = ⊤
+HasCause before now FileTooLong = ⊤
+HasCause before now (Checkpoint line) = ⊤
 
 -- the load of the plan file
 abbrev pub plan_load : List ℕ → Load
@@ -65,6 +72,11 @@ IsWanted folder (Run name options) load = IsWantedFor folder name load
 IsWanted folder (Slow name) load = IsWantedFor folder name load
 IsWanted folder ask.Audit load = ⊥
 IsWanted folder (Work records options) load = ⊥
+IsWanted folder (Watch name key options) load = IsWantedFor folder name load
+IsWanted folder (Part name options) load = IsWantedFor folder name load
+IsWanted folder (Save name) load = IsWantedFor folder name load
+IsWanted folder (Resume name checkpoint options) load =
+    IsWantedFor folder name load ⊎ (load ≡ checkpoint_load checkpoint)
 
 -- one load failed, which was wanted
 abbrev pub BlamesFile : Option Files → Asked → List Load → List Load → Type 0
@@ -83,6 +95,8 @@ HidesNoFault before now Folder = (now.reads ≡ before.reads) × (now.writes ≡
 HidesNoFault before now Memory = now.loads ≡ before.loads
 HidesNoFault before now (Tap place) = (now.writes ≡ before.writes) × (now.loads ≡ before.loads)
 HidesNoFault before now (Audit fault) = now ≡ before
+HidesNoFault before now FileTooLong = now ≡ before
+HidesNoFault before now (Checkpoint line) = now ≡ before
 
 -- the run was done, or there was no memory
 abbrev pub IsDoneOrMemory : Status → Type 0
@@ -96,9 +110,20 @@ pub record NothingFailsInAudit (left left' : Option (List ℕ)) (before now : Fa
 
 -- no line of what the source gave is refused, and nothing failed
 pub record NothingFails
-    (plan : Shape) (left left' : Option (List ℕ)) (before now : Faults) (taps taps' : List TapState) : Type 0 where
-  pub no_refusal : (given : Given left left') (refusal : Refusal) → stop_at plan given ≡ Refused refusal → ⊥
+    (left left' : Option (List ℕ)) (course : Given left left' → Course) (before now : Faults) (taps taps' : List TapState)
+    : Type 0 where
+  pub no_refusal : (given : Given left left') (refusal : Refusal) → (course given).stop ≡ Refused refusal → ⊥
   pub no_read_failed : Rose before.reads now.reads → ⊥
   pub no_write_failed : Rose before.writes now.writes → ⊥
   pub no_load_failed : now.loads ≡ before.loads
   pub no_tap_failed : (place : ℕ) → BlamesTap place taps taps' → ⊥
+
+-- no line that a run reads behind this checkpoint is refused, and nothing failed
+pub record NothingFailsBehind
+    (plan : Shape) (said : Said) (left left' : Option (List ℕ)) (before now : Faults) : Type 0 where
+  pub no_refusal : (rest : List ℕ)
+      (given : Given (prepend_known (items_text (filled said.lines said.items)) left) (prepend_known rest left'))
+      (refusal : Refusal) → stop_at plan given ≡ Refused refusal → ⊥
+  pub no_read_failed : Rose before.reads now.reads → ⊥
+  pub no_write_failed : Rose before.writes now.writes → ⊥
+  pub no_load_failed : now.loads ≡ before.loads

@@ -15,7 +15,7 @@ use Rattle.sb_feed.specs.Given.{Given, items_of, stop_at}
 use Rattle.sb_feed.specs.TapLists.{LeavesThoseThatStay, SawRows, StopsIn}
 use Rattle.sb_words.specs.Words.{Asked}
 use Rattle.sb_cli.specs.declared.status.Status.{Status}
-use Rattle.sb_cli.specs.declared.status.Status.TheVariants.{Done, Words, Plan, Line, Input, Output, Folder, Memory, Tap, Audit}
+use Rattle.sb_cli.specs.declared.status.Status.TheVariants.{Done, Words, Plan, Line, Input, Output, Folder, Memory, Tap, Audit, FileTooLong, Checkpoint}
 use Rattle.sb_cli.specs.Answers.{HasNoPlan}
 use Rattle.sb_cli.specs.Pipelines.{IsPlanFor}
 
@@ -44,6 +44,8 @@ HasOffered plan stop items taken taken' taps taps' Words = ⊥
 HasOffered plan stop items taken taken' taps taps' (Plan fault) = ⊥
 HasOffered plan stop items taken taken' taps taps' Folder = ⊥
 HasOffered plan stop items taken taken' taps taps' (Audit fault) = ⊥
+HasOffered plan stop items taken taken' taps taps' FileTooLong = ⊥
+HasOffered plan stop items taken taken' taps taps' (Checkpoint line) = ⊥
 
 -- what the taps were offered of what the source gave, for a plan
 pub record IsOfferedOf (plan : Shape) (left left' taken taken' : Option (List ℕ)) (taps taps' : List TapState)
@@ -82,3 +84,5 @@ IsNoTap Output = ⊤
 IsNoTap Folder = ⊤
 IsNoTap Memory = ⊤
 IsNoTap (Audit fault) = ⊤
+IsNoTap FileTooLong = ⊤
+IsNoTap (Checkpoint line) = ⊤

@@ -1,5 +1,5 @@
 -- What is asked of an input.
-use Rattle.std.specs.Prelude.{◌≡◌, ℕ, ◌+◌, List, take, Option, Some, Result, Ok, Err}
+use Rattle.std.specs.Prelude.{◌≡◌, ◌⊎◌, ℕ, ◌+◌, List, take, Option, Some, Result, Ok, Err}
 use Rattle.sb_record.specs.declared.item.Item.{Item}
 use Rattle.sb_record.specs.declared.item.Record.{Record}
 use Rattle.sb_record.specs.declared.item.TheConstants.{END_MARK}
@@ -7,6 +7,8 @@ use Rattle.sb_outside.specs.Folders.{Files}
 use Rattle.sb_pipeline.specs.Plans.{IsPlan}
 use Rattle.sb_pipeline.specs.Shapes.{Shape, sum_shape}
 use Rattle.sb_feed.specs.Due.{rows_below}
+use Rattle.sb_checkpoint.specs.Reach.{HasNoSession, IsFirstSession}
+use Rattle.sb_plan.specs.declared.fault.PlanCause.TheVariants.{HasSession}
 use Rattle.sb_plan.specs.declared.fault.PlanFault.{PlanFault}
 use Rattle.sb_plan.specs.declared.TheConstants.{MAX_PLAN_BYTES}
 use Rattle.sb_plan.specs.Failures.{Failure, in_file}
@@ -14,16 +16,20 @@ use Rattle.sb_plan.specs.Failures.Failure.{Fails}
 use Rattle.sb_plan.specs.PlanFiles.{plan_of}
 use Rattle.sb_words.specs.Options.{defaults}
 use Rattle.sb_words.specs.Words.{Asked}
-use Rattle.sb_words.specs.Words.Asked.{Sum, Run, Slow, Audit, Work}
+use Rattle.sb_words.specs.Words.Asked.{Sum, Run, Slow, Audit, Work, Watch, Part, Save, Resume}
 use Rattle.sb_words.specs.declared.options.Options.{Options}
 
--- the options that are given: the plain program and an audit have none
+-- the options that are given: the plain program, an audit and the saving of a checkpoint have none
 abbrev pub options_in : Asked → Options
 options_in (Sum size options) = options
 options_in (Run name options) = options
 options_in (Slow name) = defaults
 options_in Audit = defaults
 options_in (Work records options) = options
+options_in (Watch name key options) = options
+options_in (Part name options) = options
+options_in (Save name) = defaults
+options_in (Resume name checkpoint options) = options
 
 -- a run of the engine by one worker
 abbrev pub HasOneWorker : Asked → Type 0
@@ -32,6 +38,10 @@ HasOneWorker (Run name options) = options.workers ≡ 1
 HasOneWorker (Slow name) = ⊥
 HasOneWorker Audit = ⊥
 HasOneWorker (Work records options) = options.workers ≡ 1
+HasOneWorker (Watch name key options) = options.workers ≡ 1
+HasOneWorker (Part name options) = options.workers ≡ 1
+HasOneWorker (Save name) = ⊥
+HasOneWorker (Resume name checkpoint options) = options.workers ≡ 1
 
 -- the plan in a file, or its first fault, or that the file or one that it names is not there. One byte more than a plan may have shows that it is too long
 abbrev pub plan_in : Files → List ℕ → Result Shape (Failure PlanFault)
@@ -41,6 +51,22 @@ plan_in files name = in_file (λ bytes. plan_of files (take (MAX_PLAN_BYTES + 1)
 abbrev pub GivesPlan : Option Files → List ℕ → Result Shape (Failure PlanFault) → Type 0
 GivesPlan folder name found = (files : Files) → folder ≡ Some files → plan_in files name ≡ found
 
+-- a file with this plan, whose runs can be cut in two
+abbrev pub IsCutPlan : Option Files → List ℕ → Shape → Type 0
+IsCutPlan folder name plan = IsPlan plan × GivesPlan folder name (Ok plan) × HasNoSession plan
+
+-- the first transform of the plan that gathers records by session is to blame
+pub record BlamesSession (plan : Shape) (fault : PlanFault) : Type 0 where
+  pub place : ℕ
+  pub first : IsFirstSession plan place
+  pub at : fault.at ≡ place + 1
+  pub what : fault.what ≡ HasSession
+
+-- the first fault of a plan file for runs that are cut in two: after all others, that a session can't be saved
+abbrev pub IsFaultOfCut : Option Files → List ℕ → PlanFault → Type 0
+IsFaultOfCut folder name fault =
+    GivesPlan folder name (Err (Fails fault)) ⊎ ((plan : Shape) × GivesPlan folder name (Ok plan) × BlamesSession plan fault)
+
 -- this is the plan that is asked for; an audit and `work` ask for none
 abbrev pub IsPlanFor : Option Files → Asked → Shape → Type 0
 IsPlanFor folder (Sum size options) plan = plan ≡ sum_shape size
@@ -48,6 +74,10 @@ IsPlanFor folder (Run name options) plan = IsPlan plan × GivesPlan folder name 
 IsPlanFor folder (Slow name) plan = IsPlan plan × GivesPlan folder name (Ok plan)
 IsPlanFor folder Audit plan = ⊥
 IsPlanFor folder (Work records options) plan = ⊥
+IsPlanFor folder (Watch name key options) plan = IsPlan plan × GivesPlan folder name (Ok plan)
+IsPlanFor folder (Part name options) plan = IsPlan plan × GivesPlan folder name (Ok plan)
+IsPlanFor folder (Save name) plan = IsCutPlan folder name plan
+IsPlanFor folder (Resume name checkpoint options) plan = IsCutPlan folder name plan
 
 -- there is no such plan: this is the first fault of its file
 abbrev pub IsFaultFor : Option Files → Asked → PlanFault → Type 0
@@ -56,6 +86,10 @@ IsFaultFor folder (Run name options) fault = GivesPlan folder name (Err (Fails f
 IsFaultFor folder (Slow name) fault = GivesPlan folder name (Err (Fails fault))
 IsFaultFor folder Audit fault = ⊥
 IsFaultFor folder (Work records options) fault = ⊥
+IsFaultFor folder (Watch name key options) fault = GivesPlan folder name (Err (Fails fault))
+IsFaultFor folder (Part name options) fault = GivesPlan folder name (Err (Fails fault))
+IsFaultFor folder (Save name) fault = IsFaultOfCut folder name fault
+IsFaultFor folder (Resume name checkpoint options) fault = IsFaultOfCut folder name fault
 
 -- a file is asked for
 abbrev pub AsksForFile : Asked → Type 0
@@ -64,14 +98,30 @@ AsksForFile (Run name options) = Unit {0}
 AsksForFile (Slow name) = Unit {0}
 AsksForFile Audit = ⊥
 AsksForFile (Work records options) = ⊥
+AsksForFile (Watch name key options) = Unit {0}
+AsksForFile (Part name options) = Unit {0}
+AsksForFile (Save name) = Unit {0}
+AsksForFile (Resume name checkpoint options) = Unit {0}
 
--- the folder tells its files, where one is asked for, and that gives this plan
+-- the folder tells its files, and one of them gives this plan
+abbrev pub TellsPlanIn : Option Files → List ℕ → Shape → Type 0
+TellsPlanIn folder name plan = (files : Files) × (folder ≡ Some files) × (plan_in files name ≡ Ok plan)
+
+-- and its runs can be cut in two
+abbrev pub TellsCutPlan : Option Files → List ℕ → Shape → Type 0
+TellsCutPlan folder name plan = TellsPlanIn folder name plan × HasNoSession plan
+
+-- the folder tells its files, where one is asked for, and that gives this plan; `resume` asks for a checkpoint, too
 abbrev pub TellsPlan : Option Files → Asked → Shape → Type 0
 TellsPlan folder (Sum size options) plan = plan ≡ sum_shape size
-TellsPlan folder (Run name options) plan = (files : Files) × (folder ≡ Some files) × (plan_in files name ≡ Ok plan)
-TellsPlan folder (Slow name) plan = (files : Files) × (folder ≡ Some files) × (plan_in files name ≡ Ok plan)
+TellsPlan folder (Run name options) plan = TellsPlanIn folder name plan
+TellsPlan folder (Slow name) plan = TellsPlanIn folder name plan
 TellsPlan folder Audit plan = ⊥
 TellsPlan folder (Work records options) plan = ⊥
+TellsPlan folder (Watch name key options) plan = TellsPlanIn folder name plan
+TellsPlan folder (Part name options) plan = TellsPlanIn folder name plan
+TellsPlan folder (Save name) plan = TellsCutPlan folder name plan
+TellsPlan folder (Resume name checkpoint options) plan = ⊥
 
 -- the rows of all windows
 abbrev pub all_rows : Shape → List Item → List Record

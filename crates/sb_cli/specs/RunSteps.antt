@@ -8,7 +8,7 @@ use Rattle.sb_run.specs.declared.run_end.RunEnd.TheVariants as run
 use Rattle.sb_run.specs.declared.sizes.Sizes.{Sizes}
 use Rattle.sb_words.specs.declared.options.Options.{Options}
 use Rattle.sb_cli.specs.declared.status.Status.{Status}
-use Rattle.sb_cli.specs.declared.status.Status.TheVariants.{Done, Words, Plan, Line, Input, Output, Folder, Memory, Tap, Audit}
+use Rattle.sb_cli.specs.declared.status.Status.TheVariants.{Done, Words, Plan, Line, Input, Output, Folder, Memory, Tap, Audit, FileTooLong, Checkpoint}
 use Rattle.sb_cli.specs.Telling.{CanTell, diaries_of_hand}
 
 -- the sizes that options give
@@ -67,3 +67,5 @@ diaries_told keeps end Folder = []
 diaries_told keeps end Memory = []
 diaries_told keeps end (Tap place) = []
 diaries_told keeps end (Audit fault) = []
+diaries_told keeps end FileTooLong = []
+diaries_told keeps end (Checkpoint line) = []

@@ -16,7 +16,7 @@ use Rattle.sb_plan.specs.declared.fault.PlanCause.TheVariants as cause
 use Rattle.sb_plan.specs.declared.fault.PlanFault.{PlanFault}
 use Rattle.sb_plan.specs.Keys.{key_text}
 use Rattle.sb_cli.specs.declared.status.Status.{Status}
-use Rattle.sb_cli.specs.declared.status.Status.TheVariants.{Done, Words, Plan, Line, Input, Output, Folder, Memory, Tap, Audit}
+use Rattle.sb_cli.specs.declared.status.Status.TheVariants.{Done, Words, Plan, Line, Input, Output, Folder, Memory, Tap, Audit, FileTooLong, Checkpoint}
 
 -- the exit code
 abbrev pub code_of : Status → ℕ
@@ -30,6 +30,8 @@ code_of Folder = 6
 code_of Memory = 7
 code_of (Tap place) = 8
 code_of (Audit fault) = 9
+code_of FileTooLong = 10
+code_of (Checkpoint line) = 11
 
 -- the status of a run whose output went well
 abbrev pub status_of : Stop → Status
@@ -87,6 +89,7 @@ plan_cause_text (cause.UsedTwice key) = key_text key ++ codes ": used twice"
 plan_cause_text cause.TwoJoins = codes "second join"
 plan_cause_text cause.Unused = codes "not used"
 plan_cause_text cause.NoWindow = codes "no window"
+plan_cause_text cause.HasSession = codes "session cannot be saved"
 
 -- `plan: `, and `transform N: ` where the fault is one of a transform
 abbrev pub at_transform : ℕ → List ℕ
@@ -108,6 +111,8 @@ note_text Folder = codes "file failed" ++ 10 ∷ []
 note_text Memory = codes "out of memory" ++ 10 ∷ []
 note_text (Tap place) = codes "tap " ++ decimal place ++ codes " failed" ++ 10 ∷ []
 note_text (Audit fault) = audit_fault_text fault ++ 10 ∷ []
+note_text FileTooLong = codes "record file too long" ++ 10 ∷ []
+note_text (Checkpoint line) = codes "checkpoint: " ++ at_line line ++ codes "malformed" ++ 10 ∷ []
 
 -- what a user is told of a late record that was dropped, as a line
 abbrev pub dropped_text : Dropped → List ℕ

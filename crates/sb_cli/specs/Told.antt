@@ -11,7 +11,7 @@ use Rattle.sb_tally.specs.Written.{diary_at}
 use Rattle.sb_feed.specs.Calls.{calls_of}
 use Rattle.sb_words.specs.declared.options.Options.{Options}
 use Rattle.sb_cli.specs.declared.status.Status.{Status}
-use Rattle.sb_cli.specs.declared.status.Status.TheVariants.{Done, Words, Plan, Line, Input, Output, Folder, Memory, Tap, Audit}
+use Rattle.sb_cli.specs.declared.status.Status.TheVariants.{Done, Words, Plan, Line, Input, Output, Folder, Memory, Tap, Audit, FileTooLong, Checkpoint}
 
 -- the lines of the nodes of a plan from this one on, each with how many lanes its node has
 abbrev pub node_diaries : Shape → ℕ → List (List DiaryEvent) → List NodeDiary
@@ -49,3 +49,5 @@ TellsDiaries plan options items diaries Words = ⊥
 TellsDiaries plan options items diaries (Plan fault) = ⊥
 TellsDiaries plan options items diaries Folder = ⊥
 TellsDiaries plan options items diaries (Audit fault) = ⊥
+TellsDiaries plan options items diaries FileTooLong = ⊥
+TellsDiaries plan options items diaries (Checkpoint line) = ⊥

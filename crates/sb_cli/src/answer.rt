@@ -1,7 +1,8 @@
 //! The answer to a request for rows: its plan, and what the engine or the plain program answers to it.
 
-ghost use Rattle.std.specs.Prelude.{◌≡◌, ◌<◌, ◌^◌, false, IsTrue, List, ℕ, Some, length, map};
+ghost use Rattle.std.specs.Prelude.{◌≡◌, ◌<◌, ◌^◌, false, IfOk, IsTrue, List, ℕ, Some, length, map};
 ghost use Rattle.sb_outside.specs.Folders.{Files, Load};
+ghost use Rattle.sb_pipeline.specs.Plans.{IsPlan};
 ghost use Rattle.sb_pipeline.specs.Shapes.{sum_shape};
 ghost use Rattle.sb_plan.specs.PlanFiles.{AnswersPlan};
 ghost use Rattle.sb_plan.specs.Wants.{BlamesLoad};
@@ -29,8 +30,13 @@ use std::thread::Threads;
 use std::time::Clock;
 
 /// The plan in a file.
-fn load_plan<F: Folder>(alloc: Global, name: &str, folder: &mut F) -> Result<Plan, PlanStop>
+pub(crate) fn load_plan<F: Folder>(
+    alloc: Global,
+    name: &str,
+    folder: &mut F,
+) -> Result<Plan, PlanStop>
     ensures exact { (files : Files) → F.files folder.old ≡ Some files → AnswersPlan result (plan_in files name.now) }
+    ensures plan { IfOk result (λ plan. IsPlan plan) }
     ensures same { F.files folder.new ≡ F.files folder.old }
     ensures cause { BlamesLoad (IsWantedFor (F.files folder.old) name.now)
         (F.failed folder.old) (F.failed folder.new) result }

@@ -7,23 +7,28 @@ ghost use Rattle.sb_outside.specs.Sources.{Rose};
 ghost use Rattle.sb_diary.specs.Texts.{NodeDiary};
 ghost use Rattle.sb_pipeline.specs.Shapes.{Shape};
 ghost use Rattle.sb_cli.specs.Answers.{IsAnswer, IsUnread, ending_of};
-ghost use Rattle.sb_cli.specs.Faults.{BlamesFile, HasCause, HidesNoFault, IsDoneOrMemory, NothingFails, NothingFailsInAudit};
-ghost use Rattle.sb_cli.specs.Faults.{faults_of};
+ghost use Rattle.sb_cli.specs.CheckpointFiles.{Said, TellsCheckpoint};
+ghost use Rattle.sb_cli.specs.Courses.{course_in};
+ghost use Rattle.sb_cli.specs.Faults.{BlamesFile, HasCause, HidesNoFault, IsDoneOrMemory, NothingFails};
+ghost use Rattle.sb_cli.specs.Faults.{NothingFailsBehind, NothingFailsInAudit, faults_of};
 ghost use Rattle.sb_cli.specs.Notes.{HasNoted};
 ghost use Rattle.sb_cli.specs.Offered.{BlamesTap, IsNoTap, IsOffered};
-ghost use Rattle.sb_cli.specs.Pipelines.{HasOneWorker, TellsPlan, options_in};
+ghost use Rattle.sb_cli.specs.Pipelines.{HasOneWorker, TellsCutPlan, TellsPlan, options_in};
 ghost use Rattle.sb_cli.specs.Statuses.{note_text, notes_text};
 ghost use Rattle.sb_words.specs.declared.options.Options.{Options};
 ghost use Rattle.sb_words.specs.Texts.{texts};
 ghost use Rattle.sb_words.specs.Words.{Asked, IsCommand, IsNoCommand};
-ghost use Rattle.sb_words.specs.Words.Asked.{Sum, Audit, Work};
+ghost use Rattle.sb_words.specs.Words.Asked.{Sum, Audit, Work, Resume};
 
 use crate::answer::{answer_file, answer_slow, answer_sum};
 use crate::audit::answer_audit;
+use crate::cutting::{answer_part, answer_save};
 use crate::ending::Ending;
 use crate::note::note_of;
 use crate::output::write_dropped;
+use crate::resuming::answer_resume;
 use crate::status::Status;
+use crate::watching::answer_watch;
 use crate::work::answer_work;
 use sb_emit::Tap;
 use sb_outside::{Folder, Sink, SinkFault, Source, write_all_of};
@@ -38,7 +43,8 @@ use std::time::Clock;
 /// from `input`, and writes rows to `out`, and to `notes` a line for each late record that the plan drops, the diaries
 /// of a run that is done if they are asked for, and at most one line more. With `--taps` each row that was written is
 /// offered to `taps`, fewer than 2^32, and those that have enough are dropped. `work` makes its records itself: it
-/// reads nothing, calls no tap, and writes a summary of their rows to `out`.
+/// reads nothing, calls no tap, and writes a summary of their rows to `out`. `watch` writes one row, and `part`, `save`
+/// and `resume` are a run that is cut in two: the rows of a first part, its checkpoint, and the rows of the rest.
 ///
 /// What is said of bytes holds of sources and sinks whose bytes are known, and what is said of files of a folder whose
 /// files are known. The words come first, then the plan, then the input: if the words are no command, or the plan is
@@ -117,10 +123,17 @@ pub fn streambox<W: Threads + Wait + Clock + Sync, S: Source, K: Sink, N: Sink, 
         (faults_of (S.faults input.new) (K.sink_state out.new) (F.failed folder.new)) result }
     ensures complete { (wanted : Asked) (plan : Shape) → IsCommand wanted (texts words.now)
         → TellsPlan (F.files folder.old) wanted plan
-        → NothingFails plan (S.left input.old) (S.left input.new)
+        → NothingFails (S.left input.old) (S.left input.new) (λ given. course_in wanted plan given)
         (faults_of (S.faults input.old) (K.sink_state out.old) (F.failed folder.old))
         (faults_of (S.faults input.new) (K.sink_state out.new) (F.failed folder.new))
         (map (λ t. tap_state t) taps.old.items) (map (λ t. tap_state t) taps.new.items)
+        → IsDoneOrMemory result }
+    ensures resume_complete { (name checkpoint : List ℕ) (options : Options) (plan : Shape) (said : Said)
+        → IsCommand (Resume name checkpoint options) (texts words.now)
+        → TellsCutPlan (F.files folder.old) name plan → TellsCheckpoint (F.files folder.old) checkpoint plan said
+        → NothingFailsBehind plan said (S.left input.old) (S.left input.new)
+        (faults_of (S.faults input.old) (K.sink_state out.old) (F.failed folder.old))
+        (faults_of (S.faults input.new) (K.sink_state out.new) (F.failed folder.new))
         → IsDoneOrMemory result }
     ensures audit_complete { IsCommand Audit (texts words.now)
         → NothingFailsInAudit (S.left input.old) (S.left input.new)
@@ -161,6 +174,8 @@ fn respond<W: Threads + Wait + Clock + Sync, S: Source, K: Sink, F: Folder>(
         × (input.new ≡ input.old) × (out.new ≡ out.old) × (folder.new ≡ folder.old) × (taps.new ≡ taps.old) }
     ensures unread { IsUnread result.status
         → (input.new ≡ input.old) × (out.new ≡ out.old) × (taps.new ≡ taps.old) }
+    ensures resume_calls_no_tap { (name checkpoint : List ℕ) (options : Options)
+        → IsCommand (Resume name checkpoint options) (texts words.now) → IsNoTap result.status }
     ensures same { F.files folder.new ≡ F.files folder.old }
     ensures sum_loads_nothing { (size : ℕ) (options : Options)
         → IsCommand (Sum size options) (texts words.now) → folder.new ≡ folder.old }
@@ -193,6 +208,16 @@ fn respond<W: Threads + Wait + Clock + Sync, S: Source, K: Sink, F: Folder>(
             answer_file(rt, alloc, name, options, input, out, folder, taps)
         }
         Ok(Some(Request::Slow(name))) => answer_slow(alloc, name, input, out, folder),
+        Ok(Some(Request::Watch(name, key, options))) => {
+            answer_watch(rt, alloc, name, key, options, input, out, folder)
+        }
+        Ok(Some(Request::Part(name, options))) => {
+            answer_part(rt, alloc, name, options, input, out, folder)
+        }
+        Ok(Some(Request::Save(name))) => answer_save(alloc, name, input, out, folder),
+        Ok(Some(Request::Resume(name, checkpoint, options))) => answer_resume(
+            rt, alloc, name, checkpoint, options, input, out, folder,
+        ),
         Ok(None) => Ending::of(alloc, Status::Words),
         Err(NoMemory) => Ending::of(alloc, Status::Memory),
     }

@@ -149,7 +149,7 @@ fn run_to<W: Threads + Wait + Clock + Sync, S: Source, K: Sink>(
 }
 
 /// Has the sink pass on all rows, unless writing failed or there was no memory.
-fn finish_after<K: Sink>(out: &mut K, end: &RunEnd) -> Result<(), SinkFault>
+pub(crate) fn finish_after<K: Sink>(out: &mut K, end: &RunEnd) -> Result<(), SinkFault>
     ensures bytes { Keeps (K.taken out.old) (K.taken out.new) }
     ensures cause { SinkCause (K.sink_state out.old) (K.sink_state out.new) result }
     ensures told { OnOk result (ends.IsWritten end.now → (K.sink_state out.new).refuses ≡ false) }
@@ -161,7 +161,7 @@ fn finish_after<K: Sink>(out: &mut K, end: &RunEnd) -> Result<(), SinkFault>
 }
 
 /// How a run of the engine ends, once its sink was asked to pass on all rows.
-fn status_behind(end: &RunEnd, passed: Result<(), SinkFault>) -> Status
+pub(crate) fn status_behind(end: &RunEnd, passed: Result<(), SinkFault>) -> Status
     ensures { result ≡ status_after end.now passed }
 {
     match passed {

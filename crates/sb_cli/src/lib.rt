@@ -6,39 +6,24 @@
 
 mod answer;
 mod audit;
-#[cfg(test)]
-mod audit_tests;
 mod command;
+mod cutting;
 mod diaries;
 mod diary_input;
 mod ending;
 mod engine;
-#[cfg(test)]
-mod engine_tests;
-#[cfg(test)]
-mod fault_tests;
 mod input;
 mod kept;
+pub mod laws;
 mod note;
 mod output;
 mod plain;
-#[cfg(test)]
-mod plan_tests;
-#[cfg(test)]
-mod session_tests;
-#[cfg(test)]
-mod settings_tests;
+mod resuming;
 mod status;
-#[cfg(test)]
-mod tests;
-#[cfg(test)]
-mod trial;
-#[cfg(test)]
-mod width_tests;
+mod watching;
 mod work;
-#[cfg(test)]
-mod work_tests;
 
 pub use command::streambox;
+pub use resuming::MAX_CHECKPOINT_BYTES;
 pub use status::Status;
 pub use work::WORK_WINDOW;

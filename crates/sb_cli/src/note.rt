@@ -119,6 +119,18 @@ fn tap_note(place: u32) -> Note
     note
 }
 
+/// Which line of a checkpoint is faulty.
+fn checkpoint_note(line: u64) -> Note
+    ensures text { result ≡ codes "checkpoint: " ++ spec.at_line line ++ codes "malformed" }
+    ensures short { length result ≤ 127 }
+{
+    let mut note = Note::new();
+    note.push(b"checkpoint: ");
+    note.push(at_line(line).as_slice());
+    note.push(b"malformed");
+    note
+}
+
 /// `plan: `, and the transform where it is one.
 fn at_transform(place: u32) -> Note
     ensures text { result ≡ spec.at_transform place }
@@ -193,6 +205,7 @@ fn plan_note(fault: PlanFault) -> Note
         PlanCause::TwoJoins => note.push(b"second join"),
         PlanCause::Unused => note.push(b"not used"),
         PlanCause::NoWindow => note.push(b"no window"),
+        PlanCause::HasSession => note.push(b"session cannot be saved"),
     }
     note
 }
@@ -207,6 +220,7 @@ pub(crate) fn note_of(status: Status) -> Note
         Status::Plan(fault) => plan_note(fault),
         Status::Audit(fault) => audit_note(fault),
         Status::Tap { place } => tap_note(place),
+        Status::Checkpoint { line } => checkpoint_note(line),
         _ => Note::new(),
     };
     match status {
@@ -215,6 +229,7 @@ pub(crate) fn note_of(status: Status) -> Note
         Status::Output => note.push(b"output failed"),
         Status::Folder => note.push(b"file failed"),
         Status::Memory => note.push(b"out of memory"),
+        Status::FileTooLong => note.push(b"record file too long"),
         _ => {}
     }
     note.push(b"\n");

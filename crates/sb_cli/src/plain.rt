@@ -1,14 +1,14 @@
 //! The answer of the plain program to a plan: an input is read whole, and then its rows are written.
 
 ghost use Rattle.std.specs.Prelude.{◌≡◌, ◌<◌, All, List};
+ghost use Rattle.sb_record.specs.Rows.{text_of};
 ghost use Rattle.sb_outside.specs.Folders.{Load};
 ghost use Rattle.sb_outside.specs.Sources.{Rose};
 ghost use Rattle.sb_feed.specs.Due as due;
 ghost use Rattle.sb_words.specs.Options.{defaults};
-ghost use Rattle.sb_cli.specs.Answers.{IsAnswerOf, IsRead, IsWritten};
+ghost use Rattle.sb_cli.specs.Answers.{HasWritten, IsAnswerOf, IsRead, IsWritten};
 ghost use Rattle.sb_cli.specs.Faults.{HasCause, HidesNoFault, faults_of};
 ghost use Rattle.sb_cli.specs.Offered.{IsNoTap};
-ghost use Rattle.sb_cli.specs.PlainSteps.{WritesDue};
 
 use crate::diaries::Diaries;
 use crate::ending::Ending;
@@ -68,9 +68,11 @@ fn due_mark(input: &Input) -> u64
 }
 
 /// Writes the rows that are due where reading stopped.
-fn write_due<K: Sink>(rows: &[Record], stop: Stop, out: &mut K) -> Status
+pub(crate) fn write_due<K: Sink>(rows: &[Record], stop: Stop, out: &mut K) -> Status
     requires { All (λ r. r.time < END_MARK) rows.now }
-    ensures written { WritesDue rows.now stop (K.taken out.old) (K.taken out.new) result }
+    ensures written { HasWritten stop (text_of rows.now) (text_of rows.now)
+        (K.taken out.old) (K.taken out.new) result }
+    ensures no_tap { IsNoTap result }
     ensures cause { result ≡ Status.Output → Rose (K.sink_state out.old).faults (K.sink_state out.new).faults }
     ensures told { IsWritten result → (K.sink_state out.new).faults ≡ (K.sink_state out.old).faults }
     ensures fault { result ≡ Status.Input → stop ≡ Stop.Fault }

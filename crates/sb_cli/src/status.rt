@@ -1,9 +1,11 @@
 //! How a run ends.
 
 ghost use Rattle.std.specs.Prelude.{◌≡◌};
+ghost use Rattle.sb_cli.specs.CutSteps.{status_of_cut};
 ghost use Rattle.sb_cli.specs.RunSteps.{status_at};
 ghost use Rattle.sb_cli.specs.Statuses as spec;
 
+use sb_cut::CutEnd;
 use sb_diary::AuditFault;
 use sb_plan::PlanFault;
 use sb_record::{Refusal, Stop};
@@ -24,7 +26,7 @@ pub enum Status {
     Input,
     /// Writing the rows failed.
     Output,
-    /// The plan file, or a table that it names, could not be loaded.
+    /// The plan file, a table that it names, or a checkpoint file could not be loaded.
     Folder,
     /// There was no memory.
     Memory,
@@ -32,6 +34,10 @@ pub enum Status {
     Tap { place: u32 },
     /// A line of a diary text is refused: the first one that is.
     Audit(AuditFault),
+    /// A checkpoint file is longer than [`MAX_CHECKPOINT_BYTES`](crate::MAX_CHECKPOINT_BYTES).
+    FileTooLong,
+    /// A line of a checkpoint is refused: the first one that is, from 1.
+    Checkpoint { line: u64 },
 }
 
 impl Status {
@@ -50,6 +56,8 @@ impl Status {
             Status::Memory => 7,
             Status::Tap { .. } => 8,
             Status::Audit(_) => 9,
+            Status::FileTooLong => 10,
+            Status::Checkpoint { .. } => 11,
         }
     }
 
@@ -61,6 +69,19 @@ impl Status {
             Stop::End => Status::Done,
             Stop::Refused(refusal) => Status::Line(refusal),
             Stop::Fault => Status::Input,
+        }
+    }
+
+    /// How a run over a first part of an input ends whose rows were passed on.
+    pub(crate) fn of_cut(end: CutEnd) -> Status
+        ensures { result ≡ status_of_cut end }
+    {
+        match end {
+            CutEnd::Done => Status::Done,
+            CutEnd::Refused(refusal) => Status::Line(refusal),
+            CutEnd::Input => Status::Input,
+            CutEnd::Output => Status::Output,
+            CutEnd::Memory => Status::Memory,
         }
     }
 

@@ -1,4 +1,4 @@
-use Rattle.std.proofs.Common.{subst, sym}
+use Rattle.std.proofs.Common.{inr, subst, sym}
 use Rattle.sb_cli.specs.Faults.{HasCause, HidesNoFault, faults_of}
 use Rattle.sb_cli.proofs.answer.answer_file.Goals as goal
 
@@ -13,3 +13,6 @@ returns-in-Ok-clause-no_fault_hidden g c =
     let before = faults_of (g.S.Source.faults c.args.source.now) (g.K.Sink.sink_state c.args.out.now) (g.F.Folder.failed c.args.folder.now) in
     subst (λ loads. HidesNoFault before (faults_of (g.S.Source.faults c.answer_run.new.source) (g.K.Sink.sink_state c.answer_run.new.out) loads) c.answer_run.result.status)
     (sym c.in-Ok.ensures.cause) (c.answer_run.ensures.no_fault_hidden (g.F.Folder.failed c.args.folder.now))
+
+pub returns-in-Ok-clause-answer : goal.returns-in-Ok-clause-answer
+returns-in-Ok-clause-answer g c = inr (_, (c.in-Ok.ensures.plan, λ files told. c.in-Ok.ensures.exact files told), c.answer_run.ensures.answer)

@@ -1,7 +1,8 @@
 use Rattle.sb_cli.specs.Faults.{faults_of}
-use Rattle.sb_words.specs.Words.Asked.{Audit, Work}
+use Rattle.sb_words.specs.Words.Asked.{Audit, Work, Resume}
 use Rattle.sb_cli.specs.Summaries.{summary_text, work_rows}
 use Rattle.sb_cli.proofs.Answering.{audit_is_complete, is_complete, work_is_complete}
+use Rattle.sb_cli.proofs.RestAnswers.{rest_is_complete}
 use Rattle.sb_cli.proofs.command.streambox.Goals as goal
 
 pub returns-clause-complete : goal.returns-clause-complete
@@ -27,3 +28,12 @@ returns-clause-work_complete g c = λ records options is fine.
     (faults_of (g.S.Source.faults c.args.input.now) (g.K.Sink.sink_state c.args.out.now) (g.F.Folder.failed c.args.folder.now))
     (faults_of (g.S.Source.faults c.respond-ending.new.input) (g.K.Sink.sink_state c.respond-ending.new.out) (g.F.Folder.failed c.respond-ending.new.folder))
     c.respond-ending.result.status (c.respond-ending.ensures.answer (Work records options) is).printed c.respond-ending.ensures.cause fine
+
+pub returns-clause-resume_complete : goal.returns-clause-resume_complete
+returns-clause-resume_complete g c = λ name checkpoint options plan said is tells_plan tells fine.
+    rest_is_complete (g.F.Folder.files c.args.folder.now) name checkpoint options plan said tells_plan tells (g.S.Source.left c.args.input.now) (g.S.Source.left c.respond-ending.new.input)
+    (g.K.Sink.taken c.args.out.now) (g.K.Sink.taken c.respond-ending.new.out)
+    (faults_of (g.S.Source.faults c.args.input.now) (g.K.Sink.sink_state c.args.out.now) (g.F.Folder.failed c.args.folder.now))
+    (faults_of (g.S.Source.faults c.respond-ending.new.input) (g.K.Sink.sink_state c.respond-ending.new.out) (g.F.Folder.failed c.respond-ending.new.folder))
+    c.respond-ending.result (c.respond-ending.ensures.answer (Resume name checkpoint options) is) c.respond-ending.ensures.cause (c.respond-ending.ensures.blames (Resume name checkpoint options) is)
+    (c.respond-ending.ensures.resume_calls_no_tap name checkpoint options is) fine

@@ -1,3 +1,4 @@
+use Rattle.std.proofs.Common.{refl}
 use Rattle.sb_cli.proofs.RunAnswers.{run_answer, run_blames, run_can_tell, run_offered}
 use Rattle.sb_cli.proofs.RunFaults.{run_cause, run_hides_none, run_read, tap_alone}
 use Rattle.sb_cli.proofs.engine.answer_past.Goals as goal
@@ -11,7 +12,7 @@ pub returns-clause-answer : goal.returns-clause-answer
 returns-clause-answer g c =
     let ends = rw (c.sizes_of.ensures, c.new-dropped.ensures.items) at c.run_to-end.ensures.ends in
     rw (c.new.ensures, c.tell.ensures, c.status_behind-status.ensures)
-    (run_answer c.args.plan c.args.options _ _ _ _ _ _ _ _ c.finish_after.ensures.bytes c.run_to-end.result c.finish_after.result ends)
+    (run_answer (λ rows. rows) (λ rows more. refl) c.args.plan c.args.options _ _ _ _ _ _ _ _ c.finish_after.ensures.bytes c.run_to-end.result c.finish_after.result ends)
 
 pub returns-clause-offered : goal.returns-clause-offered
 returns-clause-offered g c =

@@ -1,4 +1,5 @@
-use Rattle.std.proofs.Common.{◌≡◌, ◌≤◌, subst, ◌∙◌}
+use Rattle.std.proofs.Common.{◌≡◌, ◌≤◌, refl, ap, subst, ◌∙◌}
+use Rattle.std.proofs.lemmas.List.Concat.{flat_map-append}
 use Rattle.std.proofs.lemmas.List.Elements.{All-from_recursion, All-same}
 use Rattle.sb_record.specs.declared.item.Record.{Record}
 use Rattle.sb_record.specs.declared.item.Stream.TheVariants.{A, B}
@@ -10,8 +11,12 @@ use Rattle.sb_pipeline.specs.Shapes.{streams_of}
 use Rattle.sb_feed.specs.Due.{due_rows}
 use Rattle.sb_feed.specs.Given.{items_of, stop_at}
 use Rattle.sb_words.specs.Options.{defaults}
-use Rattle.sb_cli.specs.PlainSteps.{WritesDue}
-use Rattle.sb_cli.proofs.Answering.{all_listed, due_written, memory_answer, none_told, nothing_written, rows_are_due}
+use Rattle.sb_record.specs.Rows.{row_text, text_of}
+use Rattle.sb_cli.specs.Answers.{HasWritten}
+use Rattle.sb_cli.specs.Courses.{run_course}
+use Rattle.sb_cli.specs.Pipelines.{all_rows}
+use Rattle.sb_cli.proofs.Answering.{due_written, memory_answer, nothing_written, plain_answer, rows_are_due}
+use Rattle.sb_cli.proofs.RunAnswers.{due_are_first}
 use Rattle.sb_cli.proofs.plain.answer_plain.Goals as goal
 use Rattle.sb_cli.proofs.plain.answer_plain.Goals.{in-Ok-rows_of_streams, in-Err}
 
@@ -43,19 +48,20 @@ returns-clause-answer g c =
     let taken = g.K.Sink.taken c.args.out.now in
     let taken' = g.K.Sink.taken c.match-rows_of_streams.out in
     let status = c.match-rows_of_streams.status in
-    let written : WritesDue (due_rows plan (stop_at plan given) items) (stop_at plan given) taken taken' status = elim c.match-rows_of_streams.branch [
+    let due = due_rows plan (stop_at plan given) items in
+    let written : HasWritten (stop_at plan given) (text_of due) (text_of due) taken taken' status = elim c.match-rows_of_streams.branch [
       | in-Ok-rows_of_streams w ↦
-          let due : w.deref.result.now ≡ due_rows plan input.stop items =
+          let are : w.deref.result.now ≡ due_rows plan input.stop items =
           w.deref.ensures.value
           ∙ rows_are_due plan c.due_mark-below.result input.low input.stop items c.into_vec.result.items c.into_vec-2.result.items w.in-Ok-rows_of_streams.rows.items w.in-Ok-rows_of_streams.ensures.rows
           (c.into_vec.ensures ∙ is.kept.a) (c.into_vec-2.ensures ∙ is.kept.b) c.due_mark-below.ensures is.low in
-          rw (w.out-is, w.status-is) (subst (λ s. WritesDue (due_rows plan s items) s taken (g.K.Sink.taken w.write_due-status.new.out) w.write_due-status.result) is.stop (rw due at w.write_due-status.ensures.written))
-      | in-Err w ↦ rw (w.out-is, w.status-is) (nothing_written taken (due_rows plan (stop_at plan given) items))
+          rw (w.out-is, w.status-is)
+          (subst (λ s. HasWritten s (text_of (due_rows plan s items)) (text_of (due_rows plan s items)) taken (g.K.Sink.taken w.write_due-status.new.out) w.write_due-status.result) is.stop (rw are at w.write_due-status.ensures.written))
+      | in-Err w ↦ rw (w.out-is, w.status-is) (nothing_written taken due)
     ] in
+    let first = due_are_first plan given (stop_at plan given) in
     rw c.none.ensures
-    (record {
-      given = given;
-      written = due_written plan given taken taken' status written;
-      lists = all_listed items input.kept.dropped (due_rows plan (stop_at plan given) items) (stop_at plan given) taken taken' status written is.kept.dropped;
-      tells = none_told plan items (due_rows plan (stop_at plan given) items) (stop_at plan given) taken taken' status written;
-    })
+    (plain_answer plan defaults given (λ given. run_course plan given) taken taken' status input.kept.dropped refl
+    (due_written (stop_at plan given) (text_of due) (text_of (all_rows plan items)) (text_of first.rest) taken taken' status
+    (ap text_of first.are ∙ flat_map-append row_text due first.rest) written)
+    is.kept.dropped)

@@ -1,0 +1,43 @@
+-- What the answers of a run that is cut in two have to do with that of one run.
+use Rattle.std.specs.Prelude.{◌≡◌, ℕ, List, ◌++◌, Option}
+use Rattle.sb_record.specs.declared.intake.Stop.TheVariants.{End}
+use Rattle.sb_record.specs.Streams.{dropped_of}
+use Rattle.sb_pipeline.specs.Shapes.{Shape}
+use Rattle.sb_checkpoint.specs.Checkpoints.{filled}
+use Rattle.sb_checkpoint.specs.Laws.{AreWholeLines}
+use Rattle.sb_checkpoint.specs.Reach.{HasNoSession}
+use Rattle.sb_checkpoint.specs.Texts.{IsRead, items_text, pieces}
+use Rattle.sb_feed.specs.Given.{Given}
+use Rattle.sb_cli.specs.CheckpointFiles.{Said}
+use Rattle.sb_cli.specs.Courses.{Course, part_course, rest_course, run_course, save_course}
+
+-- a first part was read to its end, no line of it was refused, and it has ended with a line; and in the text that `save`
+-- writes of it this is read
+pub record IsSavedPart {left left' : Option (List ℕ)} (plan : Shape) (part : Given left left') (said : Said) : Type 0 where
+  pub whole_lines : AreWholeLines part.bytes
+  pub done : (part_course plan part).stop ≡ End
+  pub saved : IsRead plan (pieces (save_course plan part).due) said.lines said.low said.items
+
+-- one run reads the part and then more; the resumed run reads the lines of the checkpoint and then the same; and both
+-- came to the end of that, or neither
+pub record AreCutBehind {part_left part_left' rest_left rest_left' left left' : Option (List ℕ)} (said : Said)
+    (part : Given part_left part_left') (rest : Given rest_left rest_left') (whole : Given left left') : Type 0 where
+  pub more : List ℕ
+  pub rest_is : rest.bytes ≡ items_text (filled said.lines said.items) ++ more
+  pub whole_is : whole.bytes ≡ part.bytes ++ more
+  pub end : rest.ended ≡ whole.ended
+
+-- the part and the rest write what the whole writes, with the same end, and drop what it drops
+pub record WriteTheWhole (part rest whole : Course) : Type 0 where
+  pub stop : whole.stop ≡ rest.stop
+  pub due : whole.due ≡ part.due ++ rest.due
+  pub dropped : dropped_of whole.items ≡ dropped_of part.items ++ dropped_of rest.items
+
+-- what `part` writes of a first part, and then `resume` of the rest behind the checkpoint that `save` writes, is what
+-- `run` writes of the whole
+abbrev pub CutRunsWriteTheWhole : Type 0
+CutRunsWriteTheWhole =
+    (plan : Shape) → HasNoSession plan → (part_left part_left' rest_left rest_left' left left' : Option (List ℕ))
+    → (part : Given part_left part_left') (rest : Given rest_left rest_left') (whole : Given left left') (said : Said)
+    → IsSavedPart plan part said → AreCutBehind said part rest whole
+    → WriteTheWhole (part_course plan part) (rest_course said.low plan rest) (run_course plan whole)
