@@ -1,2 +1,3 @@
 pub mod LargeSums
 pub mod Sums
+pub mod LiveTable

@@ -1,7 +1,8 @@
-//! Three uses of StreamBox as a library, as a caller writes them.
+//! Four uses of StreamBox as a library, as a caller writes them.
 //!
 //! [`large_sums`] makes a plan by code and runs it over a list of items, [`in_memory`] calls the whole program without
-//! files, and [`end_to_end`] is a source of one's own, which the program reads as any other.
+//! files, [`end_to_end`] is a source of one's own, which the program reads as any other, and [`live_table`] shows the rows
+//! of a run to threads that read beside it.
 #![tactic(auto)]
 
 ghost use Rattle.std.specs.Prelude.{◌≤◌};
@@ -11,12 +12,26 @@ ghost use Rattle.sb_record.specs.declared.key.Keys.TheVariants.{Numbers};
 use anyhow::Context;
 use in_memory::Answer;
 use sb_record::{Item, Key, MAX_KEY, MAX_TIME, Record, Stream};
+use sb_run::Sizes;
 use std::alloc::{AllocError, Global};
 use std::str;
+use std::sync::Wait;
+use std::thread::Threads;
+use std::time::Clock;
 
 mod end_to_end;
 mod in_memory;
 mod large_sums;
+mod live_table;
+
+/// How many records are made for the live table.
+const RECORDS: u64 = 10_000;
+
+/// The most records of a bundle there.
+const BUNDLE: u32 = 64;
+
+/// How many bundles fill a lane there.
+const PENDING: u32 = 4;
 
 /// A record of a stream, whose key is a number.
 fn event(stream: Stream, time: u64, number: u64, value: i64) -> Item
@@ -36,6 +51,14 @@ fn words_of(alloc: Global, words: &[&str]) -> Result<Vec<String>, AllocError> {
     Ok(strings)
 }
 
+/// A row as the program writes it: the end of its window, its key and its value.
+fn print_row(rt: &impl Print, row: &Record) -> anyhow::Result<()> {
+    if let Key::Number(key) = row.key {
+        println!(rt; "{},{key},{}", row.time.saturating_add(1), row.value)?;
+    }
+    Ok(())
+}
+
 /// The sums of values of at least 2, in windows of 10.
 fn print_large_sums(rt: &impl Print, alloc: Global) -> anyhow::Result<()> {
     let items = [
@@ -51,9 +74,7 @@ fn print_large_sums(rt: &impl Print, alloc: Global) -> anyhow::Result<()> {
         .context("out of memory")?;
     println!(rt; "large sums")?;
     for row in &rows {
-        if let Key::Number(key) = row.key {
-            println!(rt; "{},{key},{}", row.time.saturating_add(1), row.value)?;
-        }
+        print_row(rt, row)?;
     }
     Ok(())
 }
@@ -61,6 +82,36 @@ fn print_large_sums(rt: &impl Print, alloc: Global) -> anyhow::Result<()> {
 fn print_answer(rt: &impl Print, title: &str, answer: &Answer) -> anyhow::Result<()> {
     println!(rt; "{title}: status {}", answer.status.code())?;
     print!(rt; "{}", str::from_utf8(&answer.rows)?)?;
+    Ok(())
+}
+
+/// What two threads see of key 1 while one worker, and then eight, sum up records that are made, and its last row.
+fn print_live_table<R: Print + Threads + Wait + Clock + Sync>(
+    rt: &R,
+    alloc: Global,
+) -> anyhow::Result<()> {
+    for workers in [1, 8] {
+        let sizes = Sizes {
+            workers,
+            bundle: BUNDLE,
+            pending: PENDING,
+            keeps_diaries: false,
+        };
+        let key = Key::Number(1);
+        let told = live_table::sums_beside_readers(rt, alloc, 10, RECORDS, sizes, key)
+            .ok()
+            .context("out of memory")?;
+        let (one, two) = told.readers;
+        let times = if one.fell || two.fell {
+            "a time fell"
+        } else {
+            "no time fell"
+        };
+        println!(rt; "live table, workers {workers}: {times}")?;
+        if let Some(row) = told.last {
+            print_row(rt, &row)?;
+        }
+    }
     Ok(())
 }
 
@@ -79,5 +130,7 @@ fn main(rt: HostRuntime) -> anyhow::Result<()> {
     let first = Vec::from_slice(alloc, b"r,a,3,1,5\n")?;
     let second = Vec::from_slice(alloc, b"r,a,7,1,2\nw,a,10\nr,a,12,1,4\n")?;
     let both = end_to_end::answer_to_both(&rt, alloc, &words, first, second)?;
-    print_answer(&rt, "two texts", &both)
+    print_answer(&rt, "two texts", &both)?;
+
+    print_live_table(&rt, alloc)
 }

@@ -1,0 +1,12 @@
+use Rattle.std.proofs.Common.{ap, sym, ◌∙◌}
+use Rattle.std.proofs.lemmas.Option.{same_Some}
+use Rattle.sb_live.specs.Showings.{Showing, ShownRows}
+use Rattle.uses.proofs.LiveTable.{tells_last}
+use Rattle.uses.proofs.live_table.run_shown.Goals as goal
+
+pub returns-in-Done-clause-told : goal.returns-in-Done-clause-told
+returns-in-Done-clause-told g c = λ done.
+    tells_last c.args.plan c.args.key _ _ c.new-rows.result c.run-end.new.out _ _ _ _ c.into_out-out.result c.last-last.result
+    (ap (λ (s : ShownRows). s.out.changes) c.new-rows.ensures
+    ∙ ap (λ (s : Showing). s.changes) (same_Some _ _ (sym c.unwrap.ensures ∙ c.take.ensures.value ∙ c.requires.table)))
+    c.in-Done.ensures.ends.0 c.into_out-out.ensures c.last-last.ensures
