@@ -1,6 +1,6 @@
 -- A live table beside a run: what its readers saw, and what it tells at the end.
-use Rattle.std.proofs.Common.{◌≡◌, ◌≤◌, ◌<◌, ◌+◌, ℕ, Bool, true, false, List, [], ◌++◌, Option, Some, None, Result, Ok, Err, refl, sym, ap, subst, ◌∙◌, arith}
-use Rattle.std.specs.Prelude.{IfOk, IsTrue, MatchOption}
+use Rattle.std.proofs.Common.{◌≡◌, ◌≤◌, ◌<◌, ◌+◌, ℕ, Bool, true, false, List, [], ◌++◌, Option, Some, None, refl, ap, subst, ◌∙◌, arith}
+use Rattle.std.specs.Prelude.{MatchOption}
 use Rattle.sb_record.specs.declared.intake.Refusal.{Refusal}
 use Rattle.sb_record.specs.declared.intake.Stop.TheVariants as stop
 use Rattle.sb_record.specs.declared.item.Dropped.{Dropped}
@@ -11,9 +11,9 @@ use Rattle.sb_record.specs.Inputs.{stop_of}
 use Rattle.sb_pipeline.specs.Shapes.{Shape, sum_shape}
 use Rattle.sb_emit.specs.Taps.{TapState}
 use Rattle.sb_feed.specs.Due.{rows_below}
-use Rattle.sb_feed.specs.Given.{Given, accepted_of, items_of, stop_at}
+use Rattle.sb_feed.specs.Given.{accepted_of}
 use Rattle.sb_generator.specs.declared.pattern.TheConstants.{MAX_RECORDS}
-use Rattle.sb_generator.specs.Generated.{generated_items, generated_text}
+use Rattle.sb_generator.specs.Generated.{generated_text}
 use Rattle.sb_generator.specs.Laws.{AreAccepted}
 use Rattle.sb_generator.proofs.Acceptance.{text_accepted}
 use Rattle.sb_live.specs.declared.change.Change.{Change}
