@@ -1,7 +1,7 @@
 //! A live table beside a running engine: threads ask for the last row of a key while a run shows its rows.
 //!
-//! The table is taken down as soon as the run has ended, however it ended, and readers go on until then. So nobody waits
-//! for ever, and if no thread can be made, the readers come after the run.
+//! The table is taken down as soon as the run has ended, however it ended, and readers go on until then. So nobody
+//! waits for ever, and if no thread can be made, the readers come after the run.
 
 ghost use Rattle.std.specs.Prelude.{◌≡◌, ◌≤◌, [], None, Some, false, IfOk, IsTrue};
 ghost use Rattle.sb_generator.specs.declared.pattern.TheConstants.{MAX_RECORDS};
@@ -114,8 +114,8 @@ fn run_shown<W: Threads + Wait + Clock + Sync, R: Wait + Drop + Send, S: Source>
     }
 }
 
-/// Runs a plan over an input and shows its rows in a table, while two threads ask for the last row of a key. If the run is
-/// done, the row that the table tells at the end is the last one of all rows of the plan. No reader sees a row fall.
+/// Runs a plan over an input and shows its rows in a table, while two threads ask for the last row of a key. If the run
+/// is done, the row that the table tells at the end is the last one of all rows of the plan. No reader sees a row fall.
 ///
 /// # Errors
 ///

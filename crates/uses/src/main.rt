@@ -1,8 +1,8 @@
 //! Four uses of StreamBox as a library, as a caller writes them.
 //!
 //! [`large_sums`] makes a plan by code and runs it over a list of items, [`in_memory`] calls the whole program without
-//! files, [`end_to_end`] is a source of one's own, which the program reads as any other, and [`live_table`] shows the rows
-//! of a run to threads that read beside it.
+//! files, [`end_to_end`] is a source of one's own, which the program reads as any other, and [`live_table`] shows the
+//! rows of a run to threads that read beside it.
 #![tactic(auto)]
 
 ghost use Rattle.std.specs.Prelude.{◌≤◌};
