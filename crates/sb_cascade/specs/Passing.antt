@@ -12,7 +12,7 @@ use Rattle.sb_turn.proofs.Held.{in_front, flat_more}
 use Rattle.sb_core.specs.declared.held.Held.{Held}
 use Rattle.sb_core.specs.Soundness.{IsSound}
 use Rattle.sb_core.specs.Exactness.{IsExact}
-use Rattle.sb_core.proofs.AnyOrder.{held-in_any_order}
+use Rattle.sb_core.proofs.sound.AnyOrder.{held-in_any_order}
 use Rattle.sb_tally.specs.Tally.{IsTallied}
 use Rattle.sb_tally.proofs.Orders.{tally-in_any_order}
 use Rattle.sb_cascade.specs.declared.telling.Change.{Change}

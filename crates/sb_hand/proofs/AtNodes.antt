@@ -6,7 +6,7 @@ use Rattle.sb_record.specs.declared.item.Record.{Record}
 use Rattle.sb_bundle.specs.declared.bundle.Bundle.{Bundle}
 use Rattle.sb_core.specs.declared.moment.CoreLane.{CoreLane}
 use Rattle.sb_core.specs.Marks.{before_closing}
-use Rattle.sb_core.proofs.Nodes.{slice_get-set_same}
+use Rattle.sb_core.proofs.exact.Nodes.{slice_get-set_same}
 use Rattle.sb_diary.specs.Diaries.{Written, with_spare}
 use Rattle.sb_diary.specs.declared.event.DiaryEvent.{DiaryEvent}
 use Rattle.sb_lane.specs.LaneView.{LaneView, lane_of}

@@ -27,8 +27,8 @@ use Rattle.sb_core.specs.Marks.{before_closing, first_is_closing, closed}
 use Rattle.sb_core.specs.Moments.{set_lane, is_close_of}
 use Rattle.sb_core.specs.Parts.{Part, part_after, with_part}
 use Rattle.sb_core.specs.Soundness.{IsSound}
-use Rattle.sb_core.proofs.AfterSound.{events-keep_sound}
-use Rattle.sb_core.proofs.PartsLaw.{parts-are_events}
+use Rattle.sb_core.proofs.sound.AfterSound.{events-keep_sound}
+use Rattle.sb_core.proofs.parts.PartsLaw.{parts-are_events}
 use Rattle.sb_lane.specs.declared.answers.LaneClose.{LaneClose}
 use Rattle.sb_lane.specs.Looks.{look_of}
 use Rattle.sb_lane.specs.LaneView.{LaneView, lane_of}

@@ -15,8 +15,8 @@ use Rattle.sb_core.specs.LaneOrder.{IsLane}
 use Rattle.sb_core.specs.Marks.{begun, last_of_first, closed}
 use Rattle.sb_core.specs.Moments.{no_node, node_at}
 use Rattle.sb_core.specs.Soundness.{IsSound}
-use Rattle.sb_core.proofs.InTime.{begun_within}
-use Rattle.sb_core.proofs.Nodes.{begun_mark, closed-set, sum_by-set_get}
+use Rattle.sb_core.proofs.times.InTime.{begun_within}
+use Rattle.sb_core.proofs.exact.Nodes.{begun_mark, closed-set, sum_by-set_get}
 
 -- the marks are as before, or one more
 abbrev pub SameMarks : CoreLane → CoreLane → Type 0

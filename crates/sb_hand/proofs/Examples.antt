@@ -24,11 +24,11 @@ use Rattle.sb_core.specs.declared.moment.Node.{Node}
 use Rattle.sb_core.specs.Events.{after, after_arrive, after_seal, run}
 use Rattle.sb_core.specs.Lanes.{next_epoch, next_floor, with_arrival, with_seal}
 use Rattle.sb_core.specs.Moments.{empty_lane, epoch_at, epoch_of, first, floor_at, floor_of, lane_at, set_lane, with_lane}
-use Rattle.sb_core.proofs.EventLaws.{sealed_floor}
-use Rattle.sb_core.proofs.FirstMoment.{at_node}
-use Rattle.sb_core.proofs.Gives.{lane_at-parts, with_lane-is}
-use Rattle.sb_core.proofs.Lists.{cond_is_some}
-use Rattle.sb_core.proofs.Nodes.{slice_get-set_same}
+use Rattle.sb_core.proofs.exact.EventExact.{sealed_floor}
+use Rattle.sb_core.proofs.sound.FirstMoment.{at_node}
+use Rattle.sb_core.proofs.exact.Gives.{lane_at-parts, with_lane-is}
+use Rattle.sb_core.proofs.containers.Lists.{cond_is_some}
+use Rattle.sb_core.proofs.exact.Nodes.{slice_get-set_same}
 use Rattle.sb_lane.specs.LaneView.{LaneView, lane_of}
 use Rattle.sb_hand.specs.declared.did.Did.{Did}
 use Rattle.sb_hand.specs.declared.did.Did.TheVariants as did

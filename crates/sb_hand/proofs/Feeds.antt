@@ -24,7 +24,7 @@ use Rattle.sb_core.specs.Choices.{is_empty}
 use Rattle.sb_core.specs.Lanes.{next_epoch, next_floor, with_arrival, with_seal}
 use Rattle.sb_core.specs.Moments.{set_lane}
 use Rattle.sb_core.specs.Parts.{only_node, put_in}
-use Rattle.sb_core.proofs.Nodes.{slice_get-set_same, slice_get-set_other}
+use Rattle.sb_core.proofs.exact.Nodes.{slice_get-set_same, slice_get-set_other}
 use Rattle.sb_diary.specs.declared.event.DiaryEvent.{DiaryEvent}
 use Rattle.sb_diary.specs.declared.event.DiaryEvent.TheVariants as line
 use Rattle.sb_kept.specs.declared.kept.Kept.{Kept}

@@ -29,8 +29,8 @@ use Rattle.sb_core.specs.Marks.{closed}
 use Rattle.sb_core.specs.Moments.{set_lane}
 use Rattle.sb_core.specs.Parts.{Part, only_node, with_part}
 use Rattle.sb_core.specs.Soundness.{IsSound}
-use Rattle.sb_core.proofs.InTime.{work_floor, closed_least}
-use Rattle.sb_core.proofs.Nodes.{begun_mark, slice_get-set_same}
+use Rattle.sb_core.proofs.times.InTime.{work_floor, closed_least}
+use Rattle.sb_core.proofs.exact.Nodes.{begun_mark, slice_get-set_same}
 use Rattle.sb_lane.specs.LaneView.{LaneView, lane_of}
 use Rattle.sb_lane.specs.Placed.{conts_of}
 use Rattle.sb_lane.specs.Taking.{finish_first}

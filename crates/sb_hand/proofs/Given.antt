@@ -30,11 +30,11 @@ use Rattle.sb_core.specs.Laws.{concerns}
 use Rattle.sb_core.specs.Moments.{epoch_at, epoch_of, lane_at, set_lane, with_held}
 use Rattle.sb_core.specs.Parts.{Part, held_after, only_node, put_in, with_part}
 use Rattle.sb_core.specs.Soundness.{IsSound}
-use Rattle.sb_core.proofs.AfterExact.{not_sealed}
-use Rattle.sb_core.proofs.AfterSound.{events-keep_sound}
-use Rattle.sb_core.proofs.Nodes.{slice_get-set_same}
-use Rattle.sb_core.proofs.Orderly.{lawful_of}
-use Rattle.sb_core.proofs.PartsLaw.{held-parts_are_events}
+use Rattle.sb_core.proofs.exact.AfterExact.{not_sealed}
+use Rattle.sb_core.proofs.sound.AfterSound.{events-keep_sound}
+use Rattle.sb_core.proofs.exact.Nodes.{slice_get-set_same}
+use Rattle.sb_core.proofs.sound.Orderly.{lawful_of}
+use Rattle.sb_core.proofs.parts.PartsLaw.{held-parts_are_events}
 use Rattle.sb_lane.specs.Changes.{StandsAt}
 use Rattle.sb_lane.specs.LaneView.{LaneView, lane_of, link_at}
 use Rattle.sb_lane.specs.Links.{Link, down_of, link_of, link_in, links_of}

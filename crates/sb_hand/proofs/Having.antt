@@ -20,7 +20,7 @@ use Rattle.sb_core.specs.Bounds.{bound_at}
 use Rattle.sb_core.specs.Holdings.{IsHeld, IsClosing}
 use Rattle.sb_core.specs.Marks.{first_is_closing, begun}
 use Rattle.sb_core.specs.Moments.{lane_at}
-use Rattle.sb_core.proofs.InTime.{begun_within}
+use Rattle.sb_core.proofs.times.InTime.{begun_within}
 use Rattle.sb_lane.specs.LaneView.{LaneView, lane_of}
 use Rattle.sb_lane.specs.Placed.{conts_of}
 use Rattle.sb_node.specs.declared.state.NodeState.{NodeState}

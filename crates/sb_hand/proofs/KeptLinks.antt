@@ -16,7 +16,7 @@ use Rattle.sb_core.specs.declared.moment.Moment.{Moment}
 use Rattle.sb_core.specs.declared.held.Held.{Held}
 use Rattle.sb_core.specs.Bounds.{bound_at}
 use Rattle.sb_core.specs.Lanes.{next_epoch, next_floor, with_arrival, with_bundle, with_seal}
-use Rattle.sb_core.proofs.Nodes.{slice_get-set_other}
+use Rattle.sb_core.proofs.exact.Nodes.{slice_get-set_other}
 use Rattle.sb_lane.specs.LaneView.{LaneView, lane_of}
 use Rattle.sb_lane.specs.Links.{Link, link_in, links_of}
 use Rattle.sb_lane.specs.Placed.{conts_of}

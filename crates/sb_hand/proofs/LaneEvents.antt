@@ -18,7 +18,7 @@ use Rattle.sb_core.specs.Marks.{closed}
 use Rattle.sb_core.specs.Moments.{set_lane}
 use Rattle.sb_core.specs.Parts.{only_node, put_in, part_after, held_after, with_part}
 use Rattle.sb_core.specs.Soundness.{IsSound}
-use Rattle.sb_core.proofs.Nodes.{slice_get-set_same}
+use Rattle.sb_core.proofs.exact.Nodes.{slice_get-set_same}
 use Rattle.sb_lane.specs.LaneView.{LaneView, lane_of}
 use Rattle.sb_node.specs.declared.state.NodeState.{NodeState}
 use Rattle.sb_kept.specs.declared.kept.Kept.{Kept}

@@ -7,7 +7,7 @@ use Rattle.sb_record.specs.Reading.{◌>>=◌}
 use Rattle.sb_core.specs.declared.moment.Cont.{Cont}
 use Rattle.sb_core.specs.declared.moment.CoreLane.{CoreLane}
 use Rattle.sb_core.specs.Lanes.{with_first_closing}
-use Rattle.sb_core.proofs.Nodes.{slice_get-set_same, slice_get-set_other, sum_by-set_get}
+use Rattle.sb_core.proofs.exact.Nodes.{slice_get-set_same, slice_get-set_other, sum_by-set_get}
 use Rattle.sb_lane.specs.LaneView.{LaneView, lane_of}
 use Rattle.sb_lane.specs.Taking.{first_taken, take_first, finish_first}
 use Rattle.sb_node.specs.declared.state.NodeState.{NodeState}

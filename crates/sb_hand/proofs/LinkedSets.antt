@@ -11,7 +11,7 @@ use Rattle.sb_pipeline.specs.Shapes.{Shape}
 use Rattle.sb_pipeline.specs.Plans.{IsPlan}
 use Rattle.sb_pipeline.specs.Operators.{operator_at}
 use Rattle.sb_core.specs.Closings.{is_pardo}
-use Rattle.sb_core.proofs.Nodes.{slice_get-set_same, slice_get-set_other}
+use Rattle.sb_core.proofs.exact.Nodes.{slice_get-set_same, slice_get-set_other}
 use Rattle.sb_lane.specs.LaneView.{LaneView}
 use Rattle.sb_node.specs.declared.state.NodeState.{NodeState}
 use Rattle.sb_hand.specs.Searching.{LooksFew, SearchesFew, SearchesStay}

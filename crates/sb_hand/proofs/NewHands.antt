@@ -12,7 +12,7 @@ use Rattle.sb_pipeline.specs.Operators.WindowOperator.{Aggregated, Sessions, Joi
 use Rattle.sb_pipeline.specs.Plans.{IsPlan}
 use Rattle.sb_core.specs.Marks.{closed}
 use Rattle.sb_core.specs.Moments as moments
-use Rattle.sb_core.proofs.FirstMoment.{at_node, node_count, first-sound}
+use Rattle.sb_core.proofs.sound.FirstMoment.{at_node, node_count, first-sound}
 use Rattle.sb_lane.specs.LaneView.{LaneView, empty_lane, lane_of}
 use Rattle.sb_node.specs.declared.state.NodeState.{NodeState}
 use Rattle.sb_hand.specs.Hands.{settings_at, settings_for}

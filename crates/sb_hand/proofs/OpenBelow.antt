@@ -20,8 +20,8 @@ use Rattle.sb_core.specs.Holdings.{is_unpassed}
 use Rattle.sb_core.specs.LaneOrder.{IsLane}
 use Rattle.sb_core.specs.Moments.{lane_at, node_at}
 use Rattle.sb_core.specs.Soundness.{IsOpenBelow, has_cont}
-use Rattle.sb_core.proofs.Orderly.{lawful_of}
-use Rattle.sb_core.proofs.SoundPut.{lone_has}
+use Rattle.sb_core.proofs.sound.Orderly.{lawful_of}
+use Rattle.sb_core.proofs.sound.PutSound.{lone_has}
 use Rattle.sb_lane.specs.LaneView.{LaneView, lane_of}
 use Rattle.sb_lane.specs.Links.{Link, link_of, link_in, links_of}
 use Rattle.sb_lane.specs.Placed.{Placed, conts_of}

@@ -16,7 +16,7 @@ use Rattle.sb_core.specs.Choices.{only_if, is_empty}
 use Rattle.sb_core.specs.Lanes.{closable}
 use Rattle.sb_core.specs.Marks.{first_is_closing}
 use Rattle.sb_core.specs.Moments.{lane_at, is_close_of}
-use Rattle.sb_core.proofs.AtRest.{free}
+use Rattle.sb_core.proofs.ends.AtRest.{free}
 use Rattle.sb_lane.specs.declared.answers.NotYet.{NotYet}
 use Rattle.sb_lane.specs.LaneView.{lane_of}
 use Rattle.sb_lane.specs.Looks.{look_marked, look_closing, look_of}

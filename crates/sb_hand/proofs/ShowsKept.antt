@@ -13,9 +13,9 @@ use Rattle.sb_pipeline.specs.Operators.Operator.{ParDo, Windowed, Sink}
 use Rattle.sb_record.specs.Elements.{all_records}
 use Rattle.sb_core.specs.Closings.{still_open, kept_at, rows_at, is_sink}
 use Rattle.sb_record.proofs.Sums.{IsReordered-filter}
-use Rattle.sb_core.proofs.Groupings.{all_records-append, all_records-filter}
-use Rattle.sb_core.proofs.WindowOperators.{IsGrouping, closing}
-use Rattle.sb_core.proofs.WindowsAt.{windows-at}
+use Rattle.sb_core.proofs.windows.Groupings.{all_records-append, all_records-filter}
+use Rattle.sb_core.proofs.windows.WindowOperators.{IsGrouping, closing}
+use Rattle.sb_core.proofs.windows.WindowsAt.{windows-at}
 use Rattle.sb_pipeline.specs.Shapes.{Shape}
 use Rattle.sb_pipeline.specs.Plans.{IsPlan}
 use Rattle.sb_pipeline.specs.Operators.{operator_at}

@@ -20,9 +20,9 @@ use Rattle.sb_core.specs.Laws.{place_of, concerns}
 use Rattle.sb_core.specs.Moments.{with_held, node_at}
 use Rattle.sb_core.specs.Parts.{Part, part_after, held_after, with_part}
 use Rattle.sb_core.specs.Soundness.{IsSound}
-use Rattle.sb_core.proofs.AfterSound.{events-keep_sound}
-use Rattle.sb_core.proofs.Nodes.{slice_get-set_same, slice_get-set_other}
-use Rattle.sb_core.proofs.PartsLaw.{parts-are_events, held-parts_are_events}
+use Rattle.sb_core.proofs.sound.AfterSound.{events-keep_sound}
+use Rattle.sb_core.proofs.exact.Nodes.{slice_get-set_same, slice_get-set_other}
+use Rattle.sb_core.proofs.parts.PartsLaw.{parts-are_events, held-parts_are_events}
 use Rattle.sb_node.specs.declared.state.NodeState.{NodeState}
 use Rattle.std.proofs.lemmas.List.{map-set}
 use Rattle.std.proofs.lemmas.Option.{get_or_from_slice_get}

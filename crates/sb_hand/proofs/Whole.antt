@@ -12,7 +12,7 @@ use Rattle.sb_core.specs.declared.event.Event.TheVariants.{Begin, Pass, End}
 use Rattle.sb_core.specs.declared.held.Held.TheVariants.{Close}
 use Rattle.sb_core.specs.Closings.{is_sink}
 use Rattle.sb_core.specs.Marks.{first_is_closing}
-use Rattle.sb_core.proofs.Timely.{no_sink}
+use Rattle.sb_core.proofs.times.Timely.{no_sink}
 use Rattle.sb_lane.specs.declared.answers.LaneClose.{LaneClose}
 use Rattle.sb_lane.specs.Looks.{look_of}
 use Rattle.sb_lane.specs.LaneView.{LaneView, lane_of}

@@ -19,7 +19,7 @@ use Rattle.sb_core.specs.Choices.{is_empty}
 use Rattle.sb_core.specs.Closings.{delivery, is_pardo}
 use Rattle.sb_core.specs.LaneOrder.{IsWithin}
 use Rattle.sb_core.specs.Lanes.{with_arrival}
-use Rattle.sb_core.proofs.TimeBounds.{bound-before_end}
+use Rattle.sb_core.proofs.times.TimeBounds.{bound-before_end}
 use Rattle.sb_lane.specs.LaneView.{LaneView, lane_of}
 use Rattle.sb_lane.specs.Placed.{conts_of}
 use Rattle.sb_lane.specs.Taking.{finish_first}

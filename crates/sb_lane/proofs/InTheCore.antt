@@ -13,7 +13,7 @@ use Rattle.sb_core.specs.Choices.{pulled, only_if, is_empty}
 use Rattle.sb_core.specs.LaneOrder.{IsLane, AreOpen, AreContainers}
 use Rattle.sb_core.specs.Lanes.{take_from, finish_in, closable}
 use Rattle.sb_core.specs.Marks.{last_of_first}
-use Rattle.sb_core.proofs.InTime.{next_mark}
+use Rattle.sb_core.proofs.times.InTime.{next_mark}
 use Rattle.sb_lane.specs.declared.answers.LaneClose.{LaneClose}
 use Rattle.sb_lane.specs.Laws.{IsNextClosing}
 use Rattle.sb_lane.specs.Looks.{look_of, look_closing, look_marked}

@@ -12,12 +12,12 @@ use Rattle.sb_core.specs.declared.moment.CoreLane.{CoreLane}
 use Rattle.sb_core.specs.LaneOrder.{IsLane, IsWithin, IsBundleOf, AreContainers, IsReady}
 use Rattle.sb_core.specs.Lanes.{fresh, in_epoch, next_epoch, next_floor, with_arrival, with_bundle, with_seal, with_first_closing}
 use Rattle.sb_core.specs.Marks.{first_is_closing, last_of_first}
-use Rattle.sb_core.proofs.Ending.{end-lane}
-use Rattle.sb_core.proofs.InEpoch.{others_calm, still_ready}
-use Rattle.sb_core.proofs.LaneLaws.{DifferInBundles, containers-differ, take_from-differ, finish_in-differ, same-bundles}
-use Rattle.sb_core.proofs.LawfulArrive.{put-lane, next_fits}
-use Rattle.sb_core.proofs.LawfulTake.{differ-tail}
-use Rattle.sb_core.proofs.Sealing.{seal-lane}
+use Rattle.sb_core.proofs.lawful.EndLawful.{end-lane}
+use Rattle.sb_core.proofs.containers.InEpoch.{others_calm, still_ready}
+use Rattle.sb_core.proofs.containers.LaneLaws.{DifferInBundles, containers-differ, take_from-differ, finish_in-differ, same-bundles}
+use Rattle.sb_core.proofs.lawful.ArriveLawful.{put-lane, next_fits}
+use Rattle.sb_core.proofs.lawful.TakeLawful.{differ-tail}
+use Rattle.sb_core.proofs.lawful.SealLawful.{seal-lane}
 use Rattle.sb_lane.specs.declared.answers.LaneClose.{LaneClose}
 use Rattle.sb_lane.specs.Laws.{FitsEpoch, FitsNext}
 use Rattle.sb_lane.specs.Looks.{look_of}

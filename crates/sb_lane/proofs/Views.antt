@@ -6,7 +6,7 @@ use Rattle.std.proofs.lemmas.Bool.{eq-eqb, ne_eqb, lt-ltb, le-ltb, cases_lt}
 use Rattle.std.proofs.lemmas.List.{length-map, set-get_or}
 use Rattle.sb_core.specs.declared.moment.Cont.{Cont}
 use Rattle.sb_core.specs.Lanes.{in_epoch, fresh}
-use Rattle.sb_core.proofs.Placing.{in_epoch-there, in_epoch-new, in_epoch-last}
+use Rattle.sb_core.proofs.places.Placing.{in_epoch-there, in_epoch-new, in_epoch-last}
 use Rattle.sb_lane.specs.Finding.{LowerBefore}
 use Rattle.sb_lane.specs.Changes.{Changes, DifferInRooms, ChangesEpoch}
 use Rattle.sb_lane.specs.Links.{Link, link_of, links_of, new_link, with_place}

@@ -20,13 +20,13 @@ use Rattle.sb_core.specs.Laws.{written_to}
 use Rattle.sb_core.specs.Marks.{closed}
 use Rattle.sb_core.specs.Moments.{floor_at, floor_of, lane_at, node_at}
 use Rattle.sb_core.specs.Soundness.{IsSound}
-use Rattle.sb_core.proofs.AtRest.{in_place}
+use Rattle.sb_core.proofs.ends.AtRest.{in_place}
 use Rattle.sb_pipeline.specs.Operators.{Operator, lanes_of}
 use Rattle.sb_pipeline.specs.Operators.Operator.{ParDo, Windowed, Sink}
 use Rattle.sb_pipeline.specs.Operators.WindowOperator.{Aggregated, Sessions, Joined}
-use Rattle.sb_core.proofs.InTime.{begun_behind, closed_least}
-use Rattle.sb_core.proofs.LawfulTimely.{lane_of, of_node}
-use Rattle.sb_core.proofs.Orderly.{lawful_of}
+use Rattle.sb_core.proofs.times.InTime.{begun_behind, closed_least}
+use Rattle.sb_core.proofs.times.LawfulTimely.{lane_of, of_node}
+use Rattle.sb_core.proofs.sound.Orderly.{lawful_of}
 
 some_lane : (o : Operator) → 1 ≤ lanes_of o
 some_lane (ParDo op) = omega arith

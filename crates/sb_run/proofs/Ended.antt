@@ -18,8 +18,8 @@ use Rattle.sb_pipeline.specs.Results as result
 use Rattle.sb_pipeline.specs.Shapes.{Shape, source, streams_of}
 use Rattle.sb_core.specs.Laws.{IsDone}
 use Rattle.sb_core.specs.Rest.{AreAtTheEnd}
-use Rattle.sb_core.proofs.NoneLeft.{settles-all}
-use Rattle.sb_core.proofs.RowsAre.{rows-at_the_end}
+use Rattle.sb_core.proofs.ends.NoneLeft.{settles-all}
+use Rattle.sb_core.proofs.ends.SoundRows.{rows-at_the_end}
 use Rattle.sb_tally.specs.Whole.{Tallies, as_fed}
 use Rattle.sb_tally.proofs.Ends.{end-is_tallied}
 use Rattle.sb_tally.proofs.Settling.{end-is_settled}

@@ -24,7 +24,7 @@ use Rattle.sb_cascade.specs.Bringing.{sealed_by}
 use Rattle.sb_cascade.specs.Calls.{IsEmptyHanded, IsFeeder, IsReady, IsSame, hands, plan_of, setting_of}
 use Rattle.sb_cascade.specs.Found.{IsDrained}
 use Rattle.sb_cascade.specs.Views as view
-use Rattle.sb_cascade.proofs.FeedOfChanges.{bundle-dry, bundle-fed, drained-fed, mark-dry, mark-fed}
+use Rattle.sb_cascade.proofs.feeds.FeedOfChanges.{bundle-dry, bundle-fed, drained-fed, mark-dry, mark-fed}
 use Rattle.sb_feed.specs.Feeds.{AreRowsSoFar, Fed, MayArrive, MaySeal, bundles_in, fed_of, floor_in, marks_in, with_bundle, with_mark}
 use Rattle.sb_feed.proofs.RowsSoFar.{so_far_bundle, so_far_mark}
 use Rattle.sb_run.specs.Feeders.{HasFed, IsStill}

@@ -22,8 +22,8 @@ use Rattle.sb_core.specs.Laws.{written_to}
 use Rattle.sb_core.specs.Moments.{floor_at, floor_of, lane_at, no_node, node_at}
 use Rattle.sb_core.specs.Rest.{IsAtRest, floor_where, low_mark}
 use Rattle.sb_core.specs.Soundness.{IsSound}
-use Rattle.sb_core.proofs.AtRest.{closes-low}
-use Rattle.sb_core.proofs.RowsAre.{rows-are_the_plans}
+use Rattle.sb_core.proofs.ends.AtRest.{closes-low}
+use Rattle.sb_core.proofs.ends.SoundRows.{rows-are_the_plans}
 use Rattle.sb_diary.specs.declared.event.DiaryEvent.{DiaryEvent}
 use Rattle.sb_pipeline.specs.Plans.{IsPlan}
 use Rattle.sb_tally.specs.Tally.{IsTallied}

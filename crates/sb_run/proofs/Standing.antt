@@ -17,8 +17,8 @@ use Rattle.sb_core.specs.declared.event.Event.TheVariants.{Arrive, Seal}
 use Rattle.sb_core.specs.Exactness.{IsExact}
 use Rattle.sb_core.specs.Laws.{fed_after, fed_by}
 use Rattle.sb_core.specs.Moments.{first}
-use Rattle.sb_core.proofs.AfterSound.{runs-keep}
-use Rattle.sb_core.proofs.FirstMoment.{runs-are_sound}
+use Rattle.sb_core.proofs.sound.AfterSound.{runs-keep}
+use Rattle.sb_core.proofs.sound.FirstMoment.{runs-are_sound}
 use Rattle.sb_tally.specs.Keeping.{feed_by, no_feed, one_more_of}
 use Rattle.sb_tally.specs.Tally.{Feed, IsTallied}
 use Rattle.sb_tally.specs.Tally as tally

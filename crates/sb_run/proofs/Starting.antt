@@ -15,7 +15,7 @@ use Rattle.sb_pipeline.specs.Plans.{IsPlan}
 use Rattle.sb_pipeline.specs.Shapes.{Shape}
 use Rattle.sb_core.specs.declared.moment.CoreLane.{CoreLane}
 use Rattle.sb_core.specs.Moments.{empty_lane, empty_node, first}
-use Rattle.sb_core.proofs.FirstMoment.{at_node}
+use Rattle.sb_core.proofs.sound.FirstMoment.{at_node}
 use Rattle.sb_lane.specs.declared.answers.NotYet.TheVariants.{NoContainer}
 use Rattle.sb_lane.specs.LaneView.{LaneView, lane_of}
 use Rattle.sb_lane.specs.Looks.{look_of}

@@ -10,7 +10,7 @@ use Rattle.sb_bundle.specs.declared.bundle.Bundle.{Bundle}
 use Rattle.sb_core.specs.declared.moment.CoreLane.{CoreLane}
 use Rattle.sb_core.specs.Lanes.{next_epoch, next_floor}
 use Rattle.sb_core.specs.Moments.{empty_lane}
-use Rattle.sb_core.proofs.EventLaws.{sealed_floor}
+use Rattle.sb_core.proofs.exact.EventExact.{sealed_floor}
 use Rattle.sb_cascade.specs.declared.cascade.Cascade.{Cascade}
 use Rattle.sb_cascade.specs.declared.pass.CascadePass.{CascadePass}
 use Rattle.sb_cascade.specs.declared.telling.Feed.{Feed}

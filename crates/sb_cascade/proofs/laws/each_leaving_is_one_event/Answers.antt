@@ -1,4 +1,4 @@
-use Rattle.sb_cascade.proofs.Leaving.{leaves_to}
+use Rattle.sb_cascade.proofs.leavings.Leaving.{leaves_to}
 use Rattle.sb_cascade.proofs.laws.each_leaving_is_one_event.Goals as goal
 
 pub returns : goal.returns

@@ -1,6 +1,6 @@
 use Rattle.std.proofs.Common.{◌≡◌}
 use Rattle.std.specs.Vec.{vec_capacity}
-use Rattle.sb_cascade.proofs.GivingBack.{AreLast, has_spent, own_states}
+use Rattle.sb_cascade.proofs.lives.GivingBack.{AreLast, has_spent, own_states}
 use Rattle.sb_cascade.proofs.life.gather.Given as goal
 
 abbrev pub invariant-loop-state : goal.invariant-loop-state

@@ -6,7 +6,7 @@ use Rattle.sb_core.specs.declared.moment.Node.{Node}
 use Rattle.sb_core.specs.declared.held.Held.{Held}
 use Rattle.sb_core.specs.declared.held.Held.TheVariants.{Close}
 use Rattle.sb_core.specs.Lanes.{with_first_closing}
-use Rattle.sb_core.proofs.BeginParts.{begin-done}
+use Rattle.sb_core.proofs.places.BeginParts.{begin-done}
 use Rattle.sb_core.proofs.begin.begin.Goals as goal
 
 pub returns : goal.returns

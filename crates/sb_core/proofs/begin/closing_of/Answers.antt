@@ -10,8 +10,8 @@ use Rattle.sb_core.specs.Closings.{kept_at, rows_at, collected}
 use Rattle.sb_core.specs.Lanes.{closable, with_first_closing}
 use Rattle.sb_core.specs.Marks.{begun, closed}
 use Rattle.sb_core.specs.Moments.{is_close}
-use Rattle.sb_core.proofs.BeginParts.{any-first, closable-first, closable-found, node-within, kept-times, lanes-few, lanes-begun, begun-is, begin-refused, sink-last}
-use Rattle.sb_core.proofs.InPlace.{read-there}
+use Rattle.sb_core.proofs.places.BeginParts.{any-first, closable-first, closable-found, node-within, kept-times, lanes-few, lanes-begun, begun-is, begin-refused, sink-last}
+use Rattle.sb_core.proofs.places.InPlace.{read-there}
 use Rattle.sb_core.proofs.begin.closing_of.Goals as goal
 
 pub returns-then-is_some-clause-refused : goal.returns-then-is_some-clause-refused

@@ -10,8 +10,8 @@ use Rattle.sb_core.specs.Choices.{is_empty}
 use Rattle.sb_core.specs.Closings.{delivery}
 use Rattle.sb_core.specs.Events.{arrived_at}
 use Rattle.sb_core.specs.Moments.{with_held}
-use Rattle.sb_core.proofs.Finished.{found-in}
-use Rattle.sb_core.proofs.Carried.{below-down, empty-by_length, arrived-held, held-after, held-delivered, work-is}
+use Rattle.sb_core.proofs.places.Finished.{found-in}
+use Rattle.sb_core.proofs.places.Carried.{below-down, empty-by_length, arrived-held, held-after, held-delivered, work-is}
 use Rattle.sb_core.proofs.bundles.deliver.Goals as goal
 
 pub returns : goal.returns

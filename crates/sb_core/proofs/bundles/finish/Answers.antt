@@ -8,9 +8,9 @@ use Rattle.sb_core.specs.declared.moment.Node.{Node}
 use Rattle.sb_core.specs.Choices.{is_empty}
 use Rattle.sb_core.specs.Closings.{delivery, absorbed}
 use Rattle.sb_core.specs.Moments.{set_node, with_held}
-use Rattle.sb_core.proofs.Carried.{empty-by_length}
-use Rattle.sb_core.proofs.Finished.{may-finish, finished-node, finish-is, finish-never, found-in, lane-in, node-in}
-use Rattle.sb_core.proofs.InPlace.{place, node-written, node_within, node-read, lane_within, lane-read}
+use Rattle.sb_core.proofs.places.Carried.{empty-by_length}
+use Rattle.sb_core.proofs.places.Finished.{may-finish, finished-node, finish-is, finish-never, found-in, lane-in, node-in}
+use Rattle.sb_core.proofs.places.InPlace.{place, node-written, node_within, node-read, lane_within, lane-read}
 use Rattle.sb_core.proofs.bundles.finish.Goals.{else-not-work-via-then-not-work+in_ok-delivery+else-not-is_empty, else-not-work-via-else-not-work}
 use Rattle.sb_core.proofs.bundles.finish.Goals as goal
 

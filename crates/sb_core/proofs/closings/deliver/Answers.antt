@@ -9,8 +9,8 @@ use Rattle.sb_core.specs.declared.held.Held.TheVariants.{Close}
 use Rattle.sb_core.specs.Choices.{is_empty}
 use Rattle.sb_core.specs.Events.{arrived_at}
 use Rattle.sb_core.specs.Moments.{with_held}
-use Rattle.sb_core.proofs.FromHeld.{close-in_lane}
-use Rattle.sb_core.proofs.Carried.{below-down, empty-by_length, arrived-held, held-after, held-fewer, rows-is}
+use Rattle.sb_core.proofs.places.FromHeld.{close-in_lane}
+use Rattle.sb_core.proofs.places.Carried.{below-down, empty-by_length, arrived-held, held-after, held-fewer, rows-is}
 use Rattle.sb_core.proofs.closings.deliver.Goals as goal
 
 pub returns : goal.returns

@@ -2,8 +2,8 @@ use Rattle.std.proofs.Common.{◌≡◌, ◌+◌, ◌≤◌, length, drop, Some,
 use Rattle.std.specs.List.{slice_get, slice_set, remove}
 use Rattle.sb_core.specs.declared.moment.Moment.{Moment}
 use Rattle.sb_core.specs.Moments.{set_node, set_lane, with_held}
-use Rattle.sb_core.proofs.FromHeld.{close-in, close-lane, end-done}
-use Rattle.sb_core.proofs.InPlace.{place, node-written, lane-there, node-read, lane-read}
+use Rattle.sb_core.proofs.places.FromHeld.{close-in, close-lane, end-done}
+use Rattle.sb_core.proofs.places.InPlace.{place, node-written, lane-there, node-read, lane-read}
 use Rattle.sb_core.proofs.closings.end.Goals as goal
 
 pub prove-unreachable-requires : goal.prove-unreachable-requires

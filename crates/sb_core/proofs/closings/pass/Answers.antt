@@ -8,8 +8,8 @@ use Rattle.sb_core.specs.declared.held.Held.TheVariants.{Close}
 use Rattle.sb_core.specs.Choices.{is_empty}
 use Rattle.sb_core.specs.LaneSteps.{sealed_at}
 use Rattle.sb_core.specs.Moments.{with_held}
-use Rattle.sb_core.proofs.FromHeld.{close-in}
-use Rattle.sb_core.proofs.Carried.{below-down, empty-by_length, sealed-held, held-after, held-passed, pass-is}
+use Rattle.sb_core.proofs.places.FromHeld.{close-in}
+use Rattle.sb_core.proofs.places.Carried.{below-down, empty-by_length, sealed-held, held-after, held-passed, pass-is}
 use Rattle.sb_core.proofs.closings.pass.Goals as goal
 
 pub returns : goal.returns

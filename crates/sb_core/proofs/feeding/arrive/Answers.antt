@@ -1,6 +1,6 @@
 use Rattle.std.proofs.Common.{◌∙◌, sym, refl}
-use Rattle.sb_core.proofs.Arriving.{arrive-empty, arrive-many, arrive-late, arrive-timely}
-use Rattle.sb_core.proofs.Becoming.{becomes-as}
+use Rattle.sb_core.proofs.places.Arriving.{arrive-empty, arrive-many, arrive-late, arrive-timely}
+use Rattle.sb_core.proofs.places.Becoming.{becomes-as}
 use Rattle.sb_core.proofs.feeding.arrive.Goals.{then-is_empty-via-then-is_empty, then-is_empty-via-else-is_empty+then-list-moment, then-is_empty-via-else-is_empty+else-list-moment+then-not-are_timely}
 use Rattle.sb_core.proofs.feeding.arrive.Goals as goal
 

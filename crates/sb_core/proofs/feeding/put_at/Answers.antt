@@ -2,8 +2,8 @@ use Rattle.std.proofs.Common.{◌≡◌, ◌<◌, ◌-◌, ◌^◌, ◌∙◌, a
 use Rattle.sb_core.specs.declared.moment.CoreLane.{CoreLane}
 use Rattle.sb_core.specs.Lanes.{with_arrival}
 use Rattle.sb_core.specs.Moments.{with_lane}
-use Rattle.sb_core.proofs.InPlace.{arrived-there, lane-is, lane-kept, lane-written}
-use Rattle.sb_core.proofs.Becoming.{becomes-memory}
+use Rattle.sb_core.proofs.places.InPlace.{arrived-there, lane-is, lane-kept, lane-written}
+use Rattle.sb_core.proofs.places.Becoming.{becomes-memory}
 use Rattle.sb_core.proofs.feeding.put_at.Goals as goal
 
 pub put-requires : goal.put-requires

@@ -1,8 +1,8 @@
 use Rattle.std.proofs.Common.{◌≡◌, ◌∙◌, ap, sym}
 use Rattle.sb_core.specs.Lanes.{with_seal}
 use Rattle.sb_core.specs.Moments.{with_lane}
-use Rattle.sb_core.proofs.Becoming.{becomes-memory}
-use Rattle.sb_core.proofs.InPlace.{then_some, lane-is, lane-kept, lane-written}
+use Rattle.sb_core.proofs.places.Becoming.{becomes-memory}
+use Rattle.sb_core.proofs.places.InPlace.{then_some, lane-is, lane-kept, lane-written}
 use Rattle.sb_core.proofs.feeding.seal_at.Goals as goal
 
 pub returns-in_err-seal : goal.returns-in_err-seal

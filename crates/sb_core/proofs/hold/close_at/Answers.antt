@@ -3,7 +3,7 @@ use Rattle.std.specs.List.{remove}
 use Rattle.std.specs.Option.{option_map}
 use Rattle.sb_core.specs.declared.held.Held.TheVariants.{Work, Close}
 use Rattle.sb_core.specs.Moments.{is_close}
-use Rattle.sb_core.proofs.FromHeld.{first-in, close-of}
+use Rattle.sb_core.proofs.places.FromHeld.{first-in, close-of}
 use Rattle.sb_core.proofs.hold.close_at.Goals as goal
 
 pub returns-in-Close-clause-found : goal.returns-in-Close-clause-found

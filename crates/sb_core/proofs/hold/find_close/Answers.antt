@@ -4,7 +4,7 @@ use Rattle.std.proofs.lemmas.Iterator.Search.{position_from_yields_List}
 use borrow.Author.Tests.{tests}
 use Rattle.sb_core.specs.Finding.{IsFirst}
 use Rattle.sb_core.specs.Moments as spec
-use Rattle.sb_core.proofs.FirstPlace.{place-first}
+use Rattle.sb_core.proofs.places.FirstPlace.{place-first}
 use Rattle.sb_core.proofs.hold.find_close.Goals as goal
 
 pub returns : goal.returns

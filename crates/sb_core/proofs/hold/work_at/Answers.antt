@@ -3,7 +3,7 @@ use Rattle.std.specs.List.{remove}
 use Rattle.std.specs.Option.{option_map}
 use Rattle.sb_core.specs.declared.held.Held.TheVariants.{Work, Close}
 use Rattle.sb_core.specs.Moments.{is_work}
-use Rattle.sb_core.proofs.FromHeld.{first-in, work-of}
+use Rattle.sb_core.proofs.places.FromHeld.{first-in, work-of}
 use Rattle.sb_core.proofs.hold.work_at.Goals as goal
 
 pub returns-in-Work-clause-found : goal.returns-in-Work-clause-found

@@ -1,4 +1,4 @@
-use Rattle.sb_core.proofs.AtRest.{closes-low}
+use Rattle.sb_core.proofs.ends.AtRest.{closes-low}
 use Rattle.sb_core.proofs.laws.closes_low.Goals as goal
 
 pub returns : goal.returns

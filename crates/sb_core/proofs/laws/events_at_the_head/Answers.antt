@@ -1,4 +1,4 @@
-use Rattle.sb_core.proofs.AnyOrder.{events-at_the_head}
+use Rattle.sb_core.proofs.sound.AnyOrder.{events-at_the_head}
 use Rattle.sb_core.proofs.laws.events_at_the_head.Goals as goal
 
 pub returns : goal.returns

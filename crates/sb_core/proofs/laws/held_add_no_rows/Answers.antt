@@ -1,4 +1,4 @@
-use Rattle.sb_core.proofs.NewRowsLaw.{held-add_no_rows}
+use Rattle.sb_core.proofs.parts.NewRowsLaw.{held-add_no_rows}
 use Rattle.sb_core.proofs.laws.held_add_no_rows.Goals as goal
 
 pub returns : goal.returns

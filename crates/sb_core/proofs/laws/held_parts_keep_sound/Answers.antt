@@ -1,4 +1,4 @@
-use Rattle.sb_core.proofs.PartsLaw.{held-parts_keep_sound}
+use Rattle.sb_core.proofs.parts.PartsLaw.{held-parts_keep_sound}
 use Rattle.sb_core.proofs.laws.held_parts_keep_sound.Goals as goal
 
 pub returns : goal.returns

@@ -1,4 +1,4 @@
-use Rattle.sb_core.proofs.OneLaneLaw.{one-lane_changes}
+use Rattle.sb_core.proofs.parts.OneLaneLaw.{one-lane_changes}
 use Rattle.sb_core.proofs.laws.one_lane_changes.Goals as goal
 
 pub returns : goal.returns

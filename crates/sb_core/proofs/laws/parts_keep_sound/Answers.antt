@@ -1,4 +1,4 @@
-use Rattle.sb_core.proofs.PartsLaw.{parts-keep_sound}
+use Rattle.sb_core.proofs.parts.PartsLaw.{parts-keep_sound}
 use Rattle.sb_core.proofs.laws.parts_keep_sound.Goals as goal
 
 pub returns : goal.returns

@@ -1,4 +1,4 @@
-use Rattle.sb_core.proofs.FirstMoment.{runs-are_sound}
+use Rattle.sb_core.proofs.sound.FirstMoment.{runs-are_sound}
 use Rattle.sb_core.proofs.laws.runs_are_sound.Goals as goal
 
 pub returns : goal.returns

@@ -1,4 +1,4 @@
-use Rattle.sb_core.proofs.NoneLeft.{settles-all}
+use Rattle.sb_core.proofs.ends.NoneLeft.{settles-all}
 use Rattle.sb_core.proofs.laws.settles.Goals as goal
 
 pub returns : goal.returns

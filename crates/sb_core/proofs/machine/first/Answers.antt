@@ -7,8 +7,8 @@ use Rattle.sb_core.specs.declared.moment.Moment.{Moment}
 use Rattle.sb_core.specs.Exactness.{IsExact}
 use Rattle.sb_core.specs.Soundness.{IsSound}
 use Rattle.sb_core.specs.Moments.{empty_lane, empty_node, first}
-use Rattle.sb_core.proofs.FirstMoment.{at_node, node_count, first-sound, first-exact}
-use Rattle.sb_core.proofs.Nodewise.{take_more}
+use Rattle.sb_core.proofs.sound.FirstMoment.{at_node, node_count, first-sound, first-exact}
+use Rattle.sb_core.proofs.exact.Nodewise.{take_more}
 use Rattle.sb_core.proofs.machine.first.Goals as goal
 
 pub loop-node-preserved : goal.loop-node-preserved

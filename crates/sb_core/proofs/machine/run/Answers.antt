@@ -6,9 +6,9 @@ use Rattle.sb_core.specs.declared.event.Event.{Event}
 use Rattle.sb_core.specs.Events
 use Rattle.sb_core.specs.Exactness.{IsExact}
 use Rattle.sb_core.specs.Laws.{fed_by}
-use Rattle.sb_core.proofs.Becoming.{refused-same}
-use Rattle.sb_core.proofs.Nodewise.{take_more}
-use Rattle.sb_core.proofs.Stepping.{run-more, fed_by-more}
+use Rattle.sb_core.proofs.places.Becoming.{refused-same}
+use Rattle.sb_core.proofs.exact.Nodewise.{take_more}
+use Rattle.sb_core.proofs.sound.Stepping.{run-more, fed_by-more}
 use Rattle.sb_core.proofs.machine.run.Goals as goal
 
 pub loop-at-preserved : goal.loop-at-preserved

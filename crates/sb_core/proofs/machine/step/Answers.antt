@@ -1,4 +1,4 @@
-use Rattle.sb_core.proofs.Stepping.{step-sound, step-exact}
+use Rattle.sb_core.proofs.sound.Stepping.{step-sound, step-exact}
 use Rattle.sb_core.proofs.machine.step.Goals as goal
 
 pub returns-clause-sound : goal.returns-clause-sound

@@ -1,5 +1,5 @@
 use Rattle.std.proofs.Common.{◌∙◌}
-use Rattle.sb_core.proofs.Closed.{closed_with-later}
+use Rattle.sb_core.proofs.containers.Closed.{closed_with-later}
 use Rattle.sb_core.proofs.marks.+closed_with.Goals as goal
 
 pub returns-else-begins-eq0 : goal.returns-else-begins-eq0

@@ -1,5 +1,5 @@
 use Rattle.std.proofs.Common.{◌-◌, arith, length}
-use Rattle.sb_cascade.proofs.Handing.{same-then}
+use Rattle.sb_cascade.proofs.leavings.Handing.{same-then}
 use Rattle.sb_cascade.specs.Calls.{plan_of}
 use Rattle.sb_worker.specs.Entries.{is_idle_of}
 use Rattle.sb_worker.specs.Steps.{IsClaiming, IsIdle, IsIdleAt}

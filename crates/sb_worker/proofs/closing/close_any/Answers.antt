@@ -1,6 +1,6 @@
 use Rattle.std.proofs.Common.{◌-◌, arith, length, subst}
 use Rattle.std.specs.Prelude.{MatchBool}
-use Rattle.sb_cascade.proofs.Handing.{same-then}
+use Rattle.sb_cascade.proofs.leavings.Handing.{same-then}
 use Rattle.sb_cascade.specs.Calls.{plan_of}
 use Rattle.sb_worker.specs.Entries.{Does, Gains, is_not_yet_of}
 use Rattle.sb_worker.specs.Steps.{IsNotYet, IsNotYetAt}

@@ -12,12 +12,12 @@ use Rattle.sb_cascade.specs.Leavings.{IsFull}
 use Rattle.sb_cascade.specs.SharedNodes.{SharedView}
 use Rattle.sb_cascade.specs.Told.{Is}
 use Rattle.sb_cascade.specs.Views.{listed}
-use Rattle.sb_cascade.proofs.FeedOfChanges.{feeds-bundle}
-use Rattle.sb_cascade.proofs.Found.{bundles_fed}
-use Rattle.sb_cascade.proofs.FoundLanes.{source_lane}
-use Rattle.sb_cascade.proofs.LeftTurns.{does_at, found_by, knew, left_by}
-use Rattle.sb_cascade.proofs.LinksOwed.{arrive-sets}
-use Rattle.sb_cascade.proofs.ToldFeeds.{arrives_told, epoch_fed, floor_fed}
+use Rattle.sb_cascade.proofs.feeds.FeedOfChanges.{feeds-bundle}
+use Rattle.sb_cascade.proofs.entered.Found.{bundles_fed}
+use Rattle.sb_cascade.proofs.entered.FoundLanes.{source_lane}
+use Rattle.sb_cascade.proofs.leavings.LeftTurns.{does_at, found_by, knew, left_by}
+use Rattle.sb_cascade.proofs.links.LinksOwed.{arrive-sets}
+use Rattle.sb_cascade.proofs.feeds.ToldFeeds.{arrives_told, epoch_fed, floor_fed}
 use Rattle.sb_cascade.proofs.cascade.Cascade.arrive.Goals as goal
 
 pub arrive-requires : goal.arrive-requires

@@ -10,11 +10,11 @@ use Rattle.sb_cascade.specs.Shown.{operator_of}
 use Rattle.sb_cascade.specs.SharedNodes.{SharedView, StopsAt, lines_of}
 use Rattle.sb_cascade.specs.Told.{IsBeginning}
 use Rattle.sb_cascade.specs.Views.{after, held_by, listed}
-use Rattle.sb_cascade.proofs.ClosingsTold.{begins_does}
-use Rattle.sb_cascade.proofs.Found.{rises_here}
-use Rattle.sb_cascade.proofs.FoundLanes.{lanes_few, sink_here}
-use Rattle.sb_cascade.proofs.LeftTurns.{Seated, does_at, found_by, knew, left_by}
-use Rattle.sb_cascade.proofs.Shelving.{raises_by}
+use Rattle.sb_cascade.proofs.leavings.ClosingsTold.{begins_does}
+use Rattle.sb_cascade.proofs.entered.Found.{rises_here}
+use Rattle.sb_cascade.proofs.entered.FoundLanes.{lanes_few, sink_here}
+use Rattle.sb_cascade.proofs.leavings.LeftTurns.{Seated, does_at, found_by, knew, left_by}
+use Rattle.sb_cascade.proofs.lives.Shelving.{raises_by}
 use Rattle.sb_cascade.proofs.cascade.Cascade.begin_close.Goals as goal
 
 pub begin-requires-clause-lanes : goal.begin-requires-clause-lanes

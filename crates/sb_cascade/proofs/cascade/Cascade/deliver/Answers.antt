@@ -3,7 +3,7 @@ use Rattle.sb_record.specs.declared.item.Record.{Record}
 use Rattle.sb_core.specs.Choices.{is_empty}
 use Rattle.sb_core.specs.Closings.{delivery}
 use Rattle.sb_core.specs.Events.{below}
-use Rattle.sb_core.proofs.Carried.{below-down}
+use Rattle.sb_core.proofs.places.Carried.{below-down}
 use Rattle.sb_turn.specs.Passes.{about}
 use Rattle.sb_work.specs.declared.claim.Claim.{Claim}
 use Rattle.sb_cascade.specs.declared.telling.Hands.{Hands}
@@ -15,13 +15,13 @@ use Rattle.sb_cascade.specs.Shown.{operator_of}
 use Rattle.sb_cascade.specs.Linked.{SetsLinksAt}
 use Rattle.sb_cascade.specs.SharedNodes.{PutsAt, SharedView}
 use Rattle.sb_cascade.specs.Views.{held_by, listed}
-use Rattle.sb_cascade.proofs.FeedOfChanges.{does-so}
-use Rattle.sb_cascade.proofs.FoundLanes.{below_lane}
-use Rattle.sb_cascade.proofs.LinkHere.{work-link}
-use Rattle.sb_cascade.proofs.LinksOwed.{put-sets}
-use Rattle.sb_cascade.proofs.LeftTurns.{does_at, found_by, knew}
-use Rattle.sb_cascade.proofs.OrderHere.{order_here, work_order}
-use Rattle.sb_cascade.proofs.ToldWorks.{delivers_told, not_empty}
+use Rattle.sb_cascade.proofs.feeds.FeedOfChanges.{does-so}
+use Rattle.sb_cascade.proofs.entered.FoundLanes.{below_lane}
+use Rattle.sb_cascade.proofs.entered.LinkHere.{work-link}
+use Rattle.sb_cascade.proofs.links.LinksOwed.{put-sets}
+use Rattle.sb_cascade.proofs.leavings.LeftTurns.{does_at, found_by, knew}
+use Rattle.sb_cascade.proofs.entered.OrderHere.{order_here, work_order}
+use Rattle.sb_cascade.proofs.leavings.ToldWorks.{delivers_told, not_empty}
 use Rattle.sb_cascade.proofs.cascade.Cascade.deliver.Goals as goal
 
 pub put-requires-clause-lane : goal.put-requires-clause-lane

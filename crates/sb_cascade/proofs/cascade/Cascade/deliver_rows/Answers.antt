@@ -7,13 +7,13 @@ use Rattle.sb_cascade.specs.Doings.{close_of}
 use Rattle.sb_cascade.specs.SharedNodes.{lines_of}
 use Rattle.sb_cascade.specs.Told.{AreRows}
 use Rattle.sb_cascade.specs.Views.{after, held_by, listed}
-use Rattle.sb_cascade.proofs.ClosingsTold.{rows_does}
-use Rattle.sb_cascade.proofs.FoundLanes.{below_lane}
-use Rattle.sb_cascade.proofs.LanesBelow.{below_is}
-use Rattle.sb_cascade.proofs.LinkHere.{close-link}
-use Rattle.sb_cascade.proofs.LeftTurns.{does_at, found_by, knew, left_by}
-use Rattle.sb_cascade.proofs.OrderHere.{order_here, rows_order}
-use Rattle.sb_cascade.proofs.RowsLeft.{next_rows, rows_fewer, rows_some}
+use Rattle.sb_cascade.proofs.leavings.ClosingsTold.{rows_does}
+use Rattle.sb_cascade.proofs.entered.FoundLanes.{below_lane}
+use Rattle.sb_cascade.proofs.links.LanesBelow.{below_is}
+use Rattle.sb_cascade.proofs.entered.LinkHere.{close-link}
+use Rattle.sb_cascade.proofs.leavings.LeftTurns.{does_at, found_by, knew, left_by}
+use Rattle.sb_cascade.proofs.entered.OrderHere.{order_here, rows_order}
+use Rattle.sb_cascade.proofs.leavings.RowsLeft.{next_rows, rows_fewer, rows_some}
 use Rattle.sb_cascade.proofs.cascade.Cascade.deliver_rows.Goals as goal
 
 pub put-requires-clause-lane : goal.put-requires-clause-lane

@@ -6,11 +6,11 @@ use Rattle.sb_cascade.specs.declared.telling.Setting.{Setting}
 use Rattle.sb_cascade.specs.Found.{IsDrained, IsFound}
 use Rattle.sb_cascade.specs.SharedNodes.{SharedView}
 use Rattle.sb_cascade.specs.Views.{with_drained}
-use Rattle.sb_cascade.proofs.Acts.{drains}
-use Rattle.sb_cascade.proofs.Drained.{all-drained}
-use Rattle.sb_cascade.proofs.FeedOfChanges.{feeds-drained}
-use Rattle.sb_cascade.proofs.LeftTurns.{does_at, found_by, knew}
-use Rattle.sb_cascade.proofs.LinksOwed.{own-stays}
+use Rattle.sb_cascade.proofs.leavings.Acts.{drains}
+use Rattle.sb_cascade.proofs.feeds.Drained.{all-drained}
+use Rattle.sb_cascade.proofs.feeds.FeedOfChanges.{feeds-drained}
+use Rattle.sb_cascade.proofs.leavings.LeftTurns.{does_at, found_by, knew}
+use Rattle.sb_cascade.proofs.links.LinksOwed.{own-stays}
 use Rattle.sb_cascade.proofs.cascade.Cascade.drain.Goals as goal
 
 pub leave-requires-clause-does : goal.leave-requires-clause-does

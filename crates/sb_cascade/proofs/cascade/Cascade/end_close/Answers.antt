@@ -5,9 +5,9 @@ use Rattle.sb_cascade.specs.Doings.{close_of}
 use Rattle.sb_cascade.specs.SharedNodes.{lines_of}
 use Rattle.sb_cascade.specs.Told.{IsEnd}
 use Rattle.sb_cascade.specs.Views.{after, held_by, listed}
-use Rattle.sb_cascade.proofs.ClosingsTold.{ends_does}
-use Rattle.sb_cascade.proofs.HeldHere.{closing_here}
-use Rattle.sb_cascade.proofs.LeftTurns.{does_at, found_by, knew, left_by}
+use Rattle.sb_cascade.proofs.leavings.ClosingsTold.{ends_does}
+use Rattle.sb_cascade.proofs.entered.HeldHere.{closing_here}
+use Rattle.sb_cascade.proofs.leavings.LeftTurns.{does_at, found_by, knew, left_by}
 use Rattle.sb_cascade.proofs.cascade.Cascade.end_close.Goals as goal
 
 pub end-requires : goal.end-requires

@@ -7,7 +7,7 @@ use Rattle.sb_cascade.specs.Calls.{IsSame}
 use Rattle.sb_cascade.specs.Doings.{work_of}
 use Rattle.sb_cascade.specs.Found.{IsClaim}
 use Rattle.sb_cascade.specs.Shelving.{EndsWith}
-use Rattle.sb_cascade.proofs.Handing.{empty-still, ends-none, ends-then, keeps-none, left-idle, left-take, same-still, same-then}
+use Rattle.sb_cascade.proofs.leavings.Handing.{empty-still, ends-none, ends-then, keeps-none, left-idle, left-take, same-still, same-then}
 use Rattle.sb_cascade.proofs.cascade.Cascade.fill.Goals as goal
 
 pub loop-init : goal.loop-init

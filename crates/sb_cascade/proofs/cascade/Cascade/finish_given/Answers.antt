@@ -16,11 +16,11 @@ use Rattle.sb_cascade.specs.Found.{IsFound}
 use Rattle.sb_cascade.specs.Linked.{SetsLinks, link_left}
 use Rattle.sb_cascade.specs.SharedNodes.{ChangesOwn, FinishesLinked, SharedView}
 use Rattle.sb_cascade.specs.Views.{held_by, listed}
-use Rattle.sb_cascade.proofs.FeedOfChanges.{does-so}
-use Rattle.sb_cascade.proofs.HeldHere.{lane_is_first, out_here}
-use Rattle.sb_cascade.proofs.LeftTurns.{does_at, found_by, knew, left_by}
-use Rattle.sb_cascade.proofs.LinksOwed.{finish-sets}
-use Rattle.sb_cascade.proofs.ToldWorks.{anyway, finishes_given_told, counts_given}
+use Rattle.sb_cascade.proofs.feeds.FeedOfChanges.{does-so}
+use Rattle.sb_cascade.proofs.entered.HeldHere.{lane_is_first, out_here}
+use Rattle.sb_cascade.proofs.leavings.LeftTurns.{does_at, found_by, knew, left_by}
+use Rattle.sb_cascade.proofs.links.LinksOwed.{finish-sets}
+use Rattle.sb_cascade.proofs.leavings.ToldWorks.{anyway, finishes_given_told, counts_given}
 use Rattle.sb_cascade.specs.Told.{IsFinish}
 use Rattle.sb_cascade.proofs.cascade.Cascade.finish_given.Goals as goal
 

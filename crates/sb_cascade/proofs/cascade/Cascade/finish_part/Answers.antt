@@ -8,16 +8,16 @@ use Rattle.sb_cascade.specs.Found.{IsFound}
 use Rattle.sb_cascade.specs.Linked.{SetsLinks, link_left}
 use Rattle.sb_cascade.specs.Shown.{operator_of}
 use Rattle.sb_work.specs.declared.claim.Claim.{Claim}
-use Rattle.sb_cascade.proofs.LinksOwed.{absorb-sets, finish-stays}
-use Rattle.sb_cascade.proofs.ToldWorks.{part_gathers}
+use Rattle.sb_cascade.proofs.links.LinksOwed.{absorb-sets, finish-stays}
+use Rattle.sb_cascade.proofs.leavings.ToldWorks.{part_gathers}
 use Rattle.sb_cascade.specs.SharedNodes.{FinishesLinked, SharedView}
 use Rattle.sb_cascade.specs.Views.{held_by, listed}
-use Rattle.sb_cascade.proofs.FeedOfChanges.{does-so}
-use Rattle.sb_cascade.proofs.Found.{part_here}
-use Rattle.sb_cascade.proofs.HeldHere.{out_here}
-use Rattle.sb_cascade.proofs.LeftTurns.{does_at, found_by, knew}
-use Rattle.sb_cascade.proofs.Shelving.{raises_by}
-use Rattle.sb_cascade.proofs.ToldWorks.{finishes_part_told}
+use Rattle.sb_cascade.proofs.feeds.FeedOfChanges.{does-so}
+use Rattle.sb_cascade.proofs.entered.Found.{part_here}
+use Rattle.sb_cascade.proofs.entered.HeldHere.{out_here}
+use Rattle.sb_cascade.proofs.leavings.LeftTurns.{does_at, found_by, knew}
+use Rattle.sb_cascade.proofs.lives.Shelving.{raises_by}
+use Rattle.sb_cascade.proofs.leavings.ToldWorks.{finishes_part_told}
 use Rattle.sb_cascade.proofs.cascade.Cascade.finish_part.Goals as goal
 
 pub absorb-requires-clause-lane : goal.absorb-requires-clause-lane

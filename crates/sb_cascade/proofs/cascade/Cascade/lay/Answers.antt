@@ -2,8 +2,8 @@ use Rattle.std.proofs.Common.{◌++◌, sym, ap, ◌∙◌, append-nil}
 use Rattle.sb_turn.specs.Passes.{about}
 use Rattle.sb_turn.specs.Turning.{looked_from}
 use Rattle.sb_cascade.specs.declared.telling.Piece.{Piece}
-use Rattle.sb_cascade.proofs.Handing.{looks-search}
-use Rattle.sb_cascade.proofs.Shelving.{lays_by}
+use Rattle.sb_cascade.proofs.leavings.Handing.{looks-search}
+use Rattle.sb_cascade.proofs.lives.Shelving.{lays_by}
 use Rattle.sb_cascade.proofs.cascade.Cascade.lay.Goals as goal
 
 pub put-requires-clause-rule : goal.put-requires-clause-rule

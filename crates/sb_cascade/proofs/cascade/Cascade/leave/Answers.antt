@@ -6,8 +6,8 @@ use Rattle.sb_cascade.specs.Doings.{is_event}
 use Rattle.sb_cascade.specs.Shown.{ShowsMoment}
 use Rattle.sb_cascade.specs.SharedNodes.{lines_of}
 use Rattle.sb_cascade.specs.Views.{after}
-use Rattle.sb_cascade.proofs.Leaving.{leaves_by}
-use Rattle.sb_cascade.proofs.LinesGrow.{line_more}
+use Rattle.sb_cascade.proofs.leavings.Leaving.{leaves_by}
+use Rattle.sb_cascade.proofs.diaries.LinesGrow.{line_more}
 use Rattle.sb_cascade.proofs.cascade.Cascade.leave.Goals as goal
 
 pub leave-requires-clause-lines : goal.leave-requires-clause-lines

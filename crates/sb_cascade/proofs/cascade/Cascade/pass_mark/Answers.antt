@@ -6,10 +6,10 @@ use Rattle.sb_cascade.specs.Doings.{close_of}
 use Rattle.sb_cascade.specs.SharedNodes.{lines_of}
 use Rattle.sb_cascade.specs.Told.{IsPassing}
 use Rattle.sb_cascade.specs.Views.{after, held_by, listed}
-use Rattle.sb_cascade.proofs.ClosingsTold.{passes_does}
-use Rattle.sb_cascade.proofs.FoundLanes.{below_lane}
-use Rattle.sb_cascade.proofs.LanesBelow.{below_is}
-use Rattle.sb_cascade.proofs.LeftTurns.{Seated, does_at, found_by, knew, left_by}
+use Rattle.sb_cascade.proofs.leavings.ClosingsTold.{passes_does}
+use Rattle.sb_cascade.proofs.entered.FoundLanes.{below_lane}
+use Rattle.sb_cascade.proofs.links.LanesBelow.{below_is}
+use Rattle.sb_cascade.proofs.leavings.LeftTurns.{Seated, does_at, found_by, knew, left_by}
 use Rattle.sb_cascade.proofs.cascade.Cascade.pass_mark.Goals as goal
 
 pub seal-requires : goal.seal-requires

@@ -7,12 +7,12 @@ use Rattle.sb_cascade.specs.declared.telling.Setting.{Setting}
 use Rattle.sb_cascade.specs.Found.{IsFound}
 use Rattle.sb_cascade.specs.SharedNodes.{SharedView}
 use Rattle.sb_cascade.specs.Views.{listed}
-use Rattle.sb_cascade.proofs.FeedOfChanges.{feeds-mark}
-use Rattle.sb_cascade.proofs.FoundLanes.{source_lane}
-use Rattle.sb_cascade.proofs.FreshEvents.{seals}
-use Rattle.sb_cascade.proofs.LeftTurns.{does_at, found_by, knew}
-use Rattle.sb_cascade.proofs.LinksOwed.{seal-sets}
-use Rattle.sb_cascade.proofs.ToldFeeds.{floor_fed}
+use Rattle.sb_cascade.proofs.feeds.FeedOfChanges.{feeds-mark}
+use Rattle.sb_cascade.proofs.entered.FoundLanes.{source_lane}
+use Rattle.sb_cascade.proofs.leavings.FreshEvents.{seals}
+use Rattle.sb_cascade.proofs.leavings.LeftTurns.{does_at, found_by, knew}
+use Rattle.sb_cascade.proofs.links.LinksOwed.{seal-sets}
+use Rattle.sb_cascade.proofs.feeds.ToldFeeds.{floor_fed}
 use Rattle.sb_cascade.proofs.cascade.Cascade.seal.Goals as goal
 
 pub seal-requires : goal.seal-requires

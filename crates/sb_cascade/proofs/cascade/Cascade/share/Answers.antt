@@ -6,8 +6,8 @@ use Rattle.sb_turn.specs.Passes.{AllShort}
 use Rattle.sb_cascade.specs.declared.telling.Setting.{Setting}
 use Rattle.sb_cascade.specs.Ends.{fresh_state}
 use Rattle.sb_cascade.specs.SharedNodes.{lines_of}
-use Rattle.sb_cascade.proofs.Opening.{fresh_owes_none, fresh_short, starts}
-use Rattle.sb_cascade.proofs.Sharing.{first_says, new_for, shared}
+use Rattle.sb_cascade.proofs.lives.Opening.{fresh_owes_none, fresh_short, starts}
+use Rattle.sb_cascade.proofs.lives.Sharing.{first_says, new_for, shared}
 use Rattle.sb_cascade.proofs.cascade.Cascade.share.Goals as goal
 
 pub fresh_states-requires : goal.fresh_states-requires

@@ -7,8 +7,8 @@ use Rattle.sb_cascade.specs.declared.telling.Setting.{Setting}
 use Rattle.sb_cascade.specs.Calls.{view_of}
 use Rattle.sb_cascade.specs.Ends.{IsShut}
 use Rattle.sb_cascade.specs.SharedNodes.{SharedView}
-use Rattle.sb_cascade.proofs.GivingBack.{gives_back, shut_can}
-use Rattle.sb_cascade.proofs.Shutting.{shuts}
+use Rattle.sb_cascade.proofs.lives.GivingBack.{gives_back, shut_can}
+use Rattle.sb_cascade.proofs.lives.Shutting.{shuts}
 use Rattle.sb_cascade.proofs.cascade.Cascade.shut.Goals as goal
 
 pub from_parts-requires-clause-can : goal.from_parts-requires-clause-can

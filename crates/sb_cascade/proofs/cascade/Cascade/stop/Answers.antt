@@ -1,6 +1,6 @@
 use Rattle.sb_turn.specs.Passes.{about}
 use Rattle.sb_turn.specs.Reasons.{number_of}
-use Rattle.sb_cascade.proofs.Shelving.{raises_by}
+use Rattle.sb_cascade.proofs.lives.Shelving.{raises_by}
 use Rattle.sb_cascade.proofs.cascade.Cascade.stop.Goals as goal
 
 pub stop-requires-clause-rule : goal.stop-requires-clause-rule

@@ -7,8 +7,8 @@ use Rattle.sb_cascade.specs.Doings.{work_of}
 use Rattle.sb_cascade.specs.Found.{IsFound}
 use Rattle.sb_cascade.specs.SharedNodes.{ChangesOwn, SharedView, lines_of}
 use Rattle.sb_cascade.specs.Views.{listed}
-use Rattle.sb_cascade.proofs.Claims.{taken}
-use Rattle.sb_cascade.proofs.Taken.{takes-told}
+use Rattle.sb_cascade.proofs.lives.Claims.{taken}
+use Rattle.sb_cascade.proofs.entered.Taken.{takes-told}
 use Rattle.sb_cascade.proofs.cascade.Cascade.take_under.Goals as goal
 
 pub leave-requires-clause-does : goal.leave-requires-clause-does

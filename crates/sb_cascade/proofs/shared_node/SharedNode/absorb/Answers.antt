@@ -2,11 +2,11 @@ use Rattle.std.proofs.Common.{rules, ◌≤◌, arith, ap}
 use Rattle.sb_core.specs.declared.moment.CoreLane.{CoreLane}
 use Rattle.sb_lane.specs.Placed.{conts_of}
 use Rattle.sb_node.specs.Changes.{HasLane}
-use Rattle.sb_cascade.proofs.Promises.{owed_of, owed-finished}
-use Rattle.sb_cascade.proofs.Rooms.{room-set}
+use Rattle.sb_cascade.proofs.diaries.Promises.{owed_of, owed-finished}
+use Rattle.sb_cascade.proofs.diaries.Rooms.{room-set}
 use Rattle.std.specs.Prelude.{◌-◌}
 use Rattle.sb_node.specs.Changes.{Absorbs}
-use Rattle.sb_cascade.proofs.Promises.{owed-in}
+use Rattle.sb_cascade.proofs.diaries.Promises.{owed-in}
 use Rattle.sb_cascade.proofs.shared_node.SharedNode.absorb.Goals as goal
 
 pub absorb-requires-clause-room : goal.absorb-requires-clause-room

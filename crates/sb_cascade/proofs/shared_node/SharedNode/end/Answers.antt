@@ -2,10 +2,10 @@ use Rattle.std.proofs.Common.{rules, ◌≤◌, arith, ap}
 use Rattle.sb_core.specs.declared.moment.CoreLane.{CoreLane}
 use Rattle.sb_lane.specs.Placed.{conts_of}
 use Rattle.sb_node.specs.Changes.{HasLane}
-use Rattle.sb_cascade.proofs.Promises.{owed_of, owed-ended}
-use Rattle.sb_cascade.proofs.Rooms.{room-set}
+use Rattle.sb_cascade.proofs.diaries.Promises.{owed_of, owed-ended}
+use Rattle.sb_cascade.proofs.diaries.Rooms.{room-set}
 use Rattle.std.specs.Prelude.{◌-◌}
-use Rattle.sb_cascade.proofs.Promises.{owed-in}
+use Rattle.sb_cascade.proofs.diaries.Promises.{owed-in}
 use Rattle.sb_cascade.proofs.shared_node.SharedNode.end.Goals as goal
 
 pub end-requires-clause-room : goal.end-requires-clause-room

@@ -3,17 +3,17 @@ use Rattle.sb_core.specs.declared.moment.CoreLane.{CoreLane}
 use Rattle.sb_lane.specs.LaneView.{lane_of}
 use Rattle.sb_lane.specs.Placed.{conts_of}
 use Rattle.sb_node.specs.Changes.{HasLane, Turns}
-use Rattle.sb_cascade.proofs.Promises.{owed_of, owed-finished}
-use Rattle.sb_cascade.proofs.Rooms.{HasRoom, room-set}
+use Rattle.sb_cascade.proofs.diaries.Promises.{owed_of, owed-finished}
+use Rattle.sb_cascade.proofs.diaries.Rooms.{HasRoom, room-set}
 use Rattle.std.specs.Prelude.{◌-◌, slice_get, Some, None}
-use Rattle.sb_core.proofs.Nodes.{slice_get-set_same}
+use Rattle.sb_core.proofs.exact.Nodes.{slice_get-set_same}
 use Rattle.sb_diary.specs.declared.event.DiaryEvent.TheVariants as line
 use Rattle.sb_lane.specs.Links.{down_of, links_of}
 use Rattle.sb_lane.specs.Taking.{finish_first}
 use Rattle.sb_cascade.specs.SharedNodes.{FinishesLinked, linked_once}
-use Rattle.sb_cascade.proofs.LinkedOnce.{turns-linked, turns-unlinked}
-use Rattle.sb_cascade.proofs.Promises.{owed-in}
-use Rattle.sb_cascade.proofs.Rooms.{room-same}
+use Rattle.sb_cascade.proofs.links.LinkedOnce.{turns-linked, turns-unlinked}
+use Rattle.sb_cascade.proofs.diaries.Promises.{owed-in}
+use Rattle.sb_cascade.proofs.diaries.Rooms.{room-same}
 use Rattle.sb_cascade.proofs.shared_node.SharedNode.finish.Goals as goal
 
 pub finish-requires-clause-room : goal.finish-requires-clause-room

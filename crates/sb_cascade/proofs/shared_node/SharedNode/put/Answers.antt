@@ -5,8 +5,8 @@ use Rattle.sb_lane.specs.LaneView.{lane_of}
 use Rattle.sb_lane.specs.Placed.{conts_of}
 use Rattle.sb_node.specs.Changes.{HasLane}
 use Rattle.sb_node.specs.declared.state.NodeState.{NodeState}
-use Rattle.sb_cascade.proofs.Promises.{owed_of, owed-arrived}
-use Rattle.sb_cascade.proofs.Rooms.{HasRoom, room-set, room-stays, room-reserved, shows-stays}
+use Rattle.sb_cascade.proofs.diaries.Promises.{owed_of, owed-arrived}
+use Rattle.sb_cascade.proofs.diaries.Rooms.{HasRoom, room-set, room-stays, room-reserved, shows-stays}
 use Rattle.sb_lane.specs.Changes.{StandsAt}
 use Rattle.std.specs.Prelude.{length}
 use Rattle.sb_diary.specs.declared.event.DiaryEvent.TheVariants as line
@@ -14,7 +14,7 @@ use Rattle.sb_core.specs.Lanes.{with_arrival}
 use Rattle.sb_lane.specs.Links.{link_in}
 use Rattle.sb_node.specs.LinkChanges.{FindsPlace, LinksStay}
 use Rattle.sb_cascade.specs.SharedNodes.{PutsAt}
-use Rattle.sb_cascade.proofs.LinkedOnce.{turns-as}
+use Rattle.sb_cascade.proofs.links.LinkedOnce.{turns-as}
 use Rattle.sb_cascade.proofs.shared_node.SharedNode.put.Goals as goal
 use Rattle.sb_cascade.proofs.shared_node.SharedNode.put.Goals.{in-Some+in_ok-put_at-in-Some, in-None+in_ok-place-in-None}
 

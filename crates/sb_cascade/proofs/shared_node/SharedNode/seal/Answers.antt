@@ -4,8 +4,8 @@ use Rattle.sb_core.specs.Lanes.{next_epoch, next_floor}
 use Rattle.sb_lane.specs.LaneView.{lane_of}
 use Rattle.sb_lane.specs.Placed.{conts_of}
 use Rattle.sb_node.specs.declared.state.NodeState.{NodeState}
-use Rattle.sb_cascade.proofs.Promises.{owed_of, owed-sealed}
-use Rattle.sb_cascade.proofs.Rooms.{room-set, room-stays, room-reserved, shows-stays}
+use Rattle.sb_cascade.proofs.diaries.Promises.{owed_of, owed-sealed}
+use Rattle.sb_cascade.proofs.diaries.Rooms.{room-set, room-stays, room-reserved, shows-stays}
 use Rattle.sb_cascade.proofs.shared_node.SharedNode.seal.Goals as goal
 
 pub overflow_add-self-inside : goal.overflow_add-self-inside

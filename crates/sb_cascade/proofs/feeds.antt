@@ -1,0 +1,5 @@
+-- What the feeder has fed and drained.
+pub mod FedViews
+pub mod FeedOfChanges
+pub mod ToldFeeds
+pub mod Drained

@@ -1,0 +1,8 @@
+-- A cascade from its hand to its end.
+pub mod Opening
+pub mod Sharing
+pub mod Claims
+pub mod Shelving
+pub mod HeldOnce
+pub mod Shutting
+pub mod GivingBack

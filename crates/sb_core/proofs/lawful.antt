@@ -1,0 +1,9 @@
+-- Each event keeps a moment lawful.
+pub mod Changed
+pub mod Frame
+pub mod ArriveLawful
+pub mod DeliverLawful
+pub mod SealLawful
+pub mod TakeLawful
+pub mod BeginLawful
+pub mod EndLawful

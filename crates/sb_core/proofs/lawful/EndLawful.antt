@@ -1,0 +1,257 @@
+-- A closing ends, a Work is finished: the moment stays lawful.
+use Rattle.std.proofs.Common.{◌≡◌, ℕ, suc, zero, ◌+◌, ◌≤◌, Bool, true, false, not, cond, eqb, List, [], ◌∷◌, length, drop, Some, Option, sym, refl, ap, subst, ◌∙◌, arith, ⊎_elim, length-drop}
+use Rattle.std.specs.Prelude.{◌≢◌, ◌⊎◌, ◌&&◌, ◌||◌, count_by, slice_set}
+use Rattle.std.specs.List.{filter, slice_get, list_any, AllByRecursion}
+use Rattle.std.proofs.lemmas.Bool.{eq-eqb, ne_eqb, cases_eq, eqb-true, eqb-false}
+use Rattle.std.proofs.Math.Bool.{and-false}
+use Rattle.std.proofs.lemmas.Option.{same_Some}
+use Rattle.sb_record.specs.declared.item.Record.{Record}
+use Rattle.sb_core.specs.declared.moment.Cont.{Cont}
+use Rattle.sb_core.specs.declared.moment.CoreLane.{CoreLane}
+use Rattle.sb_pipeline.specs.declared.transform.Down.{Down}
+use Rattle.sb_core.specs.declared.moment.Node.{Node}
+use Rattle.sb_pipeline.specs.Shapes.{Shape}
+use Rattle.sb_core.specs.declared.moment.Moment.{Moment}
+use Rattle.sb_core.specs.declared.held.Held.{Held}
+use Rattle.sb_core.specs.declared.held.Held.TheVariants.{Work, Close}
+use Rattle.sb_record.specs.Reading.{◌>>=◌}
+use Rattle.sb_core.specs.Marks.{begun, first_is_closing, last_of_first}
+use Rattle.sb_core.specs.Lanes.{finish_in}
+use Rattle.sb_core.specs.Moments.{is_work, is_close, is_close_of, lane_at, set_lane, set_node, with_held, floor_of, floor_at, epoch_of, epoch_at}
+use Rattle.sb_core.specs.LaneOrder.{AreContainers, IsLane, IsReady, cont_at}
+use Rattle.sb_core.specs.Bounds.{bound_at}
+use Rattle.sb_core.specs.Holdings.{IsHeld, is_unpassed}
+use Rattle.sb_core.proofs.sound.Orderly.{IsLawful}
+use Rattle.sb_record.proofs.Sums.{IsReordered}
+use Rattle.sb_core.proofs.containers.LaneLaws.{DifferInBundles, containers-differ, finish_in-differ}
+use Rattle.sb_core.proofs.exact.Nodes.{begun_mark}
+use Rattle.sb_core.proofs.times.InTime.{next_mark, out_behind}
+use Rattle.sb_core.proofs.containers.InEpoch.{tail_calm, ready_calm}
+use Rattle.sb_core.proofs.lawful.TakeLawful.{differ-closing, differ-tail}
+use Rattle.sb_core.proofs.sound.HeldLists.{any_gone, count_gone, none_left, every_both}
+use Rattle.sb_core.proofs.lawful.Changed.{IsOutAt, cases, at_place, work_still, close_still, below_still, lawful_still}
+
+-- ---- the lane without its first container
+abbrev pub shorter : CoreLane → CoreLane
+shorter lane = record lane { conts = drop 1 lane.conts; ended = lane.ended + 1 }
+
+calm_first : (cs : List Cont) → AllByRecursion (λ c. c.closing ≡ false) cs → first_is_closing cs ≡ false
+calm_first [] all = refl
+calm_first (c ∷ cs) all = all.0
+
+module _ (bound : ℕ) (lane : CoreLane) (ok : IsLane bound lane) (closing : first_is_closing lane.conts ≡ true) where
+  pub end-calm : first_is_closing (shorter lane).conts ≡ false
+  end-calm = calm_first (drop 1 lane.conts) ok.others
+
+  pub end-begun : begun (shorter lane) ≡ begun lane
+  end-begun = ap (λ b. cond b (lane.ended + 1 + 1) (lane.ended + 1)) end-calm ∙ sym (ap (λ b. cond b (lane.ended + 1) lane.ended) closing)
+
+  pub end-mark : begun_mark (shorter lane) ≡ begun_mark lane
+  end-mark = ap (λ n. last_of_first n lane.marks) end-begun
+
+  pub end-lane : IsLane bound (shorter lane)
+  end-lane = go lane.conts refl (drop lane.ended lane.marks) refl ok.containers closing
+    where
+      go : (cs : List Cont) → lane.conts ≡ cs → (ms : List ℕ) → drop lane.ended lane.marks ≡ ms → AreContainers bound lane.ended (last_of_first lane.ended lane.marks) ms cs → first_is_closing cs ≡ true → IsLane bound (shorter lane)
+      go [] e ms em are c = cc
+      go (x ∷ cs) e [] em are c = let k : false ≡ true = sym are.0.not_closing ∙ c in cc
+      go (x ∷ cs) e (m ∷ ms) em are c =
+          let long : length (drop lane.ended lane.marks) ≡ suc (length ms) = ap length em in
+          record {
+            ended_in = omega (arith, length-drop lane.ended lane.marks);
+            rising = ok.rising;
+            containers = subst (λ l. AreContainers bound (lane.ended + 1) (last_of_first (lane.ended + 1) lane.marks) (drop (lane.ended + 1) lane.marks) (drop 1 l)) (sym e)
+                (subst (λ n. AreContainers bound (lane.ended + 1) n (drop (lane.ended + 1) lane.marks) cs) (sym (next_mark bound lane ok m ms em))
+                (subst (λ l. AreContainers bound (lane.ended + 1) m l cs) (sym (ap (λ n. drop n lane.marks) (one_more lane.ended) ∙ drop_more lane.ended lane.marks m ms em)) are.1));
+            ready = ready_calm (drop 1 lane.conts) ok.others;
+            others = tail_calm (drop 1 lane.conts) ok.others;
+          }
+        where
+          one_more : (n : ℕ) → n + 1 ≡ suc n
+          one_more n = omega arith
+
+          drop_more : (n : ℕ) (l : List ℕ) (m : ℕ) (ms : List ℕ) → drop n l ≡ m ∷ ms → drop (suc n) l ≡ ms
+          drop_more zero [] m ms e = cc
+          drop_more zero (x ∷ l) m ms e = cc
+          drop_more (suc n) [] m ms e = cc
+          drop_more (suc n) (x ∷ l) m ms e = drop_more n l m ms e
+
+  -- what is out is not of the container that goes
+  pub end-out : (epoch floor number : ℕ) → IsOutAt epoch floor number lane → IsOutAt epoch floor number (shorter lane)
+  end-out epoch floor number o = go lane.conts ok.ready closing o.1
+    where
+      go : (cs : List Cont) → IsReady cs → first_is_closing cs ≡ true → cont_at epoch cs ≡ Some o.0 → (c : Cont) × (cont_at epoch (drop 1 cs) ≡ Some c) × (c.floor ≡ floor) × (list_any (λ n. eqb n number) c.out ≡ true)
+      go [] ready c h = cc
+      go (x ∷ cs) ready c h = (o.0, out_behind epoch number o.0 x cs o.3 (ready c).1 h, o.2, o.3)
+
+-- ---- a closing ends
+pub end-lawful : (plan : Shape) (m : Moment) (node : Node) (lane : CoreLane) (y l epoch serial floor mark : ℕ) (rows : List Record) (others : List Held)
+    → slice_get m.nodes y ≡ Some node → slice_get node.lanes l ≡ Some lane → IsLawful plan m → IsReordered m.held (Close y l epoch serial floor mark rows true ∷ others) → AllByRecursion (IsHeld plan m) others
+    → first_is_closing lane.conts ≡ true → IsLawful plan (set_node y (set_lane l (shorter lane) node) (with_held others m))
+end-lawful plan m node lane y l epoch serial floor mark rows others at in_it lawful pulled holds closing =
+    lawful_still plan m y l node (set_lane l (shorter lane) node) lane (shorter lane) at in_it refl refl begins marks others lawful
+    (end-lane (bound_at plan y) lane ok closing)
+    (every_both one others holds left)
+    (λ k. omega (arith, count_gone (is_close k) m.held others (Close y l epoch serial floor mark rows true) pulled, lawful.one_close k))
+    closing_left
+    (λ k s is. below_still plan m y l node (set_lane l (shorter lane) node) lane (shorter lane) at in_it refl refl begins marks others k s
+    (any_gone (is_unpassed k) m.held others (Close y l epoch serial floor mark rows true) pulled (and-false (eqb y k))) (floors s.down) (epochs s.down) (lawful.below k s is))
+  where
+    was : lane_at m (record { node = y; lane = l }) ≡ Some lane
+    was = ap (λ (o : Option Node). o >>= λ x. slice_get x.lanes l) at ∙ in_it
+
+    ok : IsLane (bound_at plan y) lane
+    ok = lawful.lanes (record { node = y; lane = l }) lane was
+
+    begins : begun (shorter lane) ≡ begun lane
+    begins = end-begun (bound_at plan y) lane ok closing
+
+    marks : begun_mark (shorter lane) ≡ begun_mark lane
+    marks = end-mark (bound_at plan y) lane ok closing
+
+    after : Moment
+    after = set_node y (set_lane l (shorter lane) node) (with_held others m)
+
+    by_place : (e : Down) → ((e ≡ record { node = y; lane = l }) × (lane_at after e ≡ Some (shorter lane)) × (lane_at m e ≡ Some lane)) ⊎ (lane_at after e ≡ lane_at m e)
+    by_place e = cases plan m y l node (set_lane l (shorter lane) node) lane (shorter lane) at in_it refl refl begins marks others e
+
+    floors : (e : Down) → floor_at after e ≡ floor_at m e
+    floors e = ⊎_elim (λ c. ap floor_of c.1 ∙ sym (ap floor_of c.2)) (λ c. ap floor_of c) (by_place e)
+
+    epochs : (e : Down) → epoch_at after e ≡ epoch_at m e
+    epochs e = ⊎_elim (λ c. ap epoch_of c.1 ∙ sym (ap epoch_of c.2)) (λ c. ap epoch_of c) (by_place e)
+
+    left : AllByRecursion (λ h. is_close y h ≡ false) others
+    left = none_left (is_close y) m.held others (Close y l epoch serial floor mark rows true) pulled (lawful.one_close y) (eq-eqb y y refl)
+
+    one : (h : Held) → IsHeld plan m h → is_close y h ≡ false → IsHeld plan after h
+    one (Work k i epoch floor number records delivered) h no_close =
+        work_still plan m y l node (set_lane l (shorter lane) node) lane (shorter lane) at in_it refl refl begins marks others k i epoch floor number records delivered h (λ e o. end-out (bound_at plan y) lane ok closing epoch floor number o)
+    one (Close k i epoch serial floor c rows passed) h no_close =
+        close_still plan m y l node (set_lane l (shorter lane) node) lane (shorter lane) at in_it refl refl begins marks others k i epoch serial floor c rows passed h
+        (λ e. absurd (eqb-false k y no_close (ap (λ (d : Down). d.node) e))) (λ p s is. (floors s.down, epochs s.down))
+
+    closing_left : (d : Down) (x : CoreLane) → lane_at after d ≡ Some x → first_is_closing x.conts ≡ true → list_any (is_close_of d.node d.lane) others ≡ true
+    closing_left d x h c = ⊎_elim (λ e. ⊎_elim (λ f. here e f) (λ ne. there (λ k. ne (ap (λ (d : Down). d.lane) k)) (and_right ne)) (cases_eq d.lane l)) (λ ne. there (λ k. ne (ap (λ (d : Down). d.node) k)) (and_left ne)) (cases_eq d.node y)
+      where
+        here : d.node ≡ y → d.lane ≡ l → list_any (is_close_of d.node d.lane) others ≡ true
+        here e f =
+            let k : d ≡ record { node = y; lane = l } = λ i. record { node = e i; lane = f i } in
+            let z : lane_at after d ≡ Some (shorter lane) = ap (lane_at after) k ∙ at_place plan m y l node (set_lane l (shorter lane) node) lane (shorter lane) at in_it refl refl begins marks others in
+            let n : false ≡ true = sym (end-calm (bound_at plan y) lane ok closing) ∙ ap (λ (x : CoreLane). first_is_closing x.conts) (same_Some (shorter lane) x (sym z ∙ h)) ∙ c in cc
+
+        there : d ≢ record { node = y; lane = l } → (eqb y d.node && eqb l d.lane) ≡ false → list_any (is_close_of d.node d.lane) others ≡ true
+        there ne nope =
+            any_gone (is_close_of d.node d.lane) m.held others (Close y l epoch serial floor mark rows true) pulled nope
+            ∙ ⊎_elim (λ z. absurd (ne z.0)) (λ z. lawful.closing_held d x (sym z ∙ h) c) (by_place d)
+
+        and_left : d.node ≢ y → (eqb y d.node && eqb l d.lane) ≡ false
+        and_left ne = ap (λ b. b && eqb l d.lane) (ne_eqb y d.node (λ e. ne (sym e)))
+
+        and_right : d.lane ≢ l → (eqb y d.node && eqb l d.lane) ≡ false
+        and_right ne = ap (λ b. eqb y d.node && b) (ne_eqb l d.lane (λ e. ne (sym e))) ∙ and-false (eqb y d.node)
+
+-- ---- a Work is finished
+finish-ready : (epoch number : ℕ) (cs : List Cont) → IsReady cs → IsReady (finish_in epoch number cs)
+finish-ready epoch number [] ready = tt
+finish-ready epoch number (c ∷ cs) ready = one (eqb c.epoch epoch)
+  where
+    one : (b : Bool) → IsReady (cond b (record c { out = filter (λ n. not (eqb n number)) c.out }) c ∷ finish_in epoch number cs)
+    one true = λ h. ((ready h).0, ap (filter (λ n. not (eqb n number))) (ready h).1)
+    one false = ready
+
+-- another number stays out
+finish-out : (epoch number at floor other : ℕ) (cs : List Cont) (c : Cont) → other ≢ number → cont_at at cs ≡ Some c → c.floor ≡ floor → list_any (λ n. eqb n other) c.out ≡ true
+    → (d : Cont) × (cont_at at (finish_in epoch number cs) ≡ Some d) × (d.floor ≡ floor) × (list_any (λ n. eqb n other) d.out ≡ true)
+finish-out epoch number at floor other [] c ne h f out = cc
+finish-out epoch number at floor other (x ∷ cs) c ne h f out = one (eqb x.epoch epoch) h (λ k. finish-out epoch number at floor other cs c ne k f out)
+  where
+    still : (l : List ℕ) → list_any (λ n. eqb n other) l ≡ true → list_any (λ n. eqb n other) (filter (λ n. not (eqb n number)) l) ≡ true
+    still [] h = cc
+    still (n ∷ l) h = two (eqb n other) (eqb n number) refl refl h (λ k. still l k)
+      where
+        two : (a b : Bool) → eqb n other ≡ a → eqb n number ≡ b → (a || list_any (λ n. eqb n other) l) ≡ true → (list_any (λ n. eqb n other) l ≡ true → list_any (λ n. eqb n other) (filter (λ n. not (eqb n number)) l) ≡ true)
+            → list_any (λ n. eqb n other) (cond (not b) (n ∷ filter (λ n. not (eqb n number)) l) (filter (λ n. not (eqb n number)) l)) ≡ true
+        two true true p q h ih = absurd (ne (sym (eqb-true n other p) ∙ eqb-true n number q))
+        two true false p q h ih = ap (λ b. b || list_any (λ n. eqb n other) (filter (λ n. not (eqb n number)) l)) p
+        two false true p q h ih = ih h
+        two false false p q h ih = ap (λ b. b || list_any (λ n. eqb n other) (filter (λ n. not (eqb n number)) l)) p ∙ ih h
+
+    one : (a : Bool) → cond (eqb x.epoch at) (Some x) (cont_at at cs) ≡ Some c
+        → (cont_at at cs ≡ Some c → (d : Cont) × (cont_at at (finish_in epoch number cs) ≡ Some d) × (d.floor ≡ floor) × (list_any (λ n. eqb n other) d.out ≡ true))
+        → (d : Cont) × (cont_at at (cond a (record x { out = filter (λ n. not (eqb n number)) x.out }) x ∷ finish_in epoch number cs) ≡ Some d) × (d.floor ≡ floor) × (list_any (λ n. eqb n other) d.out ≡ true)
+    one a h ih = both a
+      where
+        pick_true : (b : Bool) → cond b (Some x) (cont_at at cs) ≡ Some c
+            → (d : Cont) × (cond b (Some (record x { out = filter (λ n. not (eqb n number)) x.out })) (cont_at at (finish_in epoch number cs)) ≡ Some d) × (d.floor ≡ floor) × (list_any (λ n. eqb n other) d.out ≡ true)
+        pick_true true h = let k : x ≡ c = same_Some x c h in (record x { out = filter (λ n. not (eqb n number)) x.out }, refl, ap (λ (c : Cont). c.floor) k ∙ f, still x.out (subst (λ (c : Cont). list_any (λ n. eqb n other) c.out ≡ true) (sym k) out))
+        pick_true false h = ih h
+
+        pick_false : (b : Bool) → cond b (Some x) (cont_at at cs) ≡ Some c
+            → (d : Cont) × (cond b (Some x) (cont_at at (finish_in epoch number cs)) ≡ Some d) × (d.floor ≡ floor) × (list_any (λ n. eqb n other) d.out ≡ true)
+        pick_false true h = let k : x ≡ c = same_Some x c h in (x, refl, ap (λ (c : Cont). c.floor) k ∙ f, subst (λ (c : Cont). list_any (λ n. eqb n other) c.out ≡ true) (sym k) out)
+        pick_false false h = ih h
+
+        both : (a : Bool) → (d : Cont) × (cont_at at (cond a (record x { out = filter (λ n. not (eqb n number)) x.out }) x ∷ finish_in epoch number cs) ≡ Some d) × (d.floor ≡ floor) × (list_any (λ n. eqb n other) d.out ≡ true)
+        both true = pick_true (eqb x.epoch at) h
+        both false = pick_false (eqb x.epoch at) h
+
+pub finish-lawful : (plan : Shape) (m : Moment) (node new : Node) (lane : CoreLane) (k l epoch floor number : ℕ) (records : List Record) (delivered : Bool) (others : List Held)
+    → slice_get m.nodes k ≡ Some node → slice_get node.lanes l ≡ Some lane → new.lanes ≡ slice_set node.lanes l (record lane { conts = finish_in epoch number lane.conts }) → new.closings ≡ node.closings
+    → IsLawful plan m → IsReordered m.held (Work k l epoch floor number records delivered ∷ others) → AllByRecursion (IsHeld plan m) others
+    → count_by (is_work k l number) m.held ≤ 1 → IsLawful plan (set_node k new (with_held others m))
+finish-lawful plan m node new lane k l epoch floor number records delivered others at in_it lanes closings lawful pulled holds once =
+    lawful_still plan m k l node new lane (record lane { conts = finish_in epoch number lane.conts }) at in_it lanes closings begins marks others lawful
+    (record { ended_in = ok.ended_in; rising = ok.rising; containers = containers-differ (bound_at plan k) lane.ended _ _ lane.conts (finish_in epoch number lane.conts) differ ok.containers; ready = finish-ready epoch number lane.conts ok.ready; others = differ-tail (bound_at plan k) lane.conts (finish_in epoch number lane.conts) differ ok.others })
+    (every_both one others holds left)
+    (λ j. omega (arith, count_gone (is_close j) m.held others (Work k l epoch floor number records delivered) pulled, lawful.one_close j))
+    (λ d x h c. any_gone (is_close_of d.node d.lane) m.held others (Work k l epoch floor number records delivered) pulled refl ∙ ⊎_elim
+    (λ y. lawful.closing_held d lane y.2 (sym closing ∙ ap (λ (x : CoreLane). first_is_closing x.conts) (same_Some (record lane { conts = finish_in epoch number lane.conts }) x (sym y.1 ∙ h)) ∙ c))
+    (λ y. lawful.closing_held d x (sym y ∙ h) c) (by_place d))
+    (λ j s is. below_still plan m k l node new lane (record lane { conts = finish_in epoch number lane.conts }) at in_it lanes closings begins marks others j s
+    (any_gone (is_unpassed j) m.held others (Work k l epoch floor number records delivered) pulled refl) (floors s.down) (epochs s.down) (lawful.below j s is))
+  where
+    was : lane_at m (record { node = k; lane = l }) ≡ Some lane
+    was = ap (λ (o : Option Node). o >>= λ x. slice_get x.lanes l) at ∙ in_it
+
+    ok : IsLane (bound_at plan k) lane
+    ok = lawful.lanes (record { node = k; lane = l }) lane was
+
+    differ : DifferInBundles (bound_at plan k) lane.conts (finish_in epoch number lane.conts)
+    differ = finish_in-differ (bound_at plan k) epoch number lane.conts
+
+    closing : first_is_closing (finish_in epoch number lane.conts) ≡ first_is_closing lane.conts
+    closing = differ-closing (bound_at plan k) lane.conts (finish_in epoch number lane.conts) differ
+
+    begins : begun (record lane { conts = finish_in epoch number lane.conts }) ≡ begun lane
+    begins = ap (λ b. cond b (lane.ended + 1) lane.ended) closing
+
+    marks : begun_mark (record lane { conts = finish_in epoch number lane.conts }) ≡ begun_mark lane
+    marks = ap (λ n. last_of_first n lane.marks) begins
+
+    after : Moment
+    after = set_node k new (with_held others m)
+
+    by_place : (e : Down) → ((e ≡ record { node = k; lane = l }) × (lane_at after e ≡ Some (record lane { conts = finish_in epoch number lane.conts })) × (lane_at m e ≡ Some lane)) ⊎ (lane_at after e ≡ lane_at m e)
+    by_place e = cases plan m k l node new lane (record lane { conts = finish_in epoch number lane.conts }) at in_it lanes closings begins marks others e
+
+    floors : (e : Down) → floor_at after e ≡ floor_at m e
+    floors e = ⊎_elim (λ c. ap floor_of c.1 ∙ sym (ap floor_of c.2)) (λ c. ap floor_of c) (by_place e)
+
+    epochs : (e : Down) → epoch_at after e ≡ epoch_at m e
+    epochs e = ⊎_elim (λ c. ap epoch_of c.1 ∙ sym (ap epoch_of c.2)) (λ c. ap epoch_of c) (by_place e)
+
+    left : AllByRecursion (λ h. is_work k l number h ≡ false) others
+    left = none_left (is_work k l number) m.held others (Work k l epoch floor number records delivered) pulled once (λ i. eq-eqb k k refl i && (eq-eqb l l refl i && eq-eqb number number refl i))
+
+    one : (h : Held) → IsHeld plan m h → is_work k l number h ≡ false → IsHeld plan after h
+    one (Work j i e f other rs sent) h nope =
+        work_still plan m k l node new lane (record lane { conts = finish_in epoch number lane.conts }) at in_it lanes closings begins marks others j i e f other rs sent h
+        (λ p o. finish-out epoch number e f other lane.conts o.0 (differs p) o.1 o.2 o.3)
+      where
+        differs : ◌≡◌ {A = Down} (record { node = j; lane = i }) (record { node = k; lane = l }) → other ≢ number
+        differs p e =
+            let n : true ≡ false = sym (λ z. eq-eqb j k (ap (λ (d : Down). d.node) p) z && (eq-eqb i l (ap (λ (d : Down). d.lane) p) z && eq-eqb other number e z)) ∙ nope in cc
+    one (Close j i e serial f c rows passed) h nope =
+        close_still plan m k l node new lane (record lane { conts = finish_in epoch number lane.conts }) at in_it lanes closings begins marks others j i e serial f c rows passed h
+        (λ p. (closing, refl)) (λ p s is. (floors s.down, epochs s.down))

@@ -1,0 +1,128 @@
+-- The rows that an event adds are later than all that were there: by what it does to the part.
+use Rattle.std.proofs.Common.{◌≡◌, ℕ, ◌≤◌, List, [], ◌∷◌, length, Some, sym, refl, ap, subst, ◌∙◌, arith}
+use Rattle.std.specs.Prelude.{slice_get, nat_lt}
+use Rattle.std.specs.List.{AllByRecursion}
+use Rattle.std.proofs.lemmas.Bool.{eqb-true}
+use Rattle.std.proofs.lemmas.Option.{same_Some, get_or_from_slice_get, slice_get_past, slice_get_within}
+use Rattle.sb_record.proofs.Numbers.{bind_some}
+use Rattle.sb_record.proofs.Elements.{every, All-passed}
+use Rattle.sb_record.proofs.Sorting.{All-in_order}
+use Rattle.sb_record.specs.declared.item.Record.{Record}
+use Rattle.sb_record.specs.Records.{record_cmp, before}
+use Rattle.sb_record.specs.declared.element.KeptRec.{KeptRec}
+use Rattle.sb_pipeline.specs.Shapes.{Shape, source}
+use Rattle.sb_record.specs.Elements.{all_records}
+use Rattle.sb_pipeline.specs.Operators.{Operator, operator_at}
+use Rattle.sb_pipeline.specs.Operators.Operator.{ParDo, Windowed, Sink}
+use Rattle.sb_core.specs.declared.moment.Moment.{Moment}
+use Rattle.sb_core.specs.declared.moment.Node.{Node}
+use Rattle.sb_core.specs.declared.held.Held.{Held}
+use Rattle.sb_core.specs.declared.held.Held.TheVariants.{Work, Close}
+use Rattle.sb_core.specs.declared.event.Event.TheVariants.{Arrive, Seal, Take, Deliver, Finish, Begin, Pass, End}
+use Rattle.sb_core.specs.Bounds.{bound_at}
+use Rattle.sb_core.specs.Closings.{collected, is_sink}
+use Rattle.sb_core.specs.Events.{below}
+use Rattle.sb_core.specs.Lanes.{take_from, closable, with_first_closing}
+use Rattle.sb_core.specs.Laws.{written_to}
+use Rattle.sb_core.specs.Marks.{closed}
+use Rattle.sb_core.specs.Moments.{node_at, no_node, set_lane}
+use Rattle.sb_core.specs.NewRows.{AreUnwritten, NewRowsAreLater, HeldAddNoRows}
+use Rattle.sb_core.specs.Parts.{Part, put_in}
+use Rattle.sb_core.specs.Soundness.{IsSound, AreKeptAt}
+use Rattle.sb_core.proofs.places.BeginParts.{sink-last}
+use Rattle.sb_core.proofs.containers.Lists.{cond_is_some}
+
+put_rows : (node : Node) (l epoch floor : ℕ) (records : List Record) (held : List Held) (p : Part) → put_in l epoch floor records held node ≡ Some p → p.rows ≡ []
+put_rows node l epoch floor records held p h =
+    let b = bind_some (slice_get node.lanes l) _ p h in
+    let c = cond_is_some _ _ p b.2 in
+    ap (λ (p : Part). p.rows) (sym (same_Some _ p c.1))
+
+pub held-add_no_rows : HeldAddNoRows
+held-add_no_rows plan bundle (Arrive stream records) held node p h = cc
+held-add_no_rows plan bundle (Seal stream mark) held node p h = cc
+held-add_no_rows plan bundle (Take k l number) held node p h = cc
+held-add_no_rows plan bundle (Begin k l) held node p h = cc
+held-add_no_rows plan bundle (Deliver k i n) (Close y l epoch serial floor mark rows passed) node p h =
+    let b = bind_some (below plan y) _ p h in
+    let c = cond_is_some _ _ p b.2 in
+    put_rows node b.0.lane serial floor _ _ p c.1
+held-add_no_rows plan bundle (Deliver k i n) (Work y l epoch floor number records delivered) node p h =
+    let b = bind_some (below plan y) _ p h in
+    let c = cond_is_some _ _ p b.2 in
+    put_rows node b.0.lane epoch floor _ _ p c.1
+held-add_no_rows plan bundle (Finish k i n) (Close y l epoch serial floor mark rows passed) node p h = cc
+held-add_no_rows plan bundle (Finish k i n) (Work y l epoch floor number records delivered) node p h =
+    let b = bind_some (slice_get node.lanes l) _ p h in
+    let c = cond_is_some _ _ p b.2 in
+    ap (λ (p : Part). p.rows) (sym (same_Some _ p c.1))
+held-add_no_rows plan bundle (Pass k) (Work y l epoch floor number records delivered) node p h = cc
+held-add_no_rows plan bundle (Pass k) (Close y l epoch serial floor mark rows passed) node p h =
+    let b = bind_some (below plan y) _ p h in
+    let c = bind_some (slice_get node.lanes b.0.lane) _ p b.2 in
+    let d = cond_is_some _ _ p c.2 in
+    ap (λ (p : Part). p.rows) (sym (same_Some _ p d.1))
+held-add_no_rows plan bundle (End k) (Work y l epoch floor number records delivered) node p h = cc
+held-add_no_rows plan bundle (End k) (Close y l epoch serial floor mark rows passed) node p h =
+    let b = bind_some (slice_get node.lanes l) _ p h in
+    let c = cond_is_some _ _ p b.2 in
+    ap (λ (p : Part). p.rows) (sym (same_Some _ p c.1))
+
+-- what the sink collects of what it keeps
+collected-from : (low mark : ℕ) (es : List KeptRec) → AllByRecursion (λ e. low ≤ e.rec.time) es → AllByRecursion (λ r. low ≤ r.time) (collected Sink mark es)
+collected-from low mark es all =
+    All-in_order (λ r. low ≤ r.time) record_cmp (before mark (all_records es)) (All-passed (λ r. low ≤ r.time) (λ r. low ≤ r.time) (λ r. nat_lt r.time mark) (λ r x y. x) (all_records es) (records_from es all))
+  where
+    records_from : (es : List KeptRec) → AllByRecursion (λ e. low ≤ e.rec.time) es → AllByRecursion (λ (r : Record). low ≤ r.time) (all_records es)
+    records_from [] all = tt
+    records_from (e ∷ es) all = (all.0, records_from es all.1)
+
+module _ (plan : Shape) (m : Moment) (sound : IsSound plan m) where
+  none : (rows : List Record) → rows ≡ [] → AreUnwritten plan m rows
+  none rows is = subst (AreUnwritten plan m) (sym is) tt
+
+  -- what the sink keeps is not written
+  sink_kept : AllByRecursion (λ e. written_to plan m ≤ e.rec.time) (node_at m (length plan.steps)).kept
+  sink_kept =
+      every (λ e h. h.0) (node_at m (length plan.steps)).kept
+      (subst (λ o. AreKeptAt (operator_at o) (written_to plan m) (bound_at plan (length plan.steps)) (node_at m (length plan.steps)).kept) (slice_get_past plan.steps (length plan.steps) (omega arith))
+      (sound.kept (length plan.steps)))
+
+  -- only the sink collects, and it is the last node
+  closing-later : (k mark : ℕ) (node : Node) → slice_get m.nodes k ≡ Some node → AreUnwritten plan m (collected (operator_at (slice_get plan.steps k)) mark node.kept)
+  closing-later k mark node there = by_operator (operator_at (slice_get plan.steps k)) refl
+    where
+      by_operator : (o : Operator) → operator_at (slice_get plan.steps k) ≡ o → AreUnwritten plan m (collected o mark node.kept)
+      by_operator (ParDo op) e = tt
+      by_operator (Windowed grouping) e = tt
+      by_operator Sink e =
+          let last : k ≡ length plan.steps = eqb-true k (length plan.steps) (sink-last plan.steps k (length plan.steps) refl (omega (arith, slice_get_within m.nodes k node there, sound.nodes)) ∙ ap is_sink e) in
+          let is : node_at m (length plan.steps) ≡ node = ap (node_at m) (sym last) ∙ get_or_from_slice_get m.nodes k node no_node there in
+          collected-from (written_to plan m) mark node.kept (subst (λ (x : Node). AllByRecursion (λ e. written_to plan m ≤ e.rec.time) x.kept) is sink_kept)
+
+pub new-rows_are_later : NewRowsAreLater
+new-rows_are_later plan m (Deliver n l number) k node p sound named there h = cc
+new-rows_are_later plan m (Finish n l number) k node p sound named there h = cc
+new-rows_are_later plan m (Pass n) k node p sound named there h = cc
+new-rows_are_later plan m (End n) k node p sound named there h = cc
+new-rows_are_later plan m (Arrive stream records) k node p sound named there h =
+    let b = bind_some (source plan stream) _ p h in
+    let c = bind_some (slice_get node.lanes b.0.lane) _ p b.2 in
+    let d = cond_is_some _ _ p c.2 in
+    none plan m sound p.rows (put_rows node b.0.lane _ _ records [] p d.1)
+new-rows_are_later plan m (Seal stream mark) k node p sound named there h =
+    let b = bind_some (source plan stream) _ p h in
+    let c = bind_some (slice_get node.lanes b.0.lane) _ p b.2 in
+    let d = cond_is_some _ _ p c.2 in
+    none plan m sound p.rows (ap (λ (p : Part). p.rows) (sym (same_Some _ p d.1)))
+new-rows_are_later plan m (Take n l number) k node p sound named there h =
+    let b = bind_some (slice_get node.lanes l) _ p h in
+    let c = bind_some (take_from number b.0.conts) _ p b.2 in
+    none plan m sound p.rows (ap (λ (p : Part). p.rows) (sym (same_Some _ p c.2)))
+new-rows_are_later plan m (Begin n l) k node p sound named there h =
+    let b = bind_some (slice_get node.lanes l) _ p h in
+    let c = bind_some (closable b.0.ended b.0.conts) _ p b.2 in
+    let d = cond_is_some _ _ p c.2 in
+    let mark : ℕ = closed (set_lane l (record b.0 { conts = with_first_closing b.0.conts }) node).lanes in
+    let added : p.rows ≡ collected (operator_at (slice_get plan.steps n)) mark node.kept = ap (λ (p : Part). p.rows) (sym (same_Some _ p d.1)) in
+    subst (AreUnwritten plan m) (sym (added ∙ ap (λ n. collected (operator_at (slice_get plan.steps n)) mark node.kept) (same_Some n k named))) (closing-later plan m sound k mark node there)
