@@ -62,7 +62,7 @@ module _ (folder : Option Files) (name checkpoint : List ℕ) (options : Options
   begins Memory none no_load = inr refl
   begins Folder none no_load = absurd (no_load refl)
   begins (Plan fault) none no_load = absurd (no_fault_of_cut folder name plan fault none tells_plan)
-  begins FileTooLong none no_load = absurd (not_long folder checkpoint plan said tells none)
+  begins FileTooLong none no_load = absurd (not_long folder checkpoint plan said tells none.1)
   begins (Checkpoint line) none no_load =
       let same = same_plan folder name none.0 plan none.1.1 tells_plan.0 in
       absurd (not_faulty folder checkpoint plan said tells line (subst (λ p. HasFaultyLine folder checkpoint p line) same none.2))

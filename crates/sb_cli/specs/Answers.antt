@@ -29,7 +29,7 @@ use Rattle.sb_checkpoint.specs.Checkpoints.{filled}
 use Rattle.sb_checkpoint.specs.Texts.{items_text}
 use Rattle.sb_cli.specs.CheckpointFiles.{GivesCheckpoint, HasFaultyLine, IsTooLong, Said}
 use Rattle.sb_cli.specs.Courses.{Course, course_in, rest_course, run_course}
-use Rattle.sb_cli.specs.Pipelines.{IsCutPlan, IsPlanFor, IsFaultFor, AsksForFile, options_in}
+use Rattle.sb_cli.specs.Pipelines.{HasCutPlan, IsCutPlan, IsPlanFor, IsFaultFor, AsksForFile, options_in}
 use Rattle.sb_cli.specs.Summaries.{summary_text, work_rows}
 
 -- a run that ended so, lists these late records, and tells these diaries
@@ -90,9 +90,9 @@ abbrev pub IsAnswerOf
 IsAnswerOf plan options left left' taken taken' ending =
     IsAnswerBy plan options left left' taken taken' (λ given. run_course plan given) ending
 
--- why no run begins behind a checkpoint: its file is too long
+-- why no run begins behind a checkpoint, if there is a plan: its file is too long
 abbrev pub IsTooLongFor : Option Files → Asked → Type 0
-IsTooLongFor folder (Resume name checkpoint options) = IsTooLong folder checkpoint
+IsTooLongFor folder (Resume name checkpoint options) = HasCutPlan folder name × IsTooLong folder checkpoint
 IsTooLongFor folder (Sum size options) = ⊥
 IsTooLongFor folder (Run name options) = ⊥
 IsTooLongFor folder (Slow name) = ⊥

@@ -20,6 +20,7 @@ use Rattle.sb_cli.specs.CheckpointFiles.{Said, checkpoint_load}
 use Rattle.sb_cli.specs.Courses.{Course}
 use Rattle.sb_cli.specs.DiaryReads.{IsRefusedAmong}
 use Rattle.sb_cli.specs.Offered.{BlamesTap}
+use Rattle.sb_cli.specs.Pipelines.{HasCutPlan}
 use Rattle.sb_feed.specs.Given.{Given, lines_of, stop_at}
 use Rattle.sb_words.specs.Words.{Asked}
 use Rattle.sb_words.specs.Words.{Asked as ask}
@@ -65,7 +66,7 @@ IsTableOf folder name load =
 unfoldable pub IsWantedFor : Option Files → List ℕ → Load → Type 0
 IsWantedFor folder name load = (load ≡ plan_load name) ⊎ IsTableOf folder name load
 
--- the load is wanted for what is asked for
+-- the load is wanted for what is asked for: that of a checkpoint once there is a plan
 abbrev pub IsWanted : Option Files → Asked → Load → Type 0
 IsWanted folder (Sum size options) load = ⊥
 IsWanted folder (Run name options) load = IsWantedFor folder name load
@@ -76,7 +77,7 @@ IsWanted folder (Watch name key options) load = IsWantedFor folder name load
 IsWanted folder (Part name options) load = IsWantedFor folder name load
 IsWanted folder (Save name) load = IsWantedFor folder name load
 IsWanted folder (Resume name checkpoint options) load =
-    IsWantedFor folder name load ⊎ (load ≡ checkpoint_load checkpoint)
+    IsWantedFor folder name load ⊎ ((load ≡ checkpoint_load checkpoint) × HasCutPlan folder name)
 
 -- one load failed, which was wanted
 abbrev pub BlamesFile : Option Files → Asked → List Load → List Load → Type 0

@@ -55,6 +55,10 @@ GivesPlan folder name found = (files : Files) → folder ≡ Some files → plan
 abbrev pub IsCutPlan : Option Files → List ℕ → Shape → Type 0
 IsCutPlan folder name plan = IsPlan plan × GivesPlan folder name (Ok plan) × HasNoSession plan
 
+-- there is one
+abbrev pub HasCutPlan : Option Files → List ℕ → Type 0
+HasCutPlan folder name = (plan : Shape) × IsCutPlan folder name plan
+
 -- the first transform of the plan that gathers records by session is to blame
 pub record BlamesSession (plan : Shape) (fault : PlanFault) : Type 0 where
   pub place : ℕ

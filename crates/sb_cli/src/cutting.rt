@@ -264,7 +264,8 @@ fn print_checkpoint<K: Sink>(checkpoint: &Checkpoint, out: &mut K) -> Status
     ensures no_tap { IsNoTap result }
     ensures cause { result ≡ Status.Output → Rose (K.sink_state out.old).faults (K.sink_state out.new).faults }
     ensures told { IsWritten result → (K.sink_state out.new).faults ≡ (K.sink_state out.old).faults }
-    ensures not_read { IsRead result × (result ≡ Status.Input → ⊥) }
+    ensures read { IsRead result }
+    ensures no_read_failed { result ≡ Status.Input → ⊥ }
 {
     match write_whole_checkpoint(checkpoint, out) {
         Ok(()) => Status::Done,
