@@ -1,5 +1,7 @@
 #!/usr/bin/env bash
-# Times the engine with several numbers of workers, side by side: elapsed and processor time of each.
+# Times the engine with several numbers of workers, side by side: elapsed and processor time of each. Beside them stands
+# what the machine itself gives: how long as many runs of one worker take at once. If four at once take twice as long as
+# one alone, four workers can be at most twice as fast as one there.
 #
 # First over N lines and a plan that is heavy for each record: an expansion by 8, and then how many different values there
 # are in sliding windows of 64 parts. Then over M lines and the sums over windows of 10.
@@ -19,6 +21,18 @@ measure() {
   shift
   command time -f "$workers workers: %e s, of the processors %U s + %S s, %M kB" \
     "$program" "$@" --workers "$workers" < "$lines" > "$rows"
+}
+
+# at_once COUNT WORD..: so many runs of one worker by these words, all at the same time
+at_once() {
+  local count=$1 from to
+  shift
+  from=$(date +%s%N)
+  for _ in $(seq "$count"); do "$program" "$@" --workers 1 < "$lines" > /dev/null & done
+  wait
+  to=$(date +%s%N)
+  awk -v count="$count" -v spent="$((to - from))" \
+    'BEGIN { printf "%d at once, each of 1 worker: %.2f s\n", count, spent / 1e9 }'
 }
 
 cat > "$plan" <<'PLAN'
@@ -41,9 +55,11 @@ for workers in 1 2 4; do
   measure "$workers" run "$plan"
   if [ "$workers" = 1 ]; then cp "$rows" "$alone"; else cmp "$rows" "$alone"; fi
 done
+at_once 4 run "$plan"
 bench/gen.sh "${2:?how many lines for the sums}" > "$lines"
 echo "sum 10, $2 lines"
 for workers in 1 2 4; do
   measure "$workers" sum 10
   if [ "$workers" = 1 ]; then cp "$rows" "$alone"; else cmp "$rows" "$alone"; fi
 done
+at_once 4 sum 10
