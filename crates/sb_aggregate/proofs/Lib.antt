@@ -5,5 +5,8 @@ pub mod SessionEnds
 pub mod SessionLaws
 pub mod SessionRows
 pub mod PartialValues
+pub mod LeastOfTwo
+pub mod SortedLists
+pub mod Unions
 pub mod Ends
 pub mod Absorbing

@@ -113,8 +113,8 @@ fn wrapping_sum(values: &[i64]) -> i64
         .fold(0, |sum: i64, value| sum.wrapping_add(*value))
 }
 
-// Leaves each value once, least first.
-fn keep_distinct(values: &mut Vec<i64>)
+/// Leaves each value once, least first.
+pub(crate) fn keep_distinct(values: &mut Vec<i64>)
     ensures { values.new.items ≡ distinct int_cmp values.old.items }
 {
     values.sort_unstable();

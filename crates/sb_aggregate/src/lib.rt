@@ -19,8 +19,10 @@ mod part;
 mod partial;
 mod partials;
 mod session;
+mod sorted_list;
 #[cfg(test)]
 mod tests;
+mod value_set;
 
 pub use aggregate::{Agg, MAX_TOP, aggregated};
 pub use grouping::Aggregate;

@@ -1,17 +1,15 @@
 //! Partial values: what is kept of the values of a keyed window until it closes.
 
 ghost use Rattle.std.specs.Prelude.{◌≡◌, ◌∷◌, ◌++◌, [], ◌%◌, ◌^◌, length, IfOk, OnOk};
-ghost use Rattle.std.specs.Ordering.{int_cmp};
-ghost use Rattle.sb_record.specs.Orders.{distinct};
 ghost use Rattle.sb_aggregate.specs.Aggregates.{IsValid};
 ghost use Rattle.sb_aggregate.specs.Partials.{partial_values, join_values, final_values, joining, rows_of_values};
 ghost use Rattle.sb_aggregate.specs.Held.{held_values};
 
 use crate::aggregate::{Agg, aggregated};
+use crate::value_set::ValueSet;
 use sb_record::{NoMemory, Record};
 use sb_window::KeyedWindow;
 use std::alloc::Global;
-use std::collections::BTreeSet;
 use std::marker::Model;
 
 /// The partial value of the values of a keyed window, which contracts see as a list: a count, a sum, the least or the
@@ -25,7 +23,7 @@ pub(crate) struct Partial {
 #[derive(Drop)]
 enum Held {
     One(i64),
-    Different(BTreeSet<i64>),
+    Different(ValueSet),
     Several(Vec<i64>),
 }
 
@@ -116,7 +114,7 @@ impl Held {
     {
         match self {
             Held::One(_) => 1,
-            Held::Different(values) => values.len() as u64,
+            Held::Different(values) => values.len(),
             Held::Several(values) => values.len() as u64,
         }
     }
@@ -130,13 +128,7 @@ impl Held {
                 values.push(value)?;
                 Ok(values)
             }
-            Held::Different(set) => {
-                let mut values = Vec::new(alloc);
-                for value in set {
-                    values.push(value)?;
-                }
-                Ok(values)
-            }
+            Held::Different(values) => values.into_list(alloc),
             Held::Several(values) => Ok(values),
         }
     }
@@ -152,9 +144,7 @@ fn with_value(alloc: Global, agg: Agg, held: Held, value: i64) -> Result<Held, N
         (Agg::Min, Held::One(least)) => Ok(Held::One(least.min(value))),
         (Agg::Max, Held::One(greatest)) => Ok(Held::One(greatest.max(value))),
         (Agg::Distinct, Held::Different(values)) => {
-            let mut values = values;
-            values.insert(value)?;
-            Ok(Held::Different(values))
+            Ok(Held::Different(values.with_value(alloc, value)?))
         }
         (agg, held) => {
             let mut values = held.into_list(alloc)?;
@@ -169,13 +159,10 @@ fn with_values(alloc: Global, agg: Agg, held: Held, more: Held) -> Result<Held, 
     ensures { IfOk result (λ h. held_values h ≡ join_values agg (held_values held) (held_values more)) }
 {
     match (agg, held, more) {
+        // Which of the two came first doesn't matter.
+        (agg, Held::One(value), more) => with_value(alloc, agg, more, value),
         (Agg::Distinct, Held::Different(values), Held::Different(more)) => {
-            let all = if values.len() < more.len() {
-                with_all(more, values)?
-            } else {
-                with_all(values, more)?
-            };
-            Ok(Held::Different(all))
+            Ok(Held::Different(values.with_all(alloc, more)?))
         }
         (agg, held, more) => {
             let mut values = held.into_list(alloc)?;
@@ -186,27 +173,12 @@ fn with_values(alloc: Global, agg: Agg, held: Held, more: Held) -> Result<Held, 
     }
 }
 
-// The values of two sets, which are put together in one pass unless one of them has few.
-fn with_all(values: BTreeSet<i64>, more: BTreeSet<i64>) -> Result<BTreeSet<i64>, NoMemory>
-    ensures { IfOk result (λ all. all.keys ≡ distinct int_cmp (values.keys ++ more.keys)) }
-{
-    let (mut all, mut more) = (values, more);
-    all.append(&mut more)?;
-    Ok(all)
-}
-
 // What is held of partial values, one after the other.
 fn made_of(alloc: Global, agg: Agg, values: Vec<i64>) -> Result<Held, NoMemory>
     ensures { IfOk result (λ h. held_values h ≡ partial_values (joining agg) values.items) }
 {
     match agg.joining() {
-        Agg::Distinct => {
-            let mut set = BTreeSet::new(alloc);
-            for value in &values {
-                set.insert(*value)?;
-            }
-            Ok(Held::Different(set))
-        }
+        Agg::Distinct => Ok(Held::Different(ValueSet::of_values(alloc, values)?)),
         agg => {
             let mut values = values;
             aggregated(agg, &mut values)?;
