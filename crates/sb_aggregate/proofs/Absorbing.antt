@@ -1,8 +1,8 @@
 -- What an aggregate gives once a part is absorbed, and once windows are closed.
-use Rattle.std.proofs.Common.{◌≡◌, ℕ, ◌≤◌, ◌<◌, Bool, true, false, cond, List, [], ◌∷◌, ◌++◌, append-nil, append_assoc, subst, sym, refl, ap, ◌∙◌, arith}
+use Rattle.std.proofs.Common.{◌≡◌, ℕ, ◌≤◌, ◌<◌, Bool, true, false, cond, List, [], ◌∷◌, ◌++◌, append-nil, append_assoc, sym, refl, ap, ◌∙◌}
 use Rattle.std.specs.Prelude.{◌||◌, nat_lt, sum_by, min, ◌+◌, None}
 use Rattle.std.specs.List.{flat_map, list_any, AllByRecursion}
-use Rattle.std.specs.BTreeMap.{BTreeMap, IsOrdered, get}
+use Rattle.std.specs.BTreeMap.{IsOrdered, get}
 use Rattle.std.proofs.lemmas.Bool.{le-ltb, ltb-false}
 use Rattle.std.proofs.lemmas.List.{map-append}
 use Rattle.sb_record.specs.declared.element.KeptRec.{KeptRec}
@@ -12,19 +12,18 @@ use Rattle.sb_record.specs.Elements.{all_records}
 use Rattle.sb_record.specs.Records.{sorted, at_least}
 use Rattle.sb_record.specs.Reorderings.{IsReordered}
 use Rattle.sb_record.proofs.Elements.{All-join}
-use Rattle.sb_record.proofs.OnLanes.{All-all_records}
 use Rattle.sb_record.proofs.Sums.{IsReordered-append, any_reordered}
 use Rattle.sb_window.specs.declared.keyed_window.KeyedWindow.{KeyedWindow}
 use Rattle.sb_window.specs.Spacing.{Spacing}
 use Rattle.sb_window.specs.Windows.{keyed_window_cmp}
 use Rattle.sb_window.specs.Gatherings.{joined, rows_of_entries}
-use Rattle.sb_window.specs.Groupings.{IsFrom, Closes}
+use Rattle.sb_window.specs.Groupings.{Closes}
 use Rattle.sb_window.specs.Aggregations.{rows_by}
 use Rattle.sb_window.proofs.Closing.{is_between, rows_of_entries-when, closes-between}
 use Rattle.sb_window.proofs.Rows.{when}
 use Rattle.sb_aggregate.specs.declared.aggregate.Agg.{Agg}
 use Rattle.sb_aggregate.specs.Aggregates.{aggregate_values, aggregate_rows}
-use Rattle.sb_aggregate.specs.Partials.{PartialValues, partial_values, join_values, final_values, partial_from, partial_at}
+use Rattle.sb_aggregate.specs.Partials.{PartialValues, partial_values, join_values, final_values}
 use Rattle.sb_aggregate.specs.Groups.{HasPartials, HasPartialsFrom}
 use Rattle.sb_aggregate.specs.Orderless.{aggregate_rows-orderless}
 use Rattle.sb_aggregate.proofs.PartialValues.{final-partial}

@@ -1,5 +1,5 @@
-use Rattle.std.proofs.Common.{◌≡◌, ℤ, rules, List, ◌∷◌, [], subst, sym, ap, ◌∙◌}
-use Rattle.std.specs.BTreeMap.{BTreeMap, get}
+use Rattle.std.proofs.Common.{◌≡◌, ℤ, rules, List, ◌∷◌, subst, sym, ap, ◌∙◌}
+use Rattle.std.specs.BTreeMap.{get}
 use Rattle.std.specs.Map.{keys_of}
 use Rattle.std.specs.List.Sorted.{IsStrictlySortedBy}
 use Rattle.std.proofs.lemmas.Map.Iter.{rest_more, rest_all}
@@ -8,7 +8,7 @@ use Rattle.sb_window.specs.Gatherings.{joined}
 use Rattle.sb_window.specs.Windows.{keyed_window_cmp}
 use Rattle.sb_window.proofs.Gathering.{joined_none}
 use Rattle.sb_window.proofs.Joining.{value_at, join-step, sorted-rest, joined-swapped}
-use Rattle.sb_aggregate.specs.Partials.{PartialValues, join_values}
+use Rattle.sb_aggregate.specs.Partials.{join_values}
 use Rattle.sb_aggregate.proofs.PartialValues.{join_values-swapped}
 use Rattle.sb_aggregate.proofs.partials.join_all.Goals as goal
 use Rattle.sb_aggregate.proofs.partials.join_all.Goals.{then-len, else-len}

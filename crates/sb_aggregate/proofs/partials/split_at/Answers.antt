@@ -1,4 +1,4 @@
-use Rattle.std.proofs.Common.{◌+◌, Some, None, cond, not, ap, ◌∙◌}
+use Rattle.std.proofs.Common.{◌+◌, ◌∙◌}
 use Rattle.std.specs.BTreeMap.{get}
 use Rattle.std.proofs.lemmas.Map.Views.{get-entries_below, get-entries_from}
 use Rattle.sb_record.specs.declared.key.Key.TheVariants.{Number}

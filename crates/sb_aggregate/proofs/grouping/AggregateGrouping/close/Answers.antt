@@ -1,8 +1,7 @@
-use Rattle.std.proofs.Common.{◌≡◌, ◌+◌, ◌≤◌, ◌++◌, true, false, cond, List, None, subst, sym, ap, ◌∙◌}
+use Rattle.std.proofs.Common.{◌≡◌, ◌+◌, ◌≤◌, ◌++◌, true, false, cond, None, subst, sym, ap, ◌∙◌}
 use Rattle.std.specs.Prelude.{min, nat_lt}
 use Rattle.std.specs.BTreeMap.{get}
 use Rattle.std.specs.List.{flat_map}
-use Rattle.sb_record.specs.declared.item.Record.{Record}
 use Rattle.sb_record.specs.declared.item.TheConstants.{END_MARK}
 use Rattle.sb_record.specs.Elements.{all_records}
 use Rattle.sb_record.specs.Records.{at_least}

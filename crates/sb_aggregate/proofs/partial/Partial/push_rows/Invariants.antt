@@ -1,5 +1,4 @@
 use Rattle.std.proofs.Common.{◌≡◌, ◌++◌}
-use Rattle.sb_aggregate.specs.Held.{held_values}
 use Rattle.sb_aggregate.specs.Partials.{rows_of_values}
 use Rattle.sb_aggregate.proofs.partial.Partial.push_rows.Given as goal
 
