@@ -48,6 +48,7 @@ pub record HasPartials (agg : Agg) (windows : Spacing) (records : List Record) (
   pub at : (q : KeyedWindow) → get keyed_window_cmp m q ≡ partial_at agg windows records q
 
 -- the map has those of the windows whose rows are from a mark on
-pub record HasPartialsFrom (mark : ℕ) (agg : Agg) (windows : Spacing) (records : List Record) (m : PartialValues) : Type 0 where
+pub record HasPartialsFrom (mark : ℕ) (agg : Agg) (windows : Spacing) (records : List Record) (m : PartialValues)
+    : Type 0 where
   pub in_time : AllByRecursion (λ r. r.time < END_MARK) records
   pub at : (q : KeyedWindow) → get keyed_window_cmp m q ≡ partial_from agg windows mark records q

@@ -22,7 +22,9 @@ AggregatesDoNotDependOnOrder = (agg : Agg) → IgnoresOrder (aggregate_values ag
 
 -- records in another order give the same rows, as a list
 abbrev pub AggregateRowsDoNotDependOnOrder : Type 0
-AggregateRowsDoNotDependOnOrder = (agg : Agg) (windows : Spacing) (l m : List Record) → IsReordered l m → aggregate_rows agg windows l ≡ aggregate_rows agg windows m
+AggregateRowsDoNotDependOnOrder =
+    (agg : Agg) (windows : Spacing) (l m : List Record) → IsReordered l m
+    → aggregate_rows agg windows l ≡ aggregate_rows agg windows m
 
 -- records in another order give the same rows of sessions, as a list
 abbrev pub SessionRowsDoNotDependOnOrder : Type 0

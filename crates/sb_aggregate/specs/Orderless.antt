@@ -30,14 +30,20 @@ pub exact_greatest : CmpEqualImpliesEq (flip_args int_cmp)
 exact_greatest x y h = sym (exact_signed y x h)
 
 -- what the `min` and `max` of an iterator give is first in order
-pub least_first : (m : ℤ) (vs : List ℤ) → Contains vs m → All (λ v. is_lt (int_cmp v m) ≡ false) vs → take 1 (in_order int_cmp vs) ≡ m ∷ []
+pub least_first : (m : ℤ) (vs : List ℤ) → Contains vs m → All (λ v. is_lt (int_cmp v m) ≡ false) vs
+    → take 1 (in_order int_cmp vs) ≡ m ∷ []
 least_first m vs at low = first_of int_cmp_total exact_signed m vs at low
 
-pub greatest_first_of : (m : ℤ) (vs : List ℤ) → Contains vs m → All (λ v. is_gt (int_cmp v m) ≡ false) vs → take 1 (greatest_first vs) ≡ m ∷ []
-greatest_first_of m vs at high = first_of greatest_total exact_greatest m vs at (λ k d h. flipped (get_or vs k d) ∙ high k d h)
+pub greatest_first_of : (m : ℤ) (vs : List ℤ) → Contains vs m → All (λ v. is_gt (int_cmp v m) ≡ false) vs
+    → take 1 (greatest_first vs) ≡ m ∷ []
+greatest_first_of m vs at high =
+    first_of greatest_total exact_greatest m vs at (λ k d h. flipped (get_or vs k d) ∙ high k d h)
   where
     flipped : (v : ℤ) → is_lt (int_cmp m v) ≡ is_gt (int_cmp v m)
-    flipped v = ap is_lt (int_cmp_total.antisymm m v) ∙ (elim (int_cmp v m) as (λ r. is_lt (ordering_reverse r) ≡ is_gt r) [ Less ↦ refl | Equal ↦ refl | Greater ↦ refl ])
+    flipped v =
+        ap is_lt (int_cmp_total.antisymm m v)
+        ∙ (elim (int_cmp v m) as (λ r. is_lt (ordering_reverse r) ≡ is_gt r)
+        [ Less ↦ refl | Equal ↦ refl | Greater ↦ refl ])
 
 length_is_sum : (vs : List ℤ) → length vs ≡ sum_by (λ v. 1) vs
 length_is_sum vs = is_sum_by length (λ v. 1) refl (λ v vs. omega arith) vs
@@ -47,15 +53,18 @@ aggregates-orderless Count vs ws h = ap (λ n. signed n ∷ []) (length_is_sum v
 aggregates-orderless Sum vs ws h = ap (λ n. cast_signed w64 (n % 2 ^ 64) ∷ []) (h (cast_unsigned w64))
 aggregates-orderless Min vs ws h = ap (take 1) (in_order-reordered int_cmp_total exact_signed vs ws h)
 aggregates-orderless Max vs ws h = ap (take 1) (in_order-reordered greatest_total exact_greatest vs ws h)
-aggregates-orderless Distinct vs ws h = ap (λ ds. signed (length ds) ∷ []) (distinct-reordered int_cmp_total exact_signed vs ws h)
+aggregates-orderless Distinct vs ws h =
+    ap (λ ds. signed (length ds) ∷ []) (distinct-reordered int_cmp_total exact_signed vs ws h)
 aggregates-orderless (Top k) vs ws h = ap (take k) (in_order-reordered greatest_total exact_greatest vs ws h)
 
 pub aggregate_rows-orderless : AggregateRowsDoNotDependOnOrder
-aggregate_rows-orderless agg windows l m h = rows_by-order (aggregate_values agg) windows (aggregates-orderless agg) l m h
+aggregate_rows-orderless agg windows l m h =
+    rows_by-order (aggregate_values agg) windows (aggregates-orderless agg) l m h
 
 -- what an aggregate gives does not depend on the order of what comes
 pub given-orderless : (g : Absorbed) (l m : List KeptRec) → IsReordered l m → IsReordered (given g l) (given g m)
 given-orderless g l m h f =
     ap (λ rows. sum_by f (at_least g.closed rows))
     (aggregate_rows-orderless g.agg g.windows (g.records ++ all_records l) (g.records ++ all_records m)
-    (IsReordered-append g.records g.records (all_records l) (all_records m) (λ f. refl) (IsReordered-map (λ (e : KeptRec). e.rec) l m h)))
+    (IsReordered-append g.records g.records (all_records l) (all_records m) (λ f. refl)
+    (IsReordered-map (λ (e : KeptRec). e.rec) l m h)))

@@ -40,8 +40,8 @@ impl Agg {
     }
 }
 
-/// Turns the values of a keyed window into those of its rows, in place. It takes memory only where there are no values, which
-/// no keyed window with records has.
+/// Turns the values of a keyed window into those of its rows, in place. It takes memory only where there are no values,
+/// which no keyed window with records has.
 ///
 /// # Errors
 ///

@@ -14,8 +14,8 @@ use std::alloc::Global;
 use std::collections::BTreeMap;
 use std::marker::Model;
 
-/// An aggregation over windows, as records come. Contracts see it as the records that it absorbed and the mark of its last
-/// closing; it keeps a partial value for each keyed window that is open and has records.
+/// An aggregation over windows, as records come. Contracts see it as the records that it absorbed and the mark of its
+/// last closing; it keeps a partial value for each keyed window that is open and has records.
 #[derive(Drop)]
 pub struct Aggregate {
     alloc: Global,
@@ -34,9 +34,16 @@ impl Model for Aggregate {
 
     ghost Value = { Absorbed };
 
-    ghost view = { λ a. record { agg = a.agg; windows = a.windows; records = flat_map (λ l. l) a.absorbed; closed = a.closed; spent = a.spent } };
+    ghost view = { λ a. record {
+      agg = a.agg;
+      windows = a.windows;
+      records = flat_map (λ l. l) a.absorbed;
+      closed = a.closed;
+      spent = a.spent;
+    } };
 
-    ghost invariant = { λ a. a.spent ≡ false → HasPartialsFrom a.closed a.agg a.windows (flat_map (λ l. l) a.absorbed) a.partials };
+    ghost invariant = { λ a. a.spent ≡ false
+        → HasPartialsFrom a.closed a.agg a.windows (flat_map (λ l. l) a.absorbed) a.partials };
 }
 
 impl Aggregate {

@@ -1,15 +1,15 @@
 //! Aggregations: what becomes of the values of a keyed window.
 //!
-//! An [`Agg`] says what is made of the values that a window of one key gathers: their number, their sum, the least, and so
-//! on. [`aggregated`] works it out for one keyed window, and [`laws`] states that it is the same in whatever order the values
-//! came.
+//! An [`Agg`] says what is made of the values that a window of one key gathers: their number, their sum, the least, and
+//! so on. [`aggregated`] works it out for one keyed window, and [`laws`] states that it is the same in whatever order
+//! the values came.
 //!
-//! [`Aggregate`] works it out as records come: it keeps a partial value for each keyed window that is open. Workers make
-//! an [`AggPart`] of each bundle, it absorbs them in any order, and a mark closes windows and gives their rows.
+//! [`Aggregate`] works it out as records come: it keeps a partial value for each keyed window that is open. Workers
+//! make an [`AggPart`] of each bundle, it absorbs them in any order, and a mark closes windows and gives their rows.
 //!
 //! A session is a window without a size: the records of one key are cut where the next time is a gap or more later. Its
-//! end is its last time plus the gap. [`laws`] states where sessions are cut, that their rows do not depend on order, and
-//! which of them are final at a watermark.
+//! end is its last time plus the gap. [`laws`] states where sessions are cut, that their rows do not depend on order,
+//! and which of them are final at a watermark.
 #![tactic(auto)]
 
 mod aggregate;

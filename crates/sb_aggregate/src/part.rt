@@ -76,7 +76,8 @@ fn add_record(
     requires valid { IsValid agg }
     requires time { «record».now.time < END_MARK }
     ensures { OnOk result ((q : Window) → get keyed_window_cmp partials.new q
-        ≡ joined (join_values agg) (get keyed_window_cmp partials.old q) (partial_at agg windows.now («record».now ∷ []) q)) }
+        ≡ joined (join_values agg) (get keyed_window_cmp partials.old q)
+        (partial_at agg windows.now («record».now ∷ []) q)) }
 {
     for end in windows.ends(record.time) {
         let window = KeyedWindow {
