@@ -52,7 +52,7 @@ impl Cascade {
           [],
         ) }
     {
-        // It is within the most lines of a diary.
+        // For the proof: a diary has at most so many lines.
         let _ = guard.state.lines();
         self.turns.leave(guard, pass, change);
     }

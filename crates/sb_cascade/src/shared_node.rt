@@ -122,7 +122,7 @@ impl SharedNode {
         requires { owed own.lanes.items ≡ 0 }
         ensures { result ≡ record { own = own; tray = []; spent = false } }
     {
-        // It changes nothing, and tells how many lines a diary has at most.
+        // For the proof: a diary has at most so many lines.
         let _ = own.diary.reserve(0);
         SharedNode {
             own,

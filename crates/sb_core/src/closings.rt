@@ -153,7 +153,7 @@ pub(crate) fn end(moment: &mut Moment, node: u32) -> Result<(), StepStop>
     let nodes = &mut moment.nodes;
     let lanes = &mut nodes.items[node as usize].lanes;
     let at = &mut lanes.items[lane as usize];
-    // Each epoch that has ended has a mark.
+    // For the proof: each epoch that has ended has a mark.
     let have_marks = at.ended <= at.marks.as_slice().len() as u64;
     prove!(have_marks);
     lanes::end(at);

@@ -43,6 +43,7 @@ fn give(
         nodes.old.items nodes.new.items) }
     ensures links { OnOk result (KeepsLinks plan.now nodes.old.items nodes.new.items) }
 {
+    // For the proof: clauses alone speak of the size.
     let _ = size;
     let below = plan.down(claim.node);
     let epoch = claim.bundle.epoch;
@@ -112,7 +113,9 @@ fn finish_empty(
         nodes.old.items nodes.new.items) }
     ensures links { OnOk result (KeepsLinks plan.now nodes.old.items nodes.new.items) }
 {
+    // For the proof: clauses alone speak of the size.
     let _ = size;
+    // For the proof: a plan keeps its rules.
     let _ = plan.transforms();
     finish_at(
         nodes,

@@ -64,6 +64,7 @@ pub(crate) fn arrive(
         → AreLinked plan.now nodes.new.items }
     ensures searches { SearchesStay nodes.old.items nodes.new.items }
 {
+    // For the proof: clauses alone speak of the size.
     let _ = size;
     match plan.source(stream) {
         Some(place) => arrive_in(nodes, place, bundle),
@@ -107,6 +108,7 @@ pub(crate) fn seal(
         → AreLinked plan.now nodes.new.items }
     ensures searches { SearchesStay nodes.old.items nodes.new.items }
 {
+    // For the proof: clauses alone speak of the size.
     let _ = size;
     match plan.source(stream) {
         Some(place) => seal_in(nodes, place, mark),

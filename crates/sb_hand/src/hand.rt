@@ -109,7 +109,7 @@ impl Hand {
         requires pending { (1 ≤ pending) × (pending ≤ MAX_PENDING) }
         ensures { IfOk result (λ h. IsNewHand plan bundle pending keeps h) }
     {
-        // A plan keeps its rules.
+        // For the proof: a plan keeps its rules.
         let _ = plan.transforms();
         let nodes = new_nodes(alloc, &plan, pending, keeps)?;
         Ok(Hand {
@@ -162,7 +162,7 @@ impl Hand {
         if self.spent {
             return Err(ArriveStop::Memory(bundle));
         }
-        // A plan keeps its rules.
+        // For the proof: a plan keeps its rules.
         let _ = self.plan.transforms();
         feeding::arrive(&self.plan, self.bundle, &mut self.nodes, stream, bundle)
     }
@@ -185,7 +185,7 @@ impl Hand {
         if self.spent {
             return Err(NoMemory);
         }
-        // A plan keeps its rules.
+        // For the proof: a plan keeps its rules.
         let _ = self.plan.transforms();
         feeding::seal(&self.plan, self.bundle, &mut self.nodes, stream, mark)
     }
@@ -213,7 +213,7 @@ impl Hand {
         if self.spent {
             return Err(NoMemory);
         }
-        // A plan keeps its rules.
+        // For the proof: a plan keeps its rules.
         let _ = self.plan.transforms();
         self.spent = true;
         let did = step_node(

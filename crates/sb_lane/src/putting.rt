@@ -87,6 +87,7 @@ fn seal_found(containers: &mut Arena, at: usize, epoch: u64, floor: u64, mark: u
     requires before { LowerBefore epoch at (conts_of containers.old) }
     ensures { ChangesEpoch epoch floor (λ c. record c { mark = Some mark }) containers.old containers.new }
 {
+    // For the proof: clauses alone speak of them.
     let _ = (epoch, floor);
     containers.seal(at, mark);
 }
@@ -143,6 +144,7 @@ fn place_found(containers: &mut Arena, at: usize, epoch: u64, floor: u64) -> Res
     ensures same { DifferInRooms containers.old containers.new }
     ensures at { IfOk result (λ p. StandsWithRoom epoch p containers.new) }
 {
+    // For the proof: clauses alone speak of them.
     let _ = (epoch, floor);
     match containers.make_room(at) {
         Ok(()) => Ok(containers.place(at)),

@@ -59,6 +59,7 @@ impl Table {
     pub(crate) fn has_key_images(&self) -> bool
         ensures { IsTrue result ↔ HasKeyImages self.now }
     {
+        // For the proof: what holds of every table is known once its field is named.
         let _ = &self.images;
         true
     }

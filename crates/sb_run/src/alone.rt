@@ -38,6 +38,7 @@ pub fn execute_alone<S: Source, R: RowOut>(
     ensures name { S.name input.new ≡ S.name input.old }
     ensures output { OutputCause (R.row_state out.old) (R.row_state out.new) result }
 {
+    // For the proof: a plan keeps its rules.
     let _ = plan.transforms();
     let made = Hand::new(
         alloc,

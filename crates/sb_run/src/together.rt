@@ -45,6 +45,7 @@ fn begin(alloc: Global, plan: Plan, sizes: Sizes) -> Result<Begun, NoMemory>
     requires sizes { AreSizes sizes }
     ensures { IfOk result (λ b. IsBegun plan sizes b.cascade b.pass b.helpers.items) }
 {
+    // For the proof: a plan keeps its rules.
     let _ = plan.transforms();
     let hand = Hand::new(
         alloc,

@@ -46,6 +46,7 @@ impl<K: Keep> Turns<K> {
           [],
         ) }
     {
+        // For the proof: clauses alone speak of these three.
         let _ = found;
         let _ = after;
         let _ = change;
