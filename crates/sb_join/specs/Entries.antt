@@ -62,14 +62,16 @@ pub record AreKept (windows : Spacing) (mark : ℕ) (m : BTreeMap KeyedWindow Si
 abbrev pub Gathers : Spacing → Side → List Record → BTreeMap KeyedWindow Sides → BTreeMap KeyedWindow Sides → Type 0
 Gathers windows side records m n =
     (s : Side) (q : KeyedWindow) → values_at s (get keyed_window_cmp n q)
-    ≡ values_at s (get keyed_window_cmp m q) ++ values_in windows q (of_lane (lane_of s) (on_lane (lane_of side) records))
+    ≡ values_at s (get keyed_window_cmp m q)
+    ++ values_in windows q (of_lane (lane_of s) (on_lane (lane_of side) records))
 
 -- the least end of a window that stays when the mark closes windows
 abbrev pub first_open : ℕ → ℕ
 first_open mark = min (mark + 1) (2 ^ 64 - 1)
 
 -- the windows that end by the mark are closed: the rows are those of their pairs, in order, and n has the others
-pub record ClosesWindows (combine : Combine) (mark : ℕ) (m : BTreeMap KeyedWindow Sides) (rows : List Record) (n : BTreeMap KeyedWindow Sides) : Type 0 where
+pub record ClosesWindows (combine : Combine) (mark : ℕ) (m : BTreeMap KeyedWindow Sides)
+    (rows : List Record) (n : BTreeMap KeyedWindow Sides) : Type 0 where
   pub closed : BTreeMap KeyedWindow Sides
   pub parts : m.entries ≡ closed.entries ++ n.entries
   pub in_order : rows ≡ sorted (rows_of_entries (paired combine) closed.entries)

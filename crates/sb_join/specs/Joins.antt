@@ -25,7 +25,9 @@ pair_values combine xs ys = flat_map (λ x. map (λ y. combined combine x y) ys)
 
 -- a record for each pair of a left and a right record of the keyed window; its time is the last one in the window
 abbrev pub pairs : Combine → Spacing → List Record → List Record → KeyedWindow → List Record
-pairs combine windows left right q = map (λ v. record { time = q.end - 1; key = q.key; value = v }) (pair_values combine (values_in windows q left) (values_in windows q right))
+pairs combine windows left right q =
+    map (λ v. record { time = q.end - 1; key = q.key; value = v })
+    (pair_values combine (values_in windows q left) (values_in windows q right))
 
 -- the rows of all keyed windows that have left records
 abbrev pub join_rows : Combine → Spacing → List Record → List Record → List Record

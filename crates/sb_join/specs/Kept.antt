@@ -28,7 +28,16 @@ pub record JoinState : Type 0 where
 -- a join that has taken nothing
 abbrev pub fresh : Combine → Spacing → JoinState
 fresh combine windows =
-    record { combine = combine; windows = windows; left = []; right = []; left_mark = 0; right_mark = 0; closed = 0; is_spent = false }
+    record {
+      combine = combine;
+      windows = windows;
+      left = [];
+      right = [];
+      left_mark = 0;
+      right_mark = 0;
+      closed = 0;
+      is_spent = false;
+    }
 
 -- no memory was found
 abbrev pub IsSpent : JoinState → Type 0

@@ -48,8 +48,8 @@ impl Combine {
     }
 }
 
-/// Appends the combined value of each pair of a left and a right value, the pairs of the first left value first. It takes no
-/// memory where there is room for all of them.
+/// Appends the combined value of each pair of a left and a right value, the pairs of the first left value first. It
+/// takes no memory where there is room for all of them.
 ///
 /// # Errors
 ///

@@ -1,9 +1,10 @@
 //! Joins: what a pair of a left and a right record of one window and key gives.
 //!
-//! A join has two inputs, and gives a row for each pair of a left and a right record that lie in the same window of the same
-//! key. A [`Combine`] says what becomes of the two values, and [`pair_values`] works out the pairs of one keyed window. What a
-//! join gives over whole lists is defined on lists alone, and [`laws`] states what every way of working it out rests on.
-//! [`JoinKept`] is the way that keeps the values of open windows and gives rows as watermarks close them.
+//! A join has two inputs, and gives a row for each pair of a left and a right record that lie in the same window of the
+//! same key. A [`Combine`] says what becomes of the two values, and [`pair_values`] works out the pairs of one keyed
+//! window. What a join gives over whole lists is defined on lists alone, and [`laws`] states what every way of working
+//! it out rests on. [`JoinKept`] is the way that keeps the values of open windows and gives rows as watermarks close
+//! them.
 #![tactic(auto)]
 
 mod join;

@@ -16,7 +16,9 @@ pub record Limits : Type 0 where
 
 -- for two lists, one after the other, it gives what it gives for the first, and then what it gives for the second
 abbrev pub OutputsOverAJoinedListAreJoined : Type 0
-OutputsOverAJoinedListAreJoined = (op : Op) (l m : List Record) → flat_map (outputs_of op) (l ++ m) ≡ flat_map (outputs_of op) l ++ flat_map (outputs_of op) m
+OutputsOverAJoinedListAreJoined =
+    (op : Op) (l m : List Record)
+    → flat_map (outputs_of op) (l ++ m) ≡ flat_map (outputs_of op) l ++ flat_map (outputs_of op) m
 
 -- what it gives for a record has the record's time
 abbrev pub OutputsKeepTheTime : Type 0
@@ -24,8 +26,10 @@ OutputsKeepTheTime = (op : Op) (r : Record) → AllByRecursion (λ output. outpu
 
 -- what a valid operation gives for a record with a key that it may have, has a key that it may have
 abbrev pub OutputsKeepKeysInRange : Type 0
-OutputsKeepKeysInRange = (op : Op) (r : Record) → IsValid op → IsKey r.key → AllByRecursion (λ output. IsKey output.key) (outputs_of op r)
+OutputsKeepKeysInRange =
+    (op : Op) (r : Record) → IsValid op → IsKey r.key → AllByRecursion (λ output. IsKey output.key) (outputs_of op r)
 
 -- a valid operation gives at most so many records for one, and so many are at most eight
 abbrev pub OutputsAreFew : Type 0
-OutputsAreFew = (op : Op) (r : Record) → IsValid op → (length (outputs_of op r) ≤ most_outputs op) × (most_outputs op ≤ MAX_ADDENDS)
+OutputsAreFew =
+    (op : Op) (r : Record) → IsValid op → (length (outputs_of op r) ≤ most_outputs op) × (most_outputs op ≤ MAX_ADDENDS)

@@ -63,7 +63,8 @@ at_row n (Err what) f = Err (record { row = n; what = what })
 unfoldable pub table_from : Keys → ℕ → FinMap key_cmp Key → List Fields → Result (FinMap key_cmp Key) TableFault
 table_from keys n seen [] = Ok seen
 table_from keys n seen (row ∷ rows) =
-    at_row n (if nat_lt MAX_ROWS n then Err row_fault.TooMany else entry_of keys seen row) (λ entry. table_from keys (n + 1) (insert seen entry.0 entry.1) rows)
+    at_row n (if nat_lt MAX_ROWS n then Err row_fault.TooMany else entry_of keys seen row)
+    (λ entry. table_from keys (n + 1) (insert seen entry.0 entry.1) rows)
 
 -- the table of a text, where keys are numbers or words; or its first fault
 abbrev pub table_of : Keys → List ℕ → Result (FinMap key_cmp Key) TableFault

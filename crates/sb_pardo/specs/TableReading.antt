@@ -35,8 +35,10 @@ FindsRow rows true fields after = (rest : List Fields) × (rows ≡ fields ∷ r
 FindsRow rows false fields after = rows ≡ []
 
 -- of these rows, from row n on, the first went into the table, or there was none, or it is at fault
-abbrev pub TakesRow : Keys → ℕ → List Fields → FinMap key_cmp Key → Result Bool TableStop → TextReader → FinMap key_cmp Key → Type 0
-TakesRow keys n rows seen (Ok true) after table = (rest : List Fields) × HasRows after rest × (table_from keys n seen rows ≡ table_from keys (n + 1) table rest)
+abbrev pub TakesRow : Keys → ℕ → List Fields → FinMap key_cmp Key → Result Bool TableStop
+    → TextReader → FinMap key_cmp Key → Type 0
+TakesRow keys n rows seen (Ok true) after table =
+    (rest : List Fields) × HasRows after rest × (table_from keys n seen rows ≡ table_from keys (n + 1) table rest)
 TakesRow keys n rows seen (Ok false) after table = table_from keys n seen rows ≡ Ok table
 TakesRow keys n rows seen (Err (stop.Fault fault)) after table = table_from keys n seen rows ≡ Err fault
 TakesRow keys n rows seen (Err stop.Memory) after table = ⊤

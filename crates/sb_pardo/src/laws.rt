@@ -1,5 +1,5 @@
-//! The limits of operations as numbers, and the laws of every operation. Each function has its law for a contract, and does
-//! nothing.
+//! The limits of operations as numbers, and the laws of every operation. Each function has its law for a contract, and
+//! does nothing.
 
 ghost use Rattle.sb_pardo.specs.Laws as law;
 
@@ -14,7 +14,8 @@ pub fn outputs_over_a_joined_list_are_joined()
     ensures { law.OutputsOverAJoinedListAreJoined }
 {}
 
-/// What an operation gives for a record has the record's time, and a valid operation keeps keys such as a record may have.
+/// What an operation gives for a record has the record's time, and a valid operation keeps keys such as a record may
+/// have.
 pub fn outputs_keep_the_time()
     ensures time { law.OutputsKeepTheTime }
     ensures key { law.OutputsKeepKeysInRange }

@@ -5,8 +5,8 @@ ghost use Rattle.std.specs.Prelude.{◌≡◌, [], ◌∷◌, ◌++◌};
 use std::marker::Model;
 use std::snapshot::Snapshot;
 
-/// A list that contracts see whole, and of which only the last entry is there when the program runs: it takes the room of
-/// one entry, however long the list is. So an engine that runs for weeks can state what it did and keep none of it.
+/// A list that contracts see whole, and of which only the last entry is there when the program runs: it takes the room
+/// of one entry, however long the list is. So an engine that runs for weeks can state what it did and keep none of it.
 #[derive(Drop)]
 #[cycle(trail)]
 pub struct Trail<T> {

@@ -46,4 +46,5 @@ records_in (Some o) = kept_of o.times.entries
 pub gives-orderless : (s : SessionState) (l m : List KeptRec) → IsReordered l m → IsReordered (gives s l) (gives s m)
 gives-orderless s l m h f = ap (sum_by f) (
     session_rows-orderless s.agg s.gap (s.records ++ all_records l) (s.records ++ all_records m)
-    (IsReordered-append s.records s.records (all_records l) (all_records m) (λ f. refl) (IsReordered-map (λ e. e.rec) l m h)))
+    (IsReordered-append s.records s.records (all_records l) (all_records m)
+    (λ f. refl) (IsReordered-map (λ e. e.rec) l m h)))

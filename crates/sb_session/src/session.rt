@@ -23,8 +23,8 @@ mod tests;
 /// The grouping of sessions: it keeps the records whose sessions are open. A part is a list of records on lane 0, each
 /// with a time below [`END_MARK`](sb_record::END_MARK).
 ///
-/// A record that is absorbed costs O(log n) where n are kept. A closing costs as much for each end that is due, and each
-/// kept time makes one end. After a call that found no memory nothing is kept.
+/// A record that is absorbed costs O(log n) where n are kept. A closing costs as much for each end that is due, and
+/// each kept time makes one end. After a call that found no memory nothing is kept.
 #[derive(Drop)]
 pub struct Session {
     alloc: Global,
@@ -54,8 +54,8 @@ impl Model for Session {
 }
 
 impl Session {
-    /// A grouping that has absorbed nothing. A session is cut where the next time of its key is the gap or more later; the
-    /// gap is 1 to [`MAX_GAP`]. The aggregation gives one value: it is not [`Agg::Top`].
+    /// A grouping that has absorbed nothing. A session is cut where the next time of its key is the gap or more later;
+    /// the gap is 1 to [`MAX_GAP`]. The aggregation gives one value: it is not [`Agg::Top`].
     pub fn new(alloc: Global, agg: Agg, gap: u64) -> Session
         requires some_gap { 1 ≤ gap }
         requires most_gap { gap ≤ MAX_GAP }

@@ -9,7 +9,8 @@ use Rattle.sb_window.specs.Windows.{keyed_windows, values_in}
 
 -- the rows of a keyed window, where values gives what becomes of its values; their time is the last one in the window
 abbrev pub rows_in : (List ℤ → List ℤ) → Spacing → List Record → KeyedWindow → List Record
-rows_in values windows l q = map (λ v. record { time = q.end - 1; key = q.key; value = v }) (values (values_in windows q l))
+rows_in values windows l q =
+    map (λ v. record { time = q.end - 1; key = q.key; value = v }) (values (values_in windows q l))
 
 -- the rows of all keyed windows that have records
 abbrev pub rows_by : (List ℤ → List ℤ) → Spacing → List Record → List Record

@@ -18,4 +18,5 @@ joined join (Some v) (Some more) = Some (join v more)
 
 -- the rows of keyed windows, where values gives those of what was gathered in each
 abbrev pub rows_of_entries : {V : Type 0} → (V → List ℤ) → List (KeyedWindow × V) → List Record
-rows_of_entries values entries = flat_map (λ e. map (λ v. record { time = e.0.end - 1; key = e.0.key; value = v }) (values e.1)) entries
+rows_of_entries values entries =
+    flat_map (λ e. map (λ v. record { time = e.0.end - 1; key = e.0.key; value = v }) (values e.1)) entries

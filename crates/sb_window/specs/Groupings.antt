@@ -15,7 +15,8 @@ abbrev pub Adds : ℕ → (List KeptRec → List Record) → (List KeptRec → L
 Adds closed gives later es = (l : List KeptRec) → IsFrom closed l → IsReordered (later l) (gives (es ++ l))
 
 -- a closing at a mark: the rows come out in order, all below the mark, and later gives the rest, from the mark on
-pub record Closes (mark : ℕ) (gives : List KeptRec → List Record) (rows : List Record) (later : List KeptRec → List Record) : Type 0 where
+pub record Closes (mark : ℕ) (gives : List KeptRec → List Record) (rows : List Record)
+    (later : List KeptRec → List Record) : Type 0 where
   pub in_order : rows ≡ sorted rows
   pub low : AllByRecursion (λ r. r.time < mark) rows
   pub same : (l : List KeptRec) → IsFrom mark l → IsReordered (gives l) (rows ++ later l)

@@ -29,12 +29,14 @@ WindowEndsAreSpaced = (windows : Spacing) → AreWindows windows → (t : ℕ) �
 -- records in another order give the same rows, as a list
 abbrev pub RowsDoNotDependOnOrder : Type 0
 RowsDoNotDependOnOrder =
-    (values : List ℤ → List ℤ) → IgnoresOrder values → (windows : Spacing) (l m : List Record) → IsReordered l m → rows_by values windows l ≡ rows_by values windows m
+    (values : List ℤ → List ℤ) → IgnoresOrder values → (windows : Spacing) (l m : List Record)
+    → IsReordered l m → rows_by values windows l ≡ rows_by values windows m
 
 -- the rows of the windows that a watermark closes are given by the records with times below it
 abbrev pub ClosedWindowsDependOnEarlierRecords : Type 0
 ClosedWindowsDependOnEarlierRecords =
-    (values : List ℤ → List ℤ) (windows : Spacing) (mark : ℕ) (l : List Record) → before mark (rows_by values windows l) ≡ before mark (rows_by values windows (before mark l))
+    (values : List ℤ → List ℤ) (windows : Spacing) (mark : ℕ) (l : List Record)
+    → before mark (rows_by values windows l) ≡ before mark (rows_by values windows (before mark l))
 
 abbrev pub SumsDoNotDependOnOrder : Type 0
 SumsDoNotDependOnOrder = IgnoresOrder sum_values

@@ -1,8 +1,8 @@
 //! Windows of event time: their size, and how far apart they are.
 //!
 //! A window is named by its end. The windows of a time are the multiples of `every` above the time, up to `size` above
-//! it: `size / every` of them. Fixed windows have `every` equal to `size`. A watermark closes the windows that end at or
-//! before it: no record still to come lies in them.
+//! it: `size / every` of them. Fixed windows have `every` equal to `size`. A watermark closes the windows that end at
+//! or before it: no record still to come lies in them.
 
 ghost use Rattle.std.specs.Prelude.{◌≡◌, ◌<◌, IfOk};
 ghost use Rattle.sb_window.specs.Spacing.{AreWindows};
@@ -47,7 +47,8 @@ impl Model for Windows {
 }
 
 impl Windows {
-    /// Windows of a size from 1 to 10^12, one for each multiple of `every`, which divides the size into at most 64 parts.
+    /// Windows of a size from 1 to 10^12, one for each multiple of `every`, which divides the size into at most 64
+    /// parts.
     pub fn new(size: u64, every: u64) -> Result<Windows, BadWindow>
         ensures value { result ≡ spec.spacing_of size every }
         ensures sound { IfOk result AreWindows }
