@@ -1,5 +1,5 @@
--- The laws of an output that holds a sink under a name: it keeps the name, and what the sink has taken grows by the text
--- of rows. Each is proved here, where an implementation can name it.
+-- The laws of an output that holds a sink under a name: it keeps the name, and what the sink has taken grows by the
+-- text of rows. Each is proved here, where an implementation can name it.
 use Rattle.std.proofs.Common.{◌≡◌, ℕ, ◌++◌, List, [], Option, refl, ◌∙◌}
 use Rattle.std.specs.Io.KnownBytes.{Appends}
 use Rattle.sb_record.specs.declared.item.Record.{Record}
@@ -19,10 +19,12 @@ module _ {N : Type 0} where
   pub after_none : (n : N) (a : Option (List ℕ)) → After n n a a []
   after_none n a = (refl, text.after_none a)
 
-  pub after_more : (n n' n2 : N) (a b c : Option (List ℕ)) (l m : List Record) → After n n' a b l → After n' n2 b c m → After n n2 a c (l ++ m)
+  pub after_more : (n n' n2 : N) (a b c : Option (List ℕ)) (l m : List Record) → After n n' a b l → After n' n2 b c m
+      → After n n2 a c (l ++ m)
   after_more n n' n2 a b c l m h k = (k.0 ∙ h.0, text.after_more a b c l m h.1 k.1)
 
-  pub part_later : (n n' n2 : N) (a b c : Option (List ℕ)) (l m : List Record) → After n n' a b l → Part n' n2 b c m → Part n n2 a c (l ++ m)
+  pub part_later : (n n' n2 : N) (a b c : Option (List ℕ)) (l m : List Record) → After n n' a b l → Part n' n2 b c m
+      → Part n n2 a c (l ++ m)
   part_later n n' n2 a b c l m h k = (k.0 ∙ h.0, text.part_later a b c l m h.1 k.1)
 
   pub part_of_all : (n n' : N) (a b : Option (List ℕ)) (l m : List Record) → After n n' a b l → Part n n' a b (l ++ m)

@@ -17,7 +17,8 @@ OffersAt row place old new (Ok true) =
     (tap : TapState) × (saw : TapState) × (at : OfferedAt place old tap)
     × SawRow row tap saw × (wants_more_after row tap ≡ true) × (new ≡ at.earlier ++ saw ∷ at.later)
 OffersAt row place old new (Ok false) =
-    (tap : TapState) × (at : OfferedAt place old tap) × (wants_more_after row tap ≡ false) × (new ≡ at.earlier ++ at.later)
+    (tap : TapState) × (at : OfferedAt place old tap) × (wants_more_after row tap ≡ false)
+    × (new ≡ at.earlier ++ at.later)
 OffersAt row place old new (Err reason) =
     (tap : TapState) × (refused : TapState) × (at : OfferedAt place old tap)
     × RefusedRow reason tap refused × (new ≡ at.earlier ++ refused ∷ at.later)

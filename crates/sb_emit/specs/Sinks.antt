@@ -31,4 +31,6 @@ StandsFor records es = IsReordered (all_records es) records
 
 -- elements in another order give the same rows
 pub gives-orderless : (s : SinkState) (l m : List KeptRec) → IsReordered l m → IsReordered (gives s l) (gives s m)
-gives-orderless s l m h = IsReordered-append s.kept s.kept (all_records l) (all_records m) (λ f. refl) (IsReordered-map (λ e. e.rec) l m h)
+gives-orderless s l m h =
+    IsReordered-append s.kept s.kept (all_records l) (all_records m) (λ f. refl)
+    (IsReordered-map (λ e. e.rec) l m h)

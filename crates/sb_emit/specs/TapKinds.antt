@@ -20,7 +20,8 @@ pub record Heading (K : Type 0) : Type 0 where
 
 -- lists of at least so many rows are enough, and its faults are those of its sink
 abbrev pub head_state : HeadRows → SinkState → TapState
-head_state head sink = record { seen = head.seen; is_full = λ rows. nat_le head.most (length rows); faults = sink.faults }
+head_state head sink =
+    record { seen = head.seen; is_full = λ rows. nat_le head.most (length rows); faults = sink.faults }
 
 -- a tap refuses for the reason of its sink
 abbrev pub tap_fault_of : SinkFault → TapFault

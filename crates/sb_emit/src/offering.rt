@@ -55,13 +55,14 @@ fn offer_at(taps: &mut Vec<Box<dyn Tap>>, place: usize, row: &Record) -> Result<
     }
 }
 
-/// Offers a row, whose time is below [`END_MARK`], to each of fewer than 2^32 taps, in order, and drops at once each tap
-/// that has enough.
+/// Offers a row, whose time is below [`END_MARK`], to each of fewer than 2^32 taps, in order, and drops at once each
+/// tap that has enough.
 ///
 /// # Errors
 ///
-/// The first refusal of a tap: `Failed` only if the count of faults of the tap at that place rose in this call. The taps
-/// before it have seen the row, and those of them that had enough are gone. It and all taps behind it have not, and stay.
+/// The first refusal of a tap: `Failed` only if the count of faults of the tap at that place rose in this call. The
+/// taps before it have seen the row, and those of them that had enough are gone. It and all taps behind it have not,
+/// and stay.
 pub fn offer(taps: &mut Vec<Box<dyn Tap>>, row: &Record) -> Result<(), TapStop>
     requires few { length taps.old.items < 2 ^ 32 }
     requires time { row.now.time < END_MARK }

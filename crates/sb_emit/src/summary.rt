@@ -9,8 +9,8 @@ use sb_outside::SinkFault;
 use sb_record::{END_MARK, Record};
 use std::marker::Model;
 
-/// How many rows there were, the sum of their values, and the sum of each row's end times its value, each modulo 2^64. The
-/// end of a row is that of its window: its time plus 1.
+/// How many rows there were, the sum of their values, and the sum of each row's end times its value, each modulo 2^64.
+/// The end of a row is that of its window: its time plus 1.
 ///
 /// Two runs that give the same rows have the same summary, in whatever order the rows of a window come. It never fails.
 #[derive(Drop)]

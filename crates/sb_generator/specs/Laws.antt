@@ -25,7 +25,8 @@ pub record Limits : Type 0 where
 abbrev pub only_a : Streams
 only_a = record { a = true; b = false }
 
--- what is accepted of the lines of bytes by an intake of stream a alone that refuses late records, where keys are numbers
+-- what is accepted of the lines of bytes by an intake of stream a alone that refuses late records, where keys are
+-- numbers
 abbrev pub accepted_of : Bool → List ℕ → Accepted
 accepted_of ended bytes = accepted only_a Refuse Numbers (lines ended bytes)
 

@@ -19,7 +19,8 @@ RowsAloneCount = (k : Key) (changes : List Change) → last_of k changes ≡ las
 -- an output that was handed rows that rise has counted no fault
 abbrev pub RisingRowsAreNeverRefused : Type 0
 RisingRowsAreNeverRefused =
-    (old new : ShownRows) (rows : List Record) → ShowsSome old rows new → RiseFrom (latest_in old.out.changes) rows → new.faults ≡ old.faults
+    (old new : ShownRows) (rows : List Record) → ShowsSome old rows new
+    → RiseFrom (latest_in old.out.changes) rows → new.faults ≡ old.faults
 
 -- the first of sorted records rise
 abbrev pub FirstSortedRowsRise : Type 0
@@ -28,9 +29,11 @@ FirstSortedRowsRise = (records rows rest : List Record) → sorted records ≡ r
 -- a text names the key of which it is the text, where a line can give that key
 abbrev pub KeysAreNamedByTheirText : Type 0
 KeysAreNamedByTheirText =
-    (keys : Keys) (text : List ℕ) (k : Key) → (key_named keys text ≡ Some k) ↔ (IsKeyInRange keys k × (key_text k ≡ text))
+    (keys : Keys) (text : List ℕ) (k : Key)
+    → (key_named keys text ≡ Some k) ↔ (IsKeyInRange keys k × (key_text k ≡ text))
 
 -- where lines can give all keys of the rows, the last row with a text as its key is that of the key that the text names
 abbrev pub NamedRowsAreThoseOfTheKey : Type 0
 NamedRowsAreThoseOfTheKey =
-    (keys : Keys) (text : List ℕ) (rows : List Record) → All (λ r. IsKeyInRange keys r.key) rows → last_named text rows ≡ last_if_any (key_named keys text) rows
+    (keys : Keys) (text : List ℕ) (rows : List Record) → All (λ r. IsKeyInRange keys r.key) rows
+    → last_named text rows ≡ last_if_any (key_named keys text) rows

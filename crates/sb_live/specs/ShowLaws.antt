@@ -46,17 +46,29 @@ shows_more o p q l m h k =
 
 prefix_later : (o p q : List Change) (l m : List Record) → Shows o l p → ShowsPrefix p m q → ShowsPrefix o (l ++ m) q
 prefix_later o p q l m h k =
-    record { prefix = l ++ k.prefix; rest = k.rest; whole = ap (λ x. l ++ x) k.whole ∙ sym (append_assoc l k.prefix k.rest); shows = shows_more o p q l k.prefix h k.shows }
+    record {
+      prefix = l ++ k.prefix;
+      rest = k.rest;
+      whole = ap (λ x. l ++ x) k.whole ∙ sym (append_assoc l k.prefix k.rest);
+      shows = shows_more o p q l k.prefix h k.shows;
+    }
 
 prefix_of_more : (o p : List Change) (l m : List Record) → ShowsPrefix o l p → ShowsPrefix o (l ++ m) p
-prefix_of_more o p l m h = record { prefix = h.prefix; rest = h.rest ++ m; whole = ap (λ x. x ++ m) h.whole ∙ append_assoc h.prefix h.rest m; shows = h.shows }
+prefix_of_more o p l m h =
+    record {
+      prefix = h.prefix;
+      rest = h.rest ++ m;
+      whole = ap (λ x. x ++ m) h.whole ∙ append_assoc h.prefix h.rest m;
+      shows = h.shows;
+    }
 
 -- ---- the output
 pub after_none : (o : ShownRows) → ShowsAll o [] o
 after_none o = record { shows = shows_none o.out.changes; faultless = refl }
 
 pub after_more : (o p q : ShownRows) (l m : List Record) → ShowsAll o l p → ShowsAll p m q → ShowsAll o (l ++ m) q
-after_more o p q l m h k = record { shows = shows_more _ _ _ l m h.shows k.shows; faultless = k.faultless ∙ h.faultless }
+after_more o p q l m h k =
+    record { shows = shows_more _ _ _ l m h.shows k.shows; faultless = k.faultless ∙ h.faultless }
 
 pub part_later : (o p q : ShownRows) (l m : List Record) → ShowsAll o l p → ShowsSome p m q → ShowsSome o (l ++ m) q
 part_later o p q l m h k =
@@ -68,10 +80,13 @@ part_later o p q l m h k =
     }
   where
     rises_on : RiseFrom (latest_in o.out.changes) (l ++ m) → RiseFrom (latest_in p.out.changes) m
-    rises_on rise = subst (λ t. RiseFrom t m) (sym (latest-shows o.out.changes p.out.changes l h.shows)) (rise_after (latest_in o.out.changes) l m rise)
+    rises_on rise =
+        subst (λ t. RiseFrom t m) (sym (latest-shows o.out.changes p.out.changes l h.shows))
+        (rise_after (latest_in o.out.changes) l m rise)
 
 pub part_of_all : (o p : ShownRows) (l m : List Record) → ShowsAll o l p → ShowsSome o (l ++ m) p
-part_of_all o p l m h = record { shows = record { prefix = l; rest = m; whole = refl; shows = h.shows }; falls = inl h.faultless }
+part_of_all o p l m h =
+    record { shows = record { prefix = l; rest = m; whole = refl; shows = h.shows }; falls = inl h.faultless }
 
 pub part_of_more : (o p : ShownRows) (l m : List Record) → ShowsSome o l p → ShowsSome o (l ++ m) p
 part_of_more o p l m h =
@@ -79,5 +94,6 @@ part_of_more o p l m h =
       shows = prefix_of_more _ _ l m h.shows;
       falls =
           ⊎_elim (λ (e : p.faults ≡ o.faults). inl e)
-          (λ (not_rising : RiseFrom (latest_in o.out.changes) l → ⊥). inr (λ rise. not_rising (rise_first (latest_in o.out.changes) l m rise))) h.falls;
+          (λ (not_rising : RiseFrom (latest_in o.out.changes) l → ⊥).
+          inr (λ rise. not_rising (rise_first (latest_in o.out.changes) l m rise))) h.falls;
     }

@@ -23,9 +23,12 @@ pub record Load : Type 0 where
 
 -- the first bytes of the file, at most so many, are appended; a refusal leaves the list as it was
 abbrev pub Loads : {T E : Type 0} → Option Files → Load → List ℕ → List ℕ → Result T E → Type 0
-Loads files load old new r = MatchResult r (λ _. (bytes : List ℕ) × IsFile files load.name bytes × (new ≡ old ++ take load.most bytes)) (λ _. new ≡ old)
+Loads files load old new r =
+    MatchResult r (λ _. (bytes : List ℕ) × IsFile files load.name bytes × (new ≡ old ++ take load.most bytes))
+    (λ _. new ≡ old)
 
--- a load that fails is put behind those that failed before, and no other answer changes these: being out of memory is no failure
+-- a load that fails is put behind those that failed before, and no other answer changes these: being out of memory is
+-- no failure
 abbrev pub ListsFailure : {T : Type 0} → Load → List Load → List Load → Result T FolderFault → Type 0
 ListsFailure load before now (Ok x) = now ≡ before
 ListsFailure load before now (Err fault.Failed) = now ≡ before ++ load ∷ []

@@ -16,7 +16,8 @@ line_len bytes = prefix_len is_within bytes
 
 -- the first line of the bytes, and the bytes behind its LF
 abbrev pub IsFirstLine : List ℕ → List ℕ → List ℕ → Type 0
-IsFirstLine line rest bytes = (ended : Bool) (later : List ℕ) → lines ended (bytes ++ later) ≡ line ∷ lines ended (rest ++ later)
+IsFirstLine line rest bytes =
+    (ended : Bool) (later : List ℕ) → lines ended (bytes ++ later) ≡ line ∷ lines ended (rest ++ later)
 
 -- no LF is among the bytes, and they are not too long for a line
 pub record IsOpen (bytes : List ℕ) : Type 0 where
@@ -26,6 +27,7 @@ pub record IsOpen (bytes : List ℕ) : Type 0 where
 
 -- a whole line that is not too long, a line that is, or neither
 abbrev pub Shows : List ℕ → Look → Type 0
-Shows bytes (look.Line len used) = IsFirstLine (take len bytes) (drop used bytes) bytes × (len ≤ longest_line) × (len ≤ used) × (used ≤ length bytes)
+Shows bytes (look.Line len used) =
+    IsFirstLine (take len bytes) (drop used bytes) bytes × (len ≤ longest_line) × (len ≤ used) × (used ≤ length bytes)
 Shows bytes look.TooLong = IsTooLong bytes
 Shows bytes look.More = IsOpen bytes × (length bytes ≤ longest_line + 1)

@@ -28,4 +28,8 @@ read_count m room = min (piece_of m.schedule room) (length m.left)
 
 -- the source behind the next read
 abbrev pub after_read : MemReading → ℕ → MemReading
-after_read m room = record { left = if fails m.schedule then m.left else drop (read_count m room) m.left; schedule = after_call m.schedule }
+after_read m room =
+    record {
+      left = if fails m.schedule then m.left else drop (read_count m room) m.left;
+      schedule = after_call m.schedule;
+    }

@@ -35,7 +35,8 @@ rest_of_lines None at_hand ended later = lines ended (at_hand ++ later)
 rest_of_lines (Some h) at_hand ended later = []
 
 -- the reader gave the first line of the bytes, and has the others still to give; it stands only behind the last one
-pub record GivesLine (bytes : List ℕ) (left : Option (List ℕ)) (at_hand line : List ℕ) (halted : Option Halt) : Type 0 where
+pub record GivesLine (bytes : List ℕ) (left : Option (List ℕ)) (at_hand line : List ℕ)
+    (halted : Option Halt) : Type 0 where
   pub first : (ended : Bool) (later : List ℕ) → MayCome halted ended later
       → lines ended (bytes ++ later) ≡ line ∷ rest_of_lines halted at_hand ended later
   pub short : length line ≤ longest_line
@@ -70,13 +71,15 @@ step_at halt.TooLong = step.TooLong
 step_at halt.Fault = step.Fault
 
 -- one call of a reader that goes on: the source gave more bytes, none where those at hand show a line
-pub record GoesOn {S : Type 0} (left : S → Option (List ℕ)) (faults : S → ℕ) (old new : Reading S) (answer : Step) : Type 0 where
+pub record GoesOn {S : Type 0} (left : S → Option (List ℕ)) (faults : S → ℕ) (old new : Reading S)
+    (answer : Step) : Type 0 where
   pub more : List ℕ
   pub given : Consumes (left old.source) (left new.source) more
   pub tells : Tells left faults (old.at_hand ++ more) (faults old.source) new answer
   pub unread : lines false old.at_hand ≢ [] → new.source ≡ old.source
 
 -- one call of a reader: one that stands answers the same again, and nothing changes
-abbrev pub Advances : {S : Type 0} → (S → Option (List ℕ)) → (S → ℕ) → Option Halt → Reading S → Reading S → Step → Type 0
+abbrev pub Advances : {S : Type 0} → (S → Option (List ℕ)) → (S → ℕ) → Option Halt
+    → Reading S → Reading S → Step → Type 0
 Advances left faults (Some h) old new answer = (new ≡ old) × (answer ≡ step_at h)
 Advances left faults None old new answer = GoesOn left faults old new answer

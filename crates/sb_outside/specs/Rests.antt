@@ -32,5 +32,8 @@ IsShort next.TooLong = ⊤
 IsShort next.Fault = ⊤
 
 -- once the line is let go, the reader stands behind it
-abbrev pub Leaves : (S : RattleType) → (S.Denot → Option (List ℕ)) → (S.Denot → ℕ) → MutBor (Reading S.Denot) → Next → Fml
-Leaves S left faults reader result = Rests (the_row S) reader (λ new. Advances left faults reader.now.halt reader.now new (step_of result) × HasLine result new.line)
+abbrev pub Leaves : (S : RattleType) → (S.Denot → Option (List ℕ)) → (S.Denot → ℕ) → MutBor (Reading S.Denot)
+    → Next → Fml
+Leaves S left faults reader result =
+    Rests (the_row S) reader
+    (λ new. Advances left faults reader.now.halt reader.now new (step_of result) × HasLine result new.line)

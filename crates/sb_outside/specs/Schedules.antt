@@ -2,7 +2,8 @@
 use Rattle.std.specs.Prelude.{ℕ, ◌+◌, ◌-◌, ◌^◌, min, Bool, ◌==◌, if◌then◌else◌, List, unwrap_or, slice_get}
 use Rattle.std.specs.List.{list_any}
 
--- the most bytes of call k at place k - 1, the numbers of the calls that fail, and how many calls there were and how many failed
+-- the most bytes of call k at place k - 1, the numbers of the calls that fail, and how many calls there were and how
+-- many failed
 pub record Schedule : Type 0 where
   pub pieces : List ℕ
   pub failing : List ℕ

@@ -11,9 +11,11 @@ use Rattle.sb_outside.specs.declared.search.Found.TheVariants as found
 -- what is found in the bytes, where the source has these left and the count of faults was and is so
 abbrev pub Says : List ℕ → Option (List ℕ) → ℕ → ℕ → Found → Type 0
 Says bytes left before now (found.Line len used) =
-    IsFirstLine (take len bytes) (drop used bytes) bytes × (len ≤ longest_line) × (len ≤ used) × (used ≤ length bytes) × (now ≡ before)
+    IsFirstLine (take len bytes) (drop used bytes) bytes × (len ≤ longest_line) × (len ≤ used) × (used ≤ length bytes)
+    × (now ≡ before)
 Says bytes left before now (found.Last len) =
-    (lines true bytes ≡ take len bytes ∷ []) × (len ≤ longest_line) × (len ≤ length bytes) × IsAtEnd left × (now ≡ before)
+    (lines true bytes ≡ take len bytes ∷ []) × (len ≤ longest_line) × (len ≤ length bytes) × IsAtEnd left
+    × (now ≡ before)
 Says bytes left before now found.End = (lines true bytes ≡ []) × IsAtEnd left × (now ≡ before)
 Says bytes left before now found.TooLong = IsTooLong bytes × (now ≡ before)
 Says bytes left before now found.Fault = (lines false bytes ≡ []) × Rose before now

@@ -6,13 +6,15 @@ use Rattle.sb_outside.specs.Sources.{Rose}
 use Rattle.sb_outside.specs.declared.sink.SinkFault.{SinkFault}
 use Rattle.sb_outside.specs.declared.sink.SinkFault.TheVariants as fault
 
--- what a sink counts: how many writes and flushes have failed, and how often it was out of memory; and whether it refuses all that follows
+-- what a sink counts: how many writes and flushes have failed, and how often it was out of memory; and whether it
+-- refuses all that follows
 pub record SinkState : Type 0 where
   pub faults : ℕ
   pub shortages : ℕ
   pub refuses : Bool
 
--- each refusal has risen its count, which never falls; a fault that was counted and not answered makes the sink refuse all that follows
+-- each refusal has risen its count, which never falls; a fault that was counted and not answered makes the sink refuse
+-- all that follows
 pub record SinkCause {T : Type 0} (before now : SinkState) (result : Result T SinkFault) : Type 0 where
   pub never_falls : before.faults ≤ now.faults
   pub never_short : before.shortages ≤ now.shortages

@@ -222,7 +222,8 @@ impl Write for BadWriter {
     }
 }
 
-/// What a sink over a writer answers to a first write, a second one and the end, and how many faults it has then counted.
+/// What a sink over a writer answers to a first write, a second one and the end, and how many faults it has then
+/// counted.
 type Answers = (
     BadWriter,
     Result<usize, SinkFault>,
