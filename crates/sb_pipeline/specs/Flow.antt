@@ -31,11 +31,14 @@ from_streams plan streams = from_stream plan.source_a (streams A) ++ from_stream
 abbrev pub from_step : Step → List Record → Sent
 from_step step records = record { down = step.down; records = records }
 
--- all that is sent once the transforms from k on have given what they give, where gives k is what node k gives for what arrives at it
+-- all that is sent once the transforms from k on have given what they give, where gives k is what node k gives for what
+-- arrives at it
 abbrev pub sent_from : (ℕ → List KeptRec → List Record) → ℕ → List Step → List Sent → List Sent
 sent_from gives k [] sent = sent
-sent_from gives k (step ∷ steps) sent = sent_from gives (k + 1) steps (sent ++ from_step step (gives k (arriving k sent)) ∷ [])
+sent_from gives k (step ∷ steps) sent =
+    sent_from gives (k + 1) steps (sent ++ from_step step (gives k (arriving k sent)) ∷ [])
 
 -- what the sink gives for what arrives at it
 abbrev pub flow : Shape → (ℕ → List KeptRec → List Record) → (Stream → List Record) → List Record
-flow plan gives streams = gives (length plan.steps) (arriving (length plan.steps) (sent_from gives 0 plan.steps (from_streams plan streams)))
+flow plan gives streams =
+    gives (length plan.steps) (arriving (length plan.steps) (sent_from gives 0 plan.steps (from_streams plan streams)))

@@ -25,14 +25,18 @@ SumPlanIsPlan = (size : ℕ) → 1 ≤ size → size ≤ MAX_SIZE → IsPlan (su
 
 -- and it gives the sums of stream a by window and key
 abbrev pub SumPlanGivesSums : Type 0
-SumPlanGivesSums = (size w : ℕ) (streams : Stream → List Record) → rows_below w (sum_shape size) streams ≡ sorted (before w (sum_rows (fixed size) (streams A)))
+SumPlanGivesSums =
+    (size w : ℕ) (streams : Stream → List Record)
+    → rows_below w (sum_shape size) streams ≡ sorted (before w (sum_rows (fixed size) (streams A)))
 
 -- the rows below a watermark begin those below each later one
 abbrev pub RowsOfEarlierWatermarksComeFirst : Type 0
 RowsOfEarlierWatermarksComeFirst =
-    (v w : ℕ) (plan : Shape) (streams : Stream → List Record) → v ≤ w → (more : List Record) × (rows_below w plan streams ≡ rows_below v plan streams ++ more)
+    (v w : ℕ) (plan : Shape) (streams : Stream → List Record) → v ≤ w
+    → (more : List Record) × (rows_below w plan streams ≡ rows_below v plan streams ++ more)
 
 -- no row of a plan over records that lines can give is too late: all rows are all that the plan gives, sorted
 abbrev pub AllRowsAreTheSortedOutput : Type 0
 AllRowsAreTheSortedOutput =
-    (plan : Shape) → IsPlan plan → (streams : Stream → List Record) → ((s : Stream) → All (IsInRange plan.keys) (streams s)) → all_rows plan streams ≡ sorted (output_of plan streams)
+    (plan : Shape) → IsPlan plan → (streams : Stream → List Record)
+    → ((s : Stream) → All (IsInRange plan.keys) (streams s)) → all_rows plan streams ≡ sorted (output_of plan streams)

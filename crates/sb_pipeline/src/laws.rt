@@ -1,5 +1,5 @@
-//! The limits of plans as numbers, and the laws that every way of running a plan rests on. Each function has its law for a
-//! contract, and does nothing.
+//! The limits of plans as numbers, and the laws that every way of running a plan rests on. Each function has its law
+//! for a contract, and does nothing.
 
 ghost use Rattle.sb_pipeline.specs.Laws as law;
 
@@ -20,8 +20,8 @@ pub fn rows_of_earlier_watermarks_come_first()
     ensures { law.RowsOfEarlierWatermarksComeFirst }
 {}
 
-/// All rows of a plan are all that it gives, sorted, if the records of its streams are in range: none is left out at the
-/// end of the streams.
+/// All rows of a plan are all that it gives, sorted, if the records of its streams are in range: none is left out at
+/// the end of the streams.
 pub fn all_rows_are_the_sorted_output()
     ensures { law.AllRowsAreTheSortedOutput }
 {}

@@ -1,9 +1,9 @@
 //! Pipelines: which transforms there are, where the output of each goes, and what a pipeline gives over whole lists.
 //!
-//! A [`Plan`] is a list of transforms, the nodes 0 to n - 1, and the sink after them, node n. Each node has one lane, and
-//! a join has two, its left and its right input. The output of each transform goes to a lane of a later node, each stream
-//! that is used goes to a lane, and each lane of each node is fed once. What a plan gives is defined on lists alone, by
-//! recursion on its transforms, and [`laws`] states what follows for every plan.
+//! A [`Plan`] is a list of transforms, the nodes 0 to n - 1, and the sink after them, node n. Each node has one lane,
+//! and a join has two, its left and its right input. The output of each transform goes to a lane of a later node, each
+//! stream that is used goes to a lane, and each lane of each node is fed once. What a plan gives is defined on lists
+//! alone, by recursion on its transforms, and [`laws`] states what follows for every plan.
 #![tactic(auto)]
 
 pub mod laws;

@@ -16,8 +16,8 @@ use std::marker::Model;
 
 /// A pipeline that can be run. It keeps these rules:
 ///
-/// - There are 1 to [`MAX_TRANSFORMS`](crate::MAX_TRANSFORMS) transforms, at most one of them a join, and at least one an
-///   aggregation or a join.
+/// - There are 1 to [`MAX_TRANSFORMS`](crate::MAX_TRANSFORMS) transforms, at most one of them a join, and at least one
+///   an aggregation or a join.
 /// - Each operation and each aggregation is valid, and a join has fixed windows.
 /// - Each transform sends to a lane of a later node, and each stream that is used to a lane of a node.
 /// - Each lane of each node is fed once.

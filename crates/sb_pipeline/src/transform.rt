@@ -44,8 +44,8 @@ impl Kind {
     }
 }
 
-/// A lane of a node: where records are sent. The left input of a join is its lane 0, the right one its lane 1, and every
-/// other node has lane 0 alone.
+/// A lane of a node: where records are sent. The left input of a join is its lane 0, the right one its lane 1, and
+/// every other node has lane 0 alone.
 #[derive(Clone, Copy, Debug, PartialEq, Eq)]
 pub struct Down {
     pub node: u32,

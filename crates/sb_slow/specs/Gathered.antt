@@ -26,4 +26,6 @@ followed first more = joined (λ vs ws. vs ++ ws) first more
 
 -- the rows of the pairs of each left entry with the right values of the same keyed window, if there are any
 abbrev pub rows_of_pairs : Combine → (KeyedWindow → Option (List ℤ)) → List (KeyedWindow × List ℤ) → List Record
-rows_of_pairs combine right entries = flat_map (λ e. map (λ v. record { time = e.0.end - 1; key = e.0.key; value = v }) (pair_values combine e.1 (unwrap_or (right e.0) []))) entries
+rows_of_pairs combine right entries =
+    flat_map (λ e. map (λ v. record { time = e.0.end - 1; key = e.0.key; value = v })
+    (pair_values combine e.1 (unwrap_or (right e.0) []))) entries

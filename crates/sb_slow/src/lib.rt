@@ -1,9 +1,9 @@
-//! The plain slow program: it runs a plan over whole lists, transform by transform, and has no threads, no bundles and no
-//! watermarks.
+//! The plain slow program: it runs a plan over whole lists, transform by transform, and has no threads, no bundles and
+//! no watermarks.
 //!
 //! What it gives is what the engine has to give, row for row. It is short enough to be read, so tests and benchmarks
-//! compare the engine with it. [`output`], what one transform gives for all that arrives at it, and the lists and the sort
-//! that it needs serve the core of the engine too.
+//! compare the engine with it. [`output`], what one transform gives for all that arrives at it, and the lists and the
+//! sort that it needs serve the core of the engine too.
 #![tactic(auto)]
 
 mod flow;

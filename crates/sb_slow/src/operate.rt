@@ -196,7 +196,8 @@ fn values_of<'a>(
 fn push_rows(window: &KeyedWindow, values: &[i64], rows: &mut Vec<Record>) -> Result<(), NoMemory>
     ensures { OnOk result
         (rows.new.items
-        ≡ rows.old.items ++ map (λ v. record { time = window.now.end - 1; key = window.now.key; value = v }) values.now) }
+        ≡ rows.old.items
+        ++ map (λ v. record { time = window.now.end - 1; key = window.now.key; value = v }) values.now) }
 {
     for value in values {
         rows.push(Record {
