@@ -16,10 +16,12 @@ joined first next whole law o p q l m h k =
       low = k.low ∙ h.low;
       out =
           subst (λ rows. whole o.out rows q.out) (sym (filter-append (λ r. not (nat_lt r.time o.low)) l m))
-          (law o.out p.out q.out (at_least o.low l) (at_least o.low m) h.out (subst (λ low. next p.out (at_least low m) q.out) h.low k.out));
+          (law o.out p.out q.out (at_least o.low l) (at_least o.low m) h.out
+          (subst (λ low. next p.out (at_least low m) q.out) h.low k.out));
     }
 
-pub after_none : {R : Type 0} (after : R → List Record → R → Type 0) → ((o : R) → after o [] o) → (o : HandedOn R) → Hands after o [] o
+pub after_none : {R : Type 0} (after : R → List Record → R → Type 0) → ((o : R) → after o [] o)
+    → (o : HandedOn R) → Hands after o [] o
 after_none after law o = record { low = refl; out = law o.out }
 
 pub after_more : {R : Type 0} (after : R → List Record → R → Type 0)
@@ -38,7 +40,9 @@ pub part_of_all : {R : Type 0} (after part : R → List Record → R → Type 0)
 part_of_all after part law o p l m h =
     record {
       low = h.low;
-      out = subst (λ rows. part o.out rows p.out) (sym (filter-append (λ r. not (nat_lt r.time o.low)) l m)) (law o.out p.out (at_least o.low l) (at_least o.low m) h.out);
+      out =
+          subst (λ rows. part o.out rows p.out) (sym (filter-append (λ r. not (nat_lt r.time o.low)) l m))
+          (law o.out p.out (at_least o.low l) (at_least o.low m) h.out);
     }
 
 pub part_of_more : {R : Type 0} (part : R → List Record → R → Type 0)

@@ -28,9 +28,15 @@ impl<S: Source> Model for Cutoff<S> {
 
     ghost Value = { Cut S };
 
-    ghost view = { λ s. record { source = s.source; begun = s.begun.value; ended = s.ended; has_failed = s.has_failed } };
+    ghost view = { λ s. record {
+      source = s.source;
+      begun = s.begun.value;
+      ended = s.ended;
+      has_failed = s.has_failed;
+    } };
 
-    ghost invariant = { λ s. IsCutAt (S.left s.source) (S.faults s.begun.value) (S.faults s.source) s.ended s.has_failed };
+    ghost invariant = { λ s. IsCutAt (S.left s.source) (S.faults s.begun.value) (S.faults s.source)
+        s.ended s.has_failed };
 }
 
 impl<S: Source> Cutoff<S> {

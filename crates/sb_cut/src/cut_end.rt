@@ -5,8 +5,8 @@ ghost use Rattle.sb_cut.specs.CutEnds.{IsCutEnd, IsEndOfPart};
 use sb_record::Refusal;
 use sb_run::RunEnd;
 
-/// How a run over a first part of an input ends. Where several ends hold, `Memory` comes before `Output`, and this before
-/// `Refused` and `Input`.
+/// How a run over a first part of an input ends. Where several ends hold, `Memory` comes before `Output`, and this
+/// before `Refused` and `Input`.
 #[derive(Clone, Copy, Debug, PartialEq, Eq, Drop)]
 pub enum CutEnd {
     /// The part was read to its end.
