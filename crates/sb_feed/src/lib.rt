@@ -1,5 +1,5 @@
-//! What is fed to an engine: the lines of an input become items, and items become bundles and watermarks. And what comes
-//! out of it: rows are written, and then offered to taps.
+//! What is fed to an engine: the lines of an input become items, and items become bundles and watermarks. And what
+//! comes out of it: rows are written, and then offered to taps.
 //!
 //! [`next_item`] gives the items of an input one at a time, [`Cutters`] cuts the records of each stream into bundles,
 //! and [`keep_dropped`] lists the late records that a plan drops. [`give_out`] writes rows and offers them. A loop that

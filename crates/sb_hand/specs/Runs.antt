@@ -65,7 +65,8 @@ work_of k l b delivered = Work k l b.epoch b.floor b.number b.records delivered
 
 -- what a transform of single records gives for a bundle in hand is put below
 pub record Gives (plan : Shape) (bundle k l : ℕ) (b : Bundle) (old new : List NodeState) : Type 0 where
-  pub does : Does plan bundle (Deliver k l b.number ∷ []) old (work_of k l b false ∷ []) new (work_of k l b true ∷ []) []
+  pub does : Does plan bundle (Deliver k l b.number ∷ [])
+      old (work_of k l b false ∷ []) new (work_of k l b true ∷ []) []
   pub lowers : Lowers k 0 old new
   pub settings : settings_of new ≡ settings_of old
 

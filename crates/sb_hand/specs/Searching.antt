@@ -26,4 +26,5 @@ SearchesFew old new =
 -- each lane was there, and has looked as often
 abbrev pub SearchesStay : List NodeState → List NodeState → Type 0
 SearchesStay old new =
-    (k l : ℕ) (is : LaneView) → HasLane k l is new → (was : LaneView) × HasLane k l was old × (is.searches ≡ was.searches)
+    (k l : ℕ) (is : LaneView) → HasLane k l is new
+    → (was : LaneView) × HasLane k l was old × (is.searches ≡ was.searches)

@@ -142,8 +142,8 @@ impl Hand {
     /// # Errors
     ///
     /// The bundle comes back: [`ArriveStop::Full`] only where as many bundles as the limit are waiting or out in the
-    /// lane, and [`ArriveStop::Memory`] if no memory was found. A bundle is never taken where so many are. The hand shows
-    /// what it did.
+    /// lane, and [`ArriveStop::Memory`] if no memory was found. A bundle is never taken where so many are. The hand
+    /// shows what it did.
     pub fn arrive(&mut self, stream: Stream, bundle: Bundle) -> Result<u64, ArriveStop>
         requires { self.old.spent ≡ false → MayArrive self.old.plan self.old.bundle stream bundle self.old.nodes }
         ensures was { OnOk result (self.old.spent ≡ false) }

@@ -1,8 +1,9 @@
 //! What a node keeps between two closings.
 //!
 //! A worker makes a [`Part`](sb_work::Part) of a bundle outside of any turn. A node takes the part in, and gives rows
-//! as watermarks close them. [`Kept`] does both for a node of any kind: it is the grouping of an aggregate, of sessions,
-//! of a join or of the sink, or, for a transform of single records, nothing but the mark up to which it has closed.
+//! as watermarks close them. [`Kept`] does both for a node of any kind: it is the grouping of an aggregate, of
+//! sessions, of a join or of the sink, or, for a transform of single records, nothing but the mark up to which it has
+//! closed.
 #![tactic(auto)]
 
 mod kept;

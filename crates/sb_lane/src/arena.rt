@@ -234,7 +234,8 @@ impl Arena {
     pub(crate) fn finish(&mut self, at: usize, number: u64) -> usize
         requires { at < length self.old }
         ensures cont { Changes (with_finished number) at self.old self.new }
-        ensures gone { (d : ACont) → length (with_finished number (slice_index_or (conts_of self.old) at d)).out + result
+        ensures gone { (d : ACont)
+            → length (with_finished number (slice_index_or (conts_of self.old) at d)).out + result
             ≡ length (slice_index_or (conts_of self.old) at d).out }
     {
         let place = self.order[at];

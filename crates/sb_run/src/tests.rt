@@ -49,8 +49,8 @@ fn pieces(alloc: Global) -> Result<Vec<usize>, AllocError>
     vec![in alloc; 27; 20]
 }
 
-/// Runs a plan with so many workers, who pass the gate, and bundles of a size. The writes with these numbers fail, and so
-/// does the tap at these calls.
+/// Runs a plan with so many workers, who pass the gate, and bundles of a size. The writes with these numbers fail, and
+/// so does the tap at these calls.
 fn run<W: Threads + Wait + Clock + Sync, G: Gate>(
     rt: &W,
     alloc: Global,

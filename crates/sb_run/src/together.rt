@@ -133,8 +133,8 @@ fn work<W: Threads + Wait + Clock + Sync, S: Source, R: RowOut, G: Gate>(
 /// thread of its own if one can be made.
 ///
 /// What is written, offered and dropped is what one worker writes, offers and drops. Rows come out as watermarks come,
-/// or as a lane is full, and at the end. The gate is passed with each bundle in hand, outside of every turn. Whether the
-/// call returns is not said: workers wait for one another.
+/// or as a lane is full, and at the end. The gate is passed with each bundle in hand, outside of every turn. Whether
+/// the call returns is not said: workers wait for one another.
 pub fn execute<W: Threads + Wait + Clock + Sync, S: Source, R: RowOut, G: Gate>(
     rt: &W,
     alloc: Global,

@@ -35,9 +35,9 @@ fn last_if_any<R: Wait + Drop>(out: &LiveOut<R>, key: Option<Key>) -> Option<Rec
     }
 }
 
-/// Runs a plan over an input, shows its rows in a live table, and tells where reading stopped and the last row of the key
-/// with this text among the rows that are due there: all rows at the end of the input, else those below the low watermark.
-/// A text that names no key has no row. The late records that the plan drops go to the end of `dropped`.
+/// Runs a plan over an input, shows its rows in a live table, and tells where reading stopped and the last row of the
+/// key with this text among the rows that are due there: all rows at the end of the input, else those below the low
+/// watermark. A text that names no key has no row. The late records that the plan drops go to the end of `dropped`.
 ///
 /// Whether the call returns is not said if there are several workers: they wait for one another.
 ///

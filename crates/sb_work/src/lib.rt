@@ -1,8 +1,8 @@
 //! What a worker does with a bundle outside of any turn.
 //!
 //! A worker holds a bundle as a [`Claim`]. [`process`] works out what becomes of it: what a transform of single records
-//! gives for its records, or the [`Part`] that a node which gathers records takes in. Nothing of this needs the state of
-//! a node, so workers do it side by side. A [`Gate`] is passed on the way, for tests that want to see who is inside.
+//! gives for its records, or the [`Part`] that a node which gathers records takes in. Nothing of this needs the state
+//! of a node, so workers do it side by side. A [`Gate`] is passed on the way, for tests that want to see who is inside.
 #![tactic(auto)]
 
 mod claim;

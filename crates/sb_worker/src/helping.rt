@@ -48,9 +48,10 @@ fn rest(clock: &impl Clock, backoff: &Backoff) {
     }
 }
 
-/// Steps until the state word says that the work ends, and gives the pass back: it comes back only if a load of the state
-/// word said so. Behind a closing it looks for the next one, else only after some bundles. None if no memory was found: then the state word says so, and the pass is dropped with what it has in
-/// hand. Between steps that find nothing to do it rests. It may wait for turns, and whether it ends is not said.
+/// Steps until the state word says that the work ends, and gives the pass back: it comes back only if a load of the
+/// state word said so. Behind a closing it looks for the next one, else only after some bundles. None if no memory was
+/// found: then the state word says so, and the pass is dropped with what it has in hand. Between steps that find
+/// nothing to do it rests. It may wait for turns, and whether it ends is not said.
 pub fn help<R: Wait + Clock, G: Gate>(
     rt: &R,
     alloc: Global,

@@ -1,4 +1,5 @@
-//! Bundles that lie on the shelf are worked off before a node is asked for another: a pass that fills takes all that wait.
+//! Bundles that lie on the shelf are worked off before a node is asked for another: a pass that fills takes all that
+//! wait.
 
 ghost use Rattle.std.specs.Prelude.{◌≡◌, IfOk, OnOk};
 ghost use Rattle.sb_cascade.specs.Calls.{hands, passes_out, setting_of};

@@ -109,9 +109,10 @@ fn do_next<R: Wait, G: Gate>(
 
 /// One step of a worker: it makes a whole closing, or else works off a bundle of the shelf, or else one that waits in a
 /// node. Of nodes the last comes first, so that what is under way leaves the engine before more is begun, and closings
-/// keep up with bundles. If [`First::Bundle`] is to come first, it looks on the shelf before all that. Nothing only if each node was found, under its turn, with no closing that could begin and, under
-/// a later turn, without a bundle that waits, and each place of the shelf was looked at and was not full. The gate is
-/// passed outside of every turn, between taking a bundle and processing it. It may wait for turns.
+/// keep up with bundles. If [`First::Bundle`] is to come first, it looks on the shelf before all that. Nothing only if
+/// each node was found, under its turn, with no closing that could begin and, under a later turn, without a bundle that
+/// waits, and each place of the shelf was looked at and was not full. The gate is passed outside of every turn, between
+/// taking a bundle and processing it. It may wait for turns.
 ///
 /// # Errors
 ///

@@ -42,14 +42,15 @@ fn take_record<W: Wait, G: Gate, R: RowOut>(
     taps: &mut Vec<Box<dyn Tap>>,
 ) -> Result<(), GiveStop>
     requires may { (items : List AnItem) × (f : Fed) × (rows : List ARecord)
-        × MayTake (HasFed cascade.now pass.old) (plan_of cascade.now) (setting_of cascade.now).bundle cutters.old (item_spec.Rec stream next)
-        items f rows }
+        × MayTake (HasFed cascade.now pass.old) (plan_of cascade.now) (setting_of cascade.now).bundle
+        cutters.old (item_spec.Rec stream next) items f rows }
     requires few { length taps.old.items < 2 ^ 32 }
     ensures same { IsStill cascade.now pass.old pass.new }
     ensures takes { (items : List AnItem) (f : Fed) (rows : List ARecord)
-        → MayTake (HasFed cascade.now pass.old) (plan_of cascade.now) (setting_of cascade.now).bundle cutters.old (item_spec.Rec stream next)
-        items f rows
-        → TakesOrFails (plan_of cascade.now) (setting_of cascade.now).bundle (HasFed cascade.now pass.new) R.after R.part out.old out.new
+        → MayTake (HasFed cascade.now pass.old) (plan_of cascade.now) (setting_of cascade.now).bundle
+        cutters.old (item_spec.Rec stream next) items f rows
+        → TakesOrFails (plan_of cascade.now) (setting_of cascade.now).bundle (HasFed cascade.now pass.new)
+        R.after R.part out.old out.new
         (map (λ t. tap_state t) taps.old.items) (map (λ t. tap_state t) taps.new.items)
         (items ++ item_spec.Rec stream next ∷ []) cutters.new rows result }
     ensures fewer { OnOk result (length taps.new.items ≤ length taps.old.items) }
@@ -76,14 +77,15 @@ fn take_mark<W: Wait, G: Gate, R: RowOut>(
     taps: &mut Vec<Box<dyn Tap>>,
 ) -> Result<(), GiveStop>
     requires may { (items : List AnItem) × (f : Fed) × (rows : List ARecord)
-        × MayTake (HasFed cascade.now pass.old) (plan_of cascade.now) (setting_of cascade.now).bundle cutters.old (item_spec.Mark stream mark)
-        items f rows }
+        × MayTake (HasFed cascade.now pass.old) (plan_of cascade.now) (setting_of cascade.now).bundle
+        cutters.old (item_spec.Mark stream mark) items f rows }
     requires few { length taps.old.items < 2 ^ 32 }
     ensures same { IsStill cascade.now pass.old pass.new }
     ensures takes { (items : List AnItem) (f : Fed) (rows : List ARecord)
-        → MayTake (HasFed cascade.now pass.old) (plan_of cascade.now) (setting_of cascade.now).bundle cutters.old (item_spec.Mark stream mark)
-        items f rows
-        → TakesOrFails (plan_of cascade.now) (setting_of cascade.now).bundle (HasFed cascade.now pass.new) R.after R.part out.old out.new
+        → MayTake (HasFed cascade.now pass.old) (plan_of cascade.now) (setting_of cascade.now).bundle
+        cutters.old (item_spec.Mark stream mark) items f rows
+        → TakesOrFails (plan_of cascade.now) (setting_of cascade.now).bundle (HasFed cascade.now pass.new)
+        R.after R.part out.old out.new
         (map (λ t. tap_state t) taps.old.items) (map (λ t. tap_state t) taps.new.items)
         (items ++ item_spec.Mark stream mark ∷ []) cutters.new rows result }
     ensures fewer { OnOk result (length taps.new.items ≤ length taps.old.items) }
@@ -112,12 +114,15 @@ fn take_item<W: Wait, G: Gate, R: RowOut>(
     dropped: &mut Vec<Dropped>,
 ) -> Result<(), GiveStop>
     requires may { (items : List AnItem) × (f : Fed) × (rows : List ARecord)
-        × MayTake (HasFed cascade.now pass.old) (plan_of cascade.now) (setting_of cascade.now).bundle cutters.old item items f rows }
+        × MayTake (HasFed cascade.now pass.old) (plan_of cascade.now) (setting_of cascade.now).bundle
+        cutters.old item items f rows }
     requires few { length taps.old.items < 2 ^ 32 }
     ensures same { IsStill cascade.now pass.old pass.new }
     ensures takes { (items : List AnItem) (f : Fed) (rows : List ARecord)
-        → MayTake (HasFed cascade.now pass.old) (plan_of cascade.now) (setting_of cascade.now).bundle cutters.old item items f rows
-        → TakesOrFails (plan_of cascade.now) (setting_of cascade.now).bundle (HasFed cascade.now pass.new) R.after R.part out.old out.new
+        → MayTake (HasFed cascade.now pass.old) (plan_of cascade.now) (setting_of cascade.now).bundle
+        cutters.old item items f rows
+        → TakesOrFails (plan_of cascade.now) (setting_of cascade.now).bundle (HasFed cascade.now pass.new)
+        R.after R.part out.old out.new
         (map (λ t. tap_state t) taps.old.items) (map (λ t. tap_state t) taps.new.items)
         (items ++ item ∷ []) cutters.new rows result }
     ensures kept { OnOk result (dropped.new.items ≡ dropped.old.items ++ dropped_in item) }
@@ -153,12 +158,14 @@ fn end_stream<W: Wait, G: Gate, R: RowOut>(
     taps: &mut Vec<Box<dyn Tap>>,
 ) -> Result<(), GiveStop>
     requires may { (items : List AnItem) × (f : Fed) × (rows : List ARecord)
-        × MayEnd (HasFed cascade.now pass.old) (setting_of cascade.now).bundle cutters.old (MAX_LINES + 2) items f rows }
+        × MayEnd (HasFed cascade.now pass.old) (setting_of cascade.now).bundle
+        cutters.old (MAX_LINES + 2) items f rows }
     requires few { length taps.old.items < 2 ^ 32 }
     ensures same { IsStill cascade.now pass.old pass.new }
     ensures takes { (items : List AnItem) (f : Fed) (rows : List ARecord)
         → MayEnd (HasFed cascade.now pass.old) (setting_of cascade.now).bundle cutters.old (MAX_LINES + 2) items f rows
-        → TakesOrFails (plan_of cascade.now) (setting_of cascade.now).bundle (HasFed cascade.now pass.new) R.after R.part out.old out.new
+        → TakesOrFails (plan_of cascade.now) (setting_of cascade.now).bundle (HasFed cascade.now pass.new)
+        R.after R.part out.old out.new
         (map (λ t. tap_state t) taps.old.items) (map (λ t. tap_state t) taps.new.items)
         (items ++ end_item (streams_of (plan_of cascade.now)) stream) cutters.new rows result }
     ensures fewer { OnOk result (length taps.new.items ≤ length taps.old.items) }
@@ -186,12 +193,14 @@ fn end_input<W: Wait, G: Gate, R: RowOut>(
     taps: &mut Vec<Box<dyn Tap>>,
 ) -> Result<(), GiveStop>
     requires may { (items : List AnItem) × (f : Fed) × (rows : List ARecord)
-        × MayEnd (HasFed cascade.now pass.old) (setting_of cascade.now).bundle cutters.old (MAX_LINES + 1) items f rows }
+        × MayEnd (HasFed cascade.now pass.old) (setting_of cascade.now).bundle
+        cutters.old (MAX_LINES + 1) items f rows }
     requires few { length taps.old.items < 2 ^ 32 }
     ensures same { IsStill cascade.now pass.old pass.new }
     ensures takes { (items : List AnItem) (f : Fed) (rows : List ARecord)
         → MayEnd (HasFed cascade.now pass.old) (setting_of cascade.now).bundle cutters.old (MAX_LINES + 1) items f rows
-        → TakesOrFails (plan_of cascade.now) (setting_of cascade.now).bundle (HasFed cascade.now pass.new) R.after R.part out.old out.new
+        → TakesOrFails (plan_of cascade.now) (setting_of cascade.now).bundle (HasFed cascade.now pass.new)
+        R.after R.part out.old out.new
         (map (λ t. tap_state t) taps.old.items) (map (λ t. tap_state t) taps.new.items)
         (items ++ end_items (streams_of (plan_of cascade.now)) stop) cutters.new rows result }
     ensures at_end { OnErr result (stop ≡ Stop.End) }

@@ -102,9 +102,9 @@ fn work_there<W: Wait, G: Gate>(
     }
 }
 
-// Works off a bundle of the node that takes the stream, and makes a step: so bundles do not gather behind that node while
-// the feeder makes room in it. If there is nothing to do, since all is in the hands of others, it leaves the processor to
-// them.
+// Works off a bundle of the node that takes the stream, and makes a step: so bundles do not gather behind that node
+// while the feeder makes room in it. If there is nothing to do, since all is in the hands of others, it leaves the
+// processor to them.
 fn make_room<W: Wait, G: Gate>(
     rt: &W,
     alloc: Global,

@@ -255,8 +255,8 @@ fn finish<R: Wait, G: Gate>(
     Ok(Driven { rows, hand })
 }
 
-/// Runs a new hand's plan over what comes, with four threads: one feeds, and three help. What is then left is worked off
-/// by this thread alone.
+/// Runs a new hand's plan over what comes, with four threads: one feeds, and three help. What is then left is worked
+/// off by this thread alone.
 ///
 /// # Errors
 ///
