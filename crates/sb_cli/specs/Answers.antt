@@ -74,8 +74,8 @@ ListsDropped items dropped (Audit fault) = ⊥
 ListsDropped items dropped FileTooLong = ⊥
 ListsDropped items dropped (Checkpoint line) = ⊥
 
--- the answer to what the source gave, for a plan and what has to be written: what was written, the late records that are
--- listed, and the diaries that are told
+-- the answer to what the source gave, for a plan and what has to be written: what was written, the late records that
+-- are listed, and the diaries that are told
 pub record IsAnswerBy
     (plan : Shape) (options : Options) (left left' taken taken' : Option (List ℕ)) (course : Given left left' → Course)
     (ending : Ending) : Type 0 where
@@ -132,7 +132,8 @@ HasNoPlan folder wanted (Checkpoint line) = IsFaultyFor folder wanted line
 
 -- no run begins, and nothing was read, written or dropped
 pub record IsAnswerOfNoPlan
-    (folder : Option Files) (wanted : Asked) (left left' taken taken' : Option (List ℕ)) (ending : Ending) : Type 0 where
+    (folder : Option Files) (wanted : Asked) (left left' taken taken' : Option (List ℕ)) (ending : Ending)
+    : Type 0 where
   pub no_plan : HasNoPlan folder wanted ending.status
   pub unread : left' ≡ left
   pub unwritten : taken' ≡ taken
@@ -147,8 +148,8 @@ IsPlanAnswer folder wanted left left' taken taken' ending =
     ⊎ ((plan : Shape) × IsPlanFor folder wanted plan
     × IsAnswerBy plan (options_in wanted) left left' taken taken' (λ given. course_in wanted plan given) ending)
 
--- the answer over the rest of an input, behind the checkpoint of its first part: that of a run over the lines of what the
--- checkpoint says and then the input, but for the rows below the low watermark
+-- the answer over the rest of an input, behind the checkpoint of its first part: that of a run over the lines of what
+-- the checkpoint says and then the input, but for the rows below the low watermark
 abbrev pub IsRestAnswer
     : Shape → Options → Said → Option (List ℕ) → Option (List ℕ) → Option (List ℕ) → Option (List ℕ) → Ending → Type 0
 IsRestAnswer plan options said left left' taken taken' ending =
@@ -170,7 +171,8 @@ pub record Audited (lines : List (List ℕ)) (ended : Bool) (text : TextAudit) :
   pub legal : AreLegalTexts begun lines text
   pub whole : ended ≡ true
 
--- what an audit wrote, by how the run ended: its line if all is legal, or a prefix of it if writing failed, else nothing
+-- what an audit wrote, by how the run ended: its line if all is legal, or a prefix of it if writing failed, else
+-- nothing
 abbrev pub HasAudited : List (List ℕ) → Bool → Option (List ℕ) → Option (List ℕ) → Status → Type 0
 HasAudited lines ended taken taken' Done =
     (text : TextAudit) × Audited lines ended text × Appends taken taken' (audit_text (end_of text))
@@ -197,8 +199,8 @@ pub record IsAuditAnswer (left left' taken taken' : Option (List ℕ)) (ending :
   pub undropped : ending.dropped ≡ []
   pub untold : ending.diaries ≡ []
 
--- what became of one text, by how the run ended: all of it was written, or a prefix of it if writing failed or there was
--- no memory
+-- what became of one text, by how the run ended: all of it was written, or a prefix of it if writing failed or there
+-- was no memory
 abbrev pub HasPrinted : List ℕ → Option (List ℕ) → Option (List ℕ) → Status → Type 0
 HasPrinted text taken taken' Done = Appends taken taken' text
 HasPrinted text taken taken' Output = AppendsPrefix taken taken' text
@@ -226,14 +228,16 @@ IsAnswer folder (Sum size options) left left' taken taken' ending =
     IsPlanAnswer folder (Sum size options) left left' taken taken' ending
 IsAnswer folder (Run name options) left left' taken taken' ending =
     IsPlanAnswer folder (Run name options) left left' taken taken' ending
-IsAnswer folder (Slow name) left left' taken taken' ending = IsPlanAnswer folder (Slow name) left left' taken taken' ending
+IsAnswer folder (Slow name) left left' taken taken' ending =
+    IsPlanAnswer folder (Slow name) left left' taken taken' ending
 IsAnswer folder ask.Audit left left' taken taken' ending = IsAuditAnswer left left' taken taken' ending
 IsAnswer folder (Work records options) left left' taken taken' ending = IsWorkAnswer records taken taken' ending
 IsAnswer folder (Watch name key options) left left' taken taken' ending =
     IsPlanAnswer folder (Watch name key options) left left' taken taken' ending
 IsAnswer folder (Part name options) left left' taken taken' ending =
     IsPlanAnswer folder (Part name options) left left' taken taken' ending
-IsAnswer folder (Save name) left left' taken taken' ending = IsPlanAnswer folder (Save name) left left' taken taken' ending
+IsAnswer folder (Save name) left left' taken taken' ending =
+    IsPlanAnswer folder (Save name) left left' taken taken' ending
 IsAnswer folder (Resume name checkpoint options) left left' taken taken' ending =
     IsResumeAnswer folder (Resume name checkpoint options) checkpoint left left' taken taken' ending
 

@@ -28,7 +28,8 @@ pub record Course : Type 0 where
   pub whole : List ℕ
 
 -- some of the plan's rows: of those that are due, and of all
-abbrev pub shown_course : {left left' : Option (List ℕ)} → (List Record → List Record) → Shape → Given left left' → Course
+abbrev pub shown_course : {left left' : Option (List ℕ)} → (List Record → List Record) → Shape → Given left left'
+    → Course
 shown_course shown plan given = record {
   stop = stop_at plan given;
   items = items_of plan given;

@@ -43,11 +43,14 @@ pub record GaveLine {S : Type 0} (left : S → Option (List ℕ)) (old new : Rea
   pub more : List ℕ
   pub given : Consumes (left old.source) (left new.source) more
   pub first : (ended : Bool) (later : List ℕ) → MayCome new.halt ended later
-      → MayCome old.halt ended (more ++ later) × (rest_of_lines old.halt old.at_hand ended (more ++ later) ≡ line ∷ rest_of_lines new.halt new.at_hand ended later)
+      → MayCome old.halt ended (more ++ later)
+      × (rest_of_lines old.halt old.at_hand ended (more ++ later)
+      ≡ line ∷ rest_of_lines new.halt new.at_hand ended later)
   pub going : IsGoing new.halt (left new.source)
 
 -- the source gave more bytes, and this holds of the lines that are then left
-pub record GaveRest {S : Type 0} (left : S → Option (List ℕ)) (old new : Reading S) (P : Bool → List (List ℕ) → Type 0) : Type 0 where
+pub record GaveRest {S : Type 0} (left : S → Option (List ℕ)) (old new : Reading S)
+    (P : Bool → List (List ℕ) → Type 0) : Type 0 where
   pub more : List ℕ
   pub given : Consumes (left old.source) (left new.source) more
   pub ended : Bool
@@ -56,7 +59,8 @@ pub record GaveRest {S : Type 0} (left : S → Option (List ℕ)) (old new : Rea
   pub rest : P ended (rest_of_lines old.halt old.at_hand ended more)
 
 -- the auditor took the next line, or reading stops before it
-abbrev pub TakesDiaryLine : {S T : Type 0} → (S → Option (List ℕ)) → Reading S → Reading S → Auditing → Auditing → Result T DiaryHalt → Type 0
+abbrev pub TakesDiaryLine : {S T : Type 0} → (S → Option (List ℕ)) → Reading S → Reading S → Auditing → Auditing
+    → Result T DiaryHalt → Type 0
 TakesDiaryLine left old new a a' (Ok x) =
     (line : List ℕ) × GaveLine left old new line × IsLegalText a.text line a'.text × (a'.stop ≡ None)
 TakesDiaryLine left old new a a' (Err halt) = GaveRest left old new (StopsDiaryAt a.text halt) × (a'.text ≡ a.text)

@@ -55,7 +55,8 @@ HasCause before now (Checkpoint line) = ⊤
 abbrev pub plan_load : List ℕ → Load
 plan_load name = record { name = name; most = MAX_PLAN_BYTES + 1 }
 
--- the load is of a table that the plan in a file wants: without the table's file there is no plan, and no test fails first
+-- the load is of a table that the plan in a file wants: without the table's file there is no plan, and no test fails
+-- first
 abbrev pub IsTableOf : Option Files → List ℕ → Load → Type 0
 IsTableOf folder name load =
     (load.most ≡ MAX_TABLE_BYTES + 1)
@@ -111,7 +112,8 @@ pub record NothingFailsInAudit (left left' : Option (List ℕ)) (before now : Fa
 
 -- no line of what the source gave is refused, and nothing failed
 pub record NothingFails
-    (left left' : Option (List ℕ)) (course : Given left left' → Course) (before now : Faults) (taps taps' : List TapState)
+    (left left' : Option (List ℕ)) (course : Given left left' → Course)
+    (before now : Faults) (taps taps' : List TapState)
     : Type 0 where
   pub no_refusal : (given : Given left left') (refusal : Refusal) → (course given).stop ≡ Refused refusal → ⊥
   pub no_read_failed : Rose before.reads now.reads → ⊥

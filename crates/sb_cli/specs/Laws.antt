@@ -11,9 +11,10 @@ use Rattle.sb_feed.specs.Given.{Given}
 use Rattle.sb_cli.specs.CheckpointFiles.{Said}
 use Rattle.sb_cli.specs.Courses.{Course, part_course, rest_course, run_course, save_course}
 
--- a first part was read to its end, no line of it was refused, and it has ended with a line; and in the text that `save`
--- writes of it this is read
-pub record IsSavedPart {left left' : Option (List ℕ)} (plan : Shape) (part : Given left left') (said : Said) : Type 0 where
+-- a first part was read to its end, no line of it was refused, and it has ended with a line; and in the text that
+-- `save` writes of it this is read
+pub record IsSavedPart {left left' : Option (List ℕ)} (plan : Shape) (part : Given left left') (said : Said)
+    : Type 0 where
   pub whole_lines : AreWholeLines part.bytes
   pub done : (part_course plan part).stop ≡ End
   pub saved : IsRead plan (pieces (save_course plan part).due) said.lines said.low said.items

@@ -7,4 +7,5 @@ use Rattle.sb_outside.specs.Sources.{Rose}
 -- a text was taken whole, or a prefix of it if the sink failed or was out of memory, which it has counted
 abbrev pub HasNoted : Option (List ℕ) → Option (List ℕ) → SinkState → SinkState → List ℕ → Type 0
 HasNoted taken taken' before now text =
-    Appends taken taken' text ⊎ (AppendsPrefix taken taken' text × (Rose before.faults now.faults ⊎ Rose before.shortages now.shortages))
+    Appends taken taken' text
+    ⊎ (AppendsPrefix taken taken' text × (Rose before.faults now.faults ⊎ Rose before.shortages now.shortages))

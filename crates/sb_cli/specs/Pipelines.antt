@@ -43,7 +43,8 @@ HasOneWorker (Part name options) = options.workers ≡ 1
 HasOneWorker (Save name) = ⊥
 HasOneWorker (Resume name checkpoint options) = options.workers ≡ 1
 
--- the plan in a file, or its first fault, or that the file or one that it names is not there. One byte more than a plan may have shows that it is too long
+-- the plan in a file, or its first fault, or that the file or one that it names is not there. One byte more than a plan
+-- may have shows that it is too long
 abbrev pub plan_in : Files → List ℕ → Result Shape (Failure PlanFault)
 plan_in files name = in_file (λ bytes. plan_of files (take (MAX_PLAN_BYTES + 1) bytes)) (files name)
 
@@ -69,7 +70,8 @@ pub record BlamesSession (plan : Shape) (fault : PlanFault) : Type 0 where
 -- the first fault of a plan file for runs that are cut in two: after all others, that a session can't be saved
 abbrev pub IsFaultOfCut : Option Files → List ℕ → PlanFault → Type 0
 IsFaultOfCut folder name fault =
-    GivesPlan folder name (Err (Fails fault)) ⊎ ((plan : Shape) × GivesPlan folder name (Ok plan) × BlamesSession plan fault)
+    GivesPlan folder name (Err (Fails fault))
+    ⊎ ((plan : Shape) × GivesPlan folder name (Ok plan) × BlamesSession plan fault)
 
 -- this is the plan that is asked for; an audit and `work` ask for none
 abbrev pub IsPlanFor : Option Files → Asked → Shape → Type 0

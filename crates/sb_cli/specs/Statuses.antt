@@ -83,7 +83,8 @@ plan_cause_text cause.TooMany = codes "too many transforms"
 plan_cause_text cause.NameTaken = codes "name taken"
 plan_cause_text cause.UnknownKind = codes "unknown kind"
 plan_cause_text cause.TableTooLong = codes "table too long"
-plan_cause_text (cause.TableRow fault) = codes "table row " ++ decimal fault.row ++ codes ": " ++ row_fault_text fault.what
+plan_cause_text (cause.TableRow fault) =
+    codes "table row " ++ decimal fault.row ++ codes ": " ++ row_fault_text fault.what
 plan_cause_text (cause.UnknownFrom key) = key_text key ++ codes ": unknown"
 plan_cause_text (cause.UsedTwice key) = key_text key ++ codes ": used twice"
 plan_cause_text cause.TwoJoins = codes "second join"

@@ -48,9 +48,9 @@ use std::time::Clock;
 ///
 /// What is said of bytes holds of sources and sinks whose bytes are known, and what is said of files of a folder whose
 /// files are known. The words come first, then the plan, then the input: if the words are no command, or the plan is
-/// refused or can't be loaded, the input is not read and no row is written. A run that ends as `Done` has read its input
-/// to the end, and `out` has taken exactly the rows of the pipeline over all accepted records, and has passed them on,
-/// whatever `--workers`, `--bundle` and `--pending` say. What becomes of the notes does not change the status.
+/// refused or can't be loaded, the input is not read and no row is written. A run that ends as `Done` has read its
+/// input to the end, and `out` has taken exactly the rows of the pipeline over all accepted records, and has passed
+/// them on, whatever `--workers`, `--bundle` and `--pending` say. What becomes of the notes does not change the status.
 ///
 /// With one worker it waits for nobody and starts no thread. With more, whether it returns is not said.
 pub fn streambox<W: Threads + Wait + Clock + Sync, S: Source, K: Sink, N: Sink, F: Folder>(

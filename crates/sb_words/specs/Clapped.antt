@@ -28,8 +28,8 @@ of_one name = with_argument (codes "argument") (new_app name)
 abbrev pub of_two : Text → App
 of_two name = with_argument (codes "second") (of_one name)
 
--- the command with the options of `sum` and `run`. Commands that take fewer have them for clap, too: what words they take
--- of them is said of commands
+-- the command with the options of `sum` and `run`. Commands that take fewer have them for clap, too: what words they
+-- take of them is said of commands
 abbrev pub with_options : App → App
 with_options app =
     with_rule (with_rule (with_rule (with_rule (with_rule app (option (codes "workers"))) (option (codes "bundle")))

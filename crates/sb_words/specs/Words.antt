@@ -9,8 +9,8 @@ use Rattle.sb_words.specs.declared.request.Request.TheVariants as request
 use Rattle.sb_words.specs.Options.{AreOptions, AreInRange}
 
 -- what users may ask for: sums over windows of a size; the rows of a plan from a file, by the engine or by the plain
--- program; the audit of a diary text; the summary of sums over so many records that are made; the last row of a key over
--- the rows of a plan; the rows of a first part of an input, or its checkpoint; or the rows of the rest, from a
+-- program; the audit of a diary text; the summary of sums over so many records that are made; the last row of a key
+-- over the rows of a plan; the rows of a first part of an input, or its checkpoint; or the rows of the rest, from a
 -- checkpoint
 pub data Asked : Type 0 where
   Sum : (size : ℕ) → (options : Options) → Asked

@@ -35,8 +35,8 @@ pub enum Request<'a> {
     Part(&'a str, Options),
     /// The checkpoint of a first part of an input, by the plan in the file of this name.
     Save(&'a str),
-    /// The rows of the rest of an input: the names of the plan's file and of the checkpoint's. The options have no diary
-    /// and no taps.
+    /// The rows of the rest of an input: the names of the plan's file and of the checkpoint's. The options have no
+    /// diary and no taps.
     Resume(&'a str, &'a str, Options),
 }
 
