@@ -1,7 +1,7 @@
 //! Tests of the whole program: runs that are cut in two, and runs that are watched for a key, over rows of [`trials`].
 //!
-//! This crate has nothing but tests. They stand on the one call of the program, in a crate of their own, so that they are
-//! proved beside the others.
+//! This crate has nothing but tests. They stand on the one call of the program, in a crate of their own, so that they
+//! are proved beside the others.
 #![tactic(auto)]
 
 #[cfg(test)]

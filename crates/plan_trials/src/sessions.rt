@@ -34,8 +34,8 @@ const SUMS: [Row; 12] = [
         code: 0,
         notes: "",
     },
-    // Of key 1 the times are 1, 4 and 9: the sessions are 1, 4 (end 9, sum 1 + 2) and 9 (end 14). Of key 2 they are 2, 6
-    // and 7: one session, which ends at 12, with the sum 10 + 20 + 30.
+    // Of key 1 the times are 1, 4 and 9: the sessions are 1, 4 (end 9, sum 1 + 2) and 9 (end 14). Of key 2 they are 2,
+    // 6 and 7: one session, which ends at 12, with the sum 10 + 20 + 30.
     Row {
         text: b"r,a,1,1,1\nr,a,2,2,10\nr,a,4,1,2\nr,a,6,2,20\nr,a,7,2,30\nr,a,9,1,4\n",
         rows: "9,1,3\n12,2,60\n14,1,4\n",
@@ -179,8 +179,8 @@ fn sessions_and_sums_in_one_plan(rt: HostRuntime) -> Result<(), Fail> {
         ..RUN
     };
     check_plan(&rt, &sessions)?;
-    // The sessions are 1, 5 (end 10, sum 11), 10 (end 15, sum 2) and 30 (end 35, sum 7), so their sums have the times 9,
-    // 14 and 34: the windows of 20 end at 20 (sum 11 + 2) and 40.
+    // The sessions are 1, 5 (end 10, sum 11), 10 (end 15, sum 2) and 30 (end 35, sum 7), so their sums have the times
+    // 9, 14 and 34: the windows of 20 end at 20 (sum 11 + 2) and 40.
     let sums = Trial {
         plan: SUM_OF_SESSIONS,
         text: b"r,a,1,1,10\nr,a,5,1,1\nr,a,10,1,2\nr,a,30,1,7\n",

@@ -1,7 +1,7 @@
 //! Tests of the whole program: sums, work, audits, words, options, taps and faults, over rows of [`trials`].
 //!
-//! This crate has nothing but tests. They stand on the one call of the program, in a crate of their own, so that they are
-//! proved beside those of plans.
+//! This crate has nothing but tests. They stand on the one call of the program, in a crate of their own, so that they
+//! are proved beside those of plans.
 #![tactic(auto)]
 
 #[cfg(test)]

@@ -1,8 +1,8 @@
 //! Whole runs of the program as rows of tables, for the crates that test it.
 //!
-//! A [`Trial`] is a run with all that is around it in memory (the words, the files, the input, and which calls fail) and
-//! what it has to leave: rows, an exit code and notes. [`try_out`] and its kin run one and compare. What differs fails
-//! the test that asked, since no function here ends the process.
+//! A [`Trial`] is a run with all that is around it in memory (the words, the files, the input, and which calls fail)
+//! and what it has to leave: rows, an exit code and notes. [`try_out`] and its kin run one and compare. What differs
+//! fails the test that asked, since no function here ends the process.
 #![tactic(auto)]
 
 mod around;
