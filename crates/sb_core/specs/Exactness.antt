@@ -1,5 +1,6 @@
 -- What the whole run will give, and exact moments: no record is lost, and none counts twice.
-use Rattle.std.specs.Prelude.{◌≡◌, ℕ, ◌+◌, ◌≤◌, ◌==◌, not, ◌&&◌, if◌then◌else◌, List, [], ◌∷◌, ◌++◌, All, Some, slice_get}
+use Rattle.std.specs.Prelude.{◌≡◌, ℕ, ◌+◌, ◌≤◌, ◌==◌, not, ◌&&◌, if◌then◌else◌, List, [], ◌∷◌, ◌++◌, All, Some}
+use Rattle.std.specs.Prelude.{slice_get}
 use Rattle.std.specs.List.{flat_map}
 use Rattle.sb_record.specs.declared.item.Record.{Record}
 use Rattle.sb_record.specs.declared.element.KeptRec.{KeptRec}
@@ -34,7 +35,8 @@ waiting_from l (lane ∷ lanes) = on_lane l (waiting_in lane) ++ waiting_from (l
 
 -- the records of the node's Works that are not delivered
 abbrev pub working : ℕ → Held → List KeptRec
-working k (Work node lane epoch floor number records delivered) = if (node == k) && not delivered then on_lane lane records else []
+working k (Work node lane epoch floor number records delivered) =
+    if (node == k) && not delivered then on_lane lane records else []
 working k (Close node lane epoch serial floor mark rows passed) = []
 
 -- the rows that the node's Close has left
@@ -48,22 +50,30 @@ rest k node held elements = waiting_from 0 node.lanes ++ flat_map (working k) he
 
 -- what a node has yet to give below, where these come; the sink gives all of its rows
 abbrev pub gives_by : Operator → ℕ → Node → List Held → List Record → List KeptRec → List Record
-gives_by (ParDo op) k node held rows elements = flat_map (undelivered k) held ++ flat_map (outputs_of op) (all_records (rest k node held elements))
-gives_by (Windowed grouping) k node held rows elements = flat_map (undelivered k) held ++ at_least (closed node.lanes) (grouped grouping (node.kept ++ rest k node held elements))
+gives_by (ParDo op) k node held rows elements =
+    flat_map (undelivered k) held ++ flat_map (outputs_of op) (all_records (rest k node held elements))
+gives_by (Windowed grouping) k node held rows elements =
+    flat_map (undelivered k) held
+    ++ at_least (closed node.lanes) (grouped grouping (node.kept ++ rest k node held elements))
 gives_by Sink k node held rows elements = rows ++ all_records (node.kept ++ rest k node held elements)
 
 -- what node k has yet to give
 abbrev pub gives : Shape → Moment → ℕ → List KeptRec → List Record
 gives plan m k elements = gives_by (operator_at (slice_get plan.steps k)) k (node_at m k) m.held m.rows elements
 
--- the rows of the whole run, where this comes of the streams: as the plan gives it, where each node gives what it has yet to give
+-- the rows of the whole run, where this comes of the streams: as the plan gives it, where each node gives what it has
+-- yet to give
 abbrev pub final : Shape → Moment → (Stream → List Record) → List Record
 final plan m coming = flow plan (gives plan m) coming
 
 -- what may still come: from the floor of the stream's next epoch on
 abbrev pub IsAdmissible : Shape → Moment → (Stream → List Record) → Type 0
-IsAdmissible plan m coming = (s : Stream) (d : Down) → source plan s ≡ Some d → All (λ r. (floor_at m d ≤ r.time) × (r.time ≤ MAX_TIME)) (coming s)
+IsAdmissible plan m coming =
+    (s : Stream) (d : Down) → source plan s ≡ Some d
+    → All (λ r. (floor_at m d ≤ r.time) × (r.time ≤ MAX_TIME)) (coming s)
 
 -- whatever comes, the rows of the whole run are those of the plan over what was fed and what comes, each equally often
 abbrev pub IsExact : Shape → Moment → (Stream → List Record) → Type 0
-IsExact plan m fed = (coming : Stream → List Record) → IsAdmissible plan m coming → IsReordered (final plan m coming) (output_of plan (λ s. fed s ++ coming s))
+IsExact plan m fed =
+    (coming : Stream → List Record) → IsAdmissible plan m coming
+    → IsReordered (final plan m coming) (output_of plan (λ s. fed s ++ coming s))

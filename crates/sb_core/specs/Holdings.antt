@@ -20,7 +20,8 @@ use Rattle.sb_core.specs.Closings.{is_pardo, is_sink}
 use Rattle.sb_core.specs.LaneOrder.{IsWithin, cont_at}
 
 -- a Work is of a container that is there, with its epoch and floor, and is out of it; only that of a ParDo is delivered
-pub record IsWork (plan : Shape) (m : Moment) (k l epoch floor number : ℕ) (records : List Record) (delivered : Bool) : Type 0 where
+pub record IsWork (plan : Shape) (m : Moment) (k l epoch floor number : ℕ) (records : List Record) (delivered : Bool)
+    : Type 0 where
   pub lane : CoreLane
   pub there : lane_at m (record { node = k; lane = l }) ≡ Some lane
   pub cont : Cont
@@ -30,8 +31,10 @@ pub record IsWork (plan : Shape) (m : Moment) (k l epoch floor number : ℕ) (re
   pub times : IsWithin floor (bound_at plan k) records
   pub only_pardo : delivered ≡ true → is_pardo (operator_at (slice_get plan.steps k)) ≡ true
 
--- a Close is of the first container of its lane, which is closing; while it is not passed, the lane below has its floor and its serial for its next epoch
-pub record IsClosing (plan : Shape) (m : Moment) (k l epoch serial floor mark : ℕ) (rows : List Record) (passed : Bool) : Type 0 where
+-- a Close is of the first container of its lane, which is closing; while it is not passed, the lane below has its floor
+-- and its serial for its next epoch
+pub record IsClosing (plan : Shape) (m : Moment) (k l epoch serial floor mark : ℕ) (rows : List Record) (passed : Bool)
+    : Type 0 where
   pub lane : CoreLane
   pub there : lane_at m (record { node = k; lane = l }) ≡ Some lane
   pub closing : first_is_closing lane.conts ≡ true
@@ -54,9 +57,12 @@ abbrev pub is_unpassed : ℕ → Held → Bool
 is_unpassed k (Work node l epoch floor number records delivered) = false
 is_unpassed k (Close node l epoch serial floor mark rows passed) = (node == k) && not passed
 
--- a Close's rows are sorted, and its floor is where its node had closed before it; the sink's counts as passed, and a ParDo's has no rows
+-- a Close's rows are sorted, and its floor is where its node had closed before it; the sink's counts as passed, and a
+-- ParDo's has no rows
 abbrev pub IsCloseOf : Shape → Moment → Held → Type 0
 IsCloseOf plan m (Work k l epoch floor number records delivered) = Unit {0}
 IsCloseOf plan m (Close k l epoch serial floor mark rows passed) =
-    (IsAscending record_cmp rows × ((is_sink (operator_at (slice_get plan.steps k)) ≡ true → passed ≡ true) × (is_pardo (operator_at (slice_get plan.steps k)) ≡ true → rows ≡ [])))
+    (IsAscending record_cmp rows
+    × ((is_sink (operator_at (slice_get plan.steps k)) ≡ true → passed ≡ true)
+    × (is_pardo (operator_at (slice_get plan.steps k)) ≡ true → rows ≡ [])))
     × (floor ≡ before_closing (node_at m k).lanes)

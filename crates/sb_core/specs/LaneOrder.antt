@@ -1,5 +1,6 @@
 -- The order in a lane: of its marks, its containers and their floors.
-use Rattle.std.specs.Prelude.{◌≡◌, ℕ, ◌+◌, ◌≤◌, true, false, List, [], ◌∷◌, length, drop, ◌==◌, if◌then◌else◌, Option, Some, None}
+use Rattle.std.specs.Prelude.{◌≡◌, ℕ, ◌+◌, ◌≤◌, true, false, List, [], ◌∷◌, length, drop, ◌==◌, if◌then◌else◌, Option}
+use Rattle.std.specs.Prelude.{Some, None}
 use Rattle.std.specs.List.{AllByRecursion}
 use Rattle.sb_record.specs.declared.item.Record.{Record}
 use Rattle.sb_bundle.specs.declared.bundle.Bundle.{Bundle}
@@ -41,13 +42,15 @@ pub record IsOpen (bound next next_floor epoch floor : ℕ) (c : Cont) : Type 0 
 -- the containers of later epochs, in order
 abbrev pub AreOpen : ℕ → ℕ → ℕ → ℕ → ℕ → List Cont → Type 0
 AreOpen bound next next_floor epoch floor [] = Unit {0}
-AreOpen bound next next_floor epoch floor (c ∷ cs) = IsOpen bound next next_floor epoch floor c × AreOpen bound next next_floor (c.epoch + 1) c.floor cs
+AreOpen bound next next_floor epoch floor (c ∷ cs) =
+    IsOpen bound next next_floor epoch floor c × AreOpen bound next next_floor (c.epoch + 1) c.floor cs
 
 -- the containers from an epoch and its floor on: those of the sealed epochs, with these marks, and then later ones
 abbrev pub AreContainers : ℕ → ℕ → ℕ → List ℕ → List Cont → Type 0
 AreContainers bound epoch floor [] cs = AreOpen bound epoch floor epoch floor cs
 AreContainers bound epoch floor (m ∷ ms) [] = ⊥
-AreContainers bound epoch floor (m ∷ ms) (c ∷ cs) = IsSealed bound epoch floor m c × AreContainers bound (epoch + 1) m ms cs
+AreContainers bound epoch floor (m ∷ ms) (c ∷ cs) =
+    IsSealed bound epoch floor m c × AreContainers bound (epoch + 1) m ms cs
 
 -- where the first container is closing, nothing of it waits or is out
 abbrev pub IsReady : List Cont → Type 0
@@ -59,10 +62,12 @@ abbrev pub cont_at : ℕ → List Cont → Option Cont
 cont_at epoch [] = None
 cont_at epoch (c ∷ cs) = if c.epoch == epoch then Some c else cont_at epoch cs
 
--- the marks and the containers of a lane are in order, and only the first container may be closing, with nothing waiting or out
+-- the marks and the containers of a lane are in order, and only the first container may be closing, with nothing
+-- waiting or out
 pub record IsLane (bound : ℕ) (lane : CoreLane) : Type 0 where
   pub ended_in : lane.ended ≤ length lane.marks
   pub rising : NeverFalls 0 lane.marks
-  pub containers : AreContainers bound lane.ended (last_of_first lane.ended lane.marks) (drop lane.ended lane.marks) lane.conts
+  pub containers : AreContainers bound lane.ended (last_of_first lane.ended lane.marks) (drop lane.ended lane.marks)
+      lane.conts
   pub ready : IsReady lane.conts
   pub others : AllByRecursion (λ c. c.closing ≡ false) (drop 1 lane.conts)

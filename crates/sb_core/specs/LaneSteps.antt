@@ -10,7 +10,8 @@ use Rattle.sb_core.specs.Moments.{lane_at, with_lane}
 
 -- the waiting bundle of the number is out, or there is none and the lane is as before
 abbrev pub TakesOut : ℕ → CoreLane → CoreLane → Option Bundle → Type 0
-TakesOut number old new (Some bundle) = (take_from number old.conts ≡ Some (bundle, new.conts)) × (new ≡ record old { conts = new.conts })
+TakesOut number old new (Some bundle) =
+    (take_from number old.conts ≡ Some (bundle, new.conts)) × (new ≡ record old { conts = new.conts })
 TakesOut number old new None = (take_from number old.conts ≡ None) × (new ≡ old)
 
 -- the moment with the next epoch of a lane sealed

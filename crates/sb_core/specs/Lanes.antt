@@ -1,5 +1,6 @@
 -- Lanes, and what becomes of one: a lane's containers stand in order of epoch.
-use Rattle.std.specs.Prelude.{ℕ, ◌+◌, ◌-◌, ◌==◌, nat_lt, true, false, not, ◌&&◌, if◌then◌else◌, List, [], ◌∷◌, ◌++◌, length, map, filter, Option, Some, None, is_some, slice_index}
+use Rattle.std.specs.Prelude.{ℕ, ◌+◌, ◌-◌, ◌==◌, nat_lt, true, false, not, ◌&&◌, if◌then◌else◌, List, [], ◌∷◌, ◌++◌}
+use Rattle.std.specs.Prelude.{length, map, filter, Option, Some, None, is_some, slice_index}
 use Rattle.std.specs.List.{list_any}
 use Rattle.sb_record.specs.declared.item.Record.{Record}
 use Rattle.sb_record.specs.Reading.{◌>>=◌}
@@ -51,17 +52,21 @@ abbrev pub take_from : ℕ → List Cont → Option (Bundle × List Cont)
 take_from number [] = None
 take_from number (c ∷ cs) =
     if list_any (λ b. b.number == number) c.waiting
-    then (pulled (λ b. b.number == number) c.waiting >>= λ q. Some (q.0, record c { waiting = q.1; out = c.out ++ number ∷ [] } ∷ cs))
+    then (pulled (λ b. b.number == number) c.waiting >>= λ q.
+    Some (q.0, record c { waiting = q.1; out = c.out ++ number ∷ [] } ∷ cs))
     else (take_from number cs >>= λ q. Some (q.0, c ∷ q.1))
 
 -- the containers with a bundle of an epoch no longer out
 abbrev pub finish_in : ℕ → ℕ → List Cont → List Cont
-finish_in epoch number conts = map {A = Cont} {B = Cont} (λ c. if c.epoch == epoch then record c { out = filter (λ n. not (n == number)) c.out } else c) conts
+finish_in epoch number conts =
+    map {A = Cont} {B = Cont}
+    (λ c. if c.epoch == epoch then record c { out = filter (λ n. not (n == number)) c.out } else c) conts
 
 -- the first container, where it may close: it is of the epoch, sealed, and no bundle of it is waiting or out
 abbrev pub closable : ℕ → List Cont → Option Cont
 closable epoch [] = None
-closable epoch (c ∷ cs) = only_if ((c.epoch == epoch) && (is_some c.mark && (is_empty c.waiting && is_empty c.out))) (Some c)
+closable epoch (c ∷ cs) =
+    only_if ((c.epoch == epoch) && (is_some c.mark && (is_empty c.waiting && is_empty c.out))) (Some c)
 
 abbrev pub with_first_closing : List Cont → List Cont
 with_first_closing [] = []

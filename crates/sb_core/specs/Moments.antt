@@ -1,5 +1,6 @@
 -- Moments: the whole state of the engine between two events.
-use Rattle.std.specs.Prelude.{ℕ, ◌==◌, Bool, false, ◌&&◌, List, [], ◌∷◌, ◌++◌, map, replicate, Option, Some, None, slice_get, slice_index_or, slice_set}
+use Rattle.std.specs.Prelude.{ℕ, ◌==◌, Bool, false, ◌&&◌, List, [], ◌∷◌, ◌++◌, map, replicate, Option, Some, None}
+use Rattle.std.specs.Prelude.{slice_get, slice_index_or, slice_set}
 use Rattle.sb_record.specs.Reading.{◌>>=◌}
 use Rattle.sb_pipeline.specs.declared.transform.Down.{Down}
 use Rattle.sb_pipeline.specs.Shapes.{Shape}
@@ -73,4 +74,9 @@ abbrev pub empty_node : Operator → Node
 empty_node operator = record { lanes = replicate (lanes_of operator) empty_lane; kept = []; closings = 0 }
 
 abbrev pub first : Shape → ℕ → Moment
-first plan bundle = record { bundle = bundle; nodes = map (λ s. empty_node (operator_of s.kind)) plan.steps ++ empty_node Sink ∷ []; held = []; rows = [] }
+first plan bundle = record {
+  bundle = bundle;
+  nodes = map (λ s. empty_node (operator_of s.kind)) plan.steps ++ empty_node Sink ∷ [];
+  held = [];
+  rows = [];
+}

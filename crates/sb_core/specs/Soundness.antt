@@ -1,5 +1,6 @@
 -- Sound moments: what every event keeps.
-use Rattle.std.specs.Prelude.{◌≡◌, ℕ, ◌+◌, ◌≤◌, ◌<◌, ◌==◌, Bool, true, false, ◌&&◌, List, [], ◌∷◌, length, count_by, sum_by, Some, slice_get}
+use Rattle.std.specs.Prelude.{◌≡◌, ℕ, ◌+◌, ◌≤◌, ◌<◌, ◌==◌, Bool, true, false, ◌&&◌, List, [], ◌∷◌, length, count_by}
+use Rattle.std.specs.Prelude.{sum_by, Some, slice_get}
 use Rattle.std.specs.List.{AllByRecursion, list_any}
 use Rattle.sb_record.specs.declared.item.Stream.{Stream}
 use Rattle.sb_record.specs.declared.item.TheConstants.{MAX_TIME}
@@ -57,7 +58,8 @@ Begins (x ∷ xs) (m ∷ ms) = (x ≡ m) × Begins xs ms
 abbrev pub IsOpenAtSource : ℕ → ℕ → ℕ → Type 0
 IsOpenAtSource next epoch floor = (epoch ≡ next) × (floor ≤ MAX_TIME)
 
--- a container that is not sealed, below a transform: below a ParDo it has the epoch and the floor of one of the ParDo's own; else it is that of the Close that has not passed its mark
+-- a container that is not sealed, below a transform: below a ParDo it has the epoch and the floor of one of the ParDo's
+-- own; else it is that of the Close that has not passed its mark
 abbrev pub IsOpenBelow : Operator → List CoreLane → Bool → ℕ → ℕ → ℕ → Type 0
 IsOpenBelow (ParDo op) lanes unpassed next epoch floor = list_any (has_cont epoch floor) lanes ≡ true
 IsOpenBelow (Windowed grouping) lanes unpassed next epoch floor = (unpassed ≡ true) × (epoch ≡ next)
@@ -73,22 +75,28 @@ IsKeptAt Sink mark bound kept e = (mark ≤ e.rec.time) × (e.rec.time ≤ bound
 abbrev pub AreKeptAt : Operator → ℕ → ℕ → List KeptRec → Type 0
 AreKeptAt o mark bound kept = AllByRecursion (IsKeptAt o mark bound kept) kept
 
--- all that holds of a moment between two events: of its nodes and lanes, of what is held, of a transform and the lane below it, and of the rows
+-- all that holds of a moment between two events: of its nodes and lanes, of what is held, of a transform and the lane
+-- below it, and of the rows
 pub record IsSound (plan : Shape) (m : Moment) : Type 0 where
   -- a node for each transform and the sink, each with its lanes, and a size of bundles
   pub nodes : length m.nodes ≡ length plan.steps + 1
-  pub lanes_there : (k : ℕ) → k ≤ length plan.steps → length (node_at m k).lanes ≡ lanes_of (operator_at (slice_get plan.steps k))
+  pub lanes_there : (k : ℕ) → k ≤ length plan.steps
+      → length (node_at m k).lanes ≡ lanes_of (operator_at (slice_get plan.steps k))
   pub bundle : (1 ≤ m.bundle) × (m.bundle ≤ MAX_BUNDLE)
   -- each lane: its marks and containers in order, its bundles numbered, and those out are held
   pub lanes : (d : Down) (lane : CoreLane) → lane_at m d ≡ Some lane → IsLane (bound_at plan d.node) lane
   pub numbers : (d : Down) (lane : CoreLane) → lane_at m d ≡ Some lane → AreNumbered lane
-  pub outs : (d : Down) (lane : CoreLane) → lane_at m d ≡ Some lane → (n : ℕ) → sum_by (out_of n) lane.conts ≡ count_by (is_work d.node d.lane n) m.held
-  -- each node: how many closings it has begun, what it keeps, and at most one Close, held exactly while a container is closing
+  pub outs : (d : Down) (lane : CoreLane) → lane_at m d ≡ Some lane
+      → (n : ℕ) → sum_by (out_of n) lane.conts ≡ count_by (is_work d.node d.lane n) m.held
+  -- each node: how many closings it has begun, what it keeps, and at most one Close, held exactly while a container is
+  -- closing
   pub closings : (k : ℕ) → (node_at m k).closings ≡ sum_by begun (node_at m k).lanes
   pub kept : (k : ℕ)
-      → AreKeptAt (operator_at (slice_get plan.steps k)) (closed (node_at m k).lanes) (bound_at plan k) (node_at m k).kept
+      → AreKeptAt (operator_at (slice_get plan.steps k)) (closed (node_at m k).lanes) (bound_at plan k)
+      (node_at m k).kept
   pub one_close : (k : ℕ) → count_by (is_close k) m.held ≤ 1
-  pub closing_held : (d : Down) (lane : CoreLane) → lane_at m d ≡ Some lane → first_is_closing lane.conts ≡ true → list_any (is_close_of d.node d.lane) m.held ≡ true
+  pub closing_held : (d : Down) (lane : CoreLane) → lane_at m d ≡ Some lane
+      → first_is_closing lane.conts ≡ true → list_any (is_close_of d.node d.lane) m.held ≡ true
   -- each Work and each Close
   pub holds : AllByRecursion (IsHeld plan m) m.held
   pub closes : AllByRecursion (IsCloseOf plan m) m.held
@@ -96,11 +104,15 @@ pub record IsSound (plan : Shape) (m : Moment) : Type 0 where
   pub sources : (s : Stream) (d : Down) → source plan s ≡ Some d → (lane : CoreLane) × (lane_at m d ≡ Some lane)
   pub open_source : (s : Stream) (d : Down) (lane : CoreLane) → source plan s ≡ Some d → lane_at m d ≡ Some lane
       → AllByRecursion (λ c. next_epoch lane ≤ c.epoch → IsOpenAtSource (next_epoch lane) c.epoch c.floor) lane.conts
-  -- each transform and the lane below it: how far that is sealed, which containers it has that are not, and, below a node of one lane, whose marks its marks are
+  -- each transform and the lane below it: how far that is sealed, which containers it has that are not, and, below a
+  -- node of one lane, whose marks its marks are
   pub below : (k : ℕ) (s : Step) → slice_get plan.steps k ≡ Some s → IsSealedBelow m k s.down
   pub open_below : (k : ℕ) (s : Step) (lane : CoreLane) → slice_get plan.steps k ≡ Some s → lane_at m s.down ≡ Some lane
-      → AllByRecursion (λ c. next_epoch lane ≤ c.epoch → IsOpenBelow (operator_at (slice_get plan.steps k)) (node_at m k).lanes (list_any (is_unpassed k) m.held) (next_epoch lane) c.epoch c.floor) lane.conts
-  pub own_marks : (k : ℕ) (s : Step) (lane own : CoreLane) → slice_get plan.steps k ≡ Some s → lane_at m s.down ≡ Some lane → (node_at m k).lanes ≡ own ∷ [] → Begins lane.marks own.marks
+      → AllByRecursion (λ c. next_epoch lane ≤ c.epoch
+      → IsOpenBelow (operator_at (slice_get plan.steps k)) (node_at m k).lanes (list_any (is_unpassed k) m.held)
+      (next_epoch lane) c.epoch c.floor) lane.conts
+  pub own_marks : (k : ℕ) (s : Step) (lane own : CoreLane) → slice_get plan.steps k ≡ Some s
+      → lane_at m s.down ≡ Some lane → (node_at m k).lanes ≡ own ∷ [] → Begins lane.marks own.marks
   -- the rows: sorted, and before the mark up to which the sink has closed
   pub sorted : IsAscending record_cmp m.rows
   pub written : AllByRecursion (λ r. r.time < closed (node_at m (length plan.steps)).lanes) m.rows
