@@ -10,7 +10,6 @@ use Rattle.std.specs.List.{flat_map, slice_get, AllByRecursion}
 use Rattle.std.proofs.lemmas.Bool.{le-ltb, cases_lt}
 use Rattle.std.proofs.lemmas.List.Sums.{sum_by-cons}
 use Rattle.std.proofs.lemmas.Option.{get_or_from_slice_get, same_Some, slice_get-get_or, slice_get_within}
-use Rattle.std.specs.Ordering
 use Rattle.std.proofs.lemmas.List.{length-replicate, get_or-replicate, get_or_past}
 use Rattle.sb_record.specs.declared.item.Record.{Record}
 use Rattle.sb_record.specs.declared.element.KeptRec.{KeptRec}
@@ -20,7 +19,7 @@ use Rattle.sb_core.specs.declared.moment.Node.{Node}
 use Rattle.sb_core.specs.declared.moment.CoreLane.{CoreLane}
 use Rattle.sb_core.specs.Soundness.{IsOpenAtSource}
 use Rattle.sb_pipeline.specs.Shapes.{Shape}
-use Rattle.sb_record.specs.Records.{record_cmp, at_least}
+use Rattle.sb_record.specs.Records.{at_least}
 use Rattle.sb_pipeline.specs.Operators.{Operator, operator_of, operator_at, lanes_of, grouped, output}
 use Rattle.sb_pardo.specs.Outputs.{outputs_of}
 use Rattle.sb_record.specs.Elements.{all_records}

@@ -1,4 +1,4 @@
-use Rattle.std.proofs.Common.{◌≡◌, ◌<◌, ltb, cond, List, [], ◌∷◌, ◌++◌, map, filter, length, take, get_or, sym, ap, ◌∙◌, pos, arith}
+use Rattle.std.proofs.Common.{◌≡◌, ◌<◌, ltb, cond, List, [], ◌∷◌, ◌++◌, map, filter, length, take, get_or, sym, ap, ◌∙◌, arith}
 use Rattle.std.proofs.lemmas.List.{take_more, get_or-map, length-map}
 use Rattle.std.proofs.lemmas.List.Elements.{All-from_recursion, All-same, recursion_from_All, filter-append}
 use Rattle.sb_record.specs.declared.item.Record.{Record}
