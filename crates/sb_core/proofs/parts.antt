@@ -1,6 +1,6 @@
 -- An event does to a moment what it does to the part of its node.
-pub mod OneNode
+pub mod ByParts
+pub mod MadeSteps
 pub mod PartsLaw
-pub mod EventParts
 pub mod OneLaneLaw
 pub mod NewRowsLaw

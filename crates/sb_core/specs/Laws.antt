@@ -1,5 +1,6 @@
 -- The laws of the engine: what holds of every plan, every moment and every list of events.
-use Rattle.std.specs.Prelude.{slice_set, Option, ◌≡◌, ◌==◌, if◌then◌else◌, Bool, true, false, drop, IsPermutation, ℕ, ◌≤◌, List, [], ◌∷◌, ◌++◌, length, Some}
+use Rattle.std.specs.Prelude.{slice_set, ◌≡◌, Bool, true, false, drop, IsPermutation, ℕ, ◌≤◌, List, [], ◌∷◌, ◌++◌}
+use Rattle.std.specs.Prelude.{length, Some}
 use Rattle.std.specs.List.{list_any}
 use Rattle.sb_record.specs.declared.item.Record.{Record}
 use Rattle.sb_record.specs.declared.item.Stream.{Stream}
@@ -9,9 +10,9 @@ use Rattle.sb_core.specs.declared.moment.Moment.{Moment}
 use Rattle.sb_core.specs.declared.event.Event.{Event}
 use Rattle.sb_core.specs.declared.event.Event.TheVariants.{Arrive, Seal, Take, Deliver, Finish, Begin, Pass, End}
 use Rattle.sb_core.specs.Marks.{first_is_closing, closed}
-use Rattle.sb_record.specs.Reading.{◌>>=◌}
-use Rattle.sb_core.specs.Events.{below, after, run}
-use Rattle.sb_core.specs.Moments.{is_work, is_close, is_close_of, with_held, first, lane_at, node_at, floor_at}
+use Rattle.sb_core.specs.Events.{after, run}
+pub use Rattle.sb_core.specs.Events.{concerns, place_of}
+use Rattle.sb_core.specs.Moments.{is_close, with_held, first, lane_at, node_at, floor_at}
 use Rattle.sb_record.specs.declared.item.TheConstants.{END_MARK}
 use Rattle.sb_core.specs.Exactness.{IsAdmissible, IsExact}
 use Rattle.sb_pipeline.specs.Plans.{IsPlan}
@@ -45,7 +46,8 @@ fed_by (e ∷ es) fed = fed_by es (fed_after e fed)
 
 -- what was exact before the events is exact after them, for what was fed with what they feed
 abbrev pub KeepsExact : Shape → Moment → Moment → List Event → Type 0
-KeepsExact plan old new events = (fed : Stream → List Record) → IsExact plan old fed → IsExact plan new (fed_by events fed)
+KeepsExact plan old new events =
+    (fed : Stream → List Record) → IsExact plan old fed → IsExact plan new (fed_by events fed)
 
 -- each single event whose condition holds keeps a moment sound, and whole for what was fed with what the event feeds
 abbrev pub EventsKeepSound : Type 0
@@ -88,17 +90,6 @@ HeldInAnyOrder =
     (plan : Shape) (m : Moment) (held : List Held) → IsPermutation m.held held → IsSound plan m
     → IsSound plan (with_held held m) × KeepsExact plan m (with_held held m) []
 
--- whether the event is of this Work or Close
-abbrev pub concerns : Event → Held → Bool
-concerns (Deliver node lane number) h = if number == 0 then is_close_of node lane h else is_work node lane number h
-concerns (Finish node lane number) h = is_work node lane number h
-concerns (Pass node) h = is_close node h
-concerns (End node) h = is_close node h
-concerns (Arrive stream records) h = false
-concerns (Seal stream mark) h = false
-concerns (Take node lane number) h = false
-concerns (Begin node lane) h = false
-
 abbrev pub delivered_now : ℕ → Held → List Held
 delivered_now bundle (Work k l epoch floor number records delivered) = Work k l epoch floor number records true ∷ []
 delivered_now bundle (Close k l epoch serial floor mark rows passed) =
@@ -127,17 +118,6 @@ EventsAtTheHead =
     → after plan (with_held (h ∷ rest) m) event ≡ Some later → IsSound plan (with_held (h ∷ rest) m)
     → IsSound plan (with_held (changed m.bundle event h ++ rest) later)
     × KeepsExact plan (with_held (h ∷ rest) m) (with_held (changed m.bundle event h ++ rest) later) []
-
--- the node whose part an event changes
-abbrev pub place_of : Shape → Event → Option ℕ
-place_of plan (Arrive stream records) = source plan stream >>= λ d. Some d.node
-place_of plan (Seal stream mark) = source plan stream >>= λ d. Some d.node
-place_of plan (Take node lane number) = Some node
-place_of plan (Deliver node lane number) = below plan node >>= λ d. Some d.node
-place_of plan (Finish node lane number) = Some node
-place_of plan (Begin node lane) = Some node
-place_of plan (Pass node) = below plan node >>= λ d. Some d.node
-place_of plan (End node) = Some node
 
 -- the other nodes stay as they are
 abbrev pub OneNodeChanges : Type 0

@@ -6,7 +6,7 @@ pub mod Closings
 pub mod Bounds
 pub mod Events
 pub mod LaneSteps
-pub mod HeldSteps
+pub mod MomentSteps
 pub mod Finding
 pub mod Places
 pub mod Steps

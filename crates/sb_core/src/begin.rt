@@ -4,7 +4,7 @@
 
 ghost use Rattle.std.specs.Prelude.{◌≡◌, None, Err, IfOk};
 ghost use Rattle.sb_core.specs.Beginnings.{IsBeginningOf};
-ghost use Rattle.sb_core.specs.Events.{after_begin};
+ghost use Rattle.sb_core.specs.MomentSteps.{after_begin};
 ghost use Rattle.sb_core.specs.Soundness.{IsSound};
 ghost use Rattle.sb_core.specs.Steps.{Becomes};
 

@@ -2,8 +2,7 @@
 
 ghost use Rattle.std.specs.Prelude.{◌≡◌, ℕ, Bool, true, List, Err};
 ghost use Rattle.sb_record.specs.declared.item.Record.{Record};
-ghost use Rattle.sb_core.specs.Events.{after_take};
-ghost use Rattle.sb_core.specs.HeldSteps.{bundle_delivered, bundle_finished};
+ghost use Rattle.sb_core.specs.MomentSteps.{after_take, bundle_delivered, bundle_finished};
 ghost use Rattle.sb_core.specs.Soundness.{IsSound};
 ghost use Rattle.sb_core.specs.Steps.{Becomes, asks_for_memory};
 

@@ -2,7 +2,7 @@
 
 ghost use Rattle.std.specs.Prelude.{◌≡◌, ◌≤◌, ◌&&◌, nat_le, Some, None, IfSome, IfNone};
 ghost use Rattle.std.specs.List.{list_all};
-ghost use Rattle.sb_core.specs.Events.{after_arrive, after_seal, arrived_at};
+ghost use Rattle.sb_core.specs.MomentSteps.{after_arrive, after_seal, arrived_at};
 ghost use Rattle.sb_core.specs.LaneSteps.{sealed_at};
 ghost use Rattle.sb_core.specs.Moments.{lane_at};
 ghost use Rattle.sb_core.specs.Steps.{Becomes};

@@ -5,6 +5,7 @@ ghost use Rattle.sb_bundle.specs.declared.bundle.TheConstants.{MAX_BUNDLE};
 ghost use Rattle.sb_core.specs.Events.{after};
 ghost use Rattle.sb_core.specs.Exactness.{IsExact};
 ghost use Rattle.sb_core.specs.Laws.{KeepsExact};
+ghost use Rattle.sb_core.specs.MomentSteps.{made};
 ghost use Rattle.sb_core.specs.Moments as moments;
 ghost use Rattle.sb_core.specs.Soundness.{IsSound};
 ghost use Rattle.sb_core.specs.Steps.{Becomes, Runs, asks_for_memory, done_of};
@@ -112,7 +113,7 @@ pub fn step(alloc: Global, plan: &Plan, moment: &mut Moment, event: Event) -> Re
 /// Does an event.
 fn do_event(alloc: Global, plan: &Plan, moment: &mut Moment, event: Event) -> Result<(), StepStop>
     requires { IsSound plan.now moment.old }
-    ensures becomes { Becomes (after plan.now moment.old event) moment.old moment.new result }
+    ensures becomes { Becomes (made plan.now moment.old event) moment.old moment.new result }
     ensures memory { result ≡ Err StepStop.Memory → asks_for_memory moment.old event ≡ true }
 {
     match event {

@@ -21,12 +21,14 @@ use Rattle.sb_core.specs.declared.event.Event.TheVariants.{Arrive, Seal}
 use Rattle.sb_core.specs.declared.moment.CoreLane.{CoreLane}
 use Rattle.sb_core.specs.declared.moment.Moment.{Moment}
 use Rattle.sb_core.specs.declared.moment.Node.{Node}
-use Rattle.sb_core.specs.Events.{after, after_arrive, after_seal, run}
+use Rattle.sb_core.specs.Events.{after, run}
+use Rattle.sb_core.specs.MomentSteps.{after_arrive, after_seal}
 use Rattle.sb_core.specs.Lanes.{next_epoch, next_floor, with_arrival, with_seal}
 use Rattle.sb_core.specs.Moments.{empty_lane, epoch_at, epoch_of, first, floor_at, floor_of, lane_at, set_lane, with_lane}
 use Rattle.sb_core.proofs.exact.EventExact.{sealed_floor}
 use Rattle.sb_core.proofs.sound.FirstMoment.{at_node}
 use Rattle.sb_core.proofs.exact.Gives.{lane_at-parts, with_lane-is}
+use Rattle.sb_core.proofs.parts.MadeSteps.{arrive-made, seal-made}
 use Rattle.sb_core.proofs.containers.Lists.{cond_is_some}
 use Rattle.sb_core.proofs.exact.Nodes.{slice_get-set_same}
 use Rattle.sb_lane.specs.LaneView.{LaneView, lane_of}
@@ -123,13 +125,13 @@ module _ (h : HandView) (epoch floor : ℕ) (next : Next h epoch floor) where
     pub next-arrived : (records : List Record) → Does h.plan h.bundle (Arrive A records ∷ []) h.nodes [] n.nodes [] [] → Next n epoch floor
     next-arrived records does =
         let k = kept (Arrive A records ∷ []) does in
-        let e = arrived_next h.plan next.0 k.0 A records next.2 next.3 (one_event h.plan (Arrive A records) next.0 k.0 k.1) in
+        let e = arrived_next h.plan next.0 k.0 A records next.2 next.3 (sym (arrive-made h.plan next.0 A records) ∙ one_event h.plan (Arrive A records) next.0 k.0 k.1) in
         (k.0, k.2, next.2, subst (λ p. source p A ≡ Some next.2) (sym rest.plan) next.3, e.0 ∙ next.4, e.1 ∙ next.5)
 
     pub next-sealed : (mark : ℕ) → Does h.plan h.bundle (Seal A mark ∷ []) h.nodes [] n.nodes [] [] → Next n (epoch + 1) mark
     next-sealed mark does =
         let k = kept (Seal A mark ∷ []) does in
-        let e = sealed_next h.plan next.0 k.0 A mark next.2 next.3 (one_event h.plan (Seal A mark) next.0 k.0 k.1) in
+        let e = sealed_next h.plan next.0 k.0 A mark next.2 next.3 (sym (seal-made h.plan next.0 A mark) ∙ one_event h.plan (Seal A mark) next.0 k.0 k.1) in
         (k.0, k.2, next.2, subst (λ p. source p A ≡ Some next.2) (sym rest.plan) next.3, e.0 ∙ ap (λ x. x + 1) next.4, e.1)
 
 -- a step leads from a moment to one

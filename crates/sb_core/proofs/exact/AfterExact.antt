@@ -2,6 +2,7 @@
 use Rattle.sb_record.proofs.Numbers.{bind_some}
 use Rattle.sb_core.specs.Choices
 use Rattle.sb_core.specs.Events
+use Rattle.sb_core.specs.MomentSteps
 use Rattle.sb_core.specs.Lanes
 use Rattle.sb_core.specs.Marks
 use Rattle.sb_core.specs.Moments
@@ -46,6 +47,7 @@ use Rattle.sb_pipeline.specs.declared.transform.Down.{Down}
 use Rattle.sb_pipeline.specs.Shapes.{source}
 use Rattle.sb_core.proofs.times.LawfulTimely.{lawful-timely}
 use Rattle.sb_core.proofs.lawful.BeginLawful.{closable-is, rises}
+use Rattle.sb_core.proofs.parts.MadeSteps.{after-made}
 
 -- ---- a Work of a ParDo is of an epoch that is not sealed below
 pub lone : (lanes : List CoreLane) (l : ℕ) (lane : CoreLane) → length lanes ≡ 1 → slice_get lanes l ≡ Some lane → sum_by begun lanes ≡ begun lane
@@ -92,20 +94,20 @@ EventCarries plan m later (Begin node lane) = Carries plan m later Nothing
 EventCarries plan m later (Pass node) = Carries plan m later Nothing
 EventCarries plan m later (End node) = Carries plan m later Nothing
 
-pub events-carry : (plan : Shape) → IsPlan plan → (m later : Moment) (event : Event) → Events.after plan m event ≡ Some later → IsLawful plan m → IsLawful plan later → EventCarries plan m later event
-events-carry plan is_plan m later (Arrive stream records) h lawful after = arrive-carries plan m later stream records h lawful
-events-carry plan is_plan m later (Seal stream mark) h lawful after = seal-carries plan m later stream mark h lawful
-events-carry plan is_plan m later (Take node lane number) h lawful after = take-carries plan m later (record { node = node; lane = lane }) number h
-events-carry plan is_plan m later (Deliver node lane number) h lawful after = by_case (eqb number 0) h
+made-carries : (plan : Shape) → IsPlan plan → (m later : Moment) (event : Event) → MomentSteps.made plan m event ≡ Some later → IsLawful plan m → IsLawful plan later → EventCarries plan m later event
+made-carries plan is_plan m later (Arrive stream records) h lawful after = arrive-carries plan m later stream records h lawful
+made-carries plan is_plan m later (Seal stream mark) h lawful after = seal-carries plan m later stream mark h lawful
+made-carries plan is_plan m later (Take node lane number) h lawful after = take-carries plan m later (record { node = node; lane = lane }) number h
+made-carries plan is_plan m later (Deliver node lane number) h lawful after = by_case (eqb number 0) h
   where
-    rows : (Choices.pulled (Moments.is_close_of node lane) m.held >>= λ q. Events.deliver_rows plan m q.0 q.1) ≡ Some later → (q : Held × List Held) × (Choices.pulled (Moments.is_close_of node lane) m.held ≡ Some q) × CarriesFrom plan m later q.0
+    rows : (Choices.pulled (Moments.is_close_of node lane) m.held >>= λ q. MomentSteps.deliver_rows plan m q.0 q.1) ≡ Some later → (q : Held × List Held) × (Choices.pulled (Moments.is_close_of node lane) m.held ≡ Some q) × CarriesFrom plan m later q.0
     rows h =
-        let a = bind_some (Choices.pulled (Moments.is_close_of node lane) m.held) (λ q. Events.deliver_rows plan m q.0 q.1) later h in
+        let a = bind_some (Choices.pulled (Moments.is_close_of node lane) m.held) (λ q. MomentSteps.deliver_rows plan m q.0 q.1) later h in
         (a.0, a.1, rows-carries plan m later lawful a.0 (IsReordered-pulled (Moments.is_close_of node lane) m.held a.0 a.1) (All-pulled (IsHeld plan m) (Moments.is_close_of node lane) m.held a.0 a.1 lawful.holds).0 a.2)
 
-    work : (Choices.pulled (Moments.is_work node lane number) m.held >>= λ q. Events.deliver_work plan m q.0 q.1) ≡ Some later → (q : Held × List Held) × (Choices.pulled (Moments.is_work node lane number) m.held ≡ Some q) × CarriesFrom plan m later q.0
+    work : (Choices.pulled (Moments.is_work node lane number) m.held >>= λ q. MomentSteps.deliver_work plan m q.0 q.1) ≡ Some later → (q : Held × List Held) × (Choices.pulled (Moments.is_work node lane number) m.held ≡ Some q) × CarriesFrom plan m later q.0
     work h =
-        let a = bind_some (Choices.pulled (Moments.is_work node lane number) m.held) (λ q. Events.deliver_work plan m q.0 q.1) later h in
+        let a = bind_some (Choices.pulled (Moments.is_work node lane number) m.held) (λ q. MomentSteps.deliver_work plan m q.0 q.1) later h in
         let held = (All-pulled (IsHeld plan m) (Moments.is_work node lane number) m.held a.0 a.1 lawful.holds).0 in (
           a.0,
           a.1,
@@ -113,14 +115,14 @@ events-carry plan is_plan m later (Deliver node lane number) h lawful after = by
               (λ y l epoch floor n records s e is pardo. not_sealed plan m lawful y l epoch floor n records false s (subst (IsHeld plan m) e held) pardo is),
         )
 
-    by_case : (b : Bool) → cond b (Choices.pulled (Moments.is_close_of node lane) m.held >>= λ q. Events.deliver_rows plan m q.0 q.1) (Choices.pulled (Moments.is_work node lane number) m.held >>= λ q. Events.deliver_work plan m q.0 q.1) ≡ Some later
+    by_case : (b : Bool) → cond b (Choices.pulled (Moments.is_close_of node lane) m.held >>= λ q. MomentSteps.deliver_rows plan m q.0 q.1) (Choices.pulled (Moments.is_work node lane number) m.held >>= λ q. MomentSteps.deliver_work plan m q.0 q.1) ≡ Some later
         → (q : Held × List Held) × (Choices.pulled (λ h. cond b (Moments.is_close_of node lane h) (Moments.is_work node lane number h)) m.held ≡ Some q) × CarriesFrom plan m later q.0
     by_case true h = rows h
     by_case false h = work h
-events-carry plan is_plan m later (Finish node lane number) h lawful after = finish-carries plan m later node lane number h lawful
-events-carry plan is_plan m later (Begin node lane) h lawful after = begin-carries plan is_plan m later node lane h lawful after (mark_rises h)
+made-carries plan is_plan m later (Finish node lane number) h lawful after = finish-carries plan m later node lane number h lawful
+made-carries plan is_plan m later (Begin node lane) h lawful after = begin-carries plan is_plan m later node lane h lawful after (mark_rises h)
   where
-    mark_rises : Events.after_begin plan m node lane ≡ Some later → closed_rises plan m later node
+    mark_rises : MomentSteps.after_begin plan m node lane ≡ Some later → closed_rises plan m later node
     mark_rises h =
         let a = bind_some (slice_get m.nodes node) _ later h in
         let b = bind_some (slice_get a.0.lanes lane) _ later a.2 in
@@ -131,12 +133,15 @@ events-carry plan is_plan m later (Begin node lane) h lawful after = begin-carri
         let before = ap (λ (x : Node). Marks.closed x.lanes) (node_at-same m node a.0 a.0 a.1) in
         let then = ap (λ (x : Moment). Marks.closed (node_at x node).lanes) (sym is) ∙ ap (λ (x : Node). Marks.closed x.lanes) (node_at-set_same m node a.0 _ a.1) in
         subst (λ x. x ≤ Marks.closed (node_at later node).lanes) (sym before) (subst (λ x. Marks.closed a.0.lanes ≤ x) (sym then) up)
-events-carry plan is_plan m later (Pass node) h lawful after =
-    let a = bind_some (Choices.pulled (Moments.is_close node) m.held) (λ q. Events.after_pass plan m q.0 q.1) later h in
+made-carries plan is_plan m later (Pass node) h lawful after =
+    let a = bind_some (Choices.pulled (Moments.is_close node) m.held) (λ q. MomentSteps.after_pass plan m q.0 q.1) later h in
     pass-carries plan m later lawful a.0 (IsReordered-pulled (Moments.is_close node) m.held a.0 a.1) (All-pulled (IsHeld plan m) (Moments.is_close node) m.held a.0 a.1 lawful.holds).0 a.2
-events-carry plan is_plan m later (End node) h lawful after =
-    let a = bind_some (Choices.pulled (Moments.is_close node) m.held) (λ q. Events.after_end m q.0 q.1) later h in
+made-carries plan is_plan m later (End node) h lawful after =
+    let a = bind_some (Choices.pulled (Moments.is_close node) m.held) (λ q. MomentSteps.after_end m q.0 q.1) later h in
     end-carries plan m later lawful a.0 (IsReordered-pulled (Moments.is_close node) m.held a.0 a.1) (All-pulled (IsHeld plan m) (Moments.is_close node) m.held a.0 a.1 lawful.holds).0 a.2
+
+pub events-carry : (plan : Shape) → IsPlan plan → (m later : Moment) (event : Event) → Events.after plan m event ≡ Some later → IsLawful plan m → IsLawful plan later → EventCarries plan m later event
+events-carry plan is_plan m later event h lawful after = made-carries plan is_plan m later event (sym (after-made plan m lawful event) ∙ h) lawful after
 
 -- each event between lawful moments keeps an exact moment exact
 abbrev EventsKeepExact : Type 0

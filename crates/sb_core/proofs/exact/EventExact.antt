@@ -3,6 +3,7 @@ use Rattle.sb_record.proofs.Numbers.{bind_some}
 use Rattle.sb_core.specs.Choices
 use Rattle.sb_core.specs.Closings
 use Rattle.sb_core.specs.Events
+use Rattle.sb_core.specs.MomentSteps
 use Rattle.sb_core.specs.Lanes
 use Rattle.sb_core.specs.Marks
 use Rattle.sb_core.specs.Moments
@@ -80,7 +81,7 @@ floor-rises m n l node new lane with at in_it lanes up d = ⊎_elim
     (lane_at-cases m n l node new lane with at in_it lanes d)
 
 -- ---- a bundle is taken
-pub take-carries : (plan : Shape) (m m' : Moment) (d : Down) (number : ℕ) → Events.after_take m d number ≡ Some m' → Carries plan m m' Nothing
+pub take-carries : (plan : Shape) (m m' : Moment) (d : Down) (number : ℕ) → MomentSteps.after_take m d number ≡ Some m' → Carries plan m m' Nothing
 take-carries plan m m' d number h =
     carries-same plan m m' (λ k es fs within in_time same. take-gives plan m m' d number h k es fs same) (admits plan m m' floors)
   where
@@ -132,7 +133,7 @@ admits_more plan m m' s d records is times floors coming ok t e at = go s t refl
     go B A z src is at old = old
     go B B z src is at old = let k : d ≡ e = same_Some _ _ (sym is ∙ at) in All-append (λ r. (floor_at m e ≤ r.time) × (r.time ≤ TheConstants.MAX_TIME)) records (coming B) (All-from_recursion (λ r. (floor_at m e ≤ r.time) × (r.time ≤ TheConstants.MAX_TIME)) records (subst (λ d. AllByRecursion (λ r. (floor_at m d ≤ r.time) × (r.time ≤ TheConstants.MAX_TIME)) records) k times)) old
 
-pub arrive-carries : (plan : Shape) (m m' : Moment) (s : Stream) (records : List Record) → Events.after_arrive plan m s records ≡ Some m' → IsLawful plan m → (d : Down) × (source plan s ≡ Some d) × Carries plan m m' (Fed s d records)
+pub arrive-carries : (plan : Shape) (m m' : Moment) (s : Stream) (records : List Record) → MomentSteps.after_arrive plan m s records ≡ Some m' → IsLawful plan m → (d : Down) × (source plan s ≡ Some d) × Carries plan m m' (Fed s d records)
 arrive-carries plan m m' s records h lawful =
     let a = bind_some (source plan s) _ m' h in
     let b = bind_some (Moments.lane_at m a.0) _ m' a.2 in
@@ -157,12 +158,12 @@ arrive-carries plan m m' s records h lawful =
         (admits_more plan m m' s d records is times floors)
 
 -- ---- a bundle is finished
-pub finish-carries : (plan : Shape) (m m' : Moment) (n l number : ℕ) → Events.after plan m (Finish n l number) ≡ Some m' → IsLawful plan m → Carries plan m m' Nothing
+pub finish-carries : (plan : Shape) (m m' : Moment) (n l number : ℕ) → MomentSteps.made plan m (Finish n l number) ≡ Some m' → IsLawful plan m → Carries plan m m' Nothing
 finish-carries plan m m' n l number h lawful =
     let a = bind_some (Choices.pulled (Moments.is_work n l number) m.held) _ m' h in
     go a.0 (IsReordered-pulled (Moments.is_work n l number) m.held a.0 a.1) (All-pulled (IsHeld plan m) (Moments.is_work n l number) m.held a.0 a.1 lawful.holds).0 a.2
   where
-    go : (q : Held × List Held) → IsReordered m.held (q.0 ∷ q.1) → IsHeld plan m q.0 → Events.after_finish plan m q.0 q.1 ≡ Some m' → Carries plan m m' Nothing
+    go : (q : Held × List Held) → IsReordered m.held (q.0 ∷ q.1) → IsHeld plan m q.0 → MomentSteps.after_finish plan m q.0 q.1 ≡ Some m' → Carries plan m m' Nothing
     go (Close k l epoch serial floor mark rows passed, others) pulled held h = cc
     go (Work k l epoch floor number records delivered, others) pulled held h =
         let a = bind_some (slice_get m.nodes k) _ m' h in
@@ -179,7 +180,7 @@ finish-carries plan m m' n l number h lawful =
 abbrev pub closed_rises : Shape → Moment → Moment → ℕ → Type 0
 closed_rises plan m m' n = Marks.closed (node_at m n).lanes ≤ Marks.closed (node_at m' n).lanes
 
-pub begin-carries : (plan : Shape) → IsPlan plan → (m m' : Moment) (n l : ℕ) → Events.after plan m (Begin n l) ≡ Some m' → IsLawful plan m → IsLawful plan m' → closed_rises plan m m' n → Carries plan m m' Nothing
+pub begin-carries : (plan : Shape) → IsPlan plan → (m m' : Moment) (n l : ℕ) → MomentSteps.made plan m (Begin n l) ≡ Some m' → IsLawful plan m → IsLawful plan m' → closed_rises plan m m' n → Carries plan m m' Nothing
 begin-carries plan is_plan m m' n l h lawful later rises =
     let a = bind_some (slice_get m.nodes n) _ m' h in
     let b = bind_some (slice_get a.0.lanes l) _ m' a.2 in
@@ -219,7 +220,7 @@ sealed_floor mark lane =
     let b : length lane.marks - length lane.marks ≡ 0 = omega arith in
     ap (λ n. get_or (lane.marks ++ mark ∷ []) n 0) a ∙ get_or-append_right lane.marks (mark ∷ []) (length lane.marks) (length lane.marks) 0 refl (omega arith) ∙ ap (λ n. get_or (mark ∷ []) n 0) b
 
-pub seal-carries : (plan : Shape) (m m' : Moment) (s : Stream) (mark : ℕ) → Events.after_seal plan m s mark ≡ Some m' → IsLawful plan m → Carries plan m m' Nothing
+pub seal-carries : (plan : Shape) (m m' : Moment) (s : Stream) (mark : ℕ) → MomentSteps.after_seal plan m s mark ≡ Some m' → IsLawful plan m → Carries plan m m' Nothing
 seal-carries plan m m' s mark h lawful =
     let a = bind_some (source plan s) _ m' h in
     let b = bind_some (Moments.lane_at m a.0) _ m' a.2 in
@@ -257,7 +258,7 @@ abbrev pub CarriesFrom : Shape → Moment → Moment → Held → Type 0
 CarriesFrom plan m m' h = (d : Down) × (Events.below plan (node_of h) ≡ Some d) × Carries plan m m' (Given (node_of h) d (given_now plan m.bundle h))
 
 module _ (plan : Shape) (m m' : Moment) (lawful : IsLawful plan m) where
-  arrived : (d : Down) (epoch floor : ℕ) (records : List Record) (held : List Held) → Events.arrived_at d epoch floor records (Moments.with_held held m) ≡ Some m'
+  arrived : (d : Down) (epoch floor : ℕ) (records : List Record) (held : List Held) → MomentSteps.arrived_at d epoch floor records (Moments.with_held held m) ≡ Some m'
       → (node : Node) × (lane : CoreLane) × (slice_get m.nodes d.node ≡ Some node) × (slice_get node.lanes d.lane ≡ Some lane) × (Moments.set_node d.node (Moments.set_lane d.lane (Lanes.with_arrival epoch floor records lane) node) (Moments.with_held held m) ≡ m')
   arrived d epoch floor records held h =
       let a = bind_some (Moments.lane_at (Moments.with_held held m) d) _ m' h in
@@ -268,7 +269,7 @@ module _ (plan : Shape) (m m' : Moment) (lawful : IsLawful plan m) where
   place : (d : Down) (node : Node) (lane : CoreLane) → slice_get m.nodes d.node ≡ Some node → slice_get node.lanes d.lane ≡ Some lane → Moments.lane_at m d ≡ Some lane
   place d node lane at in_it = ap (λ (o : Option Node). o >>= λ n. slice_get n.lanes d.lane) at ∙ in_it
 
-  pub rows-carries : (q : Held × List Held) → IsReordered m.held (q.0 ∷ q.1) → IsHeld plan m q.0 → Events.deliver_rows plan m q.0 q.1 ≡ Some m' → CarriesFrom plan m m' q.0
+  pub rows-carries : (q : Held × List Held) → IsReordered m.held (q.0 ∷ q.1) → IsHeld plan m q.0 → MomentSteps.deliver_rows plan m q.0 q.1 ≡ Some m' → CarriesFrom plan m m' q.0
   rows-carries (Work k l epoch floor number records delivered, others) pulled held h = cc
   rows-carries (Close y l epoch serial floor mark rows passed, others) pulled held h =
       let a = bind_some (Events.below plan y) _ m' h in
@@ -283,7 +284,7 @@ module _ (plan : Shape) (m m' : Moment) (lawful : IsLawful plan m) where
       less : List Held
       less = others ++ Close y l epoch serial floor mark (drop m.bundle rows) passed ∷ []
 
-      go : (d : Down) (s : Step) → slice_get plan.steps y ≡ Some s → s.down ≡ d → passed ≡ false → Events.arrived_at d serial floor (take m.bundle rows) (Moments.with_held less m) ≡ Some m' → Carries plan m m' (Given y d (take m.bundle rows))
+      go : (d : Down) (s : Step) → slice_get plan.steps y ≡ Some s → s.down ≡ d → passed ≡ false → MomentSteps.arrived_at d serial floor (take m.bundle rows) (Moments.with_held less m) ≡ Some m' → Carries plan m m' (Given y d (take m.bundle rows))
       go d s is down unpassed h =
           let p = arrived d serial floor (take m.bundle rows) less h in
           let at : Moments.lane_at m d ≡ Some p.1 = place d p.0 p.1 p.2 p.3 in
@@ -296,7 +297,7 @@ module _ (plan : Shape) (m m' : Moment) (lawful : IsLawful plan m) where
           (admits plan m m' (λ e. ap (λ x. floor_at x e) (sym p.4) ∙ floor-set m d.node d.lane p.0 (Moments.set_lane d.lane (Lanes.with_arrival serial floor (take m.bundle rows) p.1) p.0) p.1 (Lanes.with_arrival serial floor (take m.bundle rows) p.1) p.2 p.3 refl refl e))
 
   -- ---- a mark is passed
-  pub pass-carries : (q : Held × List Held) → IsReordered m.held (q.0 ∷ q.1) → IsHeld plan m q.0 → Events.after_pass plan m q.0 q.1 ≡ Some m' → Carries plan m m' Nothing
+  pub pass-carries : (q : Held × List Held) → IsReordered m.held (q.0 ∷ q.1) → IsHeld plan m q.0 → MomentSteps.after_pass plan m q.0 q.1 ≡ Some m' → Carries plan m m' Nothing
   pass-carries (Work k l epoch floor number records delivered, others) pulled held h = cc
   pass-carries (Close y l epoch serial floor mark rows passed, others) pulled held h =
       let a = bind_some (Events.below plan y) _ m' h in
@@ -327,7 +328,7 @@ module _ (plan : Shape) (m m' : Moment) (lawful : IsLawful plan m) where
           (admits_less plan m m' floors)
 
   -- ---- a closing ends
-  pub end-carries : (q : Held × List Held) → IsReordered m.held (q.0 ∷ q.1) → IsHeld plan m q.0 → Events.after_end m q.0 q.1 ≡ Some m' → Carries plan m m' Nothing
+  pub end-carries : (q : Held × List Held) → IsReordered m.held (q.0 ∷ q.1) → IsHeld plan m q.0 → MomentSteps.after_end m q.0 q.1 ≡ Some m' → Carries plan m m' Nothing
   end-carries (Work k l epoch floor number records delivered, others) pulled held h = cc
   end-carries (Close y l epoch serial floor mark rows passed, others) pulled held h =
       let a = bind_some (Moments.lane_at m (record { node = y; lane = l })) _ m' h in
@@ -375,7 +376,7 @@ module _ (plan : Shape) (m m' : Moment) (lawful : IsLawful plan m) where
           (admits plan m m' (λ e. ap (λ x. floor_at x e) (sym made) ∙ floor-set m y l p.0 (Moments.set_lane l (shorter lane) p.0) lane (shorter lane) p.1 p.2 refl refl e))
 
   -- ---- a ParDo's Work is delivered, into an epoch that is not sealed below
-  pub work-carries : (q : Held × List Held) → IsReordered m.held (q.0 ∷ q.1) → IsHeld plan m q.0 → Events.deliver_work plan m q.0 q.1 ≡ Some m'
+  pub work-carries : (q : Held × List Held) → IsReordered m.held (q.0 ∷ q.1) → IsHeld plan m q.0 → MomentSteps.deliver_work plan m q.0 q.1 ≡ Some m'
       → ((y l epoch floor number : ℕ) (records : List Record) (s : Step) → q.0 ≡ Work y l epoch floor number records false → slice_get plan.steps y ≡ Some s → is_pardo (operator_at (slice_get plan.steps y)) ≡ true → epoch_at m s.down ≤ epoch) → CarriesFrom plan m m' q.0
   work-carries (Close k l epoch serial floor mark rows passed, others) pulled held h sealed = cc
   work-carries (Work y l epoch floor number records delivered, others) pulled held h sealed =
@@ -387,13 +388,13 @@ module _ (plan : Shape) (m m' : Moment) (lawful : IsLawful plan m) where
       (a.0, a.1, by_operator o refl a.0 b.0 b.1 b.2 (not-true delivered t.0) t.1 c.1)
     where
       by_operator : (o : Operator) → operator_at (slice_get plan.steps y) ≡ o → (d : Down) (s : Step) → slice_get plan.steps y ≡ Some s → s.down ≡ d → delivered ≡ false → not (Choices.is_empty (Closings.delivery o records)) ≡ true
-          → Events.arrived_at d epoch floor (Closings.delivery (operator_at (slice_get plan.steps y)) records) (Moments.with_held (others ++ Work y l epoch floor number records true ∷ []) m) ≡ Some m' → Carries plan m m' (Given y d (Closings.delivery (operator_at (slice_get plan.steps y)) records))
+          → MomentSteps.arrived_at d epoch floor (Closings.delivery (operator_at (slice_get plan.steps y)) records) (Moments.with_held (others ++ Work y l epoch floor number records true ∷ []) m) ≡ Some m' → Carries plan m m' (Given y d (Closings.delivery (operator_at (slice_get plan.steps y)) records))
       by_operator (Windowed g) e d s is down f some h = cc
       by_operator Sink e d s is down f some h = cc
       by_operator (ParDo op) e d s is down f some h =
           let images = flat_map (outputs_of op) records in
           let held' = others ++ Work y l epoch floor number records true ∷ [] in
-          let p = arrived d epoch floor images held' (ap (λ o. Events.arrived_at d epoch floor (Closings.delivery o records) (Moments.with_held held' m)) (sym e) ∙ h) in
+          let p = arrived d epoch floor images held' (ap (λ o. MomentSteps.arrived_at d epoch floor (Closings.delivery o records) (Moments.with_held held' m)) (sym e) ∙ h) in
           let at : Moments.lane_at m d ≡ Some p.1 = place d p.0 p.1 p.2 p.3 in
           let fresh : epoch_at m s.down ≤ epoch = sealed y l epoch floor number records s (ap (Work y l epoch floor number records) f) is (ap is_pardo e) in
           let next : epoch_at m s.down ≡ Lanes.next_epoch p.1 = ap (epoch_at m) down ∙ ap epoch_of at in

@@ -15,7 +15,7 @@ use Rattle.sb_core.specs.declared.moment.CoreLane.{CoreLane}
 use Rattle.sb_record.specs.Reading.{◌>>=◌}
 use Rattle.sb_core.specs.Moments.{lane_at, with_held}
 use Rattle.sb_core.specs.Lanes.{take_from}
-use Rattle.sb_core.specs.Events.{after_take}
+use Rattle.sb_core.specs.MomentSteps.{after_take}
 use Rattle.sb_core.specs.Marks.{last_of_first, first_is_closing}
 use Rattle.sb_core.specs.Choices.{pulled}
 use Rattle.sb_core.specs.Exactness.{waiting_in, working, undelivered, gives}

@@ -23,7 +23,7 @@ use Rattle.sb_record.specs.Reading.{◌>>=◌}
 use Rattle.sb_core.specs.Marks.{first_is_closing}
 use Rattle.sb_core.specs.Choices.{pulled}
 use Rattle.sb_core.specs.Lanes.{take_from}
-use Rattle.sb_core.specs.Events.{after_take}
+use Rattle.sb_core.specs.MomentSteps.{after_take}
 use Rattle.sb_core.specs.Moments.{is_close, is_close_of, lane_at, set_lane, set_node, with_held}
 use Rattle.sb_core.specs.LaneOrder.{IsWithin, IsBundleOf, AreOpen, AreContainers, IsLane, IsReady, cont_at}
 use Rattle.sb_core.specs.Bounds.{bound_at}

@@ -16,57 +16,22 @@ use Rattle.sb_pipeline.specs.Operators.{Operator, operator_at}
 use Rattle.sb_pipeline.specs.Operators.Operator.{ParDo, Windowed, Sink}
 use Rattle.sb_core.specs.declared.moment.Moment.{Moment}
 use Rattle.sb_core.specs.declared.moment.Node.{Node}
-use Rattle.sb_core.specs.declared.held.Held.{Held}
-use Rattle.sb_core.specs.declared.held.Held.TheVariants.{Work, Close}
 use Rattle.sb_core.specs.declared.event.Event.TheVariants.{Arrive, Seal, Take, Deliver, Finish, Begin, Pass, End}
 use Rattle.sb_core.specs.Bounds.{bound_at}
 use Rattle.sb_core.specs.Closings.{collected, is_sink}
-use Rattle.sb_core.specs.Events.{below}
 use Rattle.sb_core.specs.Lanes.{take_from, closable, with_first_closing}
 use Rattle.sb_core.specs.Laws.{written_to}
 use Rattle.sb_core.specs.Marks.{closed}
 use Rattle.sb_core.specs.Moments.{node_at, no_node, set_lane}
 use Rattle.sb_core.specs.NewRows.{AreUnwritten, NewRowsAreLater, HeldAddNoRows}
-use Rattle.sb_core.specs.Parts.{Part, put_in}
+use Rattle.sb_core.specs.Parts.{Part}
 use Rattle.sb_core.specs.Soundness.{IsSound, AreKeptAt}
 use Rattle.sb_core.proofs.places.BeginParts.{sink-last}
 use Rattle.sb_core.proofs.containers.Lists.{cond_is_some}
-
-put_rows : (node : Node) (l epoch floor : ℕ) (records : List Record) (held : List Held) (p : Part) → put_in l epoch floor records held node ≡ Some p → p.rows ≡ []
-put_rows node l epoch floor records held p h =
-    let b = bind_some (slice_get node.lanes l) _ p h in
-    let c = cond_is_some _ _ p b.2 in
-    ap (λ (p : Part). p.rows) (sym (same_Some _ p c.1))
+use Rattle.sb_core.proofs.parts.ByParts.{held-leaves, put_leaves}
 
 pub held-add_no_rows : HeldAddNoRows
-held-add_no_rows plan bundle (Arrive stream records) held node p h = cc
-held-add_no_rows plan bundle (Seal stream mark) held node p h = cc
-held-add_no_rows plan bundle (Take k l number) held node p h = cc
-held-add_no_rows plan bundle (Begin k l) held node p h = cc
-held-add_no_rows plan bundle (Deliver k i n) (Close y l epoch serial floor mark rows passed) node p h =
-    let b = bind_some (below plan y) _ p h in
-    let c = cond_is_some _ _ p b.2 in
-    put_rows node b.0.lane serial floor _ _ p c.1
-held-add_no_rows plan bundle (Deliver k i n) (Work y l epoch floor number records delivered) node p h =
-    let b = bind_some (below plan y) _ p h in
-    let c = cond_is_some _ _ p b.2 in
-    put_rows node b.0.lane epoch floor _ _ p c.1
-held-add_no_rows plan bundle (Finish k i n) (Close y l epoch serial floor mark rows passed) node p h = cc
-held-add_no_rows plan bundle (Finish k i n) (Work y l epoch floor number records delivered) node p h =
-    let b = bind_some (slice_get node.lanes l) _ p h in
-    let c = cond_is_some _ _ p b.2 in
-    ap (λ (p : Part). p.rows) (sym (same_Some _ p c.1))
-held-add_no_rows plan bundle (Pass k) (Work y l epoch floor number records delivered) node p h = cc
-held-add_no_rows plan bundle (Pass k) (Close y l epoch serial floor mark rows passed) node p h =
-    let b = bind_some (below plan y) _ p h in
-    let c = bind_some (slice_get node.lanes b.0.lane) _ p b.2 in
-    let d = cond_is_some _ _ p c.2 in
-    ap (λ (p : Part). p.rows) (sym (same_Some _ p d.1))
-held-add_no_rows plan bundle (End k) (Work y l epoch floor number records delivered) node p h = cc
-held-add_no_rows plan bundle (End k) (Close y l epoch serial floor mark rows passed) node p h =
-    let b = bind_some (slice_get node.lanes l) _ p h in
-    let c = cond_is_some _ _ p b.2 in
-    ap (λ (p : Part). p.rows) (sym (same_Some _ p c.1))
+held-add_no_rows plan bundle event held node p h = (held-leaves plan bundle event held node p h).1
 
 -- what the sink collects of what it keeps
 collected-from : (low mark : ℕ) (es : List KeptRec) → AllByRecursion (λ e. low ≤ e.rec.time) es → AllByRecursion (λ r. low ≤ r.time) (collected Sink mark es)
@@ -109,7 +74,7 @@ new-rows_are_later plan m (Arrive stream records) k node p sound named there h =
     let b = bind_some (source plan stream) _ p h in
     let c = bind_some (slice_get node.lanes b.0.lane) _ p b.2 in
     let d = cond_is_some _ _ p c.2 in
-    none plan m sound p.rows (put_rows node b.0.lane _ _ records [] p d.1)
+    none plan m sound p.rows (put_leaves node b.0.lane _ _ records [] p d.1).1
 new-rows_are_later plan m (Seal stream mark) k node p sound named there h =
     let b = bind_some (source plan stream) _ p h in
     let c = bind_some (slice_get node.lanes b.0.lane) _ p b.2 in

@@ -25,7 +25,7 @@ use Rattle.sb_core.specs.Bounds.{bound_at}
 use Rattle.sb_core.specs.Choices.{is_empty, only_if}
 use Rattle.sb_core.specs.Beginnings.{IsBeginningOf}
 use Rattle.sb_core.specs.Closings.{collected, is_sink, kept_at, rows_at}
-use Rattle.sb_core.specs.Events.{after_begin}
+use Rattle.sb_core.specs.MomentSteps.{after_begin}
 use Rattle.sb_core.specs.Finding.{IsFirst}
 use Rattle.sb_core.specs.Lanes.{closable, with_first_closing}
 use Rattle.sb_core.specs.Marks.{begun, closed}

@@ -14,7 +14,7 @@ use Rattle.sb_core.specs.declared.held.Held.TheVariants.{Work}
 use Rattle.sb_core.specs.Choices.{pulled, is_empty}
 use Rattle.sb_core.specs.Closings.{delivery, absorbed}
 use Rattle.sb_core.specs.Finding.{IsWorkAt}
-use Rattle.sb_core.specs.HeldSteps.{bundle_finished}
+use Rattle.sb_core.specs.MomentSteps.{bundle_finished}
 use Rattle.sb_core.specs.Holdings.{IsHeld}
 use Rattle.sb_core.specs.Lanes.{finish_in}
 use Rattle.sb_core.specs.Moments.{lane_at, set_lane, set_node, with_held, is_work}

@@ -13,7 +13,7 @@ use Rattle.sb_core.specs.declared.held.Held.{Held}
 use Rattle.sb_core.specs.declared.held.Held.TheVariants.{Work, Close}
 use Rattle.sb_core.specs.Choices.{pulled}
 use Rattle.sb_core.specs.Finding.{IsCloseAt, IsCloseOfAt, IsFirst}
-use Rattle.sb_core.specs.HeldSteps.{closing_ended}
+use Rattle.sb_core.specs.MomentSteps.{closing_ended}
 use Rattle.sb_core.specs.Holdings.{IsHeld}
 use Rattle.sb_core.specs.Moments.{lane_at, set_lane, set_node, with_lane, with_held, is_work, is_close, is_close_of}
 use Rattle.sb_core.specs.Soundness.{IsSound}

@@ -13,7 +13,7 @@ use Rattle.sb_core.specs.declared.moment.Node.{Node}
 use Rattle.sb_core.specs.declared.moment.Moment.{Moment}
 use Rattle.sb_core.specs.declared.held.Held.{Held}
 use Rattle.sb_core.specs.declared.held.Held.TheVariants.{Work}
-use Rattle.sb_core.specs.Events.{arrived_at, after_take}
+use Rattle.sb_core.specs.MomentSteps.{arrived_at, after_take}
 use Rattle.sb_core.specs.LaneSteps.{TakesOut}
 use Rattle.sb_core.specs.Lanes.{take_from, with_arrival}
 use Rattle.sb_core.specs.Moments.{lane_at, set_lane, set_node, with_lane, with_held}

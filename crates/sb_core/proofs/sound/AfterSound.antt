@@ -2,9 +2,10 @@
 use Rattle.sb_record.proofs.Numbers.{bind_some}
 use Rattle.sb_core.specs.Choices
 use Rattle.sb_core.specs.Events
+use Rattle.sb_core.specs.MomentSteps
 use Rattle.sb_core.specs.Moments
 use Rattle.sb_core.proofs.sound.Orderly.{lawful_of, tidy_of}
-use Rattle.std.proofs.Common.{◌≡◌, Bool, true, false, cond, eqb, List, [], ◌∷◌, Some, Option, subst}
+use Rattle.std.proofs.Common.{◌≡◌, Bool, true, false, cond, eqb, List, [], ◌∷◌, Some, Option, sym, subst, ◌∙◌}
 use Rattle.std.proofs.lemmas.Option.{same_Some}
 use Rattle.sb_record.specs.declared.item.Record.{Record}
 use Rattle.sb_record.specs.declared.item.Stream.{Stream}
@@ -21,44 +22,45 @@ use Rattle.sb_core.specs.Laws.{EventsKeepSound, fed_after, fed_by}
 use Rattle.sb_core.proofs.containers.Lists.{IsReordered-pulled}
 use Rattle.sb_core.proofs.containers.LaneLaws.{All-pulled}
 use Rattle.sb_core.proofs.exact.AfterExact.{events-keep_exact}
+use Rattle.sb_core.proofs.parts.MadeSteps.{after-made}
 use Rattle.sb_core.proofs.sound.PutSound.{arrive-sound, rows-sound, work-sound}
 use Rattle.sb_core.proofs.sound.SealSound.{seal-sound, pass-sound}
 use Rattle.sb_core.proofs.sound.EndSound.{take-sound, finish-sound, end-sound}
 use Rattle.sb_core.proofs.sound.BeginSound.{begins-sound}
 
-pub event-sound : (plan : Shape) → IsPlan plan → (m later : Moment) (event : Event) → Events.after plan m event ≡ Some later → IsSound plan m → IsSound plan later
-event-sound plan is_plan m later (Arrive stream records) h sound = arrive-sound plan is_plan m later stream records h sound
-event-sound plan is_plan m later (Seal stream mark) h sound = seal-sound plan is_plan m later stream mark h sound
-event-sound plan is_plan m later (Take node lane number) h sound = take-sound plan is_plan m later (record { node = node; lane = lane }) number h sound
-event-sound plan is_plan m later (Deliver node lane number) h sound = by_case (eqb number 0) h
+made-sound : (plan : Shape) → IsPlan plan → (m later : Moment) (event : Event) → MomentSteps.made plan m event ≡ Some later → IsSound plan m → IsSound plan later
+made-sound plan is_plan m later (Arrive stream records) h sound = arrive-sound plan is_plan m later stream records h sound
+made-sound plan is_plan m later (Seal stream mark) h sound = seal-sound plan is_plan m later stream mark h sound
+made-sound plan is_plan m later (Take node lane number) h sound = take-sound plan is_plan m later (record { node = node; lane = lane }) number h sound
+made-sound plan is_plan m later (Deliver node lane number) h sound = by_case (eqb number 0) h
   where
-    rows : Choices.pulled (Moments.is_close_of node lane) m.held >>= (λ q. Events.deliver_rows plan m q.0 q.1) ≡ Some later → IsSound plan later
+    rows : Choices.pulled (Moments.is_close_of node lane) m.held >>= (λ q. MomentSteps.deliver_rows plan m q.0 q.1) ≡ Some later → IsSound plan later
     rows h =
-        let a = bind_some (Choices.pulled (Moments.is_close_of node lane) m.held) (λ q. Events.deliver_rows plan m q.0 q.1) later h in
+        let a = bind_some (Choices.pulled (Moments.is_close_of node lane) m.held) (λ q. MomentSteps.deliver_rows plan m q.0 q.1) later h in
         rows-sound plan is_plan m later sound a.0 (IsReordered-pulled (Moments.is_close_of node lane) m.held a.0 a.1) (All-pulled (IsHeld plan m) (Moments.is_close_of node lane) m.held a.0 a.1 (lawful_of sound).holds) (All-pulled (IsCloseOf plan m) (Moments.is_close_of node lane) m.held a.0 a.1 (tidy_of sound).closes) a.2
 
-    work : Choices.pulled (Moments.is_work node lane number) m.held >>= (λ q. Events.deliver_work plan m q.0 q.1) ≡ Some later → IsSound plan later
+    work : Choices.pulled (Moments.is_work node lane number) m.held >>= (λ q. MomentSteps.deliver_work plan m q.0 q.1) ≡ Some later → IsSound plan later
     work h =
-        let a = bind_some (Choices.pulled (Moments.is_work node lane number) m.held) (λ q. Events.deliver_work plan m q.0 q.1) later h in
+        let a = bind_some (Choices.pulled (Moments.is_work node lane number) m.held) (λ q. MomentSteps.deliver_work plan m q.0 q.1) later h in
         work-sound plan is_plan m later sound a.0 (IsReordered-pulled (Moments.is_work node lane number) m.held a.0 a.1) (All-pulled (IsHeld plan m) (Moments.is_work node lane number) m.held a.0 a.1 (lawful_of sound).holds) (All-pulled (IsCloseOf plan m) (Moments.is_work node lane number) m.held a.0 a.1 (tidy_of sound).closes) a.2
 
-    by_case : (b : Bool) → cond {A = Option Moment} b (Choices.pulled (Moments.is_close_of node lane) m.held >>= λ q. Events.deliver_rows plan m q.0 q.1) (Choices.pulled (Moments.is_work node lane number) m.held >>= λ q. Events.deliver_work plan m q.0 q.1) ≡ Some later → IsSound plan later
+    by_case : (b : Bool) → cond {A = Option Moment} b (Choices.pulled (Moments.is_close_of node lane) m.held >>= λ q. MomentSteps.deliver_rows plan m q.0 q.1) (Choices.pulled (Moments.is_work node lane number) m.held >>= λ q. MomentSteps.deliver_work plan m q.0 q.1) ≡ Some later → IsSound plan later
     by_case true h = rows h
     by_case false h = work h
-event-sound plan is_plan m later (Finish node lane number) h sound =
-    let a = bind_some (Choices.pulled (Moments.is_work node lane number) m.held) (λ q. Events.after_finish plan m q.0 q.1) later h in
+made-sound plan is_plan m later (Finish node lane number) h sound =
+    let a = bind_some (Choices.pulled (Moments.is_work node lane number) m.held) (λ q. MomentSteps.after_finish plan m q.0 q.1) later h in
     finish-sound plan is_plan m later sound a.0 (IsReordered-pulled (Moments.is_work node lane number) m.held a.0 a.1) (All-pulled (IsHeld plan m) (Moments.is_work node lane number) m.held a.0 a.1 (lawful_of sound).holds) (All-pulled (IsCloseOf plan m) (Moments.is_work node lane number) m.held a.0 a.1 (tidy_of sound).closes) a.2
-event-sound plan is_plan m later (Begin node lane) h sound = begins-sound plan is_plan m later node lane h sound
-event-sound plan is_plan m later (Pass node) h sound =
-    let a = bind_some (Choices.pulled (Moments.is_close node) m.held) (λ q. Events.after_pass plan m q.0 q.1) later h in
+made-sound plan is_plan m later (Begin node lane) h sound = begins-sound plan is_plan m later node lane h sound
+made-sound plan is_plan m later (Pass node) h sound =
+    let a = bind_some (Choices.pulled (Moments.is_close node) m.held) (λ q. MomentSteps.after_pass plan m q.0 q.1) later h in
     pass-sound plan is_plan m later sound a.0 (IsReordered-pulled (Moments.is_close node) m.held a.0 a.1) (All-pulled (IsHeld plan m) (Moments.is_close node) m.held a.0 a.1 (lawful_of sound).holds) (All-pulled (IsCloseOf plan m) (Moments.is_close node) m.held a.0 a.1 (tidy_of sound).closes) a.2
-event-sound plan is_plan m later (End node) h sound =
-    let a = bind_some (Choices.pulled (Moments.is_close node) m.held) (λ q. Events.after_end m q.0 q.1) later h in
+made-sound plan is_plan m later (End node) h sound =
+    let a = bind_some (Choices.pulled (Moments.is_close node) m.held) (λ q. MomentSteps.after_end m q.0 q.1) later h in
     end-sound plan is_plan m later sound a.0 (IsReordered-pulled (Moments.is_close node) m.held a.0 a.1) (All-pulled (IsHeld plan m) (Moments.is_close node) m.held a.0 a.1 (lawful_of sound).holds) (All-pulled (IsCloseOf plan m) (Moments.is_close node) m.held a.0 a.1 (tidy_of sound).closes) a.2
 
 pub events-keep_sound : EventsKeepSound
 events-keep_sound plan is_plan m later event h sound =
-    let then = event-sound plan is_plan m later event h sound in (then, λ fed exact. events-keep_exact plan is_plan m later fed event h (lawful_of sound) (lawful_of then) exact)
+    let then = made-sound plan is_plan m later event (sym (after-made plan m (lawful_of sound) event) ∙ h) sound in (then, λ fed exact. events-keep_exact plan is_plan m later fed event h (lawful_of sound) (lawful_of then) exact)
 
 -- ---- a list of events
 pub runs-keep : (plan : Shape) → IsPlan plan → (events : List Event) (m later : Moment) (fed : Stream → List Record) → Events.run plan events m ≡ Some later → IsSound plan m → IsExact plan m fed → IsSound plan later × IsExact plan later (fed_by events fed)

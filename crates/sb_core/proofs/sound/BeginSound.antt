@@ -35,7 +35,7 @@ use Rattle.sb_core.specs.Marks.{before_closing, first_is_closing, last_of_first,
 use Rattle.sb_core.specs.Moments.{is_close, is_work, lane_at, node_at}
 use Rattle.sb_core.specs.Lanes.{closable, next_epoch, with_first_closing}
 use Rattle.sb_core.specs.Closings.{is_sink, kept_at, rows_at, collected, is_pardo}
-use Rattle.sb_core.specs.Events.{after_begin}
+use Rattle.sb_core.specs.MomentSteps.{after_begin}
 use Rattle.sb_core.specs.Bounds.{bound_at}
 use Rattle.sb_core.specs.Holdings.{is_unpassed, IsCloseOf}
 use Rattle.sb_core.specs.Soundness.{out_of, numbers_of, Begins, IsOpenBelow, AreKeptAt, IsSound}

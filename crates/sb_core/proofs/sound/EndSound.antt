@@ -33,7 +33,7 @@ use Rattle.sb_core.specs.Marks.{before_closing, begun, closed, last_of_first, fi
 use Rattle.sb_core.specs.Moments.{is_work, is_close, lane_at, set_lane, set_node, with_held, node_at, epoch_of}
 use Rattle.sb_core.specs.Closings.{absorbed, is_pardo}
 use Rattle.sb_core.specs.Lanes.{finish_in, next_epoch, take_from}
-use Rattle.sb_core.specs.Events.{after_take, after_finish, after_end}
+use Rattle.sb_core.specs.MomentSteps.{after_take, after_finish, after_end}
 use Rattle.sb_core.specs.LaneOrder.{IsWithin, IsLane, IsReady, AreContainers}
 use Rattle.sb_core.specs.Soundness.{IsOpenAtSource}
 use Rattle.sb_core.specs.Bounds.{bound_at}

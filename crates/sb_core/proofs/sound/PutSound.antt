@@ -35,7 +35,8 @@ use Rattle.sb_core.specs.Closings.{is_sink, delivery, is_pardo}
 use Rattle.sb_core.specs.Choices.{is_empty}
 use Rattle.sb_core.specs.Lanes.{next_epoch, next_floor, with_arrival}
 use Rattle.sb_record.specs.declared.item.TheConstants.{MAX_TIME}
-use Rattle.sb_core.specs.Events.{arrived_at, below, deliver_rows, deliver_work, after_arrive}
+use Rattle.sb_core.specs.Events.{below}
+use Rattle.sb_core.specs.MomentSteps.{arrived_at, deliver_rows, deliver_work, after_arrive}
 use Rattle.sb_core.specs.LaneOrder.{IsWithin, IsLane}
 use Rattle.sb_core.proofs.containers.Fitting.{Fits}
 use Rattle.sb_record.specs.Records.{record_cmp}

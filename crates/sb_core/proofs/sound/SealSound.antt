@@ -27,7 +27,8 @@ use Rattle.sb_core.specs.Marks.{begun, last_of_first}
 use Rattle.sb_core.specs.Moments.{is_work, lane_at, set_lane, set_node, with_held, node_at, floor_of, floor_at, epoch_of, epoch_at}
 use Rattle.sb_core.specs.Choices.{is_empty}
 use Rattle.sb_core.specs.Lanes.{next_epoch, next_floor, with_seal}
-use Rattle.sb_core.specs.Events.{below, after_seal, after_pass}
+use Rattle.sb_core.specs.Events.{below}
+use Rattle.sb_core.specs.MomentSteps.{after_seal, after_pass}
 use Rattle.sb_record.specs.declared.item.TheConstants.{END_MARK}
 use Rattle.sb_core.specs.LaneOrder.{IsLane}
 use Rattle.sb_core.specs.Bounds.{bound_at}

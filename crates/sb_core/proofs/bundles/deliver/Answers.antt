@@ -8,7 +8,7 @@ use Rattle.sb_core.specs.declared.held.Held.{Held}
 use Rattle.sb_core.specs.declared.held.Held.TheVariants.{Work}
 use Rattle.sb_core.specs.Choices.{is_empty}
 use Rattle.sb_core.specs.Closings.{delivery}
-use Rattle.sb_core.specs.Events.{arrived_at}
+use Rattle.sb_core.specs.MomentSteps.{arrived_at}
 use Rattle.sb_core.specs.Moments.{with_held}
 use Rattle.sb_core.proofs.places.Finished.{found-in}
 use Rattle.sb_core.proofs.places.Carried.{below-down, empty-by_length, arrived-held, held-after, held-delivered, work-is}

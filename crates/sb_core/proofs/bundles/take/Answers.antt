@@ -4,7 +4,7 @@ use Rattle.sb_core.specs.declared.moment.Node.{Node}
 use Rattle.sb_core.specs.declared.held.Held.TheVariants.{Work}
 use Rattle.std.specs.List.{slice_get, slice_set}
 use Rattle.sb_core.specs.LaneSteps.{TakesOut}
-use Rattle.sb_core.specs.Events.{after_take}
+use Rattle.sb_core.specs.MomentSteps.{after_take}
 use Rattle.sb_core.specs.Moments.{lane_at, set_node, set_lane, with_held}
 use Rattle.sb_core.proofs.places.Becoming.{becomes-memory}
 use Rattle.sb_core.proofs.places.InPlace.{then_some, then_none, place, read-there, read-none, node-written, node-same, lane-same, take-done, take-none}
