@@ -65,11 +65,7 @@ module _ (files : Files) (name : List ℕ) where
   transform-fewer keys kind.Map table k h = inl h
   transform-fewer keys kind.Expand table k h = inl h
   transform-fewer keys kind.Lookup table k h = lookup-fewer keys table k h
-  transform-fewer keys kind.Count table k h = inl h
-  transform-fewer keys kind.Sum table k h = inl h
-  transform-fewer keys kind.Min table k h = inl h
-  transform-fewer keys kind.Max table k h = inl h
-  transform-fewer keys kind.Distinct table k h = inl h
+  transform-fewer keys (kind.Group agg) table k h = inl h
   transform-fewer keys kind.Top table k h = inl h
   transform-fewer keys kind.Session table k h = inl h
   transform-fewer keys kind.Join table k h = inl h

@@ -4,6 +4,7 @@ pub mod AllKeys
 pub mod Blaming
 pub mod Counting
 pub mod Passed
+pub mod Naming
 pub mod Absent
 pub mod Sending
 pub mod Sent

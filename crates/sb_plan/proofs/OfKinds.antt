@@ -1,6 +1,6 @@
 -- What a table says of its transform may be in a plan.
 use Rattle.std.proofs.Common.{◌≡◌, ◌≤◌, ◌+◌, ℕ, ℤ, pos, negsuc, Bool, true, false, cond, List, [], ◌∷◌, length, Option, Some, None, IfOk, Result, Ok, Err, refl, sym, subst, arith, rules}
-use Rattle.std.specs.Prelude.{codes, bytes_eq, is_some, ◌&&◌, ◌||◌, ◌==◌, ◌%◌, ◌/◌, not, nat_lt, nat_le}
+use Rattle.std.specs.Prelude.{is_some, ◌&&◌, ◌||◌, ◌==◌, ◌%◌, ◌/◌, not, nat_lt, nat_le}
 use Rattle.std.specs.FinMap.{FinMap, empty, get, insert}
 use Rattle.std.proofs.lemmas.Bool.{and_parts, leb-true}
 use Rattle.std.proofs.lemmas.Option.{cond_some}
@@ -37,7 +37,7 @@ use Rattle.sb_pardo.specs.Validity.{IsValidChange}
 use Rattle.sb_pardo.specs.Tables.{HasKeyImages}
 use Rattle.sb_aggregate.specs.Aggregates as aggregate
 use Rattle.sb_aggregate.specs.declared.aggregate.Agg.{Agg}
-use Rattle.sb_aggregate.specs.declared.aggregate.Agg.TheVariants.{Count, Sum, Min, Max, Distinct, Top}
+use Rattle.sb_aggregate.specs.declared.aggregate.Agg.TheVariants.{Top}
 use Rattle.sb_pipeline.specs.declared.transform.Kind.{Kind}
 use Rattle.sb_aggregate.specs.declared.session.TheConstants.{MAX_GAP}
 use Rattle.sb_aggregate.specs.Aggregates.{GivesOne}
@@ -51,12 +51,13 @@ use Rattle.sb_plan.specs.declared.words.ChangeName.{ChangeName}
 use Rattle.sb_plan.specs.declared.words.ChangeName.TheVariants as change_name
 use Rattle.sb_plan.specs.Failures.{Failure, by_text, in_file, in_place_of}
 use Rattle.sb_plan.specs.Keys.{key_text, typed_at, word_at, number_at, number_between}
-use Rattle.sb_plan.specs.Words.{change_by, change_named, combine_named, give_named, field_named, test_named}
+use Rattle.sb_plan.specs.Words.{change_by, change_named, combine_named, aggregate_named, field_named, test_named, IsNamed}
 use Rattle.sb_plan.specs.Kinds.{file_name, as_integers, filter_at, map_at, expand_at, windows_every, windows_at, group_at, top_at, session_at, join_at, lookup_in, lookup_at, transform_at}
 use Rattle.sb_plan.specs.declared.stop.Stop.{Stop}
 use Rattle.sb_plan.specs.Answers.{AnswersTests}
 use Rattle.sb_plan.specs.Soundness.{IsOfKind, names_join}
-use Rattle.sb_plan.proofs.Passed.{found, of_text, passed, passed_if, passed_text, passed_unless}
+use Rattle.sb_plan.proofs.Naming.{gives-one}
+use Rattle.sb_plan.proofs.Passed.{found, of_text, passed, passed_if, passed_text, passed_unless, some-is}
 
 -- a file that gives anything is there
 is_there : {A E : Type 0} (read : List ℕ → Result A (Failure E)) (file : Option (List ℕ)) (a : A) → in_file read file ≡ Ok a → (bytes : List ℕ) × (read bytes ≡ Ok a)
@@ -151,12 +152,15 @@ windows-valid table w h =
     let range = numbers 1 MAX_SIZE key.Size table size.0 size.1 in
     every-valid size.0 table w range.0 range.1 size.2
 
-pub group-valid : (agg : Agg) (name : KindName) (table : Members) (t : Kind) → aggregate.IsValid agg → names_join name ≡ false → group_at agg table ≡ Ok t → IsOfKind name t
+valid-one : (agg : Agg) → GivesOne agg → aggregate.IsValid agg
+valid-one agg one = search rules
+
+pub group-valid : (agg : Agg) (table : Members) (t : Kind) → GivesOne agg → group_at agg table ≡ Ok t → IsOfKind (kind.Group agg) t
 unfolding group_at
-group-valid agg name table t valid single h =
+group-valid agg table t one h =
     let windows = passed (windows_at table) _ t h in
     let same : Group agg windows.0 ≡ t = cc in
-    subst (IsOfKind name) same ((valid, windows-valid table windows.0 windows.1), sym single)
+    subst (IsOfKind (kind.Group agg)) same ((valid-one agg one, windows-valid table windows.0 windows.1), refl)
 
 pub top-valid : (table : Members) (t : Kind) → top_at table ≡ Ok t → IsOfKind kind.Top t
 unfolding top_at
@@ -166,27 +170,18 @@ top-valid table t h =
     let same : Group (Top keep.0) windows.0 ≡ t = cc in
     subst (IsOfKind kind.Top) same ((numbers 1 MAX_TOP key.Keep table keep.0 keep.1, windows-valid table windows.0 windows.1), refl)
 
--- what a session may give is one value
-gives-one : (text : List ℕ) (agg : Agg) → give_named text ≡ Some agg → GivesOne agg
-unfolding give_named
-gives-one text agg h =
-    by_case (bytes_eq text (codes "count")) Count _ (λ h. by_case (bytes_eq text (codes "sum")) Sum _ (λ h. by_case (bytes_eq text (codes "min")) Min _ (λ h. by_case (bytes_eq text (codes "max")) Max _ (λ h. by_case (bytes_eq text (codes "distinct")) Distinct None (λ h. cc) tt h) tt h) tt h) tt h) tt h
-  where
-    by_case : (b : Bool) (one : Agg) (more : Option Agg) → (more ≡ Some agg → GivesOne agg) → GivesOne one → cond b (Some one) more ≡ Some agg → GivesOne agg
-    by_case true one more rest valid h = let same : one ≡ agg = cc in subst GivesOne same valid
-    by_case false one more rest valid h = rest h
-
-word-gives_one : (table : Members) (agg : Agg) → word_at give_named key.Give table ≡ Ok agg → GivesOne agg
+-- what a session gives is one value
+word-gives_one : (table : Members) (agg : Agg) → word_at aggregate_named key.Give table ≡ Ok agg → GivesOne agg
 unfolding word_at
 word-gives_one table agg h =
     let text = passed (typed_at as_str key.Give table) _ agg h in
-    gives-one text.0 agg (found _ (give_named text.0) agg text.2)
+    some-is GivesOne (aggregate_named text.0) agg (found _ (aggregate_named text.0) agg text.2) (gives-one text.0)
 
 pub session-valid : (table : Members) (t : Kind) → session_at table ≡ Ok t → IsOfKind kind.Session t
 unfolding session_at
 session-valid table t h =
     let gap = passed (number_at 1 MAX_GAP key.Gap table) _ t h in
-    let agg = passed (word_at give_named key.Give table) _ t gap.2 in
+    let agg = passed (word_at aggregate_named key.Give table) _ t gap.2 in
     let same : Session agg.0 gap.0 ≡ t = cc in
     subst (IsOfKind kind.Session) same ((word-gives_one table agg.0 agg.1, numbers 1 MAX_GAP key.Gap table gap.0 gap.1), refl)
 
@@ -246,20 +241,16 @@ lookup_file-valid files keys table t h =
     lookup-valid keys file.0 t (of_text (lookup_in keys file.0) t file.1)
 
 -- the transform of a kind
-pub transform-valid : (files : Files) (keys : Keys) (name : KindName) (table : Members) (t : Kind) → transform_at files keys name table ≡ Ok t → IsOfKind name t
+pub transform-valid : (files : Files) (keys : Keys) (name : KindName) (table : Members) (t : Kind) → IsNamed name → transform_at files keys name table ≡ Ok t → IsOfKind name t
 unfolding transform_at
-transform-valid files keys kind.Filter table t h = filter-valid keys table t (of_text (filter_at keys table) t h)
-transform-valid files keys kind.Map table t h = map-valid keys table t (of_text (map_at keys table) t h)
-transform-valid files keys kind.Expand table t h = expand-valid table t (of_text (expand_at table) t h)
-transform-valid files keys kind.Lookup table t h = lookup_file-valid files keys table t h
-transform-valid files keys kind.Count table t h = group-valid Count kind.Count table t tt refl (of_text (group_at Count table) t h)
-transform-valid files keys kind.Sum table t h = group-valid Sum kind.Sum table t tt refl (of_text (group_at Sum table) t h)
-transform-valid files keys kind.Min table t h = group-valid Min kind.Min table t tt refl (of_text (group_at Min table) t h)
-transform-valid files keys kind.Max table t h = group-valid Max kind.Max table t tt refl (of_text (group_at Max table) t h)
-transform-valid files keys kind.Distinct table t h = group-valid Distinct kind.Distinct table t tt refl (of_text (group_at Distinct table) t h)
-transform-valid files keys kind.Top table t h = top-valid table t (of_text (top_at table) t h)
-transform-valid files keys kind.Session table t h = session-valid table t (of_text (session_at table) t h)
-transform-valid files keys kind.Join table t h = join-valid table t (of_text (join_at table) t h)
+transform-valid files keys kind.Filter table t one h = filter-valid keys table t (of_text (filter_at keys table) t h)
+transform-valid files keys kind.Map table t one h = map-valid keys table t (of_text (map_at keys table) t h)
+transform-valid files keys kind.Expand table t one h = expand-valid table t (of_text (expand_at table) t h)
+transform-valid files keys kind.Lookup table t one h = lookup_file-valid files keys table t h
+transform-valid files keys (kind.Group agg) table t one h = group-valid agg table t one (of_text (group_at agg table) t h)
+transform-valid files keys kind.Top table t one h = top-valid table t (of_text (top_at table) t h)
+transform-valid files keys kind.Session table t one h = session-valid table t (of_text (session_at table) t h)
+transform-valid files keys kind.Join table t one h = join-valid table t (of_text (join_at table) t h)
 
 -- the same of answers that may want memory
 pub expanded-valid : (table : Members) (r : Result Kind Stop) → AnswersTests r (by_text (expand_at table)) → IfOk r (IsOfKind kind.Expand)

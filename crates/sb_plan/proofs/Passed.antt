@@ -1,5 +1,5 @@
 -- What tests that pass show, one after another.
-use Rattle.std.proofs.Common.{◌≡◌, Bool, true, false, cond, Option, Some, None, Result, Ok, Err, refl}
+use Rattle.std.proofs.Common.{◌≡◌, Bool, true, false, cond, Option, Some, None, IfSome, Result, Ok, Err, refl, subst}
 use Rattle.sb_pardo.specs.TableFiles.{then_test, or_fault}
 use Rattle.sb_plan.specs.Failures.{Failure, by_text}
 
@@ -29,3 +29,7 @@ passed_unless false e r b h = (refl, h)
 pub found : {A E : Type 0} (e : E) (o : Option A) (a : A) → or_fault e o ≡ Ok a → o ≡ Some a
 found e (Some x) a h = cc
 found e None a h = cc
+
+-- what holds of a value that may be there, where it is this one
+pub some-is : {A : Type 0} (P : A → Type 0) (o : Option A) (a : A) → o ≡ Some a → IfSome o P → P a
+some-is P o a is holds = subst (λ o. IfSome o P) is holds

@@ -33,6 +33,7 @@ use Rattle.sb_plan.specs.Entries.{all_keys, entry_at, is_key_of, kind_at, name_a
 use Rattle.sb_plan.specs.Wiring.{connected}
 use Rattle.sb_plan.specs.Soundness.{IsOfKind, IsSound, IsValidEntry, names_join}
 use Rattle.sb_plan.specs.PlanFiles.{at_place, document_of, element_wired, fault_at, finished, first_unused, is_document_key, item_count, plan_of, shape_of, transforms_of, unwired, used_by, wired_from}
+use Rattle.sb_plan.proofs.Naming.{kind_at-named}
 use Rattle.sb_plan.proofs.OfKinds.{transform-valid}
 use Rattle.sb_plan.proofs.Passed.{of_text, passed, passed_if, passed_text, passed_unless}
 use Rattle.sb_plan.proofs.Joined.{connected_sound}
@@ -55,11 +56,7 @@ right-valid kind.Filter table right h = let same : None ≡ right = cc in ap is_
 right-valid kind.Map table right h = let same : None ≡ right = cc in ap is_some (sym same)
 right-valid kind.Expand table right h = let same : None ≡ right = cc in ap is_some (sym same)
 right-valid kind.Lookup table right h = let same : None ≡ right = cc in ap is_some (sym same)
-right-valid kind.Count table right h = let same : None ≡ right = cc in ap is_some (sym same)
-right-valid kind.Sum table right h = let same : None ≡ right = cc in ap is_some (sym same)
-right-valid kind.Min table right h = let same : None ≡ right = cc in ap is_some (sym same)
-right-valid kind.Max table right h = let same : None ≡ right = cc in ap is_some (sym same)
-right-valid kind.Distinct table right h = let same : None ≡ right = cc in ap is_some (sym same)
+right-valid (kind.Group agg) table right h = let same : None ≡ right = cc in ap is_some (sym same)
 right-valid kind.Top table right h = let same : None ≡ right = cc in ap is_some (sym same)
 right-valid kind.Session table right h = let same : None ≡ right = cc in ap is_some (sym same)
 
@@ -72,7 +69,7 @@ entry-valid files keys parts table entry h =
     let left = passed_text (typed_at as_str key.From table) _ entry known.1 in
     let transform = passed (transform_at files keys kind_name.0 table) _ entry left.2 in
     let right = passed_text (right_at kind_name.0 table) _ entry transform.2 in
-    let of_kind : IsOfKind kind_name.0 transform.0 = transform-valid files keys kind_name.0 table transform.0 transform.1 in
+    let of_kind : IsOfKind kind_name.0 transform.0 = transform-valid files keys kind_name.0 table transform.0 (kind_at-named table kind_name.0 kind_name.1) transform.1 in
     let same : record { name = name.0; kind = transform.0; left = left.0; right = right.0 } ≡ entry = cc in
     subst IsValidEntry same (of_kind.0, right-valid kind_name.0 table right.0 right.1 ∙ sym of_kind.1)
 

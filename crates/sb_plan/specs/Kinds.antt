@@ -10,7 +10,7 @@ use Rattle.sb_pardo.specs.declared.operation.TheConstants.{MAX_ADDENDS}
 use Rattle.sb_pardo.specs.declared.operation.Op.TheVariants.{Filter, Map, Expand, Lookup}
 use Rattle.sb_pardo.specs.TableFiles.{then_test, or_fault, table_of}
 use Rattle.sb_aggregate.specs.declared.aggregate.Agg.{Agg}
-use Rattle.sb_aggregate.specs.declared.aggregate.Agg.TheVariants.{Count, Sum, Min, Max, Distinct, Top}
+use Rattle.sb_aggregate.specs.declared.aggregate.Agg.TheVariants.{Top}
 use Rattle.sb_aggregate.specs.declared.aggregate.TheConstants.{MAX_TOP}
 use Rattle.sb_pipeline.specs.declared.transform.Kind.{Kind}
 use Rattle.sb_aggregate.specs.declared.session.TheConstants.{MAX_GAP}
@@ -23,7 +23,7 @@ use Rattle.sb_plan.specs.declared.words.KindName.TheVariants as kind
 use Rattle.sb_plan.specs.declared.TheConstants.{MAX_TABLE_BYTES}
 use Rattle.sb_plan.specs.Failures.{Failure, by_text, in_file, in_place_of}
 use Rattle.sb_plan.specs.Keys.{key_text, typed_at, word_at, number_at}
-use Rattle.sb_plan.specs.Words.{field_named, test_named, change_named, change_by, give_named, combine_named}
+use Rattle.sb_plan.specs.Words.{field_named, test_named, change_named, change_by, aggregate_named, combine_named}
 
 -- a filter: `field`, `test`, `number`
 unfoldable pub filter_at : Keys → Members → Result Kind PlanCause
@@ -89,7 +89,7 @@ top_at table =
 unfoldable pub session_at : Members → Result Kind PlanCause
 session_at table =
     then_test (number_at 1 MAX_GAP key.Gap table) (λ gap.
-    then_test (word_at give_named key.Give table) (λ agg.
+    then_test (word_at aggregate_named key.Give table) (λ agg.
     Ok (Session agg gap)))
 
 -- a join: `size` of its fixed windows, and `give`
@@ -122,11 +122,7 @@ transform_at files keys kind.Filter table = by_text (filter_at keys table)
 transform_at files keys kind.Map table = by_text (map_at keys table)
 transform_at files keys kind.Expand table = by_text (expand_at table)
 transform_at files keys kind.Lookup table = lookup_at files keys table
-transform_at files keys kind.Count table = by_text (group_at Count table)
-transform_at files keys kind.Sum table = by_text (group_at Sum table)
-transform_at files keys kind.Min table = by_text (group_at Min table)
-transform_at files keys kind.Max table = by_text (group_at Max table)
-transform_at files keys kind.Distinct table = by_text (group_at Distinct table)
+transform_at files keys (kind.Group agg) table = by_text (group_at agg table)
 transform_at files keys kind.Top table = by_text (top_at table)
 transform_at files keys kind.Session table = by_text (session_at table)
 transform_at files keys kind.Join table = by_text (join_at table)

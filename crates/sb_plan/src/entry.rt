@@ -124,10 +124,7 @@ fn own_keys(kind: KindName) -> &'static [PlanKey]
         KindName::Map => &[PlanKey::Change, PlanKey::Number],
         KindName::Expand => &[PlanKey::Addends],
         KindName::Lookup => &[PlanKey::Table],
-        KindName::Count | KindName::Sum | KindName::Min | KindName::Max | KindName::Distinct => &[
-            PlanKey::Size,
-            PlanKey::Every,
-        ],
+        KindName::Group(_) => &[PlanKey::Size, PlanKey::Every],
         KindName::Top => &[PlanKey::Size, PlanKey::Every, PlanKey::Keep],
         KindName::Session => &[PlanKey::Gap, PlanKey::Give],
         KindName::Join => &[PlanKey::Size, PlanKey::Give, PlanKey::With],

@@ -15,7 +15,7 @@ use crate::keys::{integer_at, number_at, text_at, value_at};
 use crate::stop::Stop;
 use crate::table::lookup_at;
 use crate::words::{
-    ChangeName, KindName, change_by, change_named, combine_named, field_named, give_named,
+    ChangeName, KindName, aggregate_named, change_by, change_named, combine_named, field_named,
     test_named,
 };
 use sb_aggregate::{Agg, MAX_TOP};
@@ -124,9 +124,9 @@ fn top_at(table: &Table) -> Result<Kind, PlanCause>
 
 #[tactic(auto, unfolding(crate::specs::Keys::word_at))]
 fn give_at(table: &Table) -> Result<Agg, PlanCause>
-    ensures { result ≡ word_at word.give_named PlanKey.Give (table_view table.now) }
+    ensures { result ≡ word_at word.aggregate_named PlanKey.Give (table_view table.now) }
 {
-    give_named(text_at(table, PlanKey::Give)?).ok_or(PlanCause::OutOfRange(PlanKey::Give))
+    aggregate_named(text_at(table, PlanKey::Give)?).ok_or(PlanCause::OutOfRange(PlanKey::Give))
 }
 
 #[tactic(auto, unfolding(crate::specs::Kinds::session_at))]
@@ -156,6 +156,7 @@ pub(crate) fn transform_at<F: Folder>(
     table: &Table,
     folder: &mut F,
 ) -> Result<Kind, Stop>
+    requires named { word.IsNamed kind }
     ensures exact { (files : Files) → F.files folder.old ≡ Some files
         → AnswersTests result (kinds.transform_at files keys kind (table_view table.now)) }
     ensures valid { IfOk result (IsOfKind kind) }
@@ -169,11 +170,7 @@ pub(crate) fn transform_at<F: Folder>(
         KindName::Map => Ok(map_at(keys, table)?),
         KindName::Expand => expand_at(alloc, table),
         KindName::Lookup => lookup_at(alloc, keys, table, folder),
-        KindName::Count => Ok(group_at(table, Agg::Count)?),
-        KindName::Sum => Ok(group_at(table, Agg::Sum)?),
-        KindName::Min => Ok(group_at(table, Agg::Min)?),
-        KindName::Max => Ok(group_at(table, Agg::Max)?),
-        KindName::Distinct => Ok(group_at(table, Agg::Distinct)?),
+        KindName::Group(agg) => Ok(group_at(table, agg)?),
         KindName::Top => Ok(top_at(table)?),
         KindName::Session => Ok(session_at(table)?),
         KindName::Join => Ok(join_at(table)?),
