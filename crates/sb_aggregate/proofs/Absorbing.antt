@@ -9,14 +9,14 @@ use Rattle.sb_record.specs.declared.element.KeptRec.{KeptRec}
 use Rattle.sb_record.specs.declared.item.Record.{Record}
 use Rattle.sb_record.specs.declared.item.TheConstants.{END_MARK}
 use Rattle.sb_record.specs.Elements.{all_records}
-use Rattle.sb_record.specs.Records.{sorted, at_least}
+use Rattle.sb_record.specs.Records.{sorted_records, at_least}
 use Rattle.sb_record.specs.Reorderings.{IsReordered}
 use Rattle.sb_record.proofs.Elements.{All-join}
 use Rattle.sb_record.proofs.Sums.{IsReordered-append, any_reordered}
 use Rattle.sb_window.specs.declared.keyed_window.KeyedWindow.{KeyedWindow}
 use Rattle.sb_window.specs.Spacing.{Spacing}
 use Rattle.sb_window.specs.Windows.{keyed_window_cmp}
-use Rattle.sb_window.specs.Gatherings.{joined, rows_of_entries}
+use Rattle.sb_window.specs.Gatherings.{joined_value, rows_of_entries}
 use Rattle.sb_window.specs.Groupings.{Closes}
 use Rattle.sb_window.specs.Aggregations.{rows_by}
 use Rattle.sb_window.proofs.Closing.{is_between, rows_of_entries-when, closes-between}
@@ -53,10 +53,10 @@ late-reordered mark l m same late = from_none l (any_reordered (λ r. nat_lt r.t
 -- ---- absorbing
 pub partials-absorbed : (agg : Agg) (windows : Spacing) (mark : ℕ) (absorbed records : List Record) (m more joined_map : PartialValues) → HasPartialsFrom mark agg windows absorbed m → HasPartials agg windows records more
     → AllByRecursion (λ r. mark ≤ r.time) records
-    → ((q : KeyedWindow) → get keyed_window_cmp joined_map q ≡ joined (join_values agg) (get keyed_window_cmp m q) (get keyed_window_cmp more q)) → HasPartialsFrom mark agg windows (absorbed ++ records) joined_map
+    → ((q : KeyedWindow) → get keyed_window_cmp joined_map q ≡ joined_value (join_values agg) (get keyed_window_cmp m q) (get keyed_window_cmp more q)) → HasPartialsFrom mark agg windows (absorbed ++ records) joined_map
 partials-absorbed agg windows mark absorbed records m more joined_map has has_more late join = record {
   in_time = All-join (λ r. r.time < END_MARK) absorbed records has.in_time has_more.in_time;
-  at = λ q. join q ∙ (λ i. joined (join_values agg) (has.at q i) (has_more.at q i)) ∙ partial_from-append agg windows mark absorbed records late q;
+  at = λ q. join q ∙ (λ i. joined_value (join_values agg) (has.at q i) (has_more.at q i)) ∙ partial_from-append agg windows mark absorbed records late q;
 }
 
 pub rows-absorbed : (agg : Agg) (windows : Spacing) (mark : ℕ) (absorbed records : List Record) (es l : List KeptRec) → IsReordered records (all_records es)
@@ -78,11 +78,11 @@ module _ (agg : Agg) (windows : Spacing) (closed mark : ℕ) (within : closed �
   }
 
   pub closes-with : (n : PartialValues) (rows : List Record) → IsOrdered keyed_window_cmp n → ((q : KeyedWindow) → get keyed_window_cmp n q ≡ cond (nat_lt (min mark (END_MARK + windows.size)) q.end) None (get keyed_window_cmp m q))
-      → rows ≡ sorted (rows_of_entries (final_values agg) n.entries)
+      → rows ≡ sorted_records (rows_of_entries (final_values agg) n.entries)
       → Closes mark (λ l. at_least closed (aggregate_rows agg windows (absorbed ++ all_records l))) rows (λ l. at_least mark (aggregate_rows agg windows (absorbed ++ all_records l)))
   closes-with n rows ordered at are =
       closes-between (aggregate_values agg) windows closed mark within absorbed rows
-      (are ∙ ap sorted (
+      (are ∙ ap sorted_records (
       rows_of_entries-when (partial_values agg) (final_values agg) windows (is_between closed mark) absorbed n ordered
       (λ q. at q ∙ ap (λ o. cond (nat_lt (min mark (END_MARK + windows.size)) q.end) None o) (has.at q) ∙ partials-closed agg windows closed mark within absorbed has.in_time q)
       ∙ (λ i. when (is_between closed mark) (rows_by (λ vs. final-partial agg vs i) windows absorbed))))

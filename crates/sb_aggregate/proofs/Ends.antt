@@ -16,7 +16,7 @@ use Rattle.sb_record.proofs.Elements.{All-any}
 use Rattle.sb_window.specs.declared.keyed_window.KeyedWindow.{KeyedWindow}
 use Rattle.sb_window.specs.Spacing.{Spacing}
 use Rattle.sb_window.specs.Windows.{keyed_window_cmp, is_in, values_in}
-use Rattle.sb_window.specs.Gatherings.{joined}
+use Rattle.sb_window.specs.Gatherings.{joined_value}
 use Rattle.sb_window.proofs.Gathering.{gathered-append}
 use Rattle.sb_window.proofs.Rows.{end-of}
 use Rattle.sb_window.proofs.Closing.{is_between, none_late}
@@ -54,15 +54,15 @@ from_bound {V} mark q o = ap (λ b. cond b o None) (not_above (keyed_window_cmp 
     twice false = refl
 
 -- ---- absorbing
-pub partial_at-append : (agg : Agg) (windows : Spacing) (l m : List Record) (q : KeyedWindow) → partial_at agg windows (l ++ m) q ≡ joined (join_values agg) (partial_at agg windows l q) (partial_at agg windows m q)
+pub partial_at-append : (agg : Agg) (windows : Spacing) (l m : List Record) (q : KeyedWindow) → partial_at agg windows (l ++ m) q ≡ joined_value (join_values agg) (partial_at agg windows l q) (partial_at agg windows m q)
 partial_at-append agg windows l m q = gathered-append (partial_values agg) (join_values agg) (λ v w vs ws. partials-joined agg (v ∷ vs) (w ∷ ws)) windows q l m
 
 -- what comes from the mark on is joined to the windows whose rows are from the mark on
 pub partial_from-append : (agg : Agg) (windows : Spacing) (mark : ℕ) (l m : List Record) → AllByRecursion (λ r. mark ≤ r.time) m → (q : KeyedWindow)
-    → joined (join_values agg) (partial_from agg windows mark l q) (partial_at agg windows m q) ≡ partial_from agg windows mark (l ++ m) q
+    → joined_value (join_values agg) (partial_from agg windows mark l q) (partial_at agg windows m q) ≡ partial_from agg windows mark (l ++ m) q
 partial_from-append agg windows mark l m late q = by_case (nat_lt (q.end - 1) mark) refl
   where
-    by_case : (b : Bool) → nat_lt (q.end - 1) mark ≡ b → joined (join_values agg) (cond b None (partial_at agg windows l q)) (partial_at agg windows m q) ≡ cond b None (partial_at agg windows (l ++ m) q)
+    by_case : (b : Bool) → nat_lt (q.end - 1) mark ≡ b → joined_value (join_values agg) (cond b None (partial_at agg windows l q)) (partial_at agg windows m q) ≡ cond b None (partial_at agg windows (l ++ m) q)
     by_case true e = ap (λ b. cond b (Some (partial_values agg (values_in windows q m))) None) (none_late windows mark q (ltb-true (q.end - 1) mark e) m late)
     by_case false e = sym (partial_at-append agg windows l m q)
 

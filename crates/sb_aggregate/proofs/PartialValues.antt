@@ -14,7 +14,7 @@ use Rattle.sb_window.specs.Reorderings.{IgnoresOrder}
 use Rattle.sb_window.specs.Aggregations.{sum_values}
 use Rattle.sb_aggregate.specs.declared.aggregate.Agg.{Agg}
 use Rattle.sb_aggregate.specs.declared.aggregate.Agg.TheVariants.{Count, Sum, Min, Max, Distinct, Top}
-use Rattle.sb_aggregate.specs.Aggregates.{signed, aggregate_values}
+use Rattle.sb_aggregate.specs.Aggregates.{signed_value, aggregate_values}
 use Rattle.sb_aggregate.specs.Orderless.{greatest_total, exact_greatest, aggregates-orderless}
 use Rattle.sb_aggregate.specs.Partials.{partial_values, joining, join_values, final_values}
 
@@ -43,10 +43,10 @@ sum-kept vs ws =
     ∙ ap (λ n. cast_signed w64 n ∷ []) (mod-add-mod (sum_by (cast_unsigned w64) vs) (2 ^ 64) (sum_by (cast_unsigned w64) ws))
     ∙ ap (λ n. cast_signed w64 (n % 2 ^ 64) ∷ []) (sym (sum_by-append (cast_unsigned w64) vs ws))
 
-counts-added : (vs ws : List ℤ) → signed (length (vs ++ ws)) ∷ [] ≡ sum_values (signed (length vs) ∷ signed (length ws) ∷ [])
+counts-added : (vs ws : List ℤ) → signed_value (length (vs ++ ws)) ∷ [] ≡ sum_values (signed_value (length vs) ∷ signed_value (length ws) ∷ [])
 counts-added vs ws =
     ap (λ n. cast_signed w64 n ∷ []) (ap (λ n. n % 2 ^ 64) (length-append vs ws) ∙ add-mod (length vs) (length ws) (2 ^ 64) ∙ (λ i. (sym (sum-unsigned (length vs)) i + sym (sum-unsigned (length ws)) i) % 2 ^ 64))
-    ∙ sym (sum_of_two (signed (length vs)) (signed (length ws)))
+    ∙ sym (sum_of_two (signed_value (length vs)) (signed_value (length ws)))
 
 -- ---- partial values of partial values
 kept : (agg : Agg) → (vs ws : List ℤ) → partial_values (joining agg) (partial_values (joining agg) vs ++ ws) ≡ partial_values (joining agg) (vs ++ ws)

@@ -21,19 +21,19 @@ GivesOne (Top k) = ⊥
 GivesOne _ = Unit {0}
 
 -- a number of values as a value, which wraps as 64-bit numbers do
-abbrev pub signed : ℕ → ℤ
-signed n = cast_signed w64 (n % 2 ^ 64)
+abbrev pub signed_value : ℕ → ℤ
+signed_value n = cast_signed w64 (n % 2 ^ 64)
 
 abbrev pub greatest_first : List ℤ → List ℤ
 greatest_first vs = in_order (flip_args int_cmp) vs
 
 -- what is made of the values
 abbrev pub aggregate_values : Agg → List ℤ → List ℤ
-aggregate_values Count vs = signed (length vs) ∷ []
+aggregate_values Count vs = signed_value (length vs) ∷ []
 aggregate_values Sum vs = sum_values vs
 aggregate_values Min vs = take 1 (in_order int_cmp vs)
 aggregate_values Max vs = take 1 (greatest_first vs)
-aggregate_values Distinct vs = signed (length (distinct int_cmp vs)) ∷ []
+aggregate_values Distinct vs = signed_value (length (distinct int_cmp vs)) ∷ []
 aggregate_values (Top k) vs = take k (greatest_first vs)
 
 -- the rows of all keyed windows that have records

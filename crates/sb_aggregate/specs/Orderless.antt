@@ -17,7 +17,7 @@ use Rattle.sb_aggregate.specs.Groups.{Absorbed, given}
 use Rattle.std.specs.declared.cmp.Ordering.TheVariants.{Less, Equal, Greater}
 use Rattle.sb_window.proofs.Rows.{rows_by-order}
 use Rattle.sb_aggregate.specs.declared.aggregate.Agg.TheVariants.{Count, Sum, Min, Max, Distinct, Top}
-use Rattle.sb_aggregate.specs.Aggregates.{signed, greatest_first, aggregate_values}
+use Rattle.sb_aggregate.specs.Aggregates.{signed_value, greatest_first, aggregate_values}
 use Rattle.sb_aggregate.specs.Laws.{AggregatesDoNotDependOnOrder, AggregateRowsDoNotDependOnOrder}
 use Rattle.sb_record.proofs.Firsts.{first_of, in_order-reordered}
 use Rattle.sb_record.proofs.Different.{distinct-reordered}
@@ -49,12 +49,13 @@ length_is_sum : (vs : List ℤ) → length vs ≡ sum_by (λ v. 1) vs
 length_is_sum vs = is_sum_by length (λ v. 1) refl (λ v vs. omega arith) vs
 
 pub aggregates-orderless : AggregatesDoNotDependOnOrder
-aggregates-orderless Count vs ws h = ap (λ n. signed n ∷ []) (length_is_sum vs ∙ h (λ v. 1) ∙ sym (length_is_sum ws))
+aggregates-orderless Count vs ws h =
+    ap (λ n. signed_value n ∷ []) (length_is_sum vs ∙ h (λ v. 1) ∙ sym (length_is_sum ws))
 aggregates-orderless Sum vs ws h = ap (λ n. cast_signed w64 (n % 2 ^ 64) ∷ []) (h (cast_unsigned w64))
 aggregates-orderless Min vs ws h = ap (take 1) (in_order-reordered int_cmp_total exact_signed vs ws h)
 aggregates-orderless Max vs ws h = ap (take 1) (in_order-reordered greatest_total exact_greatest vs ws h)
 aggregates-orderless Distinct vs ws h =
-    ap (λ ds. signed (length ds) ∷ []) (distinct-reordered int_cmp_total exact_signed vs ws h)
+    ap (λ ds. signed_value (length ds) ∷ []) (distinct-reordered int_cmp_total exact_signed vs ws h)
 aggregates-orderless (Top k) vs ws h = ap (take k) (in_order-reordered greatest_total exact_greatest vs ws h)
 
 pub aggregate_rows-orderless : AggregateRowsDoNotDependOnOrder

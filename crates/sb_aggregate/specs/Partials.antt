@@ -6,10 +6,10 @@ use Rattle.sb_record.specs.declared.item.Record.{Record}
 use Rattle.sb_record.specs.Orders.{distinct}
 use Rattle.sb_window.specs.declared.keyed_window.KeyedWindow.{KeyedWindow}
 use Rattle.sb_window.specs.Spacing.{Spacing}
-use Rattle.sb_window.specs.Gatherings.{gathered}
+use Rattle.sb_window.specs.Gatherings.{gathered_value}
 use Rattle.sb_aggregate.specs.declared.aggregate.Agg.{Agg}
 use Rattle.sb_aggregate.specs.declared.aggregate.Agg.TheVariants.{Count, Sum, Distinct}
-use Rattle.sb_aggregate.specs.Aggregates.{signed, aggregate_values}
+use Rattle.sb_aggregate.specs.Aggregates.{signed_value, aggregate_values}
 
 -- a partial value for each of some keyed windows
 abbrev pub PartialValues : Type 0
@@ -31,12 +31,12 @@ join_values agg vs ws = partial_values (joining agg) (vs ++ ws)
 
 -- what is made of the values that a partial value stands for
 abbrev pub final_values : Agg → List ℤ → List ℤ
-final_values Distinct vs = signed (length vs) ∷ []
+final_values Distinct vs = signed_value (length vs) ∷ []
 final_values agg vs = vs
 
 -- the partial value of the values of a keyed window, where records lie in it
 abbrev pub partial_at : Agg → Spacing → List Record → KeyedWindow → Option (List ℤ)
-partial_at agg windows l q = gathered (partial_values agg) windows l q
+partial_at agg windows l q = gathered_value (partial_values agg) windows l q
 
 -- the same, where the time of the window's rows is from a mark on
 abbrev pub partial_from : Agg → Spacing → ℕ → List Record → KeyedWindow → Option (List ℤ)

@@ -4,7 +4,7 @@ ghost use Rattle.std.specs.Prelude.{◌≡◌, ◌↔◌, ◌∷◌, [], ◌<◌
 ghost use Rattle.std.specs.Ordering.{int_cmp};
 ghost use Rattle.sb_record.specs.Orders.{distinct, in_order};
 ghost use Rattle.sb_window.specs.Aggregations.{sum_values};
-ghost use Rattle.sb_aggregate.specs.Aggregates.{IsValid, aggregate_values, greatest_first, signed};
+ghost use Rattle.sb_aggregate.specs.Aggregates.{IsValid, aggregate_values, greatest_first, signed_value};
 
 use sb_record::NoMemory;
 
@@ -76,7 +76,7 @@ pub fn aggregated(agg: Agg, values: &mut Vec<i64>) -> Result<(), NoMemory>
 
 // Leaves the number of values.
 fn leave_count(values: &mut Vec<i64>) -> Result<(), NoMemory>
-    ensures ok { OnOk result (values.new.items ≡ signed (length values.old.items) ∷ []) }
+    ensures ok { OnOk result (values.new.items ≡ signed_value (length values.old.items) ∷ []) }
     ensures err { OnErr result (values.new.items ≡ values.old.items) }
     ensures succeeds { 0 < length values.old.items → IsOk result }
 {
@@ -86,7 +86,7 @@ fn leave_count(values: &mut Vec<i64>) -> Result<(), NoMemory>
 
 // Leaves the number of different values.
 fn leave_distinct_count(values: &mut Vec<i64>) -> Result<(), NoMemory>
-    ensures ok { OnOk result (values.new.items ≡ signed (length (distinct int_cmp values.old.items)) ∷ []) }
+    ensures ok { OnOk result (values.new.items ≡ signed_value (length (distinct int_cmp values.old.items)) ∷ []) }
     ensures err { OnErr result (values.new.items ≡ values.old.items) }
     ensures succeeds { 0 < length values.old.items → IsOk result }
 {

@@ -3,7 +3,7 @@
 ghost use Rattle.std.specs.Prelude.{◌≡◌, ◌<◌, [], ◌∷◌, ℕ, All, OnOk, IfOk};
 ghost use Rattle.std.specs.BTreeMap.{get};
 ghost use Rattle.sb_window.specs.declared.keyed_window.KeyedWindow.{KeyedWindow as Window};
-ghost use Rattle.sb_window.specs.Gatherings.{joined};
+ghost use Rattle.sb_window.specs.Gatherings.{joined_value};
 ghost use Rattle.sb_window.specs.Windows.{keyed_window_cmp};
 ghost use Rattle.sb_aggregate.specs.Aggregates.{IsValid};
 ghost use Rattle.sb_aggregate.specs.Partials.{join_values, partial_at};
@@ -76,7 +76,7 @@ fn add_record(
     requires valid { IsValid agg }
     requires time { «record».now.time < END_MARK }
     ensures { OnOk result ((q : Window) → get keyed_window_cmp partials.new q
-        ≡ joined (join_values agg) (get keyed_window_cmp partials.old q)
+        ≡ joined_value (join_values agg) (get keyed_window_cmp partials.old q)
         (partial_at agg windows.now («record».now ∷ []) q)) }
 {
     for end in windows.ends(record.time) {

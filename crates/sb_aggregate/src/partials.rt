@@ -2,9 +2,9 @@
 
 ghost use Rattle.std.specs.Prelude.{◌≡◌, ◌-◌, ◌^◌, ◌<◌, Some, None, if◌then◌else◌, nat_lt, OnOk, IfOk};
 ghost use Rattle.std.specs.BTreeMap.{IsOrdered, get, is_at};
-ghost use Rattle.sb_record.specs.Records.{sorted};
+ghost use Rattle.sb_record.specs.Records.{sorted_records};
 ghost use Rattle.sb_window.specs.declared.keyed_window.KeyedWindow.{KeyedWindow as Window};
-ghost use Rattle.sb_window.specs.Gatherings.{joined, rows_of_entries};
+ghost use Rattle.sb_window.specs.Gatherings.{joined_value, rows_of_entries};
 ghost use Rattle.sb_window.specs.Windows.{keyed_window_cmp};
 ghost use Rattle.sb_aggregate.specs.Partials.{final_values, join_values};
 
@@ -28,7 +28,7 @@ pub(crate) fn join_at(
 ) -> Result<(), NoMemory>
     ensures { OnOk result ((q : Window) → get keyed_window_cmp partials.new q
         ≡ (if is_at (keyed_window_cmp window) q
-        then joined (join_values agg) (get keyed_window_cmp partials.old window) (Some partial)
+        then joined_value (join_values agg) (get keyed_window_cmp partials.old window) (Some partial)
         else get keyed_window_cmp partials.old q)) }
 {
     match partials.get_mut(&window) {
@@ -48,7 +48,7 @@ pub(crate) fn join_all(
     from: Partials,
 ) -> Result<(), NoMemory>
     ensures { OnOk result ((q : Window) → get keyed_window_cmp into.new q
-        ≡ joined (join_values agg) (get keyed_window_cmp into.old q) (get keyed_window_cmp from q)) }
+        ≡ joined_value (join_values agg) (get keyed_window_cmp into.old q) (get keyed_window_cmp from q)) }
 {
     let mut smaller = from;
     if into.len() < smaller.len() {
@@ -77,7 +77,8 @@ pub(crate) fn split_at(partials: &mut Partials, mark: u64) -> Result<Partials, N
 
 /// The rows of partial values, in order.
 pub(crate) fn rows_of(alloc: Global, agg: Agg, partials: Partials) -> Result<Vec<Record>, NoMemory>
-    ensures rows { IfOk result (λ rows. rows.items ≡ sorted (rows_of_entries (final_values agg) partials.entries)) }
+    ensures rows { IfOk result
+        (λ rows. rows.items ≡ sorted_records (rows_of_entries (final_values agg) partials.entries)) }
     ensures ordered { IsOrdered keyed_window_cmp partials }
 {
     let mut rows = Vec::new(alloc);
@@ -89,7 +90,7 @@ pub(crate) fn rows_of(alloc: Global, agg: Agg, partials: Partials) -> Result<Vec
 }
 
 fn sort_rows(rows: &mut Vec<Record>) -> Result<(), NoMemory>
-    ensures { OnOk result (rows.new.items ≡ sorted rows.old.items) }
+    ensures { OnOk result (rows.new.items ≡ sorted_records rows.old.items) }
 {
     rows.sort()?;
     Ok(())

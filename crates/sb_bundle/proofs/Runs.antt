@@ -7,8 +7,8 @@ use Rattle.std.proofs.lemmas.List.Elements.{All-nil, All-cons}
 use Rattle.sb_record.specs.declared.item.Record.{Record}
 use Rattle.sb_bundle.specs.declared.bundle.Bundle.{Bundle}
 use Rattle.sb_bundle.specs.Cutting.{Cutting}
-use Rattle.sb_bundle.specs.Cuts.{started, bundle_of, bundle_of_some, after_mark, fills, after_record}
-use Rattle.sb_bundle.specs.Calls.{Call, Push, Mark, records_of, records_in, and_then, bundles_by, after_all, parts_of, parts_in, joined}
+use Rattle.sb_bundle.specs.Cuts.{first_cutting, bundle_of, bundle_of_some, after_mark, fills, after_record}
+use Rattle.sb_bundle.specs.Calls.{Call, Push, Mark, records_of, records_in, and_then, bundles_by, after_all, parts_of, parts_in, records_in_order}
 use Rattle.sb_bundle.specs.Laws.{AreCutAt, AreCutOf, AreFullOf, NoRecordIsLost, EndedEpochsAreCut, LastEpochIsCut}
 
 -- the cutter with other records held
@@ -18,7 +18,7 @@ holding held c = record c { held = held }
 -- ---- no record is lost
 -- the bundles given, joined, followed by what is held, are the records held before and those pushed, in order
 abbrev pub Keeps : List Call → Cutting → Type 0
-Keeps calls c = joined (parts_of (bundles_by calls c)) ++ (after_all calls c).held ≡ c.held ++ records_of calls
+Keeps calls c = records_in_order (parts_of (bundles_by calls c)) ++ (after_all calls c).held ≡ c.held ++ records_of calls
 
 pub keeps : (calls : List Call) (c : Cutting) → Keeps calls c
 keeps [] c = sym (append-nil c.held)
@@ -26,19 +26,19 @@ keeps (Push r ∷ calls) c = by_case (fills r c) (keeps calls)
   where
     by_case : (full : Bool) → ((d : Cutting) → Keeps calls d)
         → let d : Cutting = holding (if full then [] else (c.held ++ r ∷ [])) c in
-        joined (parts_of (and_then (if full then Some (bundle_of c (c.held ++ r ∷ [])) else None) (bundles_by calls d))) ++ (after_all calls d).held ≡ c.held ++ (r ∷ records_of calls)
+        records_in_order (parts_of (and_then (if full then Some (bundle_of c (c.held ++ r ∷ [])) else None) (bundles_by calls d))) ++ (after_all calls d).held ≡ c.held ++ (r ∷ records_of calls)
     by_case true later =
-        append_assoc (c.held ++ r ∷ []) (joined (parts_of (bundles_by calls (holding [] c)))) (after_all calls (holding [] c)).held
+        append_assoc (c.held ++ r ∷ []) (records_in_order (parts_of (bundles_by calls (holding [] c)))) (after_all calls (holding [] c)).held
         ∙ ap (λ l. (c.held ++ r ∷ []) ++ l) (later (holding [] c))
         ∙ append_assoc c.held (r ∷ []) (records_of calls)
     by_case false later = later (holding (c.held ++ r ∷ []) c) ∙ append_assoc c.held (r ∷ []) (records_of calls)
 keeps (Mark mark ∷ calls) c = by_case c.held (keeps calls (after_mark mark c))
   where
     by_case : (held : List Record) → Keeps calls (after_mark mark c)
-        → joined (parts_of (and_then (bundle_of_some c held) (bundles_by calls (after_mark mark c)))) ++ (after_all calls (after_mark mark c)).held ≡ held ++ records_of calls
+        → records_in_order (parts_of (and_then (bundle_of_some c held) (bundles_by calls (after_mark mark c)))) ++ (after_all calls (after_mark mark c)).held ≡ held ++ records_of calls
     by_case [] later = later
     by_case (r ∷ rs) later =
-        append_assoc (r ∷ rs) (joined (parts_of (bundles_by calls (after_mark mark c)))) (after_all calls (after_mark mark c)).held ∙ ap (λ l. (r ∷ rs) ++ l) later
+        append_assoc (r ∷ rs) (records_in_order (parts_of (bundles_by calls (after_mark mark c)))) (after_all calls (after_mark mark c)).held ∙ ap (λ l. (r ∷ rs) ++ l) later
 
 -- ---- epochs
 -- the epoch never falls
@@ -73,7 +73,7 @@ cut_cons size part records parts some full cut = record { whole = ap (λ l. part
 cut_nil : (size : ℕ) (parts : List (List Record)) → 1 ≤ size → AreCutOf size [] parts → parts ≡ []
 cut_nil size [] some cut = refl
 cut_nil size (part ∷ []) some cut = absurd (omega (arith, cut.lengths.0, length-append part [], ap length cut.whole))
-cut_nil size (part ∷ next ∷ more) some cut = absurd (omega (arith, cut.lengths.0, length-append part (joined (next ∷ more)), ap length cut.whole))
+cut_nil size (part ∷ next ∷ more) some cut = absurd (omega (arith, cut.lengths.0, length-append part (records_in_order (next ∷ more)), ap length cut.whole))
 
 -- what is held as an epoch ends is its last part, where no record is to come
 cut_last : (size : ℕ) (held more : List Record) (parts : List (List Record)) → 1 ≤ length held → length held < size → more ≡ [] → AreCutOf size more parts → AreCutOf size (held ++ more) (held ∷ parts)
@@ -140,7 +140,7 @@ full_along size records more parts rest e full = record { whole = full.whole ∙
 -- one more full part before the others
 full_cons : (size : ℕ) (part records : List Record) (parts : List (List Record)) (rest : List Record) → length part ≡ size → AreFullOf size records parts rest → AreFullOf size (part ++ records) (part ∷ parts) rest
 full_cons size part records parts rest here full = record {
-  whole = append_assoc part (joined parts) rest ∙ ap (λ l. part ++ l) full.whole;
+  whole = append_assoc part (records_in_order parts) rest ∙ ap (λ l. part ++ l) full.whole;
   full = All-cons (λ part. length part ≡ size) part parts here full.full;
   fewer = full.fewer;
 }
@@ -191,10 +191,10 @@ last n (Mark mark ∷ calls) c fewer is =
 
 -- ---- the laws
 pub new_keeps : NoRecordIsLost
-new_keeps size calls = keeps calls (started size)
+new_keeps size calls = keeps calls (first_cutting size)
 
 pub new_ended : EndedEpochsAreCut
-new_ended size some calls n past = along size _ _ _ (none_before (0 == n) (records_in n 0 calls)) (ended n calls (started size) (omega arith) past)
+new_ended size some calls n past = along size _ _ _ (none_before (0 == n) (records_in n 0 calls)) (ended n calls (first_cutting size) (omega arith) past)
 
 pub new_last : LastEpochIsCut
-new_last size some calls n is = full_along size _ _ _ _ (none_before (0 == n) (records_in n 0 calls)) (last n calls (started size) (omega arith) is)
+new_last size some calls n is = full_along size _ _ _ _ (none_before (0 == n) (records_in n 0 calls)) (last n calls (first_cutting size) (omega arith) is)

@@ -55,5 +55,5 @@ abbrev pub parts_in : ℕ → List Bundle → List (List Record)
 parts_in n bundles = parts_of (filter (λ b. b.epoch == n) bundles)
 
 -- the parts, one after another
-abbrev pub joined : List (List Record) → List Record
-joined parts = flat_map (λ part. part) parts
+abbrev pub records_in_order : List (List Record) → List Record
+records_in_order parts = flat_map (λ part. part) parts

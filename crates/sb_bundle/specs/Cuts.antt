@@ -5,8 +5,8 @@ use Rattle.sb_bundle.specs.declared.bundle.Bundle.{Bundle}
 use Rattle.sb_bundle.specs.Cutting.{Cutting}
 
 -- before the first record
-abbrev pub started : ℕ → Cutting
-started size = record { size = size; epoch = 0; floor = 0; held = [] }
+abbrev pub first_cutting : ℕ → Cutting
+first_cutting size = record { size = size; epoch = 0; floor = 0; held = [] }
 
 -- records of this epoch as a bundle, which has no number yet
 abbrev pub bundle_of : Cutting → List Record → Bundle

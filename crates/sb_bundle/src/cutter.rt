@@ -46,7 +46,7 @@ impl Cutter {
     pub fn new(alloc: Global, size: u32) -> Cutter
         requires some { 1 ≤ size }
         requires most { size ≤ MAX_BUNDLE }
-        ensures { result ≡ spec.started size }
+        ensures { result ≡ spec.first_cutting size }
     {
         Cutter {
             alloc,

@@ -12,7 +12,7 @@ use Rattle.sb_core.specs.declared.event.Event.{Event}
 use Rattle.sb_core.specs.Events as events
 use Rattle.sb_core.specs.Marks.{first_is_closing}
 use Rattle.sb_core.specs.Moments.{with_held, lane_at, is_work, is_close, is_close_of}
-use Rattle.sb_turn.specs.Turning.{logged}
+use Rattle.sb_turn.specs.Turning.{logs_after}
 use Rattle.sb_cascade.specs.declared.telling.Change.{Change}
 use Rattle.sb_cascade.specs.declared.telling.Hands.{Hands}
 use Rattle.sb_cascade.specs.declared.telling.Piece.{Piece}
@@ -48,7 +48,7 @@ EachLeavingIsOneEvent =
     → (shelf : List (Option Piece)) (status : ℕ) (states : List SharedView) (logs : List (List Change))
     (views : List Hands) (r : ShowsMoment a shelf status states logs views)
     → seen ≤ status → length logs ≡ length states → get_elem? states k ≡ some x → get_elem? views id ≡ some w
-    → (later : ShowsMoment a shelf status (slice_set states k y) (logged is_event k c logs)
+    → (later : ShowsMoment a shelf status (slice_set states k y) (logs_after is_event k c logs)
     (slice_set views id (after w k c)))
     × IsLeaving a.plan (doing k c) (shown_by r) (shown_by later)
 

@@ -10,7 +10,7 @@ use Rattle.sb_diary.specs.Diaries.{with_spare}
 use Rattle.sb_diary.specs.declared.event.DiaryEvent.{DiaryEvent}
 use Rattle.sb_lane.specs.Changes.{StandsAt}
 use Rattle.sb_lane.specs.LaneView.{LaneView, lane_of}
-use Rattle.sb_lane.specs.Links.{Link, down_of, linked, links_of, with_place}
+use Rattle.sb_lane.specs.Links.{Link, down_of, with_link, links_of, with_place}
 use Rattle.sb_lane.specs.Looks.{look_of}
 use Rattle.sb_lane.specs.Placed.{conts_of}
 use Rattle.sb_lane.specs.declared.answers.LaneClose.{LaneClose}
@@ -37,8 +37,8 @@ abbrev pub owed_in : Cont → ℕ
 owed_in c = 2 * length c.waiting + length c.out + (if c.closing then 1 else 0)
 
 -- and those of all containers of these lanes
-abbrev pub owed : List LaneView → ℕ
-owed lanes = sum_by (λ lane. sum_by owed_in (conts_of lane.containers)) lanes
+abbrev pub owed_lines : List LaneView → ℕ
+owed_lines lanes = sum_by (λ lane. sum_by owed_in (conts_of lane.containers)) lanes
 
 -- what others see of the node: all but room, and what it keeps
 pub record Face : Type 0 where
@@ -93,7 +93,7 @@ pub record PutsAt (epoch place : ℕ) (was is : LaneView) : Type 0 where
 -- the links, with that of an epoch set to a place below, if that is known and it had none
 abbrev pub linked_once : Option ℕ → ℕ → List Link → List Link
 linked_once None epoch links = links
-linked_once (Some place) epoch links = if is_some (down_of epoch links) then links else linked epoch place links
+linked_once (Some place) epoch links = if is_some (down_of epoch links) then links else with_link epoch place links
 
 abbrev pub FinishesLinked : ℕ → Option ℕ → LaneView → LaneView → Type 0
 FinishesLinked epoch link was is = links_of is.containers ≡ linked_once link epoch (links_of was.containers)

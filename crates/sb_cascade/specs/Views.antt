@@ -52,8 +52,8 @@ abbrev pub with_drained : List Record → Feed → Feed
 with_drained rows f = record f { drained = f.drained ++ rows }
 
 -- what a pass has after this
-abbrev pub having : Held → Option ℕ → Hands → Hands
-having h link w = record w { held = Some h; link = link }
+abbrev pub hands_with : Held → Option ℕ → Hands → Hands
+hands_with h link w = record w { held = Some h; link = link }
 
 abbrev pub empty_handed : Hands → Hands
 empty_handed w = record w { held = None; link = None }
@@ -62,13 +62,13 @@ empty_handed w = record w { held = None; link = None }
 abbrev pub after : Hands → ℕ → Change → Hands
 after w k (Arrive stream records) = record w { feed = with_bundle stream records.value w.feed }
 after w k (Seal stream mark) = record w { feed = with_mark stream mark w.feed }
-after w k (Take c link) = having (work_of c.value false) link w
-after w k (Deliver c place) = having (work_of c.value true) (Some place) w
+after w k (Take c link) = hands_with (work_of c.value false) link w
+after w k (Deliver c place) = hands_with (work_of c.value true) (Some place) w
 after w k (Finish c delivered) = empty_handed w
-after w k (Begin c passed) = having (close_of c.value c.value.rows.items passed) None w
+after w k (Begin c passed) = hands_with (close_of c.value c.value.rows.items passed) None w
 after w k (Rows c first most place) =
-    having (close_of c.value (drop most (drop first c.value.rows.items)) false) (Some place) w
-after w k (Pass c) = having (close_of c.value [] true) None w
+    hands_with (close_of c.value (drop most (drop first c.value.rows.items)) false) (Some place) w
+after w k (Pass c) = hands_with (close_of c.value [] true) None w
 after w k (End c) = empty_handed w
 after w k Idle = w
 after w k (NotYet why) = w
@@ -78,11 +78,11 @@ after w k Spent = w
 after w k Nothing = w
 
 -- after it laid a bundle on the shelf, and after it claimed one
-abbrev pub laid : Hands → Piece → Hands
-laid w p = empty_handed w
+abbrev pub hands_after_put : Hands → Piece → Hands
+hands_after_put w p = empty_handed w
 
-abbrev pub claimed : Hands → Piece → Hands
-claimed w p = having (work_of p.claim false) p.link w
+abbrev pub hands_after_claim : Hands → Piece → Hands
+hands_after_claim w p = hands_with (work_of p.claim false) p.link w
 
 -- the one thing, if there is one
 abbrev pub listed : {X : Type 0} → Option X → List X

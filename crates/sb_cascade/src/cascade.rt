@@ -3,7 +3,7 @@
 ghost use Rattle.std.specs.Prelude.{◌≡◌, ◌≤◌, ◌+◌, [], length};
 ghost use Rattle.std.specs.Vec.{vec_capacity};
 ghost use Rattle.sb_turn.specs.Passes.{Holds, IsPassOf, IsSamePass, about, node_count, seat_view};
-ghost use Rattle.sb_turn.specs.Turning.{left};
+ghost use Rattle.sb_turn.specs.Turning.{left_view};
 ghost use Rattle.sb_cascade.specs.Found.{IsFound};
 ghost use Rattle.sb_cascade.specs.Leavings.{Does, Looks};
 ghost use Rattle.sb_cascade.specs.SharedNodes.{lines_of};
@@ -47,7 +47,7 @@ impl Cascade {
             guard.node guard.found.value guard.state change }
         ensures pass { IsSamePass pass.old pass.new }
         ensures turn { pass.new.me ≡ (
-          left guard.node (lines_of guard.state) change
+          left_view guard.node (lines_of guard.state) change
               (after (seat_view pass.old).client guard.node change) (seat_view pass.old),
           [],
         ) }

@@ -14,7 +14,7 @@ impl Keep for Keeping {
     ghost use Rattle.sb_cascade.specs.Passing.{fitting, found, splits};
     ghost use Rattle.sb_cascade.specs.Shown.{ShowsMoment};
     ghost use Rattle.sb_cascade.specs.SharedNodes.{lines_of};
-    ghost use Rattle.sb_cascade.specs.Views.{after, claimed, first_hands, idle_hands, laid};
+    ghost use Rattle.sb_cascade.specs.Views.{after, hands_after_claim, first_hands, idle_hands, hands_after_put};
 
     type State = SharedNode;
 
@@ -36,9 +36,9 @@ impl Keep for Keeping {
 
     ghost after = { after };
 
-    ghost laid = { laid };
+    ghost laid = { hands_after_put };
 
-    ghost claimed = { claimed };
+    ghost claimed = { hands_after_claim };
 
     ghost told = { λ w _. w };
 

@@ -14,7 +14,7 @@ ghost use Rattle.sb_cascade.specs.Calls.{HasSame, IsEmptyHanded, IsFeeder, IsRea
 ghost use Rattle.sb_cascade.specs.Calls.{hands, passes_out, setting_of, view_of};
 ghost use Rattle.sb_cascade.specs.Ends.{fresh_state};
 ghost use Rattle.sb_cascade.specs.Lives.{GivesBack, IsShared};
-ghost use Rattle.sb_cascade.specs.SharedNodes.{SharedView, owed};
+ghost use Rattle.sb_cascade.specs.SharedNodes.{SharedView, owed_lines};
 ghost use Rattle.sb_cascade.specs.Views.{first_hands, idle_hands, no_feed};
 
 use crate::cascade::Cascade;
@@ -44,7 +44,7 @@ fn empty_pass(seat: Pass<Keeping>) -> CascadePass
 
 /// The states of new nodes.
 fn fresh_states(alloc: Global, nodes: Vec<NodeState>) -> Result<Vec<SharedNode>, NoMemory>
-    requires { (k : ℕ) (own : ANode) → slice_get nodes.items k ≡ Some own → owed own.lanes.items ≡ 0 }
+    requires { (k : ℕ) (own : ANode) → slice_get nodes.items k ≡ Some own → owed_lines own.lanes.items ≡ 0 }
     ensures { IfOk result (λ states. states.items ≡ map fresh_state nodes.items) }
 {
     let mut states = Vec::new(alloc);

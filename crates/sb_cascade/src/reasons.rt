@@ -2,7 +2,7 @@
 
 ghost use Rattle.std.specs.Prelude.{◌≡◌, ◌≤◌};
 ghost use Rattle.sb_turn.specs.Reasons.{number_of};
-ghost use Rattle.sb_turn.specs.Turning.{raised, saw};
+ghost use Rattle.sb_turn.specs.Turning.{raised_view, saw};
 ghost use Rattle.sb_cascade.specs.Calls.{HasSame, IsReady, IsSame, hands, setting_of, view_of};
 ghost use Rattle.sb_cascade.specs.Found.{IsShown};
 
@@ -16,7 +16,7 @@ impl Cascade {
     pub fn stop(&self, pass: &mut CascadePass, reason: Reason)
         requires pass { IsReady self.now pass.old }
         ensures pass { IsReady self.now pass.new × IsSame pass.old pass.new × HasSame pass.old pass.new }
-        ensures word { view_of pass.new ≡ raised (number_of reason) (hands pass.old) (view_of pass.old) }
+        ensures word { view_of pass.new ≡ raised_view (number_of reason) (hands pass.old) (view_of pass.old) }
     {
         self.turns.stop(&mut pass.seat, reason);
     }

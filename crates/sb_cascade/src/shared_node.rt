@@ -26,7 +26,7 @@ ghost use Rattle.sb_node.specs.LinkChanges.{DropsLink, GetsPlace};
 ghost use Rattle.sb_node.specs.Looking.{NoneClosing, NoneWaits};
 ghost use Rattle.sb_node.specs.Marking.{mark_for};
 ghost use Rattle.sb_cascade.specs.SharedNodes.{ChangesOwn, FinishesLinked, IsOut, LosesKept, PutsAt, ShowsSame};
-ghost use Rattle.sb_cascade.specs.SharedNodes.{BeginsAt, StopsAt, lines_of, owed};
+ghost use Rattle.sb_cascade.specs.SharedNodes.{BeginsAt, StopsAt, lines_of, owed_lines};
 
 use sb_bundle::Bundle;
 use sb_lane::{ArriveStop, NotYet};
@@ -51,7 +51,7 @@ impl Model for SharedNode {
     ghost use Rattle.std.specs.Coded.{codes};
     ghost use Rattle.sb_diary.specs.declared.diary.TheConstants.{MAX_DIARY_LINES};
     ghost use Rattle.sb_node.specs.contracts.state.NodeState as state;
-    ghost use Rattle.sb_cascade.specs.SharedNodes.{SharedView, owed};
+    ghost use Rattle.sb_cascade.specs.SharedNodes.{SharedView, owed_lines};
 
     ghost Value = { SharedView };
 
@@ -59,7 +59,7 @@ impl Model for SharedNode {
 
     ghost view = { λ n. record { own = n.own; tray = n.tray.items; spent = n.spent } };
 
-    ghost invariant = { λ n. (owed n.own.lanes.items ≤ n.promised) × (n.promised ≤ n.own.diary.spare)
+    ghost invariant = { λ n. (owed_lines n.own.lanes.items ≤ n.promised) × (n.promised ≤ n.own.diary.spare)
         × (length n.own.diary.events + n.own.diary.spare ≤ MAX_DIARY_LINES) };
 }
 
@@ -119,7 +119,7 @@ fn close(
 impl SharedNode {
     /// A node in which nothing is under way. It takes no memory.
     pub(crate) fn new(alloc: Global, mut own: NodeState) -> SharedNode
-        requires { owed own.lanes.items ≡ 0 }
+        requires { owed_lines own.lanes.items ≡ 0 }
         ensures { result ≡ record { own = own; tray = []; spent = false } }
     {
         // For the proof: a diary has at most so many lines.

@@ -26,7 +26,7 @@ use Rattle.sb_pipeline.specs.declared.transform.Step.{Step}
 use Rattle.sb_record.specs.Elements.{on_lane, all_records, of_lane}
 use Rattle.sb_pipeline.specs.Operators.{operator_of, operator_at, output}
 use Rattle.sb_pipeline.specs.Shapes.{Shape}
-use Rattle.sb_pipeline.specs.Flow.{Sent, arriving, from_stream, from_streams, from_step, sent_from}
+use Rattle.sb_pipeline.specs.Flow.{Sent, arrivals_at, from_stream, from_streams, from_step, sent_from}
 use Rattle.sb_pipeline.specs.Results.{output_at, output_of}
 use Rattle.sb_checkpoint.specs.Reach.{is_session, size_in, is_within}
 use Rattle.sb_checkpoint.specs.Laws.{LaterRowsDependOnRecordsWithinReach, EarlierRowsDependOnEarlierRecords}
@@ -147,12 +147,12 @@ when-placed a k down l =
       | false ↦ refl
     ]
 
-arriving-same : (a : ℕ → Bool) (k : ℕ) (xs ys : List Sent) → AreAlike a xs ys → elements_when a (arriving k xs) ≡ elements_when a (arriving k ys)
+arriving-same : (a : ℕ → Bool) (k : ℕ) (xs ys : List Sent) → AreAlike a xs ys → elements_when a (arrivals_at k xs) ≡ elements_when a (arrivals_at k ys)
 arriving-same a k [] [] h = refl
 arriving-same a k (x ∷ xs) (y ∷ ys) h =
-    filter-append (λ e. a e.rec.time) (placed k x.down x.records) (arriving k xs)
+    filter-append (λ e. a e.rec.time) (placed k x.down x.records) (arrivals_at k xs)
     ∙ (λ i. one i ++ arriving-same a k xs ys h.2 i)
-    ∙ sym (filter-append (λ e. a e.rec.time) (placed k y.down y.records) (arriving k ys))
+    ∙ sym (filter-append (λ e. a e.rec.time) (placed k y.down y.records) (arrivals_at k ys))
   where
     one : elements_when a (placed k x.down x.records) ≡ elements_when a (placed k y.down y.records)
     one = when-placed a k x.down x.records ∙ (λ i. placed k (h.0 i) (h.1 i)) ∙ sym (when-placed a k y.down y.records)
@@ -170,8 +170,8 @@ module _ (test : List Step → ℕ → Bool) (spans : (s : Step) (steps : List S
       → HaveNoSession steps → (xs ys : List Sent) → AreAlike (test steps) xs ys → AreAlike (test []) (sent_from (output_at plan) k steps xs) (sent_from (output_at plan) k steps ys)
   sent_from-same k [] at free xs ys h = h
   sent_from-same k (s ∷ steps) at free xs ys h =
-      sent_from-same (k + 1) steps later free.1 (xs ++ from_step s (output_at plan k (arriving k xs)) ∷ []) (ys ++ from_step s (output_at plan k (arriving k ys)) ∷ [])
-      (alike-join (test steps) xs ys (from_step s (output_at plan k (arriving k xs)) ∷ []) (from_step s (output_at plan k (arriving k ys)) ∷ [])
+      sent_from-same (k + 1) steps later free.1 (xs ++ from_step s (output_at plan k (arrivals_at k xs)) ∷ []) (ys ++ from_step s (output_at plan k (arrivals_at k ys)) ∷ [])
+      (alike-join (test steps) xs ys (from_step s (output_at plan k (arrivals_at k xs)) ∷ []) (from_step s (output_at plan k (arrivals_at k ys)) ∷ [])
       (alike-fewer (test (s ∷ steps)) (test steps) (λ x. spans s steps x x (omega arith) (omega arith)) xs ys h)
       (refl, given, tt))
     where
@@ -184,11 +184,11 @@ module _ (test : List Step → ℕ → Bool) (spans : (s : Step) (steps : List S
       as_kind : (es : List KeptRec) → output_at plan k es ≡ output (operator_of s.kind) es
       as_kind es = ap (λ o. output (operator_at o) es) here
 
-      given : when (test steps) (output_at plan k (arriving k xs)) ≡ when (test steps) (output_at plan k (arriving k ys))
+      given : when (test steps) (output_at plan k (arrivals_at k xs)) ≡ when (test steps) (output_at plan k (arrivals_at k ys))
       given =
-          ap (when (test steps)) (as_kind (arriving k xs))
-          ∙ output-same s.kind (test (s ∷ steps)) (test steps) free.0 (spans s steps) (arriving k xs) (arriving k ys) (arriving-same (test (s ∷ steps)) k xs ys h)
-          ∙ sym (ap (when (test steps)) (as_kind (arriving k ys)))
+          ap (when (test steps)) (as_kind (arrivals_at k xs))
+          ∙ output-same s.kind (test (s ∷ steps)) (test steps) free.0 (spans s steps) (arrivals_at k xs) (arrivals_at k ys) (arriving-same (test (s ∷ steps)) k xs ys h)
+          ∙ sym (ap (when (test steps)) (as_kind (arrivals_at k ys)))
 
   from_stream-same : (a : ℕ → Bool) (source : Option Down) (l m : List Record) → when a l ≡ when a m → AreAlike a (from_stream source l) (from_stream source m)
   from_stream-same a None l m h = tt
@@ -196,9 +196,9 @@ module _ (test : List Step → ℕ → Bool) (spans : (s : Step) (steps : List S
 
   pub output_of-same : HaveNoSession plan.steps → (f g : Stream → List Record) → ((s : Stream) → when (test plan.steps) (f s) ≡ when (test plan.steps) (g s)) → when (test []) (output_of plan f) ≡ when (test []) (output_of plan g)
   output_of-same free f g h =
-      ap (when (test [])) (as_sink (arriving n (all_sent f)))
-      ∙ all_records-same (test []) (arriving n (all_sent f)) (arriving n (all_sent g)) (arriving-same (test []) n (all_sent f) (all_sent g) sent)
-      ∙ sym (ap (when (test [])) (as_sink (arriving n (all_sent g))))
+      ap (when (test [])) (as_sink (arrivals_at n (all_sent f)))
+      ∙ all_records-same (test []) (arrivals_at n (all_sent f)) (arrivals_at n (all_sent g)) (arriving-same (test []) n (all_sent f) (all_sent g) sent)
+      ∙ sym (ap (when (test [])) (as_sink (arrivals_at n (all_sent g))))
     where
       n : ℕ
       n = length plan.steps

@@ -15,7 +15,7 @@ use Rattle.sb_record.specs.declared.intake.Refusal.{Refusal}
 use Rattle.sb_record.specs.declared.key.Keys.{Keys}
 use Rattle.sb_record.specs.Progress.{Progress}
 use Rattle.sb_record.specs.Lines.{IsTextOf, IsInRange, record_text, mark_text}
-use Rattle.sb_record.specs.Intake.{tested, timely, timely_if, after, mark_of, IsItemOf}
+use Rattle.sb_record.specs.Intake.{answer_to, timely, timely_if, after, mark_of, IsItemOf}
 use Rattle.sb_record.specs.Inputs.{progress_of, accepted_if, accepted_after}
 use Rattle.sb_record.specs.Reading.{item_of}
 use Rattle.sb_record.specs.Streams.{uses, last_or, watermark_in, last_watermark}
@@ -50,7 +50,7 @@ kept-fit streams keys n w (Mark s t) h k = h
 kept-fit streams keys n w Skip h k = tt
 kept-fit streams keys n w (Late l t m) h k = cc
 
-tested-short : (p : Progress) (line : List ℕ) (i : Item) → tested p line ≡ Ok i → (length line ≤ 128) × (p.lines < 4294967295)
+tested-short : (p : Progress) (line : List ℕ) (i : Item) → answer_to p line ≡ Ok i → (length line ≤ 128) × (p.lines < 4294967295)
 tested-short p line i h = elim (cases_Bool (nat_le 4294967295 p.lines)) [
   | inl many ↦ cc (rw many at h)
   | inr few ↦ elim (cases_Bool (nat_lt 128 (length line))) [
@@ -68,9 +68,9 @@ sound p line (Late n t m) text time short = tt
 pub accepted-sound : (streams : Streams) (late : LatePolicy) (keys : Keys) (lines : List (List ℕ)) (items : List Item) → AllByRecursion (IsSound streams keys) items → length items ≤ 4294967295
     → AllByRecursion (IsSound streams keys) (accepted_after streams late keys items lines).items × (length (accepted_after streams late keys items lines).items ≤ 4294967295)
 accepted-sound streams late keys [] items all few = (all, few)
-accepted-sound streams late keys (line ∷ lines) items all few = by_result (tested (progress_of streams late keys items) line) refl (λ i. accepted-sound streams late keys lines (items ++ i ∷ []))
+accepted-sound streams late keys (line ∷ lines) items all few = by_result (answer_to (progress_of streams late keys items) line) refl (λ i. accepted-sound streams late keys lines (items ++ i ∷ []))
   where
-    by_result : (r : Result Item Refusal) → tested (progress_of streams late keys items) line ≡ r
+    by_result : (r : Result Item Refusal) → answer_to (progress_of streams late keys items) line ≡ r
         → ((i : Item) → AllByRecursion (IsSound streams keys) (items ++ i ∷ []) → length (items ++ i ∷ []) ≤ 4294967295
         → AllByRecursion (IsSound streams keys) (accepted_after streams late keys (items ++ i ∷ []) lines).items × (length (accepted_after streams late keys (items ++ i ∷ []) lines).items ≤ 4294967295))
         → AllByRecursion (IsSound streams keys) (accepted_if r items (λ more. accepted_after streams late keys more lines)).items × (length (accepted_if r items (λ more. accepted_after streams late keys more lines)).items ≤ 4294967295)
@@ -110,7 +110,7 @@ timely-passes p n (Mark s t) h = let low : nat_lt t (mark_of p s) ≡ false = gr
 timely-passes p n Skip h = refl
 timely-passes p n (Late l t m) h = refl
 
-tested-passes : (p : Progress) (i : Item) → IsFit p.streams p.keys i → IsInTime p i → p.lines < 4294967295 → tested p (item_text i) ≡ Ok i
+tested-passes : (p : Progress) (i : Item) → IsFit p.streams p.keys i → IsInTime p i → p.lines < 4294967295 → answer_to p (item_text i) ≡ Ok i
 tested-passes p i h k few =
     let many : nat_le 4294967295 p.lines ≡ false = grind (arith, nat_tests) in
     let long : nat_lt 128 (length (item_text i)) ≡ false = let s = text-short p.streams p.keys i h in grind (arith, nat_tests) in

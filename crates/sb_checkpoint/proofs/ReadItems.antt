@@ -29,7 +29,7 @@ use Rattle.sb_record.proofs.InputLemmas.{progress-more}
 use Rattle.sb_pipeline.specs.Shapes.{Shape, streams_of}
 use Rattle.sb_checkpoint.specs.Reach.{reach, is_within}
 use Rattle.sb_checkpoint.specs.Texts.{item_text, items_text, end_text, may_follow, may_stand, with_item, is_same, is_whole, if_last, read_pieces, read_lines}
-use Rattle.sb_checkpoint.specs.Checkpoints.{low_of, filled}
+use Rattle.sb_checkpoint.specs.Checkpoints.{low_of, with_comments}
 use Rattle.sb_checkpoint.specs.Laws.{accepted_in, Accepts, ReadItemsAreAccepted}
 use Rattle.sb_checkpoint.proofs.LinesOfTexts.{lines-of_items}
 use Rattle.sb_checkpoint.proofs.ReadAgain.{IsFit, AreTimely, takes, skips-timely, skips-fit}
@@ -172,15 +172,15 @@ read-accepted plan parts count low items is = (own, bytes)
         let most = both (nat_le count 4294967295) (eqb low (low_of plan items)) lines.1 in
         (leb-true (length items) count lines.0, leb-true count 4294967295 most.0)
 
-    fits : AllByRecursion (IsFit streams plan.keys) (filled count items)
+    fits : AllByRecursion (IsFit streams plan.keys) (with_comments count items)
     fits = All-join (IsFit streams plan.keys) items (replicate (count - length items) Skip) (stand-fit plan low items [] stand) (skips-fit streams plan.keys (count - length items))
 
-    own : Accepts plan (map item_text (filled count items)) (filled count items)
+    own : Accepts plan (map item_text (with_comments count items)) (with_comments count items)
     own =
-        takes streams plan.late plan.keys (filled count items) [] fits (stand-timely plan low plan.late (count - length items) items [] stand)
+        takes streams plan.late plan.keys (with_comments count items) [] fits (stand-timely plan low plan.late (count - length items) items [] stand)
         (omega (arith, few.0, few.1, length-append items (replicate (count - length items) Skip), length-skips (count - length items)))
 
-    bytes : Accepts plan (lines false (items_text (filled count items))) (filled count items)
+    bytes : Accepts plan (lines false (items_text (with_comments count items))) (with_comments count items)
     bytes =
-        ap (accepted_in plan) (ap (lines false) (sym (append-nil (items_text (filled count items)))) ∙ lines-of_items streams plan.keys false (filled count items) [] fits ∙ append-nil (map item_text (filled count items)))
+        ap (accepted_in plan) (ap (lines false) (sym (append-nil (items_text (with_comments count items)))) ∙ lines-of_items streams plan.keys false (with_comments count items) [] fits ∙ append-nil (map item_text (with_comments count items)))
         ∙ own

@@ -10,7 +10,7 @@ use Rattle.sb_record.specs.declared.item.Item.TheVariants.{Rec, Mark, Skip, Late
 use Rattle.sb_record.specs.declared.item.Record.{Record}
 use Rattle.sb_record.specs.declared.item.Stream.{Stream}
 use Rattle.sb_record.specs.declared.item.Stream.TheVariants.{A, B}
-use Rattle.sb_record.specs.Records.{before, at_least, sorted, record_cmp}
+use Rattle.sb_record.specs.Records.{before, at_least, sorted_records, record_cmp}
 use Rattle.sb_record.specs.Streams.{record_in, records_of, last_watermark}
 use Rattle.sb_record.proofs.Elements.{filter_of_filter}
 use Rattle.sb_record.proofs.Earlier.{before-low, at_least-high, sorted-split, sorted_before-front}
@@ -130,23 +130,23 @@ kept-give plan free items more = later-rows plan free low (streams_in (items ++ 
         ∙ sym (ap (within n low) (records-append s (resumed_items plan items) more))
 
 -- ---- sorted lists
-pub at_least-sorted : (v : ℕ) (l : List Record) → at_least v (sorted l) ≡ sorted (at_least v l)
+pub at_least-sorted : (v : ℕ) (l : List Record) → at_least v (sorted_records l) ≡ sorted_records (at_least v l)
 at_least-sorted v l =
     ap (at_least v) (sorted-split v l)
-    ∙ filter-append (λ r. not (nat_lt r.time v)) (sorted (before v l)) (sorted (at_least v l))
+    ∙ filter-append (λ r. not (nat_lt r.time v)) (sorted_records (before v l)) (sorted_records (at_least v l))
     ∙ (λ i. none i ++ all i)
   where
-    none : at_least v (sorted (before v l)) ≡ []
-    none = none_pass_of (λ r. not (nat_lt r.time v)) (sorted (before v l)) (every_by (λ r h. grind (arith, nat_tests)) (sorted (before v l)) (All-in_order (λ r. r.time < v) record_cmp (before v l) (before-low v l)))
+    none : at_least v (sorted_records (before v l)) ≡ []
+    none = none_pass_of (λ r. not (nat_lt r.time v)) (sorted_records (before v l)) (every_by (λ r h. grind (arith, nat_tests)) (sorted_records (before v l)) (All-in_order (λ r. r.time < v) record_cmp (before v l) (before-low v l)))
 
-    all : at_least v (sorted (at_least v l)) ≡ sorted (at_least v l)
-    all = all_pass_of (λ r. not (nat_lt r.time v)) (sorted (at_least v l)) (every_by (λ r h. grind (arith, nat_tests)) (sorted (at_least v l)) (All-in_order (λ r. v ≤ r.time) record_cmp (at_least v l) (at_least-high v l)))
+    all : at_least v (sorted_records (at_least v l)) ≡ sorted_records (at_least v l)
+    all = all_pass_of (λ r. not (nat_lt r.time v)) (sorted_records (at_least v l)) (every_by (λ r h. grind (arith, nat_tests)) (sorted_records (at_least v l)) (All-in_order (λ r. v ≤ r.time) record_cmp (at_least v l) (at_least-high v l)))
 
 -- ---- the rows of the whole run
 pub resumed-rest : ResumedRowsAreTheRest
 resumed-rest plan free w items more le later =
     sorted_before-front low w whole le
-    ∙ (λ i. sorted (first i) ++ rest i)
+    ∙ (λ i. sorted_records (first i) ++ rest i)
   where
     low : ℕ
     low = low_of plan items
@@ -165,9 +165,9 @@ resumed-rest plan free w items more le later =
         earlier-rows plan free low (streams_in (items ++ more)) (streams_in items)
         (λ s. ap (before low) (records-append s items more) ∙ filter-append (λ r. nat_lt r.time low) (records_of s items) (records_of s more) ∙ ap (λ l. before low (records_of s items) ++ l) (none_early s) ∙ append-nil _)
 
-    rest : sorted (at_least low (before w whole)) ≡ at_least low (sorted (before w resumed))
+    rest : sorted_records (at_least low (before w whole)) ≡ at_least low (sorted_records (before w resumed))
     rest =
-        ap sorted (filters-commute (λ r. not (nat_lt r.time low)) (λ r. nat_lt r.time w) whole)
-        ∙ ap (λ l. sorted (before w l)) (kept-give plan free items more)
-        ∙ ap sorted (filters-commute (λ r. nat_lt r.time w) (λ r. not (nat_lt r.time low)) resumed)
+        ap sorted_records (filters-commute (λ r. not (nat_lt r.time low)) (λ r. nat_lt r.time w) whole)
+        ∙ ap (λ l. sorted_records (before w l)) (kept-give plan free items more)
+        ∙ ap sorted_records (filters-commute (λ r. nat_lt r.time w) (λ r. not (nat_lt r.time low)) resumed)
         ∙ sym (at_least-sorted low (before w resumed))

@@ -17,7 +17,7 @@ use Rattle.sb_record.specs.declared.intake.Refusal.{Refusal}
 use Rattle.sb_record.specs.declared.key.Keys.{Keys}
 use Rattle.sb_record.specs.Records.{at_least}
 use Rattle.sb_record.specs.Progress.{Progress}
-use Rattle.sb_record.specs.Intake.{tested, timely, timely_if, when_late, after, mark_of, low}
+use Rattle.sb_record.specs.Intake.{answer_to, timely, timely_if, when_late, after, mark_of, low}
 use Rattle.sb_record.specs.Inputs.{Accepted, progress_of, accepted_if, accepted_after}
 use Rattle.sb_record.specs.Reading.{item_of}
 use Rattle.sb_record.specs.Streams.{uses, last_or, last_watermark, watermark_in, records_of, record_in, dropped_in, dropped_of, least_of}
@@ -219,7 +219,7 @@ timely_if-in_time : (p : Progress) (n : ℕ) (o : Option Item) (i : Item) → ti
 timely_if-in_time p n None i h = cc
 timely_if-in_time p n (Some item) i h = timely-in_time p n item i h
 
-pub tested-in_time : (p : Progress) (line : List ℕ) (i : Item) → tested p line ≡ Ok i → IsInTime p i
+pub tested-in_time : (p : Progress) (line : List ℕ) (i : Item) → answer_to p line ≡ Ok i → IsInTime p i
 tested-in_time p line i h = elim (cases_Bool (nat_le 4294967295 p.lines)) [
   | inl many ↦ cc (rw many at h)
   | inr few ↦ elim (cases_Bool (nat_lt 128 (length line))) [
@@ -290,9 +290,9 @@ follows streams late keys v [] xs ys same le =
     none A = tt
     none B = tt
 follows streams late keys v (line ∷ lines) xs ys same le =
-    by_result (tested (progress_of streams late keys xs) line) (tested (progress_of streams late keys ys) line) refl (ap (λ p. tested p line) same) (λ i. follows streams late keys v lines (xs ++ i ∷ []) (ys ++ i ∷ []))
+    by_result (answer_to (progress_of streams late keys xs) line) (answer_to (progress_of streams late keys ys) line) refl (ap (λ p. answer_to p line) same) (λ i. follows streams late keys v lines (xs ++ i ∷ []) (ys ++ i ∷ []))
   where
-    by_result : (r q : Result Item Refusal) → tested (progress_of streams late keys xs) line ≡ r → r ≡ q
+    by_result : (r q : Result Item Refusal) → answer_to (progress_of streams late keys xs) line ≡ r → r ≡ q
         → ((i : Item) → progress_of streams late keys (xs ++ i ∷ []) ≡ progress_of streams late keys (ys ++ i ∷ []) → v ≤ low (progress_of streams late keys (xs ++ i ∷ []))
         → Follows streams late keys v (xs ++ i ∷ []) (ys ++ i ∷ []) (accepted_after streams late keys (xs ++ i ∷ []) lines) (accepted_after streams late keys (ys ++ i ∷ []) lines))
         → Follows streams late keys v xs ys (accepted_if r xs (λ more. accepted_after streams late keys more lines)) (accepted_if q ys (λ more. accepted_after streams late keys more lines))
@@ -359,7 +359,7 @@ accepted-parts streams late keys first rest none = from [] first none
   where
     from : (items : List Item) (first : List (List ℕ)) → (accepted_after streams late keys items first).refused ≡ None → accepted_after streams late keys items (first ++ rest) ≡ accepted_after streams late keys (accepted_after streams late keys items first).items rest
     from items [] none = refl
-    from items (line ∷ first) none = by_result (tested (progress_of streams late keys items) line) none (λ i. from (items ++ i ∷ []) first)
+    from items (line ∷ first) none = by_result (answer_to (progress_of streams late keys items) line) none (λ i. from (items ++ i ∷ []) first)
       where
         by_result : (r : Result Item Refusal) → (accepted_if r items (λ more. accepted_after streams late keys more first)).refused ≡ None
             → ((i : Item) → (accepted_after streams late keys (items ++ i ∷ []) first).refused ≡ None → accepted_after streams late keys (items ++ i ∷ []) (first ++ rest) ≡ accepted_after streams late keys (accepted_after streams late keys (items ++ i ∷ []) first).items rest)

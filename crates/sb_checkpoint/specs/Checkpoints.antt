@@ -38,12 +38,12 @@ abbrev pub saved_items : Shape → List Item → List Item
 saved_items plan items = kept_of plan items ++ mark_items (last_watermark A items) (last_watermark B items)
 
 -- the items, and behind them comments until there are so many items
-abbrev pub filled : ℕ → List Item → List Item
-filled lines items = items ++ replicate (lines - length items) Skip
+abbrev pub with_comments : ℕ → List Item → List Item
+with_comments lines items = items ++ replicate (lines - length items) Skip
 
 -- what a resumed run reads in place of the items: those of the checkpoint, and a comment for each line more
 abbrev pub resumed_items : Shape → List Item → List Item
-resumed_items plan items = filled (length items) (saved_items plan items)
+resumed_items plan items = with_comments (length items) (saved_items plan items)
 
 -- the records of each stream among the items
 abbrev pub streams_in : List Item → Stream → List Record

@@ -42,24 +42,24 @@ abbrev pub with_record : Item → Kept → Kept
 with_record item k = record k { records = kept_in k (k.records ++ item ∷ []) }
 
 -- with another watermark of the stream
-abbrev pub marked : Stream → ℕ → Kept → Kept
-marked A t k = record k { mark_a = t }
-marked B t k = record k { mark_b = t }
+abbrev pub with_watermark : Stream → ℕ → Kept → Kept
+with_watermark A t k = record k { mark_a = t }
+with_watermark B t k = record k { mark_b = t }
 
 -- so that records below the new low watermark are kept no longer
 abbrev pub with_mark : Stream → ℕ → Kept → Kept
-with_mark s t k = record (marked s t k) { records = kept_in (marked s t k) k.records }
+with_mark s t k = record (with_watermark s t k) { records = kept_in (with_watermark s t k) k.records }
 
 -- with one line more
-abbrev pub counted : Kept → Kept
-counted k = record k { lines = k.lines + 1 }
+abbrev pub with_line : Kept → Kept
+with_line k = record k { lines = k.lines + 1 }
 
 -- with one item more
 abbrev pub with_item : Item → Kept → Kept
-with_item (Rec s r) k = with_record (Rec s r) (counted k)
-with_item (Mark s t) k = with_mark s t (counted k)
-with_item Skip k = counted k
-with_item (Late l t m) k = counted k
+with_item (Rec s r) k = with_record (Rec s r) (with_line k)
+with_item (Mark s t) k = with_mark s t (with_line k)
+with_item Skip k = with_line k
+with_item (Late l t m) k = with_line k
 
 -- what is kept of these items
 abbrev pub kept_after : Shape → List Item → Kept

@@ -15,7 +15,7 @@ use Rattle.sb_pipeline.specs.Results.{output_of, rows_below}
 use Rattle.sb_pipeline.specs.Shapes.{Shape, streams_of}
 use Rattle.sb_checkpoint.specs.Reach.{HasNoSession, reach, within}
 use Rattle.sb_checkpoint.specs.Texts.{item_text, items_text, head_text, end_text, checkpoint_text, pieces, IsRead, IsFaultAt}
-use Rattle.sb_checkpoint.specs.Checkpoints.{low_of, streams_in, saved_items, filled, resumed_items}
+use Rattle.sb_checkpoint.specs.Checkpoints.{low_of, streams_in, saved_items, with_comments, resumed_items}
 
 -- streams with the same records from the plan's reach before w on give the same rows from w on
 abbrev pub LaterRowsDependOnRecordsWithinReach : Type 0
@@ -154,8 +154,8 @@ Accepts plan lines items = accepted_in plan lines ≡ record { items = items; re
 abbrev pub ReadItemsAreAccepted : Type 0
 ReadItemsAreAccepted =
     (plan : Shape) (parts : List (List ℕ)) (count low : ℕ) (items : List Item) → IsRead plan parts count low items
-    → Accepts plan (map item_text (filled count items)) (filled count items)
-    × Accepts plan (lines false (items_text (filled count items))) (filled count items)
+    → Accepts plan (map item_text (with_comments count items)) (with_comments count items)
+    × Accepts plan (lines false (items_text (with_comments count items))) (with_comments count items)
 
 -- the pieces of a text are a checkpoint of one input, or have one first faulty line
 pub record IsReadOrFaulty (plan : Shape) (parts : List (List ℕ)) : Type 0 where

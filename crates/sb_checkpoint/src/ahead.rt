@@ -1,7 +1,7 @@
 //! The lines that a resumed run reads before the rest of its input.
 
 ghost use Rattle.std.specs.Prelude.{◌≡◌, ◌≤◌, ◌<◌, ◌++◌, [], min, length, take};
-ghost use Rattle.sb_checkpoint.specs.Checkpoints.{filled};
+ghost use Rattle.sb_checkpoint.specs.Checkpoints.{with_comments};
 ghost use Rattle.sb_checkpoint.specs.Saved.{items_in};
 ghost use Rattle.sb_checkpoint.specs.Texts.{items_text};
 ghost use Rattle.sb_checkpoint.specs.Ahead as spec;
@@ -24,7 +24,7 @@ pub(crate) struct Ahead {
 impl Model for Ahead {
     ghost use Rattle.std.specs.Prelude.{◌≤◌, drop, length};
     ghost use Rattle.sb_checkpoint.specs.Ahead.{Lines};
-    ghost use Rattle.sb_checkpoint.specs.Checkpoints.{filled};
+    ghost use Rattle.sb_checkpoint.specs.Checkpoints.{with_comments};
     ghost use Rattle.sb_checkpoint.specs.Saved.{items_in};
     ghost use Rattle.sb_checkpoint.specs.Texts.{items_text};
 
@@ -32,7 +32,7 @@ impl Model for Ahead {
 
     ghost view = { λ a. record {
       at_hand = drop a.from a.line;
-      behind = items_text (drop a.begun (filled a.checkpoint.lines (items_in a.checkpoint)));
+      behind = items_text (drop a.begun (with_comments a.checkpoint.lines (items_in a.checkpoint)));
     } };
 
     ghost invariant = { λ a. (a.from ≤ length a.line) × (length (items_in a.checkpoint) ≤ a.checkpoint.lines) };
@@ -42,7 +42,7 @@ impl Model for Ahead {
 fn line_at(checkpoint: &Checkpoint, place: u64) -> LineText
     requires fits { length (items_in checkpoint.now) ≤ checkpoint.now.lines }
     requires within { place < checkpoint.now.lines }
-    ensures { spec.IsLineAt (filled checkpoint.now.lines (items_in checkpoint.now)) place result }
+    ensures { spec.IsLineAt (with_comments checkpoint.now.lines (items_in checkpoint.now)) place result }
 {
     match item_at(checkpoint, place) {
         Some(item) => item_line(&item),
@@ -53,7 +53,7 @@ fn line_at(checkpoint: &Checkpoint, place: u64) -> LineText
 impl Ahead {
     pub(crate) fn new(checkpoint: Checkpoint) -> Ahead
         requires { length (items_in checkpoint) ≤ checkpoint.lines }
-        ensures { spec.bytes result ≡ items_text (filled checkpoint.lines (items_in checkpoint)) }
+        ensures { spec.bytes result ≡ items_text (with_comments checkpoint.lines (items_in checkpoint)) }
     {
         Ahead {
             checkpoint,

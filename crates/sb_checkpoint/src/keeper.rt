@@ -116,7 +116,7 @@ impl Keeper {
 
     /// Takes the next watermark of a stream, with which the low watermark does not fall.
     fn mark(&mut self, stream: Stream, mark: u64)
-        requires { spec.low_in self.old ≤ spec.low_in (spec.marked stream mark self.old) }
+        requires { spec.low_in self.old ≤ spec.low_in (spec.with_watermark stream mark self.old) }
         ensures { self.new ≡ spec.with_mark stream mark self.old }
     {
         match stream {

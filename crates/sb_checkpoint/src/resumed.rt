@@ -1,7 +1,7 @@
 //! A source that begins with what a checkpoint kept.
 
 ghost use Rattle.std.specs.Prelude.{◌≡◌, ◌≤◌, length};
-ghost use Rattle.sb_checkpoint.specs.Checkpoints.{filled};
+ghost use Rattle.sb_checkpoint.specs.Checkpoints.{with_comments};
 ghost use Rattle.sb_checkpoint.specs.Saved.{items_in};
 ghost use Rattle.sb_checkpoint.specs.Texts.{items_text};
 
@@ -32,7 +32,7 @@ impl<S: Source> Resumed<S> {
     pub fn new(checkpoint: Checkpoint, source: S) -> Resumed<S>
         requires { length (items_in checkpoint) ≤ checkpoint.lines }
         ensures { result ≡ record {
-          lines = items_text (filled checkpoint.lines (items_in checkpoint));
+          lines = items_text (with_comments checkpoint.lines (items_in checkpoint));
           source = source;
         } }
     {

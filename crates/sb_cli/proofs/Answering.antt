@@ -8,7 +8,7 @@ use Rattle.sb_record.specs.declared.item.Record.{Record}
 use Rattle.sb_record.specs.declared.intake.Refusal.{Refusal}
 use Rattle.sb_record.specs.declared.intake.Stop.{Stop}
 use Rattle.sb_record.specs.declared.intake.Stop.TheVariants.{Refused}
-use Rattle.sb_record.specs.Records.{sorted, before}
+use Rattle.sb_record.specs.Records.{sorted_records, before}
 use Rattle.sb_record.specs.Rows.{text_of}
 use Rattle.sb_record.specs.declared.item.Stream.{Stream}
 use Rattle.sb_record.specs.declared.item.Stream.TheVariants.{A, B}
@@ -146,9 +146,9 @@ plain_answer plan options given course taken taken' status dropped off written l
     }
 
 -- the rows below the watermark are those that are due
-pub rows_are_due : (plan : Shape) (below low : ℕ) (stop : Stop) (items : List Item) (a b rows : List Record) → rows ≡ sorted (before below (output_of plan (by_stream a b)))
+pub rows_are_due : (plan : Shape) (below low : ℕ) (stop : Stop) (items : List Item) (a b rows : List Record) → rows ≡ sorted_records (before below (output_of plan (by_stream a b)))
     → a ≡ records_of A items → b ≡ records_of B items → below ≡ due_mark stop low → low ≡ low_watermark (streams_of plan) items → rows ≡ due_rows plan stop items
-rows_are_due plan below low stop items a b rows are of_a of_b at is_low = are ∙ (λ i. sorted (before ((at ∙ ap (due_mark stop) is_low) i) (output_of plan (λ s. each s i))))
+rows_are_due plan below low stop items a b rows are of_a of_b at is_low = are ∙ (λ i. sorted_records (before ((at ∙ ap (due_mark stop) is_low) i) (output_of plan (λ s. each s i))))
   where
     each : (s : Stream) → by_stream a b s ≡ streams_in items s
     each A = of_a

@@ -12,7 +12,7 @@ use Rattle.sb_record.specs.Rows.{row_text, text_of}
 use Rattle.sb_record.specs.Streams.{dropped_of, low_watermark}
 use Rattle.sb_outside.specs.Lines.{lines}
 use Rattle.sb_pipeline.specs.Shapes.{Shape, streams_of}
-use Rattle.sb_checkpoint.specs.Checkpoints.{filled, low_of, saved_items}
+use Rattle.sb_checkpoint.specs.Checkpoints.{with_comments, low_of, saved_items}
 use Rattle.sb_checkpoint.specs.Laws.{AreWholeLines, Resumes, accepted_in, resumed_bytes}
 use Rattle.sb_checkpoint.specs.Reach.{HasNoSession}
 use Rattle.sb_checkpoint.specs.Texts.{IsRead, items_text, pieces}
@@ -90,7 +90,7 @@ module _ (plan : Shape) (none : HasNoSession plan) {part_left part_left' rest_le
   said_is = read_as_saved plan (lines false part.bytes) said (subst (λ s. IsRead plan (pieces (if_ended s (saved_text plan (part_items plan part)))) said.lines said.low said.items) is.done is.saved)
 
   rest_bytes : rest.bytes ≡ resumed_bytes plan part.bytes ++ cut.more
-  rest_bytes = cut.rest_is ∙ ap (λ (s : Said). items_text (filled s.lines s.items) ++ cut.more) said_is
+  rest_bytes = cut.rest_is ∙ ap (λ (s : Said). items_text (with_comments s.lines s.items) ++ cut.more) said_is
 
   -- what is accepted of the whole and of the rest
   abbrev of_whole : Accepted

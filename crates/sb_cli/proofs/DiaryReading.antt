@@ -10,7 +10,7 @@ use Rattle.sb_diary.specs.declared.audit.AuditFault.{AuditFault}
 use Rattle.sb_diary.specs.declared.audit.AuditFault.TheVariants as fault
 use Rattle.sb_diary.specs.declared.audit.AuditStop.{AuditStop}
 use Rattle.sb_diary.specs.declared.audit.AuditStop.TheVariants as stop
-use Rattle.sb_diary.specs.Audits.{TextAudit, Auditing, AreLegalTexts, IsFaultAt, IsLegalText, IsStopAt, begun, end_of, lines_in, started, too_long}
+use Rattle.sb_diary.specs.Audits.{TextAudit, Auditing, AreLegalTexts, IsFaultAt, IsLegalText, IsStopAt, first_text_audit, end_of, lines_in, first_auditing, too_long}
 use Rattle.sb_diary.proofs.TextLines.{legal-more, lines-more}
 use Rattle.sb_outside.specs.Lines.{lines, is_too_long}
 use Rattle.sb_outside.specs.declared.lines.Halt.{Halt}
@@ -112,13 +112,13 @@ pub record TakingDiary (left left' : Option (List ℕ)) (held : Held) (a : Audit
   pub before : List (List ℕ)
   pub splits : (ended : Bool) (later : List ℕ) → MayCome held.halt ended later
       → lines ended (bytes ++ later) ≡ before ++ rest_of_lines held.halt held.at_hand ended later
-  pub legal : AreLegalTexts begun before a.text
+  pub legal : AreLegalTexts first_text_audit before a.text
   pub takes : a.stop ≡ None
   pub room : lines_in a.text ≤ MAX_LINES
   pub no_fault : faults' ≡ faults
 
 -- before the first line
-pub diary-starts : (left : Option (List ℕ)) (faults : ℕ) → TakingDiary left left (record { at_hand = []; line = []; halt = None }) started faults faults
+pub diary-starts : (left : Option (List ℕ)) (faults : ℕ) → TakingDiary left left (record { at_hand = []; line = []; halt = None }) first_auditing faults faults
 diary-starts left faults = record {
   bytes = [];
   given = Consumes-nil left;
@@ -148,7 +148,7 @@ module _ {S : Type 0} (left_of : S → Option (List ℕ)) where
             ∙ t.splits ended (gave.more ++ later) may_come
             ∙ ap (λ ls. t.before ++ ls) first
             ∙ sym (append_assoc t.before (line ∷ []) (rest_of_lines held'.halt held'.at_hand ended later));
-        legal = legal-more begun a.text a'.text t.before line t.legal legal;
+        legal = legal-more first_text_audit a.text a'.text t.before line t.legal legal;
         takes = takes;
         room = let one = lines-more a.text a'.text legal.line legal.legal in omega (arith, one, legal.room);
         no_fault = same ∙ t.no_fault;
@@ -172,8 +172,8 @@ module _ {S : Type 0} (left_of : S → Option (List ℕ)) where
       }
     where
       by_why : (why : DiaryHalt) (ls : List (List ℕ)) → StopsDiaryAt a.text why gave.ended ls → IsReadUpTo a.text why gave.ended (t.before ++ ls)
-      by_why End ls (none, ended) = (subst (λ l. AreLegalTexts begun l a.text) (sym (append-nil t.before) ∙ ap (λ l. t.before ++ l) (sym none)) t.legal, ended)
-      by_why Fault ls (none, ended) = (subst (λ l. AreLegalTexts begun l a.text) (sym (append-nil t.before) ∙ ap (λ l. t.before ++ l) (sym none)) t.legal, ended)
+      by_why End ls (none, ended) = (subst (λ l. AreLegalTexts first_text_audit l a.text) (sym (append-nil t.before) ∙ ap (λ l. t.before ++ l) (sym none)) t.legal, ended)
+      by_why Fault ls (none, ended) = (subst (λ l. AreLegalTexts first_text_audit l a.text) (sym (append-nil t.before) ∙ ap (λ l. t.before ++ l) (sym none)) t.legal, ended)
       by_why (Refused fault) ls (line, others, are, refused) = record {
         before = t.before;
         line = line;

@@ -5,7 +5,7 @@ use Rattle.sb_record.specs.declared.intake.Refusal.{Refusal}
 use Rattle.sb_record.specs.declared.intake.Stop.TheVariants.{Refused}
 use Rattle.sb_outside.specs.Folders.{Files}
 use Rattle.sb_pipeline.specs.Shapes.{Shape}
-use Rattle.sb_checkpoint.specs.Checkpoints.{filled}
+use Rattle.sb_checkpoint.specs.Checkpoints.{with_comments}
 use Rattle.sb_checkpoint.specs.Texts.{IsFaultAt, IsRead, items_text, pieces}
 use Rattle.sb_checkpoint.proofs.ReadOrFaulty.{read-or_faulty}
 use Rattle.sb_feed.specs.Given.{Given, stop_at}
@@ -91,7 +91,7 @@ module _ (folder : Option Files) (name checkpoint : List ℕ) (options : Options
       fine.no_read_failed fine.no_write_failed (λ place e. none_to_blame place ending.status no_tap e)
     where
       accepted : (other : Shape) (others : Said) → other ≡ plan → others ≡ said → (rest : List ℕ)
-          (given : Given (prepend_known (items_text (filled others.lines others.items)) left) (prepend_known rest left')) (refusal : Refusal) → stop_at other given ≡ Refused refusal → ⊥
+          (given : Given (prepend_known (items_text (with_comments others.lines others.items)) left) (prepend_known rest left')) (refusal : Refusal) → stop_at other given ≡ Refused refusal → ⊥
       accepted other others same one rest given refusal e =
-          subst₂ (λ p s. (g : Given (prepend_known (items_text (filled s.lines s.items)) left) (prepend_known rest left')) → stop_at p g ≡ Refused refusal → ⊥) (sym same) (sym one)
+          subst₂ (λ p s. (g : Given (prepend_known (items_text (with_comments s.lines s.items)) left) (prepend_known rest left')) → stop_at p g ≡ Refused refusal → ⊥) (sym same) (sym one)
           (λ g. fine.no_refusal rest g refusal) given e

@@ -8,7 +8,7 @@ use Rattle.sb_record.specs.Records.{at_least}
 use Rattle.sb_outside.specs.declared.sink.SinkFault.{SinkFault}
 use Rattle.sb_outside.specs.declared.sink.SinkFault.TheVariants as fault
 use Rattle.sb_pipeline.specs.Shapes.{Shape}
-use Rattle.sb_checkpoint.specs.Checkpoints.{filled}
+use Rattle.sb_checkpoint.specs.Checkpoints.{with_comments}
 use Rattle.sb_checkpoint.specs.Texts.{items_text}
 use Rattle.sb_run.specs.declared.run_end.RunEnd.{RunEnd}
 use Rattle.sb_run.specs.declared.run_end.RunEnd.TheVariants as run
@@ -43,7 +43,7 @@ module _ (plan : Shape) (options : Options) (said : Said) (left left' taken take
   abbrev EndsBehind : RunEnd → Type 0
   EndsBehind end =
       (rest : List ℕ)
-      × Ends plan (sizes_from options) (prepend_known (items_text (filled said.lines said.items)) left) (prepend_known rest left') (λ a rows b. Wrote a b (at_least said.low rows)) (λ a rows b. WrotePrefix a b (at_least said.low rows))
+      × Ends plan (sizes_from options) (prepend_known (items_text (with_comments said.lines said.items)) left) (prepend_known rest left') (λ a rows b. Wrote a b (at_least said.low rows)) (λ a rows b. WrotePrefix a b (at_least said.low rows))
       taken taken1 [] [] [] dropped end
 
   -- no tap was handed in, so none has failed
@@ -61,7 +61,7 @@ module _ (plan : Shape) (options : Options) (said : Said) (left left' taken take
   rest_answer end passed (rest, e) =
       let status = status_after end passed in
       let untold : diaries_told options.diary end status ≡ [] = subst (λ keep. diaries_told keep end status ≡ []) (sym no) (none_kept end status) in
-      let lines = prepend_known (items_text (filled said.lines said.items)) left in
+      let lines = prepend_known (items_text (with_comments said.lines said.items)) left in
       let left2 = prepend_known rest left' in (
         rest,
         subst (λ diaries. IsAnswerBy plan options lines left2 taken taken2 (λ given. rest_course said.low plan given) (ending_of status dropped diaries)) untold

@@ -23,9 +23,9 @@ use Rattle.sb_words.specs.declared.options.Options.{Options}
 use Rattle.sb_cli.specs.DiaryReads.{IsRefusedAmong}
 use Rattle.sb_cli.specs.Statuses.{audit_text}
 use Rattle.sb_cli.specs.Told.{TellsDiaries}
-use Rattle.sb_diary.specs.Audits.{TextAudit, AreLegalTexts, begun, end_of}
+use Rattle.sb_diary.specs.Audits.{TextAudit, AreLegalTexts, first_text_audit, end_of}
 use Rattle.sb_diary.specs.Texts.{NodeDiary}
-use Rattle.sb_checkpoint.specs.Checkpoints.{filled}
+use Rattle.sb_checkpoint.specs.Checkpoints.{with_comments}
 use Rattle.sb_checkpoint.specs.Texts.{items_text}
 use Rattle.sb_cli.specs.CheckpointFiles.{GivesCheckpoint, HasFaultyLine, IsTooLong, Said}
 use Rattle.sb_cli.specs.Courses.{Course, course_in, rest_course, run_course}
@@ -154,7 +154,7 @@ abbrev pub IsRestAnswer
     : Shape → Options → Said → Option (List ℕ) → Option (List ℕ) → Option (List ℕ) → Option (List ℕ) → Ending → Type 0
 IsRestAnswer plan options said left left' taken taken' ending =
     (rest : List ℕ) × IsAnswerBy plan options
-    (prepend_known (items_text (filled said.lines said.items)) left) (prepend_known rest left') taken taken'
+    (prepend_known (items_text (with_comments said.lines said.items)) left) (prepend_known rest left') taken taken'
     (λ given. rest_course said.low plan given) ending
 
 -- the answer of `resume`: no run begins, or it is the answer for the plan and the checkpoint
@@ -168,7 +168,7 @@ IsResumeAnswer folder wanted checkpoint left left' taken taken' ending =
 
 -- a diary text was read to its end and is legal, and this is what an audit says of it
 pub record Audited (lines : List (List ℕ)) (ended : Bool) (text : TextAudit) : Type 0 where
-  pub legal : AreLegalTexts begun lines text
+  pub legal : AreLegalTexts first_text_audit lines text
   pub whole : ended ≡ true
 
 -- what an audit wrote, by how the run ended: its line if all is legal, or a prefix of it if writing failed, else
@@ -182,7 +182,7 @@ HasAudited lines ended taken taken' Memory =
     (taken' ≡ taken)
     ⊎ ((text : TextAudit) × Audited lines ended text × AppendsPrefix taken taken' (audit_text (end_of text)))
 HasAudited lines ended taken taken' Input =
-    ((text : TextAudit) × AreLegalTexts begun lines text) × (ended ≡ false) × (taken' ≡ taken)
+    ((text : TextAudit) × AreLegalTexts first_text_audit lines text) × (ended ≡ false) × (taken' ≡ taken)
 HasAudited lines ended taken taken' (Audit fault) = IsRefusedAmong lines fault × (taken' ≡ taken)
 HasAudited lines ended taken taken' Words = ⊥
 HasAudited lines ended taken taken' (Plan fault) = ⊥

@@ -3,7 +3,7 @@ use Rattle.std.specs.Prelude.{◌≡◌, ℕ, Bool, true, false, List, [], ◌�
 use Rattle.std.specs.Io.KnownBytes.{Consumes, IsAtEnd}
 use Rattle.sb_diary.specs.declared.audit.AuditFault.{AuditFault}
 use Rattle.sb_diary.specs.declared.audit.AuditFault.TheVariants.{TooMany, TooLong, Malformed, NotLegal}
-use Rattle.sb_diary.specs.Audits.{TextAudit, Auditing, AreLegalTexts, IsFaultAt, IsLegalText, IsNumbered, begun, end_of}
+use Rattle.sb_diary.specs.Audits.{TextAudit, Auditing, AreLegalTexts, IsFaultAt, IsLegalText, IsNumbered, first_text_audit, end_of}
 use Rattle.sb_outside.specs.Lines.{is_too_long}
 use Rattle.sb_outside.specs.Readings.{Reading, MayCome, rest_of_lines}
 use Rattle.sb_outside.specs.Sources.{Rose}
@@ -27,7 +27,7 @@ pub record IsRefusedAmong (lines : List (List ℕ)) (fault : AuditFault) : Type 
   pub others : List (List ℕ)
   pub split : lines ≡ before ++ line ∷ others
   pub text : TextAudit
-  pub legal : AreLegalTexts begun before text
+  pub legal : AreLegalTexts first_text_audit before text
   pub why : IsRefusedLine text line fault
 
 -- why reading stops before these lines, behind lines that say t
@@ -67,8 +67,8 @@ TakesDiaryLine left old new a a' (Err halt) = GaveRest left old new (StopsDiaryA
 
 -- what the lines were, by why reading stopped
 abbrev pub IsReadUpTo : TextAudit → DiaryHalt → Bool → List (List ℕ) → Type 0
-IsReadUpTo t End ended lines = AreLegalTexts begun lines t × (ended ≡ true)
-IsReadUpTo t Fault ended lines = AreLegalTexts begun lines t × (ended ≡ false)
+IsReadUpTo t End ended lines = AreLegalTexts first_text_audit lines t × (ended ≡ true)
+IsReadUpTo t Fault ended lines = AreLegalTexts first_text_audit lines t × (ended ≡ false)
 IsReadUpTo t (Refused fault) ended lines = IsRefusedAmong lines fault
 IsReadUpTo t Memory ended lines = Unit {0}
 

@@ -14,7 +14,7 @@ use Rattle.sb_cli.specs.declared.status.Status.TheVariants.{Done, Words, Plan, L
 use Rattle.sb_diary.specs.declared.audit.AuditFault.{AuditFault}
 use Rattle.sb_emit.specs.Taps.{TapState}
 use Rattle.std.specs.Io.KnownBytes.{prepend_known}
-use Rattle.sb_checkpoint.specs.Checkpoints.{filled}
+use Rattle.sb_checkpoint.specs.Checkpoints.{with_comments}
 use Rattle.sb_checkpoint.specs.Texts.{items_text}
 use Rattle.sb_cli.specs.CheckpointFiles.{Said, checkpoint_load}
 use Rattle.sb_cli.specs.Courses.{Course}
@@ -125,7 +125,7 @@ pub record NothingFails
 pub record NothingFailsBehind
     (plan : Shape) (said : Said) (left left' : Option (List ℕ)) (before now : Faults) : Type 0 where
   pub no_refusal : (rest : List ℕ)
-      (given : Given (prepend_known (items_text (filled said.lines said.items)) left) (prepend_known rest left'))
+      (given : Given (prepend_known (items_text (with_comments said.lines said.items)) left) (prepend_known rest left'))
       (refusal : Refusal) → stop_at plan given ≡ Refused refusal → ⊥
   pub no_read_failed : Rose before.reads now.reads → ⊥
   pub no_write_failed : Rose before.writes now.writes → ⊥

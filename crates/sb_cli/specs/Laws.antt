@@ -3,7 +3,7 @@ use Rattle.std.specs.Prelude.{◌≡◌, ℕ, List, ◌++◌, Option}
 use Rattle.sb_record.specs.declared.intake.Stop.TheVariants.{End}
 use Rattle.sb_record.specs.Streams.{dropped_of}
 use Rattle.sb_pipeline.specs.Shapes.{Shape}
-use Rattle.sb_checkpoint.specs.Checkpoints.{filled}
+use Rattle.sb_checkpoint.specs.Checkpoints.{with_comments}
 use Rattle.sb_checkpoint.specs.Laws.{AreWholeLines}
 use Rattle.sb_checkpoint.specs.Reach.{HasNoSession}
 use Rattle.sb_checkpoint.specs.Texts.{IsRead, items_text, pieces}
@@ -24,7 +24,7 @@ pub record IsSavedPart {left left' : Option (List ℕ)} (plan : Shape) (part : G
 pub record AreCutBehind {part_left part_left' rest_left rest_left' left left' : Option (List ℕ)} (said : Said)
     (part : Given part_left part_left') (rest : Given rest_left rest_left') (whole : Given left left') : Type 0 where
   pub more : List ℕ
-  pub rest_is : rest.bytes ≡ items_text (filled said.lines said.items) ++ more
+  pub rest_is : rest.bytes ≡ items_text (with_comments said.lines said.items) ++ more
   pub whole_is : whole.bytes ≡ part.bytes ++ more
   pub end : rest.ended ≡ whole.ended
 

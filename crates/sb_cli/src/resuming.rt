@@ -4,7 +4,7 @@ ghost use Rattle.std.specs.Prelude.{◌≡◌, ◌≢◌, ◌≤◌, ◌∷◌, 
 ghost use Rattle.std.specs.Io.KnownBytes.{prepend_known};
 ghost use Rattle.sb_record.specs.Records.{at_least};
 ghost use Rattle.sb_outside.specs.Folders.{Load};
-ghost use Rattle.sb_checkpoint.specs.Checkpoints.{filled};
+ghost use Rattle.sb_checkpoint.specs.Checkpoints.{with_comments};
 ghost use Rattle.sb_checkpoint.specs.Reach.{HasNoSession};
 ghost use Rattle.sb_checkpoint.specs.Saved.{items_in};
 ghost use Rattle.sb_checkpoint.specs.Texts.{items_text};
@@ -175,7 +175,7 @@ fn rest_to<W: Threads + Wait + Clock + Sync, S: Source, K: Sink>(
     requires sizes { ends.AreSizes sizes }
     requires room { length (items_in checkpoint) ≤ checkpoint.lines }
     ensures ends { (rest : List ℕ) × ends.Ends plan sizes
-        (prepend_known (items_text (filled checkpoint.lines (items_in checkpoint))) (S.left source.old))
+        (prepend_known (items_text (with_comments checkpoint.lines (items_in checkpoint))) (S.left source.old))
         (prepend_known rest (S.left source.new))
         (λ taken rows taken'. Wrote taken taken' (at_least checkpoint.low rows))
         (λ taken rows taken'. WrotePrefix taken taken' (at_least checkpoint.low rows))

@@ -8,9 +8,9 @@ use Rattle.sb_core.specs.declared.moment.Cont.{Cont}
 use Rattle.sb_core.specs.declared.moment.CoreLane.{CoreLane}
 use Rattle.sb_core.specs.declared.moment.Moment.{Moment}
 use Rattle.sb_core.specs.declared.moment.Node.{Node}
-use Rattle.sb_core.specs.Closings.{kept_at, rows_at, collected, is_sink}
+use Rattle.sb_core.specs.Closings.{kept_at, rows_at, rows_at_sink, is_sink}
 use Rattle.sb_core.specs.Lanes.{closable, with_first_closing}
-use Rattle.sb_core.specs.Marks.{closed}
+use Rattle.sb_core.specs.Marks.{least_begun_mark}
 use Rattle.sb_core.specs.Moments.{is_close, set_lane}
 
 -- the closing of the lane's oldest container may begin, and this is its epoch, its serial, after which there is one
@@ -27,9 +27,10 @@ pub record IsBeginningOf (plan : Shape) (m : Moment) (k l : ℕ) (closing : Clos
   pub epoch : closing.epoch ≡ cont.epoch
   pub serial : closing.serial ≡ node.closings
   pub next_fits : closing.serial < 2 ^ 64 - 1
-  pub floor : closing.floor ≡ closed node.lanes
-  pub mark : closing.mark ≡ closed (set_lane l (record lane { conts = with_first_closing lane.conts }) node).lanes
+  pub floor : closing.floor ≡ least_begun_mark node.lanes
+  pub mark : closing.mark
+      ≡ least_begun_mark (set_lane l (record lane { conts = with_first_closing lane.conts }) node).lanes
   pub rows : closing.rows ≡ rows_at (operator_at (slice_get plan.steps k)) closing.floor closing.mark node.kept
   pub kept : closing.kept ≡ kept_at (operator_at (slice_get plan.steps k)) closing.mark node.kept
-  pub collected : closing.collected ≡ collected (operator_at (slice_get plan.steps k)) closing.mark node.kept
+  pub collected : closing.collected ≡ rows_at_sink (operator_at (slice_get plan.steps k)) closing.mark node.kept
   pub passed : closing.passed ≡ is_sink (operator_at (slice_get plan.steps k))

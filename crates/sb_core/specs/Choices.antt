@@ -11,6 +11,6 @@ is_empty [] = true
 is_empty (x ∷ xs) = false
 
 -- the first element that passes, and the list without it
-abbrev pub pulled : {X : Type 0} → (X → Bool) → List X → Option (X × List X)
-pulled p [] = None
-pulled p (x ∷ xs) = if p x then Some (x, xs) else (pulled p xs >>= λ q. Some (q.0, x ∷ q.1))
+abbrev pub first_and_rest : {X : Type 0} → (X → Bool) → List X → Option (X × List X)
+first_and_rest p [] = None
+first_and_rest p (x ∷ xs) = if p x then Some (x, xs) else (first_and_rest p xs >>= λ q. Some (q.0, x ∷ q.1))

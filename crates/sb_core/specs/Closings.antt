@@ -2,13 +2,13 @@
 use Rattle.std.specs.Prelude.{ℕ, nat_lt, Bool, true, false, not, List, [], filter}
 use Rattle.std.specs.List.{flat_map, list_any}
 use Rattle.sb_record.specs.declared.item.Record.{Record}
-use Rattle.sb_record.specs.Records.{sorted, before, at_least}
+use Rattle.sb_record.specs.Records.{sorted_records, before, at_least}
 use Rattle.sb_window.specs.Windows.{window_ends}
 use Rattle.sb_pardo.specs.Outputs.{outputs_of}
 use Rattle.sb_aggregate.specs.Sessions.{is_session_open}
 use Rattle.sb_record.specs.declared.element.KeptRec.{KeptRec}
 use Rattle.sb_record.specs.Elements.{all_records}
-use Rattle.sb_pipeline.specs.Operators.{Operator, WindowOperator, grouped}
+use Rattle.sb_pipeline.specs.Operators.{Operator, WindowOperator, operator_rows}
 use Rattle.sb_pipeline.specs.Operators.Operator.{ParDo, Windowed, Sink}
 use Rattle.sb_pipeline.specs.Operators.WindowOperator.{Aggregated, Sessions, Joined}
 
@@ -29,10 +29,10 @@ delivery (Windowed grouping) records = []
 delivery Sink records = []
 
 -- what a node keeps of a finished bundle
-abbrev pub absorbed : Operator → List KeptRec → List KeptRec
-absorbed (ParDo op) elements = []
-absorbed (Windowed grouping) elements = elements
-absorbed Sink elements = elements
+abbrev pub kept_elements : Operator → List KeptRec → List KeptRec
+kept_elements (ParDo op) elements = []
+kept_elements (Windowed grouping) elements = elements
+kept_elements Sink elements = elements
 
 -- whether an element is open at a mark: it has a window with an end above the mark, or its session among these elements
 -- ends above it
@@ -55,11 +55,12 @@ kept_at Sink mark elements = filter (λ e. not (nat_lt e.rec.time mark)) element
 -- time from the floor on and below the mark
 abbrev pub rows_at : Operator → ℕ → ℕ → List KeptRec → List Record
 rows_at (ParDo op) floor mark elements = []
-rows_at (Windowed grouping) floor mark elements = sorted (before mark (at_least floor (grouped grouping elements)))
+rows_at (Windowed grouping) floor mark elements =
+    sorted_records (before mark (at_least floor (operator_rows grouping elements)))
 rows_at Sink floor mark elements = []
 
 -- what a closing of the sink adds to the rows
-abbrev pub collected : Operator → ℕ → List KeptRec → List Record
-collected (ParDo op) mark elements = []
-collected (Windowed grouping) mark elements = []
-collected Sink mark elements = sorted (before mark (all_records elements))
+abbrev pub rows_at_sink : Operator → ℕ → List KeptRec → List Record
+rows_at_sink (ParDo op) mark elements = []
+rows_at_sink (Windowed grouping) mark elements = []
+rows_at_sink Sink mark elements = sorted_records (before mark (all_records elements))

@@ -16,12 +16,12 @@ use Rattle.sb_core.specs.declared.held.Held.{Held}
 use Rattle.sb_core.specs.declared.held.Held.TheVariants.{Work, Close}
 use Rattle.sb_core.specs.declared.event.Event.{Event}
 use Rattle.sb_core.specs.declared.event.Event.TheVariants.{Arrive, Seal, Take, Deliver, Finish, Begin, Pass, End}
-use Rattle.sb_core.specs.Choices.{only_if, is_empty, pulled}
+use Rattle.sb_core.specs.Choices.{only_if, is_empty, first_and_rest}
 use Rattle.sb_core.specs.Lanes.{next_epoch, next_floor, with_arrival, with_seal, take_from, finish_in, closable}
 use Rattle.sb_core.specs.Lanes.{with_first_closing}
-use Rattle.sb_core.specs.Marks.{first_is_closing, closed}
+use Rattle.sb_core.specs.Marks.{first_is_closing, least_begun_mark}
 use Rattle.sb_core.specs.Moments.{set_lane, is_work, is_close, is_close_of}
-use Rattle.sb_core.specs.Closings.{delivery, absorbed, kept_at, rows_at, collected, is_sink}
+use Rattle.sb_core.specs.Closings.{delivery, kept_elements, kept_at, rows_at, rows_at_sink, is_sink}
 
 -- the place below a node
 abbrev pub below : Shape → ℕ → Option Down
@@ -99,13 +99,13 @@ part_after plan bundle (Begin k l) node =
     closable lane.ended lane.conts >>= λ c.
     let d = operator_at (slice_get plan.steps k) in
     let begun_node = set_lane l (record lane { conts = with_first_closing lane.conts }) node in
-    let floor = closed node.lanes in
-    let mark = closed begun_node.lanes in
+    let floor = least_begun_mark node.lanes in
+    let mark = least_begun_mark begun_node.lanes in
     only_if (not (list_any (λ lane. first_is_closing lane.conts) node.lanes))
     (Some (record {
       node = record begun_node { kept = kept_at d mark node.kept; closings = node.closings + 1 };
       held = Close k l c.epoch node.closings floor mark (rows_at d floor mark node.kept) (is_sink d) ∷ [];
-      rows = collected d mark node.kept;
+      rows = rows_at_sink d mark node.kept;
     }))
 part_after plan bundle (Deliver k l number) node = None
 part_after plan bundle (Finish k l number) node = None
@@ -129,7 +129,7 @@ held_after plan bundle (Finish k i n) (Work y l epoch floor number records deliv
     let d = operator_at (slice_get plan.steps y) in
     only_if (delivered || is_empty (delivery d records))
     (Some (only_node [] (record (set_lane l (record lane { conts = finish_in epoch number lane.conts }) node) {
-      kept = node.kept ++ absorbed d (on_lane l records);
+      kept = node.kept ++ kept_elements d (on_lane l records);
     })))
 held_after plan bundle (Pass k) (Close y l epoch serial floor mark rows passed) node =
     below plan y >>= λ d.
@@ -154,7 +154,7 @@ moment_after plan m event k node = part_after plan m.bundle event node >>= λ p.
 -- and after an event of a Work or a Close, the first held that it is of
 abbrev pub held_moment_after : Shape → Moment → Event → ℕ → Node → Option Moment
 held_moment_after plan m event k node =
-    pulled (concerns event) m.held >>= λ q.
+    first_and_rest (concerns event) m.held >>= λ q.
     held_after plan m.bundle event q.0 node >>= λ p.
     Some (with_part k q.1 m p)
 

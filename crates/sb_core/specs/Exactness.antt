@@ -14,13 +14,13 @@ use Rattle.sb_core.specs.declared.held.Held.TheVariants.{Work, Close}
 use Rattle.sb_core.specs.declared.moment.Moment.{Moment}
 use Rattle.sb_record.specs.Records.{at_least}
 use Rattle.sb_record.specs.Reorderings.{IsReordered}
-use Rattle.sb_pipeline.specs.Operators.{Operator, grouped, operator_at}
+use Rattle.sb_pipeline.specs.Operators.{Operator, operator_rows, operator_at}
 use Rattle.sb_pardo.specs.Outputs.{outputs_of}
 use Rattle.sb_record.specs.Elements.{on_lane, all_records}
 use Rattle.sb_pipeline.specs.Flow.{flow}
 use Rattle.sb_pipeline.specs.Results.{output_of}
 use Rattle.sb_pipeline.specs.Operators.Operator.{ParDo, Windowed, Sink}
-use Rattle.sb_core.specs.Marks.{closed}
+use Rattle.sb_core.specs.Marks.{least_begun_mark}
 use Rattle.sb_core.specs.Moments.{node_at, floor_at}
 use Rattle.sb_record.specs.declared.item.TheConstants.{MAX_TIME}
 
@@ -34,27 +34,27 @@ waiting_from l [] = []
 waiting_from l (lane ∷ lanes) = on_lane l (waiting_in lane) ++ waiting_from (l + 1) lanes
 
 -- the records of the node's Works that are not delivered
-abbrev pub working : ℕ → Held → List KeptRec
-working k (Work node lane epoch floor number records delivered) =
+abbrev pub work_in : ℕ → Held → List KeptRec
+work_in k (Work node lane epoch floor number records delivered) =
     if (node == k) && not delivered then on_lane lane records else []
-working k (Close node lane epoch serial floor mark rows passed) = []
+work_in k (Close node lane epoch serial floor mark rows passed) = []
 
 -- the rows that the node's Close has left
-abbrev pub undelivered : ℕ → Held → List Record
-undelivered k (Work node lane epoch floor number records delivered) = []
-undelivered k (Close node lane epoch serial floor mark rows passed) = if node == k then rows else []
+abbrev pub rows_left_in : ℕ → Held → List Record
+rows_left_in k (Work node lane epoch floor number records delivered) = []
+rows_left_in k (Close node lane epoch serial floor mark rows passed) = if node == k then rows else []
 
 -- what a node has yet to work off, where these come
 abbrev pub rest : ℕ → Node → List Held → List KeptRec → List KeptRec
-rest k node held elements = waiting_from 0 node.lanes ++ flat_map (working k) held ++ elements
+rest k node held elements = waiting_from 0 node.lanes ++ flat_map (work_in k) held ++ elements
 
 -- what a node has yet to give below, where these come; the sink gives all of its rows
 abbrev pub gives_by : Operator → ℕ → Node → List Held → List Record → List KeptRec → List Record
 gives_by (ParDo op) k node held rows elements =
-    flat_map (undelivered k) held ++ flat_map (outputs_of op) (all_records (rest k node held elements))
+    flat_map (rows_left_in k) held ++ flat_map (outputs_of op) (all_records (rest k node held elements))
 gives_by (Windowed grouping) k node held rows elements =
-    flat_map (undelivered k) held
-    ++ at_least (closed node.lanes) (grouped grouping (node.kept ++ rest k node held elements))
+    flat_map (rows_left_in k) held
+    ++ at_least (least_begun_mark node.lanes) (operator_rows grouping (node.kept ++ rest k node held elements))
 gives_by Sink k node held rows elements = rows ++ all_records (node.kept ++ rest k node held elements)
 
 -- what node k has yet to give

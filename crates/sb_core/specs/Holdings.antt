@@ -14,7 +14,7 @@ use Rattle.sb_core.specs.declared.moment.Moment.{Moment}
 use Rattle.sb_core.specs.declared.held.Held.{Held}
 use Rattle.sb_core.specs.declared.held.Held.TheVariants.{Work, Close}
 use Rattle.sb_core.specs.Bounds.{bound_at}
-use Rattle.sb_core.specs.Marks.{first_is_closing, closed, before_closing}
+use Rattle.sb_core.specs.Marks.{first_is_closing, least_begun_mark, before_closing}
 use Rattle.sb_core.specs.Moments.{lane_at, node_at, floor_at, epoch_at}
 use Rattle.sb_core.specs.Closings.{is_pardo, is_sink}
 use Rattle.sb_core.specs.LaneOrder.{IsWithin, cont_at}
@@ -39,7 +39,7 @@ pub record IsClosing (plan : Shape) (m : Moment) (k l epoch serial floor mark : 
   pub there : lane_at m (record { node = k; lane = l }) ≡ Some lane
   pub closing : first_is_closing lane.conts ≡ true
   pub epoch_is : epoch ≡ lane.ended
-  pub mark_is : mark ≡ closed (node_at m k).lanes
+  pub mark_is : mark ≡ least_begun_mark (node_at m k).lanes
   pub rises : floor ≤ mark
   pub serial_is : serial + 1 ≡ (node_at m k).closings
   pub times : IsWithin floor (bound_at plan k + MAX_SIZE) rows

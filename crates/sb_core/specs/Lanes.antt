@@ -7,7 +7,7 @@ use Rattle.sb_record.specs.Reading.{◌>>=◌}
 use Rattle.sb_bundle.specs.declared.bundle.Bundle.{Bundle}
 use Rattle.sb_core.specs.declared.moment.Cont.{Cont}
 use Rattle.sb_core.specs.declared.moment.CoreLane.{CoreLane}
-use Rattle.sb_core.specs.Choices.{only_if, is_empty, pulled}
+use Rattle.sb_core.specs.Choices.{only_if, is_empty, first_and_rest}
 
 -- the next epoch is the first that is not sealed
 abbrev pub next_epoch : CoreLane → ℕ
@@ -52,7 +52,7 @@ abbrev pub take_from : ℕ → List Cont → Option (Bundle × List Cont)
 take_from number [] = None
 take_from number (c ∷ cs) =
     if list_any (λ b. b.number == number) c.waiting
-    then (pulled (λ b. b.number == number) c.waiting >>= λ q.
+    then (first_and_rest (λ b. b.number == number) c.waiting >>= λ q.
     Some (q.0, record c { waiting = q.1; out = c.out ++ number ∷ [] } ∷ cs))
     else (take_from number cs >>= λ q. Some (q.0, c ∷ q.1))
 

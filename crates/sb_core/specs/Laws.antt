@@ -9,7 +9,7 @@ use Rattle.sb_pipeline.specs.Shapes.{Shape, source}
 use Rattle.sb_core.specs.declared.moment.Moment.{Moment}
 use Rattle.sb_core.specs.declared.event.Event.{Event}
 use Rattle.sb_core.specs.declared.event.Event.TheVariants.{Arrive, Seal, Take, Deliver, Finish, Begin, Pass, End}
-use Rattle.sb_core.specs.Marks.{first_is_closing, closed}
+use Rattle.sb_core.specs.Marks.{first_is_closing, least_begun_mark}
 use Rattle.sb_core.specs.Events.{after, run}
 pub use Rattle.sb_core.specs.Events.{concerns, place_of}
 use Rattle.sb_core.specs.Moments.{is_close, with_held, first, lane_at, node_at, floor_at}
@@ -64,7 +64,7 @@ RunsAreSound =
 
 -- the mark up to which the sink has closed
 abbrev pub written_to : Shape → Moment → ℕ
-written_to plan m = closed (node_at m (length plan.steps)).lanes
+written_to plan m = least_begun_mark (node_at m (length plan.steps)).lanes
 
 -- the rows of a sound and whole moment are the plan's below that mark, whatever comes
 abbrev pub RowsAreThePlans : Type 0
@@ -100,15 +100,15 @@ passed_now (Work k l epoch floor number records delivered) = []
 passed_now (Close k l epoch serial floor mark rows passed) = Close k l epoch serial floor mark rows true ∷ []
 
 -- what becomes of it
-abbrev pub changed : ℕ → Event → Held → List Held
-changed bundle (Deliver node lane number) h = delivered_now bundle h
-changed bundle (Finish node lane number) h = []
-changed bundle (Pass node) h = passed_now h
-changed bundle (End node) h = []
-changed bundle (Arrive stream records) h = []
-changed bundle (Seal stream mark) h = []
-changed bundle (Take node lane number) h = []
-changed bundle (Begin node lane) h = []
+abbrev pub remains_of : ℕ → Event → Held → List Held
+remains_of bundle (Deliver node lane number) h = delivered_now bundle h
+remains_of bundle (Finish node lane number) h = []
+remains_of bundle (Pass node) h = passed_now h
+remains_of bundle (End node) h = []
+remains_of bundle (Arrive stream records) h = []
+remains_of bundle (Seal stream mark) h = []
+remains_of bundle (Take node lane number) h = []
+remains_of bundle (Begin node lane) h = []
 
 -- an event of the Work or Close at the head leaves there what becomes of it
 abbrev pub EventsAtTheHead : Type 0
@@ -116,8 +116,8 @@ EventsAtTheHead =
     (plan : Shape) → IsPlan plan → (m later : Moment) (event : Event) (h : Held) (rest : List Held)
     → concerns event h ≡ true
     → after plan (with_held (h ∷ rest) m) event ≡ Some later → IsSound plan (with_held (h ∷ rest) m)
-    → IsSound plan (with_held (changed m.bundle event h ++ rest) later)
-    × KeepsExact plan (with_held (h ∷ rest) m) (with_held (changed m.bundle event h ++ rest) later) []
+    → IsSound plan (with_held (remains_of m.bundle event h ++ rest) later)
+    × KeepsExact plan (with_held (h ∷ rest) m) (with_held (remains_of m.bundle event h ++ rest) later) []
 
 -- the other nodes stay as they are
 abbrev pub OneNodeChanges : Type 0

@@ -15,12 +15,12 @@ use Rattle.sb_core.specs.declared.held.Held.{Held}
 use Rattle.sb_core.specs.declared.held.Held.TheVariants.{Work, Close}
 use Rattle.sb_core.specs.declared.event.Event.{Event}
 use Rattle.sb_core.specs.declared.event.Event.TheVariants.{Arrive, Seal, Take, Deliver, Finish, Begin, Pass, End}
-use Rattle.sb_core.specs.Choices.{only_if, is_empty, pulled}
+use Rattle.sb_core.specs.Choices.{only_if, is_empty, first_and_rest}
 use Rattle.sb_core.specs.Lanes.{next_epoch, next_floor, with_arrival, with_seal, take_from, finish_in, closable}
 use Rattle.sb_core.specs.Lanes.{with_first_closing}
-use Rattle.sb_core.specs.Marks.{closed}
+use Rattle.sb_core.specs.Marks.{least_begun_mark}
 use Rattle.sb_core.specs.Moments.{lane_at, set_lane, set_node, with_lane, with_held, is_work, is_close, is_close_of}
-use Rattle.sb_core.specs.Closings.{delivery, absorbed, kept_at, rows_at, collected, is_sink}
+use Rattle.sb_core.specs.Closings.{delivery, kept_elements, kept_at, rows_at, rows_at_sink, is_sink}
 use Rattle.sb_core.specs.Events.{below}
 
 -- a bundle comes into a lane
@@ -77,7 +77,7 @@ after_finish plan m (Work k l epoch floor number records delivered) others =
     only_if (delivered || is_empty (delivery d records))
     (Some (with_held others (set_node k
     (record (set_lane l (record lane { conts = finish_in epoch number lane.conts }) node) {
-      kept = node.kept ++ absorbed d (on_lane l records);
+      kept = node.kept ++ kept_elements d (on_lane l records);
     }) m)))
 
 -- a closing begins
@@ -88,13 +88,13 @@ after_begin plan m k l =
     closable lane.ended lane.conts >>= λ c.
     let d = operator_at (slice_get plan.steps k) in
     let begun_node = set_lane l (record lane { conts = with_first_closing lane.conts }) node in
-    let floor = closed node.lanes in
-    let mark = closed begun_node.lanes in
+    let floor = least_begun_mark node.lanes in
+    let mark = least_begun_mark begun_node.lanes in
     only_if (not (list_any (is_close k) m.held))
     (Some (record m {
       nodes = slice_set m.nodes k (record begun_node { kept = kept_at d mark node.kept; closings = node.closings + 1 });
       held = m.held ++ Close k l c.epoch node.closings floor mark (rows_at d floor mark node.kept) (is_sink d) ∷ [];
-      rows = m.rows ++ collected d mark node.kept;
+      rows = m.rows ++ rows_at_sink d mark node.kept;
     }))
 
 -- a mark is passed
@@ -117,23 +117,25 @@ after_end m (Close k l epoch serial floor mark rows passed) others =
 
 -- the output of a bundle is put below
 abbrev pub bundle_delivered : Shape → Moment → ℕ → ℕ → ℕ → Option Moment
-bundle_delivered plan m node lane number = pulled (is_work node lane number) m.held >>= λ q. deliver_work plan m q.0 q.1
+bundle_delivered plan m node lane number =
+    first_and_rest (is_work node lane number) m.held >>= λ q. deliver_work plan m q.0 q.1
 
 -- a bundle is finished
 abbrev pub bundle_finished : Shape → Moment → ℕ → ℕ → ℕ → Option Moment
-bundle_finished plan m node lane number = pulled (is_work node lane number) m.held >>= λ q. after_finish plan m q.0 q.1
+bundle_finished plan m node lane number =
+    first_and_rest (is_work node lane number) m.held >>= λ q. after_finish plan m q.0 q.1
 
 -- the next rows of a closing are put below
 abbrev pub rows_delivered : Shape → Moment → ℕ → ℕ → Option Moment
-rows_delivered plan m node lane = pulled (is_close_of node lane) m.held >>= λ q. deliver_rows plan m q.0 q.1
+rows_delivered plan m node lane = first_and_rest (is_close_of node lane) m.held >>= λ q. deliver_rows plan m q.0 q.1
 
 -- the mark of a closing is passed
 abbrev pub mark_passed : Shape → Moment → ℕ → Option Moment
-mark_passed plan m node = pulled (is_close node) m.held >>= λ q. after_pass plan m q.0 q.1
+mark_passed plan m node = first_and_rest (is_close node) m.held >>= λ q. after_pass plan m q.0 q.1
 
 -- a closing is ended
 abbrev pub closing_ended : Moment → ℕ → Option Moment
-closing_ended m node = pulled (is_close node) m.held >>= λ q. after_end m q.0 q.1
+closing_ended m node = first_and_rest (is_close node) m.held >>= λ q. after_end m q.0 q.1
 
 -- the moment that the code makes of an event, and None where it refuses
 abbrev pub made : Shape → Moment → Event → Option Moment

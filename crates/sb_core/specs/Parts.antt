@@ -6,7 +6,7 @@ use Rattle.sb_core.specs.declared.moment.Node.{Node}
 use Rattle.sb_core.specs.declared.moment.Moment.{Moment}
 use Rattle.sb_core.specs.declared.held.Held.{Held}
 use Rattle.sb_core.specs.declared.event.Event.{Event}
-use Rattle.sb_core.specs.Choices.{pulled}
+use Rattle.sb_core.specs.Choices.{first_and_rest}
 use Rattle.sb_core.specs.Events.{after, concerns, place_of}
 use Rattle.sb_core.specs.Laws.{KeepsExact}
 use Rattle.sb_core.specs.Moments.{with_held}
@@ -53,7 +53,7 @@ HeldPartsKeepSound =
 
 -- the event concerns nothing that is held, and the moment after it is what it makes of the part of its node
 pub record IsPart (plan : Shape) (m : Moment) (event : Event) (later : Moment) : Type 0 where
-  pub alone : pulled (concerns event) m.held ≡ None
+  pub alone : first_and_rest (concerns event) m.held ≡ None
   pub k : ℕ
   pub node : Node
   pub part : Part
@@ -66,7 +66,7 @@ pub record IsPart (plan : Shape) (m : Moment) (event : Event) (later : Moment) :
 pub record IsHeldPart (plan : Shape) (m : Moment) (event : Event) (later : Moment) : Type 0 where
   pub h : Held
   pub others : List Held
-  pub found : pulled (concerns event) m.held ≡ Some (h, others)
+  pub found : first_and_rest (concerns event) m.held ≡ Some (h, others)
   pub k : ℕ
   pub node : Node
   pub part : Part

@@ -19,7 +19,7 @@ use Rattle.sb_core.specs.declared.moment.Moment.{Moment}
 use Rattle.sb_core.specs.Bounds.{bound_at}
 use Rattle.sb_core.specs.Closings.{is_open}
 use Rattle.sb_core.specs.Lanes.{next_epoch}
-use Rattle.sb_core.specs.Marks.{first_is_closing, begun, closed}
+use Rattle.sb_core.specs.Marks.{first_is_closing, begun_count, least_begun_mark}
 use Rattle.sb_core.specs.Moments.{lane_at, node_at, floor_at, epoch_at, is_work, is_close, is_close_of}
 use Rattle.sb_core.specs.LaneOrder.{IsLane}
 use Rattle.sb_core.specs.Holdings.{IsHeld, IsCloseOf, is_unpassed}
@@ -42,7 +42,7 @@ pub record IsSealedBelow (m : Moment) (k : ℕ) (d : Down) : Type 0 where
   pub lane : CoreLane
   pub there : lane_at m d ≡ Some lane
   pub as_many : list_any (is_unpassed k) m.held ≡ false → epoch_at m d ≡ (node_at m k).closings
-  pub as_passed : list_any (is_unpassed k) m.held ≡ false → floor_at m d ≡ closed (node_at m k).lanes
+  pub as_passed : list_any (is_unpassed k) m.held ≡ false → floor_at m d ≡ least_begun_mark (node_at m k).lanes
 
 -- whether a container of the lane has the epoch and the floor
 abbrev pub has_cont : ℕ → ℕ → CoreLane → Bool
@@ -90,9 +90,9 @@ pub record IsSound (plan : Shape) (m : Moment) : Type 0 where
       → (n : ℕ) → sum_by (out_of n) lane.conts ≡ count_by (is_work d.node d.lane n) m.held
   -- each node: how many closings it has begun, what it keeps, and at most one Close, held exactly while a container is
   -- closing
-  pub closings : (k : ℕ) → (node_at m k).closings ≡ sum_by begun (node_at m k).lanes
+  pub closings : (k : ℕ) → (node_at m k).closings ≡ sum_by begun_count (node_at m k).lanes
   pub kept : (k : ℕ)
-      → AreKeptAt (operator_at (slice_get plan.steps k)) (closed (node_at m k).lanes) (bound_at plan k)
+      → AreKeptAt (operator_at (slice_get plan.steps k)) (least_begun_mark (node_at m k).lanes) (bound_at plan k)
       (node_at m k).kept
   pub one_close : (k : ℕ) → count_by (is_close k) m.held ≤ 1
   pub closing_held : (d : Down) (lane : CoreLane) → lane_at m d ≡ Some lane
@@ -115,4 +115,4 @@ pub record IsSound (plan : Shape) (m : Moment) : Type 0 where
       → lane_at m s.down ≡ Some lane → (node_at m k).lanes ≡ own ∷ [] → Begins lane.marks own.marks
   -- the rows: sorted, and before the mark up to which the sink has closed
   pub sorted : IsAscending record_cmp m.rows
-  pub written : AllByRecursion (λ r. r.time < closed (node_at m (length plan.steps)).lanes) m.rows
+  pub written : AllByRecursion (λ r. r.time < least_begun_mark (node_at m (length plan.steps)).lanes) m.rows

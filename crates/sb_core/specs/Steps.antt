@@ -9,7 +9,7 @@ use Rattle.sb_core.specs.declared.held.Held.TheVariants.{Work, Close}
 use Rattle.sb_core.specs.declared.machine.StepStop.{StepStop}
 use Rattle.sb_core.specs.declared.machine.StepStop.TheVariants.{NotNow, Memory}
 use Rattle.sb_core.specs.declared.machine.RunStop.{RunStop}
-use Rattle.sb_core.specs.Choices.{pulled}
+use Rattle.sb_core.specs.Choices.{first_and_rest}
 use Rattle.sb_core.specs.Events.{after, run}
 use Rattle.sb_core.specs.Moments.{is_work}
 
@@ -31,7 +31,7 @@ asks_for_memory m (Arrive stream records) = true
 asks_for_memory m (Seal stream mark) = true
 asks_for_memory m (Take node lane number) = true
 asks_for_memory m (Deliver node lane number) = true
-asks_for_memory m (Finish node lane number) = not (is_delivered (pulled (is_work node lane number) m.held))
+asks_for_memory m (Finish node lane number) = not (is_delivered (first_and_rest (is_work node lane number) m.held))
 asks_for_memory m (Begin node lane) = true
 asks_for_memory m (Pass node) = true
 asks_for_memory m (End node) = false

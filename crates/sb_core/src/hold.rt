@@ -1,7 +1,7 @@
 //! Finding what workers have in hand.
 
 ghost use Rattle.std.specs.Prelude.{◌≡◌, None, IfSome, IfNone};
-ghost use Rattle.sb_core.specs.Choices.{pulled};
+ghost use Rattle.sb_core.specs.Choices.{first_and_rest};
 ghost use Rattle.sb_core.specs.Finding.{IsCloseAt, IsCloseOfAt, IsFirst, IsWorkAt};
 ghost use Rattle.sb_core.specs.Moments as spec;
 
@@ -83,7 +83,7 @@ pub(crate) fn work_at(
 ) -> Option<WorkAt<'_>>
     ensures found { IfSome result (λ w.
         IsWorkAt of_node of_lane of_number held.now w.place w.epoch w.floor w.records.now w.delivered) }
-    ensures none { IfNone result (pulled (spec.is_work of_node of_lane of_number) held.now ≡ None) }
+    ensures none { IfNone result (first_and_rest (spec.is_work of_node of_lane of_number) held.now ≡ None) }
 {
     let place = find_work(held, of_node, of_lane, of_number)?;
     match &held[place] {
@@ -121,7 +121,7 @@ pub(crate) struct CloseAt<'a> {
 pub(crate) fn close_at(held: &[Held], of_node: u32) -> Option<CloseAt<'_>>
     ensures found { IfSome result (λ c.
         IsCloseAt of_node held.now c.place c.lane c.epoch c.serial c.floor c.mark c.rows.now c.passed) }
-    ensures none { IfNone result (pulled (spec.is_close of_node) held.now ≡ None) }
+    ensures none { IfNone result (first_and_rest (spec.is_close of_node) held.now ≡ None) }
 {
     let place = find_close(held, of_node)?;
     match &held[place] {
@@ -152,7 +152,7 @@ pub(crate) fn close_at(held: &[Held], of_node: u32) -> Option<CloseAt<'_>>
 pub(crate) fn close_of_at(held: &[Held], of_node: u32, of_lane: u32) -> Option<CloseAt<'_>>
     ensures found { IfSome result (λ c.
         IsCloseOfAt of_node of_lane held.now c.place c.epoch c.serial c.floor c.mark c.rows.now c.passed) }
-    ensures none { IfNone result (pulled (spec.is_close_of of_node of_lane) held.now ≡ None) }
+    ensures none { IfNone result (first_and_rest (spec.is_close_of of_node of_lane) held.now ≡ None) }
 {
     let place = find_close_of(held, of_node, of_lane)?;
     match &held[place] {

@@ -21,8 +21,8 @@ pub(crate) fn first_is_closing(conts: &[Cont]) -> bool
 
 /// How many epochs of the lane have begun to close: no more than are sealed.
 fn begun(lane: &CoreLane) -> u64
-    requires { spec.begun lane.now ≤ length lane.now.marks }
-    ensures value { result ≡ spec.begun lane.now }
+    requires { spec.begun_count lane.now ≤ length lane.now.marks }
+    ensures value { result ≡ spec.begun_count lane.now }
     ensures small { result < 2 ^ 63 }
 {
     let sealed = lane.marks.items.len() as u64;
@@ -36,8 +36,8 @@ fn begun(lane: &CoreLane) -> u64
 /// How many epochs of the lanes of a node have begun to close. There are at most two, so one more fits.
 pub(crate) fn begun_in(lanes: &[CoreLane]) -> u64
     requires most { length lanes.now ≤ 2 }
-    requires begun { All (λ lane. spec.begun lane ≤ length lane.marks) lanes.now }
-    ensures value { result ≡ sum_by spec.begun lanes.now }
+    requires begun { All (λ lane. spec.begun_count lane ≤ length lane.marks) lanes.now }
+    ensures value { result ≡ sum_by spec.begun_count lanes.now }
     ensures small { result < u64.MAX }
 {
     let mut count = 0;
@@ -73,7 +73,7 @@ fn with_first(lane: &CoreLane) -> u64
 
 /// The mark of the last epoch that has begun to close, or 0.
 fn last_begun(lane: &CoreLane) -> u64
-    ensures { result ≡ spec.last_of_first (spec.begun lane.now) lane.now.marks }
+    ensures { result ≡ spec.last_of_first (spec.begun_count lane.now) lane.now.marks }
 {
     if first_is_closing(lane.conts.as_slice()) {
         with_first(lane)
@@ -84,7 +84,7 @@ fn last_begun(lane: &CoreLane) -> u64
 
 /// The mark up to which a node with these lanes is closed.
 pub(crate) fn closed(lanes: &[CoreLane]) -> u64
-    ensures { result ≡ spec.closed lanes.now }
+    ensures { result ≡ spec.least_begun_mark lanes.now }
 {
     match lanes {
         [] => 0,
@@ -97,7 +97,8 @@ pub(crate) fn closed(lanes: &[CoreLane]) -> u64
 pub(crate) fn closed_with(lanes: &[CoreLane], begins: usize) -> u64
     ensures { (lane : ALane) (cont : ACont) (conts : List ACont)
         → slice_get lanes.now begins ≡ Some lane → lane.conts ≡ cont ∷ conts
-        → result ≡ spec.closed (slice_set lanes.now begins (record lane { conts = with_first_closing lane.conts })) }
+        → result ≡ spec.least_begun_mark
+        (slice_set lanes.now begins (record lane { conts = with_first_closing lane.conts })) }
 {
     match lanes {
         [] => 0,

@@ -58,7 +58,8 @@ pub(crate) fn absorb(
 ) -> Result<(), NoMemory>
     requires { node ≤ length plan.now.steps }
     ensures ok { OnOk result (kept.new.items
-        ≡ kept.old.items ++ spec.absorbed (operator_at (slice_get plan.now.steps node)) (on_lane lane records.now)) }
+        ≡ kept.old.items
+        ++ spec.kept_elements (operator_at (slice_get plan.now.steps node)) (on_lane lane records.now)) }
     ensures err { OnErr result (kept.new.items ≡ kept.old.items) }
     ensures pardo { spec.is_pardo (operator_at (slice_get plan.now.steps node)) ≡ true → IsOk result }
 {
@@ -217,7 +218,7 @@ pub(crate) fn collected(
 ) -> Result<Vec<Record>, NoMemory>
     requires { node ≤ length plan.now.steps }
     ensures { IfOk result (λ rows.
-        rows.items ≡ spec.collected (operator_at (slice_get plan.now.steps node)) mark kept.now) }
+        rows.items ≡ spec.rows_at_sink (operator_at (slice_get plan.now.steps node)) mark kept.now) }
 {
     if node < plan.transforms() {
         return Ok(Vec::new(alloc));

@@ -13,7 +13,7 @@ use Rattle.sb_record.specs.declared.item.Item.TheVariants.{Rec, Mark, Skip, Late
 use Rattle.sb_record.specs.declared.item.Stream.TheVariants.{A, B}
 use Rattle.sb_record.specs.declared.item.Streams.{Streams}
 use Rattle.sb_record.specs.Inputs.{Accepted}
-use Rattle.sb_record.specs.Intake.{after, mark_of, tested}
+use Rattle.sb_record.specs.Intake.{after, mark_of, answer_to}
 use Rattle.sb_record.specs.Progress.{Progress}
 use Rattle.sb_record.specs.Streams.{dropped_in, dropped_of, last_watermark, least_of}
 use Rattle.sb_outside.specs.declared.lines.Halt.{Halt}
@@ -144,7 +144,7 @@ none_of plan left left' held p items more faults faults' start dropped read list
 module _ {S : Type 0} (left_of : S → Option (List ℕ)) (plan : Shape) (left : Option (List ℕ)) (source source' : S) (held held' : Held) (p p' : Progress) (faults faults' faults2 : ℕ) (kept : Kept) (start dropped : List Dropped)
     (h : GatheredSoFar plan left (left_of source) held p faults faults' kept start dropped) where
   rises : (i : Item) → TakesItem left_of (reading source held) (reading source' held') p p' i → low_of plan h.items ≤ low_of plan (h.items ++ i ∷ [])
-  rises i takes = low_rises plan h.items i (tested_is_timely plan h.items takes.line i (ap (λ q. tested q takes.line) (sym h.read.progress) ∙ takes.tests))
+  rises i takes = low_rises plan h.items i (tested_is_timely plan h.items takes.line i (ap (λ q. answer_to q takes.line) (sym h.read.progress) ∙ takes.tests))
 
   is_more : (i : Item) → TakesItem left_of (reading source held) (reading source' held') p p' i → with_item i kept ≡ kept_after plan (h.items ++ i ∷ [])
   is_more i takes = ap (with_item i) h.kept_is ∙ sym (kept_more plan h.items i (rises i takes))

@@ -7,7 +7,7 @@ use Rattle.sb_diary.specs.declared.event.DiaryEvent.{DiaryEvent}
 use Rattle.sb_diary.specs.declared.event.DiaryEvent.TheVariants.{Arrive, Seal, Take, Finish, Begin, End}
 use Rattle.sb_diary.specs.declared.text.DiaryLine.{DiaryLine}
 use Rattle.sb_diary.specs.declared.text.DiaryLine.TheVariants.{Head, Event}
-use Rattle.sb_diary.specs.Texts.{event_word, event_numbers, word_of, numbers_of, spaced, text_of, IsLine, LinesAreToldApart}
+use Rattle.sb_diary.specs.Texts.{event_word, event_numbers, word_of, numbers_of, spaced_text, text_of, IsLine, LinesAreToldApart}
 use Rattle.sb_diary.specs.Reading.{HasNoSpace, IsAtSpace, AreFields, IsSpelled}
 use Rattle.sb_diary.proofs.Spelling.{split-unique, spaced-at_space, spaced-unique, in-range_fit, apart}
 
@@ -34,7 +34,7 @@ no_space-word (Event e) = no_space-event e
 -- the text of a line, split at its first space, is the line's word and its numbers
 pub split_text : (l : DiaryLine) (line word rest : List ℕ) → word ++ rest ≡ line → HasNoSpace word → IsAtSpace rest → IsLine l → text_of l ≡ line → IsSpelled l word rest
 split_text l line word rest e w r is text =
-    let same = split-unique (word_of l) word (spaced (numbers_of l)) rest (no_space-word l) w (spaced-at_space (numbers_of l)) r (text ∙ sym e) in
+    let same = split-unique (word_of l) word (spaced_text (numbers_of l)) rest (no_space-word l) w (spaced-at_space (numbers_of l)) r (text ∙ sym e) in
     (is, same.0, same.1)
 
 -- no event's line begins with the word of a head line
@@ -83,5 +83,5 @@ line_told (Event e) (Event f) w n = ap (λ x. Event x) (event_told e f w n)
 
 pub told_apart : LinesAreToldApart
 told_apart l m is also same =
-    let split = split_text l (text_of m) (word_of m) (spaced (numbers_of m)) refl (no_space-word m) (spaced-at_space (numbers_of m)) is same in
+    let split = split_text l (text_of m) (word_of m) (spaced_text (numbers_of m)) refl (no_space-word m) (spaced-at_space (numbers_of m)) is same in
     line_told l m split.1 (spaced-unique (numbers_of l) (numbers_of m) (in-range_fit (numbers_of l) is.0) (in-range_fit (numbers_of m) also.0) split.2)

@@ -7,7 +7,7 @@ use Rattle.sb_diary.specs.declared.event.DiaryEvent.{DiaryEvent}
 use Rattle.sb_diary.specs.declared.event.DiaryEvent.TheVariants.{Arrive, Seal, Take, Finish, Begin, End}
 use Rattle.sb_diary.specs.declared.line_stop.LineStop.{LineStop}
 use Rattle.sb_diary.specs.declared.line_stop.LineStop.TheVariants.{NotLegal, Memory}
-use Rattle.sb_diary.specs.Legal.{LaneAudit, Audit, when, moved, with_lane, with_end, ended_to, last_of, after_line}
+use Rattle.sb_diary.specs.Legal.{LaneAudit, Audit, when, with_stage, with_lane, with_end, ended_to, last_of, after_line}
 use Rattle.sb_diary.specs.Books.{Answers, IsOpen, IsSound, in_lane, lane_after, with_arrival, with_mark}
 
 -- where code reads an element, it is there

@@ -9,7 +9,7 @@ use Rattle.std.specs.Result.{result_ok}
 use Rattle.std.specs.Option.{unwrap_or}
 use Rattle.sb_record.proofs.WordBytes.{position_or_end}
 use Rattle.std.proofs.lemmas.Option.{same_Some}
-use Rattle.sb_diary.specs.Texts.{spaced, AreInRange}
+use Rattle.sb_diary.specs.Texts.{spaced_text, AreInRange}
 use Rattle.sb_diary.specs.Reading.{HasNoSpace, IsAtSpace, BeginsWith, AreNumbers, AreFields}
 
 -- ---- words end at spaces
@@ -58,7 +58,7 @@ split-unique (c ∷ a) (d ∷ b) x y h k ex ey e =
     (λ i. f i ∷ r.0 i, r.1)
 
 -- ---- numbers behind spaces
-pub spaced-at_space : (ns : List ℕ) → IsAtSpace (spaced ns)
+pub spaced-at_space : (ns : List ℕ) → IsAtSpace (spaced_text ns)
 spaced-at_space [] = tt
 spaced-at_space (n ∷ ns) = refl
 
@@ -69,39 +69,39 @@ same_front n m x y h k ex ey e =
     (decimal_injective n m h k r.0, r.1)
 
 -- numbers that begin as these bytes do
-pub first_same : (n : ℕ) (ns : List ℕ) (m : ℕ) (bytes rest : List ℕ) → n < 2 ^ 64 → BeginsWith bytes m rest → spaced (n ∷ ns) ≡ bytes → (n ≡ m) × (spaced ns ≡ rest)
+pub first_same : (n : ℕ) (ns : List ℕ) (m : ℕ) (bytes rest : List ℕ) → n < 2 ^ 64 → BeginsWith bytes m rest → spaced_text (n ∷ ns) ≡ bytes → (n ≡ m) × (spaced_text ns ≡ rest)
 first_same n ns m bytes rest fits b e =
-    let tails : decimal n ++ spaced ns ≡ decimal m ++ rest = cc in
-    same_front n m (spaced ns) rest fits b.fits (spaced-at_space ns) b.ends tails
+    let tails : decimal n ++ spaced_text ns ≡ decimal m ++ rest = cc in
+    same_front n m (spaced_text ns) rest fits b.fits (spaced-at_space ns) b.ends tails
 
 abbrev pub BeginsWithNone : List ℕ → Type 0
 BeginsWithNone bytes = (n : ℕ) (rest : List ℕ) → BeginsWith bytes n rest → ⊥
 
-pub first_none : (n : ℕ) (ns bytes : List ℕ) → n < 2 ^ 64 → BeginsWithNone bytes → spaced (n ∷ ns) ≡ bytes → ⊥
-first_none n ns bytes fits none e = none n (spaced ns) (record { fits = fits; text = sym e; ends = spaced-at_space ns })
+pub first_none : (n : ℕ) (ns bytes : List ℕ) → n < 2 ^ 64 → BeginsWithNone bytes → spaced_text (n ∷ ns) ≡ bytes → ⊥
+first_none n ns bytes fits none e = none n (spaced_text ns) (record { fits = fits; text = sym e; ends = spaced-at_space ns })
 
 -- ---- as many numbers as have been read
 -- these bytes are what is left of the text of numbers, of which the first i were read
-pub spaced-more : (xs : List ℕ) (i v : ℕ) (rest after bytes : List ℕ) → i < length xs → spaced (take i xs) ++ rest ≡ bytes → rest ≡ 32 ∷ (decimal v ++ after) → spaced (take (i + 1) (set xs i v)) ++ after ≡ bytes
+pub spaced-more : (xs : List ℕ) (i v : ℕ) (rest after bytes : List ℕ) → i < length xs → spaced_text (take i xs) ++ rest ≡ bytes → rest ≡ 32 ∷ (decimal v ++ after) → spaced_text (take (i + 1) (set xs i v)) ++ after ≡ bytes
 spaced-more xs i v rest after bytes h e f =
-    rw (add-one, front xs i v h) (append_assoc (spaced (take i xs)) (32 ∷ decimal v) after ∙ ap (λ l. spaced (take i xs) ++ l) (sym f) ∙ e)
+    rw (add-one, front xs i v h) (append_assoc (spaced_text (take i xs)) (32 ∷ decimal v) after ∙ ap (λ l. spaced_text (take i xs) ++ l) (sym f) ∙ e)
   where
-    front : (xs : List ℕ) (i v : ℕ) → i < length xs → spaced (take (suc i) (set xs i v)) ≡ spaced (take i xs) ++ (32 ∷ decimal v)
+    front : (xs : List ℕ) (i v : ℕ) → i < length xs → spaced_text (take (suc i) (set xs i v)) ≡ spaced_text (take i xs) ++ (32 ∷ decimal v)
     front [] i v h = absurd (omega arith)
     front (x ∷ xs) zero v h = append-nil (32 ∷ decimal v)
-    front (x ∷ xs) (suc i) v h = let ih = front xs i v (omega arith) in ap (λ l. 32 ∷ (decimal x ++ l)) ih ∙ sym (append_assoc (32 ∷ decimal x) (spaced (take i xs)) (32 ∷ decimal v))
+    front (x ∷ xs) (suc i) v h = let ih = front xs i v (omega arith) in ap (λ l. 32 ∷ (decimal x ++ l)) ih ∙ sym (append_assoc (32 ∷ decimal x) (spaced_text (take i xs)) (32 ∷ decimal v))
 
 -- the numbers from the i-th on have what is left for their text
-pub spaced-drop : (ns : List ℕ) (i v : ℕ) (rest after : List ℕ) → i < length ns → AllByRecursion (λ k. k < 2 ^ 64) ns → BeginsWith rest v after → spaced (drop i ns) ≡ rest → spaced (drop (i + 1) ns) ≡ after
+pub spaced-drop : (ns : List ℕ) (i v : ℕ) (rest after : List ℕ) → i < length ns → AllByRecursion (λ k. k < 2 ^ 64) ns → BeginsWith rest v after → spaced_text (drop i ns) ≡ rest → spaced_text (drop (i + 1) ns) ≡ after
 spaced-drop ns i v rest after h all b e = rw add-one (next ns i h all e)
   where
-    next : (ns : List ℕ) (i : ℕ) → i < length ns → AllByRecursion (λ k. k < 2 ^ 64) ns → spaced (drop i ns) ≡ rest → spaced (drop (suc i) ns) ≡ after
+    next : (ns : List ℕ) (i : ℕ) → i < length ns → AllByRecursion (λ k. k < 2 ^ 64) ns → spaced_text (drop i ns) ≡ rest → spaced_text (drop (suc i) ns) ≡ after
     next [] i h all e = absurd (omega arith)
     next (n ∷ ns) zero h all e = (first_same n ns v rest after all.0 b e).1
     next (n ∷ ns) (suc i) h all e = next ns i (omega arith) all.1 e
 
 -- there is an i-th number, so what is left begins with one
-pub spaced-none : (ns : List ℕ) (i : ℕ) (rest : List ℕ) → i < length ns → AllByRecursion (λ k. k < 2 ^ 64) ns → BeginsWithNone rest → spaced (drop i ns) ≡ rest → ⊥
+pub spaced-none : (ns : List ℕ) (i : ℕ) (rest : List ℕ) → i < length ns → AllByRecursion (λ k. k < 2 ^ 64) ns → BeginsWithNone rest → spaced_text (drop i ns) ≡ rest → ⊥
 spaced-none [] i rest h all none e = absurd (omega arith)
 spaced-none (n ∷ ns) zero rest h all none e = first_none n ns rest all.0 none e
 spaced-none (n ∷ ns) (suc i) rest h all none e = spaced-none ns i rest (omega arith) all.1 none e
@@ -178,10 +178,10 @@ pub in-range_fit : (ns : List ℕ) → AreInRange ns → AllByRecursion (λ k. k
 in-range_fit [] h = tt
 in-range_fit (n ∷ ns) h = (first_fits n ns h, h.1)
 
-pub spaced-unique : (ns ms : List ℕ) → AllByRecursion (λ k. k < 2 ^ 64) ns → AllByRecursion (λ k. k < 2 ^ 64) ms → spaced ns ≡ spaced ms → ns ≡ ms
+pub spaced-unique : (ns ms : List ℕ) → AllByRecursion (λ k. k < 2 ^ 64) ns → AllByRecursion (λ k. k < 2 ^ 64) ms → spaced_text ns ≡ spaced_text ms → ns ≡ ms
 spaced-unique [] [] h k e = refl
 spaced-unique [] (m ∷ ms) h k e = cc
 spaced-unique (n ∷ ns) [] h k e = cc
 spaced-unique (n ∷ ns) (m ∷ ms) h k e =
-    let r = first_same n ns m (spaced (m ∷ ms)) (spaced ms) h.0 (record { fits = k.0; text = refl; ends = spaced-at_space ms }) e in
+    let r = first_same n ns m (spaced_text (m ∷ ms)) (spaced_text ms) h.0 (record { fits = k.0; text = refl; ends = spaced-at_space ms }) e in
     λ i. r.0 i ∷ spaced-unique ns ms h.1 k.1 r.1 i

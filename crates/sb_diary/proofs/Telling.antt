@@ -15,7 +15,7 @@ use Rattle.sb_diary.specs.Lines.{Sized, Finished, arrive_in, seal_in, end_in, fi
 use Rattle.sb_diary.specs.declared.bundle.Came.{Came}
 use Rattle.sb_diary.specs.declared.bundle.Stage.{Stage}
 use Rattle.sb_diary.specs.declared.bundle.Stage.TheVariants.{Taken, Done, Waiting}
-use Rattle.sb_diary.specs.Legal.{LaneAudit, Audit, moved, is_waiting, is_taken, with_end, when, after_line, after_lines, fresh_lane, fresh, audited}
+use Rattle.sb_diary.specs.Legal.{LaneAudit, Audit, with_stage, is_waiting, is_taken, with_end, when, after_line, after_lines, fresh_lane, fresh, audit_of}
 
 -- ---- lines one after another
 bind_assoc : {X Y Z : Type 0} (o : Option X) (f : X → Option Y) (g : Y → Option Z) → ((o >>= f) >>= g) ≡ (o >>= λ x. f x >>= g)
@@ -37,7 +37,7 @@ one-line None = refl
 one-line (Some a) = refl
 
 -- one line more
-pub audited-push : (lanes : ℕ) (diary : List DiaryEvent) (e : DiaryEvent) (a b : Audit) → audited lanes diary ≡ Some a → after_line a e ≡ Some b → audited lanes (diary ++ e ∷ []) ≡ Some b
+pub audited-push : (lanes : ℕ) (diary : List DiaryEvent) (e : DiaryEvent) (a b : Audit) → audit_of lanes diary ≡ Some a → after_line a e ≡ Some b → audit_of lanes (diary ++ e ∷ []) ≡ Some b
 audited-push lanes diary e a b h k = after_lines-append diary (e ∷ []) (fresh lanes) ∙ ap (λ o. o >>= λ c. after_lines (e ∷ []) c) h ∙ ap (λ o. o >>= λ c. after_lines [] c) k
 
 pub one_more : {Y : Type 0} (g : DiaryEvent → List Y) (diary : List DiaryEvent) (e : DiaryEvent) → flat_map g (diary ++ e ∷ []) ≡ flat_map g diary ++ g e
@@ -78,7 +78,7 @@ one-lane P lanes l k x new at here other = ⊎_elim
     (λ ne. subst (λ z. z) (λ i. P (sym (ne_eqb l k ne) i) (get_or lanes k fresh_lane) (sym (get_or-set_other lanes l k new fresh_lane (λ e. ne (sym e))) i)) (other (get_or lanes k fresh_lane)))
     (cases_eq l k)
 
-same-epochs : (test : Stage → Bool) (stage : Stage) (number : ℕ) (x new : LaneAudit) → moved test stage number x ≡ Some new
+same-epochs : (test : Stage → Bool) (stage : Stage) (number : ℕ) (x new : LaneAudit) → with_stage test stage number x ≡ Some new
     → (epochs_of new.came ≡ epochs_of x.came) × (new.marks ≡ x.marks) × (new.ended ≡ x.ended) × (1 ≤ number) × (number ≤ length new.came)
 same-epochs test stage number x new h =
     let a = bind_some (slice_get x.came (number - 1)) _ new h in
@@ -121,7 +121,7 @@ line-tells a b (Seal l epoch mark) h k =
     tells-nothing)
 line-tells a b (Take l number) h k =
     let q = bind_some (slice_get a.lanes l) _ b h in
-    let r = bind_some (moved is_waiting Taken number q.0) _ b q.2 in
+    let r = bind_some (with_stage is_waiting Taken number q.0) _ b q.2 in
     let c = same_Some _ b r.2 in
     let s = same-epochs is_waiting Taken number q.0 r.0 r.1 in
     subst (λ (b : Audit). tells-line (Take l number) k (lane_in a k) (lane_in b k)) c
@@ -130,7 +130,7 @@ line-tells a b (Take l number) h k =
     tells-nothing)
 line-tells a b (Finish l number len) h k =
     let q = bind_some (slice_get a.lanes l) _ b h in
-    let r = bind_some (moved is_taken Done number q.0) _ b q.2 in
+    let r = bind_some (with_stage is_taken Done number q.0) _ b q.2 in
     let c = same_Some _ b r.2 in
     let s = same-epochs is_taken Done number q.0 r.0 r.1 in
     subst (λ (b : Audit). tells-line (Finish l number len) k (lane_in a k) (lane_in b k)) c
@@ -183,5 +183,5 @@ fresh-lane (suc n) zero = refl
 fresh-lane (suc n) (suc k) = fresh-lane n k
 
 -- a legal diary tells of each lane: the epochs of its bundles, its marks, how many epochs have ended, and that the finished bundles are of those that came
-pub told : (lanes : ℕ) (diary : List DiaryEvent) (a : Audit) → audited lanes diary ≡ Some a → (k : ℕ) → Tells (arrivals k diary) (seals k diary) (ends k diary) (finishes k diary) fresh_lane (lane_in a k)
+pub told : (lanes : ℕ) (diary : List DiaryEvent) (a : Audit) → audit_of lanes diary ≡ Some a → (k : ℕ) → Tells (arrivals k diary) (seals k diary) (ends k diary) (finishes k diary) fresh_lane (lane_in a k)
 told lanes diary a h k = subst (λ x. tells-lines diary k x (lane_in a k)) (fresh-lane lanes k) (lines-tell diary (fresh lanes) a h k)

@@ -21,8 +21,8 @@ pub record TextAudit : Type 0 where
   pub diary : Option Audit
 
 -- before the first line
-abbrev pub begun : TextAudit
-begun = record { transforms = 0; events = 0; settled = true; diary = None }
+abbrev pub first_text_audit : TextAudit
+first_text_audit = record { transforms = 0; events = 0; settled = true; diary = None }
 
 -- how many lines there are
 abbrev pub lines_in : TextAudit → ℕ
@@ -64,8 +64,8 @@ pub record Auditing : Type 0 where
   pub stop : Option AuditStop
 
 -- an auditor before the first line
-abbrev pub started : Auditing
-started = record { text = begun; stop = None }
+abbrev pub first_auditing : Auditing
+first_auditing = record { text = first_text_audit; stop = None }
 
 -- the text of a line spells it
 pub record Spells (text : List ℕ) (line : DiaryLine) : Type 0 where

@@ -10,7 +10,7 @@ use Rattle.sb_diary.specs.declared.event.DiaryEvent.{DiaryEvent}
 use Rattle.sb_diary.specs.declared.event.DiaryEvent.TheVariants.{Arrive, Seal, Take, Finish, Begin, End}
 use Rattle.sb_diary.specs.declared.line_stop.LineStop.{LineStop}
 use Rattle.sb_diary.specs.declared.line_stop.LineStop.TheVariants.{NotLegal, Memory}
-use Rattle.sb_diary.specs.Legal.{Came, LaneAudit, Audit, is_waiting, is_taken, is_done, all_done, when, moved, with_lane, may_arrive, may_seal}
+use Rattle.sb_diary.specs.Legal.{Came, LaneAudit, Audit, is_waiting, is_taken, is_done, all_done, when, with_stage, with_lane, may_arrive, may_seal}
 
 -- the count at an epoch, 0 if there is none
 abbrev pub count_in : BTreeMap ℕ ℕ → ℕ → ℕ
@@ -65,8 +65,8 @@ Answers next old new (Err Memory) = new ≡ old
 abbrev pub lane_after : DiaryEvent → LaneAudit → Option LaneAudit
 lane_after (Arrive l epoch number len) lane = when (may_arrive lane epoch number len) (with_arrival epoch lane)
 lane_after (Seal l epoch mark) lane = when (may_seal lane epoch mark) (with_mark mark lane)
-lane_after (Take l number) lane = moved is_waiting Taken number lane
-lane_after (Finish l number len) lane = moved is_taken Done number lane
+lane_after (Take l number) lane = with_stage is_waiting Taken number lane
+lane_after (Finish l number len) lane = with_stage is_taken Done number lane
 lane_after (Begin l epoch mark rows) lane = None
 lane_after (End l epoch) lane = None
 

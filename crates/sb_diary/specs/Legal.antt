@@ -53,8 +53,8 @@ abbrev pub when : {X : Type 0} → Bool → X → Option X
 when test x = if test then Some x else None
 
 -- the lane with bundle `number` at another stage, if it came and its stage passes
-abbrev pub moved : (Stage → Bool) → Stage → ℕ → LaneAudit → Option LaneAudit
-moved test stage number lane =
+abbrev pub with_stage : (Stage → Bool) → Stage → ℕ → LaneAudit → Option LaneAudit
+with_stage test stage number lane =
     slice_get lane.came (number - 1) >>= λ c.
     when (nat_lt 0 number && test c.stage)
     (record lane { came = slice_set lane.came (number - 1) (record c { stage = stage }) })
@@ -107,9 +107,9 @@ after_line a (Seal l epoch mark) =
     slice_get a.lanes l >>= λ lane.
     when (may_seal lane epoch mark) (with_lane l (record lane { marks = lane.marks ++ mark ∷ [] }) a)
 after_line a (Take l number) =
-    slice_get a.lanes l >>= λ lane. moved is_waiting Taken number lane >>= λ lane. Some (with_lane l lane a)
+    slice_get a.lanes l >>= λ lane. with_stage is_waiting Taken number lane >>= λ lane. Some (with_lane l lane a)
 after_line a (Finish l number len) =
-    slice_get a.lanes l >>= λ lane. moved is_taken Done number lane >>= λ lane. Some (with_lane l lane a)
+    slice_get a.lanes l >>= λ lane. with_stage is_taken Done number lane >>= λ lane. Some (with_lane l lane a)
 after_line a (Begin l epoch mark rows) =
     slice_get a.lanes l >>= λ lane. when (may_begin a l lane epoch mark) (record a { closing = Some l })
 after_line a (End l epoch) =
@@ -123,12 +123,12 @@ after_lines [] a = Some a
 after_lines (e ∷ diary) a = after_line a e >>= λ b. after_lines diary b
 
 -- what the lines of the diary of a node with so many lanes say, none if one is not legal
-abbrev pub audited : ℕ → List DiaryEvent → Option Audit
-audited lanes diary = after_lines diary (fresh lanes)
+abbrev pub audit_of : ℕ → List DiaryEvent → Option Audit
+audit_of lanes diary = after_lines diary (fresh lanes)
 
 -- the diary of a node with so many lanes is legal
 abbrev pub IsLegal : ℕ → List DiaryEvent → Type 0
-IsLegal lanes diary = is_some (audited lanes diary) ≡ true
+IsLegal lanes diary = is_some (audit_of lanes diary) ≡ true
 
 -- a lane has as many ends as seals, each bundle was finished, and none is of an epoch that is not sealed
 abbrev pub is_lane_settled : LaneAudit → Bool
@@ -146,4 +146,4 @@ settled_after (Some a) = is_settled a
 
 -- the diary is legal, and no container is left
 abbrev pub IsSettled : ℕ → List DiaryEvent → Type 0
-IsSettled lanes diary = settled_after (audited lanes diary) ≡ true
+IsSettled lanes diary = settled_after (audit_of lanes diary) ≡ true

@@ -69,16 +69,16 @@ abbrev pub nothing : Sized
 nothing = record { epoch = 0; length = 0 }
 
 -- what a bundle of an epoch gives below: one bundle of that epoch, or none if it has no record
-abbrev pub sized : ℕ → ℕ → List Sized
-sized epoch length = if length == 0 then [] else record { epoch = epoch; length = length } ∷ []
+abbrev pub sized_bundles : ℕ → ℕ → List Sized
+sized_bundles epoch length = if length == 0 then [] else record { epoch = epoch; length = length } ∷ []
 
 -- what a finished bundle gave below, in the epoch in which it came: bundle n is the n-th that came
-abbrev pub given : List Sized → Finished → List Sized
-given came f = sized (slice_index_or came (f.number - 1) nothing).epoch f.length
+abbrev pub bundles_given : List Sized → Finished → List Sized
+bundles_given came f = sized_bundles (slice_index_or came (f.number - 1) nothing).epoch f.length
 
 -- what all finished bundles of a lane gave below
-abbrev pub finished : ℕ → List DiaryEvent → List Sized
-finished l diary = flat_map (given (arrivals l diary)) (finishes l diary)
+abbrev pub all_bundles_given : ℕ → List DiaryEvent → List Sized
+all_bundles_given l diary = flat_map (bundles_given (arrivals l diary)) (finishes l diary)
 
 -- how many records these bundles have
 abbrev pub records_in : List Sized → ℕ

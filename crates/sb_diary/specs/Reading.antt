@@ -2,7 +2,7 @@
 use Rattle.std.specs.Prelude.{◌≡◌, ℕ, ◌+◌, ◌<◌, ◌^◌, List, [], ◌∷◌, ◌++◌, length, decimal}
 use Rattle.std.specs.List.{AllByRecursion}
 use Rattle.sb_diary.specs.declared.text.DiaryLine.{DiaryLine}
-use Rattle.sb_diary.specs.Texts.{word_of, numbers_of, spaced, AreInRange, IsLine}
+use Rattle.sb_diary.specs.Texts.{word_of, numbers_of, spaced_text, AreInRange, IsLine}
 
 -- no byte is a space
 abbrev pub HasNoSpace : List ℕ → Type 0
@@ -27,14 +27,14 @@ pub record BeginsWith (bytes : List ℕ) (n : ℕ) (rest : List ℕ) : Type 0 wh
 pub record AreNumbers (count : ℕ) (ns bytes : List ℕ) : Type 0 where
   pub count_is : length ns ≡ count
   pub fit : AllByRecursion (λ n. n < 2 ^ 64) ns
-  pub text : spaced ns ≡ bytes
+  pub text : spaced_text ns ≡ bytes
 
 -- a lane or a node and so many numbers have this text
 pub record AreFields (count : ℕ) (ns bytes : List ℕ) : Type 0 where
   pub count_is : length ns ≡ count + 1
   pub fit : AreInRange ns
-  pub text : spaced ns ≡ bytes
+  pub text : spaced_text ns ≡ bytes
 
 -- the line has this word, and these bytes are its numbers
 abbrev pub IsSpelled : DiaryLine → List ℕ → List ℕ → Type 0
-IsSpelled line word rest = IsLine line × (word_of line ≡ word) × (spaced (numbers_of line) ≡ rest)
+IsSpelled line word rest = IsLine line × (word_of line ≡ word) × (spaced_text (numbers_of line) ≡ rest)

@@ -35,12 +35,12 @@ numbers_of (Head node lanes) = node ∷ lanes ∷ []
 numbers_of (Event e) = event_numbers e
 
 -- numbers in decimal, each behind a space
-abbrev pub spaced : List ℕ → List ℕ
-spaced numbers = flat_map (λ n. 32 ∷ decimal n) numbers
+abbrev pub spaced_text : List ℕ → List ℕ
+spaced_text numbers = flat_map (λ n. 32 ∷ decimal n) numbers
 
 -- the text of a line, without its line end: its word and its numbers
 abbrev pub text_of : DiaryLine → List ℕ
-text_of line = word_of line ++ spaced (numbers_of line)
+text_of line = word_of line ++ spaced_text (numbers_of line)
 
 -- the first number of a line, a lane or a node, is below 2^32, and the others below 2^64
 abbrev pub AreInRange : List ℕ → Type 0

@@ -2,7 +2,7 @@
 use Rattle.std.specs.Prelude.{◌≡◌, ℕ, List, [], ◌∷◌, ◌++◌, None}
 use Rattle.sb_diary.specs.declared.event.DiaryEvent.{DiaryEvent}
 use Rattle.sb_diary.specs.declared.event.DiaryEvent.TheVariants.{Arrive, Seal, Take, Finish, Begin, End}
-use Rattle.sb_diary.specs.Legal.{audited, IsLegal, IsSettled}
+use Rattle.sb_diary.specs.Legal.{audit_of, IsLegal, IsSettled}
 
 -- the lines of the sum: two bundles before the watermark 10, and one before the last watermark
 abbrev pub sum_lines : List DiaryEvent
@@ -29,7 +29,7 @@ pub record WorkedIsSettled : Type 0 where
 -- of a node with so many lanes: after these lines, which are legal, this line is not
 pub record IsRefusedAfter (lanes : ℕ) (before : List DiaryEvent) (line : DiaryEvent) : Type 0 where
   pub legal : IsLegal lanes before
-  pub refused : audited lanes (before ++ line ∷ []) ≡ None
+  pub refused : audit_of lanes (before ++ line ∷ []) ≡ None
 
 -- two lanes, of which the first has closed the epoch of mark 10; the second is sealed with 20
 abbrev pub join_lines : List DiaryEvent

@@ -32,7 +32,7 @@ impl Model for Auditor {
 impl Auditor {
     /// An auditor before the first line.
     pub fn new(alloc: Global) -> Auditor
-        ensures { result ≡ spec.started }
+        ensures { result ≡ spec.first_auditing }
     {
         Auditor {
             book: TextBook::new(alloc),

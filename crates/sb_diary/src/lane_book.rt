@@ -153,7 +153,7 @@ impl LaneBook {
 
     // A worker takes a bundle.
     fn take(&mut self, number: u64) -> Result<(), LineStop>
-        ensures { Answers (spec.moved spec.is_waiting Stage.Taken number self.old) self.old self.new result }
+        ensures { Answers (spec.with_stage spec.is_waiting Stage.Taken number self.old) self.old self.new result }
     {
         let Some(
             Came {
@@ -171,7 +171,7 @@ impl LaneBook {
 
     // A bundle was finished.
     fn finish(&mut self, number: u64) -> Result<(), LineStop>
-        ensures { Answers (spec.moved spec.is_taken Stage.Done number self.old) self.old self.new result }
+        ensures { Answers (spec.with_stage spec.is_taken Stage.Done number self.old) self.old self.new result }
     {
         let Some(
             Came {

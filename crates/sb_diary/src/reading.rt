@@ -8,7 +8,7 @@ ghost use Rattle.std.specs.Prelude.{◌≡◌, ◌==◌, ◌<◌, ◌^◌, ◌++
 ghost use Rattle.std.specs.List.{position};
 ghost use Rattle.sb_diary.specs.declared.event.DiaryEvent.{DiaryEvent as Event};
 ghost use Rattle.sb_diary.specs.declared.text.DiaryLine.{DiaryLine as Line};
-ghost use Rattle.sb_diary.specs.Texts.{spaced, text_of, AreInRange, IsLine};
+ghost use Rattle.sb_diary.specs.Texts.{spaced_text, text_of, AreInRange, IsLine};
 ghost use Rattle.sb_diary.specs.Reading as spec;
 
 use crate::event::DiaryEvent;

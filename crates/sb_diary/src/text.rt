@@ -15,7 +15,7 @@
 //! lanes are below 2^32, other numbers below 2^64.
 
 ghost use Rattle.std.specs.Prelude.{◌≡◌, ◌≤◌, ◌+◌, ◌*◌, ◌++◌, length};
-ghost use Rattle.sb_diary.specs.Texts.{spaced, text_of};
+ghost use Rattle.sb_diary.specs.Texts.{spaced_text, text_of};
 
 use crate::event::DiaryEvent;
 use sb_record::TextBuf;
@@ -39,7 +39,7 @@ pub enum DiaryLine {
 fn spelled(word: &[u8], numbers: &[u64]) -> LineBuf
     requires word { length word.now ≤ 9 }
     requires numbers { length numbers.now ≤ 4 }
-    ensures { result ≡ word.now ++ spaced numbers.now }
+    ensures { result ≡ word.now ++ spaced_text numbers.now }
 {
     let mut text = LineBuf::new();
     text.push(word);

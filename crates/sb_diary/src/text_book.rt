@@ -42,7 +42,7 @@ impl Model for TextBook {
 impl TextBook {
     // A text before its first line.
     pub fn new(alloc: Global) -> TextBook
-        ensures { result ≡ spec.begun }
+        ensures { result ≡ spec.first_text_audit }
     {
         TextBook {
             alloc,

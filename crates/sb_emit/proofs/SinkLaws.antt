@@ -10,7 +10,7 @@ use Rattle.sb_record.specs.declared.element.KeptRec.{KeptRec}
 use Rattle.sb_record.specs.declared.item.Record.{Record}
 use Rattle.sb_record.specs.Elements.{all_records}
 use Rattle.sb_record.specs.Orders.{IsAscending}
-use Rattle.sb_record.specs.Records.{record_cmp, sorted, before, at_least}
+use Rattle.sb_record.specs.Records.{record_cmp, sorted_records, before, at_least}
 use Rattle.sb_record.specs.Reorderings.{IsReordered}
 use Rattle.sb_record.proofs.Elements.{All-join, All-anything, All-passed}
 use Rattle.sb_record.proofs.OnLanes.{All-all_records}
@@ -30,7 +30,7 @@ adds s t part grown mark es stands from l late f =
     assoc : (a b c : ℕ) → (a + b) + c ≡ a + (b + c)
     assoc a b c = omega arith
 
-pub closes : (s t : SinkState) (mark : ℕ) (rows : List Record) → rows ≡ sorted (before mark s.kept) → t.kept ≡ at_least mark s.kept → Closes mark (gives s) rows (gives t)
+pub closes : (s t : SinkState) (mark : ℕ) (rows : List Record) → rows ≡ sorted_records (before mark s.kept) → t.kept ≡ at_least mark s.kept → Closes mark (gives s) rows (gives t)
 closes s t mark rows rows_are kept_is = record {
   in_order = sorted-unique rows rows (subst (λ (l : List Record). IsAscending record_cmp l) (sym rows_are) (in_order-ascending records_total (before mark s.kept))) (λ f. refl);
   low = subst (λ (l : List Record). AllByRecursion (λ r. r.time < mark) l) (sym rows_are)
@@ -48,7 +48,7 @@ closes s t mark rows rows_are kept_is = record {
     assoc a b c = omega arith
 
 -- what comes out and what stays are all that was there
-pub lengths : (kept later rows : List Record) (mark : ℕ) → rows ≡ sorted (before mark kept) → later ≡ at_least mark kept → length rows + length later ≡ length kept
+pub lengths : (kept later rows : List Record) (mark : ℕ) → rows ≡ sorted_records (before mark kept) → later ≡ at_least mark kept → length rows + length later ≡ length kept
 lengths kept later rows mark rows_are later_is =
-    (λ i. (ap length rows_are ∙ length-reordered (sorted (before mark kept)) (before mark kept) (IsReordered-in_order record_cmp (before mark kept))) i + length (later_is i))
+    (λ i. (ap length rows_are ∙ length-reordered (sorted_records (before mark kept)) (before mark kept) (IsReordered-in_order record_cmp (before mark kept))) i + length (later_is i))
     ∙ length-filter_both (λ r. nat_lt r.time mark) (λ r. not (nat_lt r.time mark)) (λ r. refl) kept

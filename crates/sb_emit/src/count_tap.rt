@@ -1,7 +1,7 @@
 //! A tap that counts rows, and fails when told to.
 
 ghost use Rattle.std.specs.Prelude.{◌≡◌, ◌<◌, ◌%◌, ◌^◌, [], length, if◌then◌else◌};
-ghost use Rattle.sb_outside.specs.Schedules.{counted, next_fails};
+ghost use Rattle.sb_outside.specs.Schedules.{next_count, next_fails};
 ghost use Rattle.sb_emit.specs.Taps.{Answers};
 ghost use Rattle.sb_emit.specs.TapKinds.{Counting, count_state};
 
@@ -50,7 +50,7 @@ impl Tap for CountTap {
         ensures exact { result ≡
             (if next_fails self.old.failing self.old.calls then Err TapFault.Failed else Ok Wish.More) }
         ensures failing { self.new.failing ≡ self.old.failing }
-        ensures calls { self.new.calls ≡ counted self.old.calls }
+        ensures calls { self.new.calls ≡ next_count self.old.calls }
     {
         self.calls = self.calls.saturating_add(1);
         if self.failing.contains(&self.calls) {

@@ -8,7 +8,7 @@ ghost use Rattle.std.specs.Prelude.{◌≡◌, ◌+◌, ◌≤◌, ◌++◌, ◌
 ghost use Rattle.std.specs.BTreeMap.{get, insert_entry, IsOrdered};
 ghost use Rattle.std.specs.Ordering.{nat_cmp};
 ghost use Rattle.sb_record.specs.declared.element.KeptRec.{KeptRec as Element};
-ghost use Rattle.sb_record.specs.Records.{sorted, before, at_least};
+ghost use Rattle.sb_record.specs.Records.{sorted_records, before, at_least};
 ghost use Rattle.sb_record.specs.Reorderings.{IsReordered};
 ghost use Rattle.sb_window.specs.Groupings.{IsFrom, Adds, Closes};
 ghost use Rattle.sb_emit.specs.ByTime as entries;
@@ -119,7 +119,7 @@ impl Grouping for SinkKept {
         ensures was { OnOk result (spec.IsSpent self.old → ⊥) }
         ensures is { OnOk result (spec.IsSpent self.new → ⊥) }
         ensures closed { OnOk result (self.new.closed ≡ mark) }
-        ensures rows { IfOk result (λ rows. rows.items ≡ sorted (before mark self.old.kept)) }
+        ensures rows { IfOk result (λ rows. rows.items ≡ sorted_records (before mark self.old.kept)) }
         ensures kept { OnOk result (self.new.kept ≡ at_least mark self.old.kept) }
         ensures count { IfOk result (λ rows. length rows.items + length self.new.kept ≡ length self.old.kept) }
         ensures closes { IfOk result (λ rows. Closes mark (spec.gives self.old) rows.items (spec.gives self.new)) }
@@ -191,7 +191,7 @@ fn take_below(
     mark: u64,
 ) -> Result<Vec<Record>, NoMemory>
     ensures rows { IfOk result (λ rows. entries.AreByTime by_time.old
-        → rows.items ≡ sorted (before mark (entries.records_in by_time.old.entries))) }
+        → rows.items ≡ sorted_records (before mark (entries.records_in by_time.old.entries))) }
     ensures kept { OnOk result (entries.AreByTime by_time.old
         → entries.records_in by_time.new.entries ≡ at_least mark (entries.records_in by_time.old.entries)) }
     ensures keeps { OnOk result (entries.AreByTime by_time.old → entries.AreByTime by_time.new) }
@@ -206,7 +206,7 @@ fn sorted_rows(
     alloc: Global,
     by_time: BTreeMap<u64, Sequence<Record>>,
 ) -> Result<Vec<Record>, NoMemory>
-    ensures { IfOk result (λ rows. rows.items ≡ sorted (entries.records_in by_time.entries)) }
+    ensures { IfOk result (λ rows. rows.items ≡ sorted_records (entries.records_in by_time.entries)) }
 {
     let mut all = Vec::new(alloc);
     for (_, mut rows) in by_time {

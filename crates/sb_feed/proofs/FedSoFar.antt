@@ -11,7 +11,7 @@ use Rattle.sb_record.specs.declared.item.TheConstants.{END_MARK}
 use Rattle.sb_record.specs.declared.intake.Stop.{Stop}
 use Rattle.sb_record.specs.declared.intake.TheConstants.{MAX_LINES}
 use Rattle.sb_record.specs.Progress.{Progress}
-use Rattle.sb_record.specs.Intake.{tested}
+use Rattle.sb_record.specs.Intake.{answer_to}
 use Rattle.sb_record.specs.Inputs.{Accepted}
 use Rattle.sb_record.specs.Streams.{dropped_in, dropped_of, last_watermark, records_of}
 use Rattle.sb_outside.specs.Lines.{lines}
@@ -109,7 +109,7 @@ module _ {S O : Type 0} (left_of : S → Option (List ℕ)) (faults_of : S → �
   -- an engine of the same plan, whose bundles have the same size
   module _ (plan2 : Shape) (size2 : ℕ) (same_plan : plan2 ≡ plan) (same_size : size2 ≡ size) (stands : Fed → List Record → Type 0) (start now : Around S O) (held : Held) (p : Progress) (c : Cutters) (h : FedSoFar left_of faults_of after plan size stands start now held p c) where
     timely_next : (source' : S) (held' : Held) (p' : Progress) (i : Item) → TakesItem left_of (reading now.source held) (reading source' held') p p' i → IsTimely (streams_of plan) h.items i
-    timely_next source' held' p' i takes = tested_is_timely plan h.items takes.line i (ap (λ q. tested q takes.line) (sym h.read.progress) ∙ takes.tests)
+    timely_next source' held' p' i takes = tested_is_timely plan h.items takes.line i (ap (λ q. answer_to q takes.line) (sym h.read.progress) ∙ takes.tests)
 
     so_far_of : (f : Fed) (rows : List Record) → AreRowsSoFar plan2 f rows → AreRowsSoFar plan f rows
     so_far_of f rows so_far = subst (λ u. AreRowsSoFar u f rows) same_plan so_far

@@ -9,15 +9,15 @@ use Rattle.sb_record.specs.declared.item.Stream.TheVariants.{A, B}
 use Rattle.sb_record.specs.declared.item.Item.{Item}
 use Rattle.sb_record.specs.declared.item.Item.TheVariants.{Rec, Mark, Skip, Late}
 use Rattle.sb_record.specs.Streams.{records_of, record_in, last_watermark, last_or, watermark_in}
-use Rattle.sb_record.specs.Records.{before, sorted, at_least}
+use Rattle.sb_record.specs.Records.{before, sorted_records, at_least}
 use Rattle.sb_record.proofs.Elements.{All-join}
 use Rattle.sb_record.proofs.Earlier.{sorted_before-front}
 use Rattle.sb_bundle.specs.Calls as calls
-use Rattle.sb_bundle.specs.Calls.{Call, joined, parts_of}
+use Rattle.sb_bundle.specs.Calls.{Call, records_in_order, parts_of}
 use Rattle.sb_bundle.specs.Laws.{bundles_of}
 use Rattle.sb_bundle.proofs.Runs.{new_keeps}
 use Rattle.sb_pipeline.specs.Shapes.{Shape}
-use Rattle.sb_pipeline.specs.Flow.{sent_from, arriving, from_stream}
+use Rattle.sb_pipeline.specs.Flow.{sent_from, arrivals_at, from_stream}
 use Rattle.sb_pipeline.specs.Results.{rows_below, output_of, output_at}
 use Rattle.sb_feed.specs.Feeds.{Fed, IsFrom, AreRowsSoFar, fed_of, floor_in, marks_in}
 use Rattle.sb_feed.specs.Calls.{calls_of}
@@ -31,7 +31,7 @@ pub rows_same : (w : ℕ) (plan : Shape) (x y : Stream → List Record) → ((s 
 rows_same w plan x y same = ap (λ l. of_two l (x B)) (same A) ∙ ap (λ l. of_two (y A) l) (same B)
   where
     of_two : List Record → List Record → List Record
-    of_two a b = sorted (before w (output_at plan (length plan.steps) (arriving (length plan.steps) (sent_from (output_at plan) 0 plan.steps (from_stream plan.source_a a ++ from_stream plan.source_b b)))))
+    of_two a b = sorted_records (before w (output_at plan (length plan.steps) (arrivals_at (length plan.steps) (sent_from (output_at plan) 0 plan.steps (from_stream plan.source_a a ++ from_stream plan.source_b b)))))
 
 pub covers_later : (items all : List Item) (f : Fed) → Covers items f → GoesOnTo items all → (rest : Stream → List Record) × ((s : Stream) → fed_of f s ++ rest s ≡ records_of s all) × ((s : Stream) → AllByRecursion (IsFrom (floor_in f s)) (rest s))
 covers_later items all f c g = (
@@ -45,7 +45,7 @@ pub rows_are_first : (plan : Shape) (items all : List Item) (f : Fed) (rows : Li
 rows_are_first plan items all f rows c g so_far =
     let (rest, are, coming) = covers_later items all f c g in
     let these : rows ≡ rows_below so_far.mark plan (streams_in all) = so_far.are rest coming ∙ rows_same so_far.mark plan (λ s. fed_of f s ++ rest s) (streams_in all) are in
-    let more = sorted (at_least so_far.mark (before END_MARK (output_of plan (streams_in all)))) in
+    let more = sorted_records (at_least so_far.mark (before END_MARK (output_of plan (streams_in all)))) in
     record { rest = more; are = sorted_before-front so_far.mark END_MARK (output_of plan (streams_in all)) so_far.bound ∙ ap (λ l. l ++ more) (sym these) }
 
 -- what the calls push is what the items have
@@ -71,7 +71,7 @@ pushed B (Late n t m ∷ items) = pushed B items
 stream_covers : (size : ℕ) (s : Stream) (items : List Item) (f : Fed) (c : Cutters) → IsStreamFedBy size s items f (cutter_of c s)
     → (fed_of f s ++ (cutter_of c s).held ≡ records_of s items) × AllByRecursion (IsFrom (floor_in f s)) (cutter_of c s).held × (floor_in f s ≤ last_watermark s items)
 stream_covers size s items f c fed = (
-  ap (λ l. joined (parts_of l) ++ (cutter_of c s).held) fed.bundles ∙ ap (λ d. joined (parts_of (bundles_of size (calls_of s items))) ++ d.held) fed.cut ∙ new_keeps size (calls_of s items) ∙ pushed s items,
+  ap (λ l. records_in_order (parts_of l) ++ (cutter_of c s).held) fed.bundles ∙ ap (λ d. records_in_order (parts_of (bundles_of size (calls_of s items))) ++ d.held) fed.cut ∙ new_keeps size (calls_of s items) ∙ pushed s items,
   subst (λ x. AllByRecursion (IsFrom x) (cutter_of c s).held) fed.floor fed.held,
   subst (λ x. floor_in f s ≤ x) (floor_is s fed.marks) (le_refl (floor_in f s)),
 )

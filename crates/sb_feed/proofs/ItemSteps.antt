@@ -14,7 +14,7 @@ use Rattle.sb_record.proofs.Elements.{All-join}
 use Rattle.sb_bundle.specs.declared.bundle.Bundle.{Bundle}
 use Rattle.sb_bundle.specs.Cutting.{Cutting}
 use Rattle.sb_bundle.specs.Bundles.{IsBundleOf}
-use Rattle.sb_bundle.specs.Cuts.{started, given_with, after_record, given_at_mark, after_mark, fills, with_record, bundle_of, bundle_of_some}
+use Rattle.sb_bundle.specs.Cuts.{first_cutting, given_with, after_record, given_at_mark, after_mark, fills, with_record, bundle_of, bundle_of_some}
 use Rattle.sb_bundle.specs.Calls.{Call, given_by, after, and_then, bundles_by, after_all}
 use Rattle.sb_bundle.specs.Calls.Call.{Push, Mark}
 use Rattle.sb_bundle.specs.Laws.{bundles_of, cutting_after}
@@ -79,9 +79,9 @@ calls size s items i call f f' c c' new marks h is_call is_mark is_cut gives are
     let lb = ap length are_b ∙ length-append (bundles_in f s) new in
     let lm = ap length are_m ∙ length-append (marks_in f s) marks in
     record {
-      bundles = are_b ∙ ap (λ l. l ++ new) h.bundles ∙ ap (λ l. bundles_of size (calls_of s items) ++ l) (sym gives ∙ ap (λ d. and_then (given_by call d) []) h.cut) ∙ sym (bundles_more (calls_of s items) call (started size)) ∙ ap (bundles_of size) (sym said);
+      bundles = are_b ∙ ap (λ l. l ++ new) h.bundles ∙ ap (λ l. bundles_of size (calls_of s items) ++ l) (sym gives ∙ ap (λ d. and_then (given_by call d) []) h.cut) ∙ sym (bundles_more (calls_of s items) call (first_cutting size)) ∙ ap (bundles_of size) (sym said);
       marks = are_m ∙ ap (λ l. l ++ marks) h.marks ∙ sym marked;
-      cut = is_cut ∙ ap (after call) h.cut ∙ sym (after_more (calls_of s items) call (started size)) ∙ ap (cutting_after size) (sym said);
+      cut = is_cut ∙ ap (after call) h.cut ∙ sym (after_more (calls_of s items) call (first_cutting size)) ∙ ap (cutting_after size) (sym said);
       sized = is_size ∙ h.sized;
       floor = floor;
       epoch = epoch;
@@ -163,13 +163,13 @@ fed_last size items B t b f c h some = record {
   of_b = mark size B items (item.Mark B t) t f (with_mark B t (with_bundle B b f)) c.b (b ∷ []) h.of_b refl refl (ap (λ o. and_then o []) some) (omega arith) refl refl;
 }
 
-pub fed_nothing : (size : ℕ) → 1 ≤ size → IsFedBy size [] nothing_fed (record { a = started size; b = started size })
+pub fed_nothing : (size : ℕ) → 1 ≤ size → IsFedBy size [] nothing_fed (record { a = first_cutting size; b = first_cutting size })
 fed_nothing size some = record { of_a = none_a; of_b = none_b }
   where
-    none_a : IsStreamFedBy size A [] nothing_fed (started size)
+    none_a : IsStreamFedBy size A [] nothing_fed (first_cutting size)
     none_a = record { bundles = refl; marks = refl; cut = refl; sized = refl; floor = refl; epoch = refl; held = tt; few_bundles = omega arith; few_marks = omega arith }
 
-    none_b : IsStreamFedBy size B [] nothing_fed (started size)
+    none_b : IsStreamFedBy size B [] nothing_fed (first_cutting size)
     none_b = record { bundles = refl; marks = refl; cut = refl; sized = refl; floor = refl; epoch = refl; held = tt; few_bundles = omega arith; few_marks = omega arith }
 
 -- ---- what may be asked for

@@ -14,7 +14,7 @@ use Rattle.sb_record.specs.declared.intake.LatePolicy.{LatePolicy}
 use Rattle.sb_record.specs.declared.intake.LatePolicy.TheVariants as late
 use Rattle.sb_record.specs.declared.intake.Refusal.{Refusal}
 use Rattle.sb_record.specs.Progress.{Progress}
-use Rattle.sb_record.specs.Intake.{tested, timely, timely_if, when_late, after, mark_of}
+use Rattle.sb_record.specs.Intake.{answer_to, timely, timely_if, when_late, after, mark_of}
 use Rattle.sb_record.specs.Inputs.{Accepted, progress_of, accepted_if, accepted_after, accepted}
 use Rattle.sb_record.specs.Lines.{IsItemInRange}
 use Rattle.sb_record.specs.Reading.{item_of}
@@ -83,7 +83,7 @@ read_is_timely : (plan : Shape) (items : List Item) (n : ℕ) (line : List ℕ) 
 read_is_timely plan items n line None i o h = absurd (cc h)
 read_is_timely plan items n line (Some item) i o h = is_timely plan items n item i (text_in_range plan.keys item line (item_some plan.keys line item o)) h
 
-pub tested_is_timely : (plan : Shape) (items : List Item) (line : List ℕ) (i : Item) → tested (said_by plan items) line ≡ Ok i → IsTimely (streams_of plan) items i
+pub tested_is_timely : (plan : Shape) (items : List Item) (line : List ℕ) (i : Item) → answer_to (said_by plan items) line ≡ Ok i → IsTimely (streams_of plan) items i
 tested_is_timely plan items line i h = elim (cases_Bool (nat_le 4294967295 (length items))) [
   | inl many ↦ absurd (cc (rw many at h))
   | inr few ↦ elim (cases_Bool (nat_lt 128 (length line))) [
@@ -170,9 +170,9 @@ no_more items = record { later = []; are = sym (append-nil items); timely = no_r
 
 pub accepted_goes_on : (plan : Shape) (lines : List (List ℕ)) (items : List Item) → GoesOnTo items (following plan items lines).items
 accepted_goes_on plan [] items = no_more items
-accepted_goes_on plan (line ∷ lines) items = by_result (tested (said_by plan items) line) refl (λ more. accepted_goes_on plan lines more)
+accepted_goes_on plan (line ∷ lines) items = by_result (answer_to (said_by plan items) line) refl (λ more. accepted_goes_on plan lines more)
   where
-    by_result : (r : Result Item Refusal) → tested (said_by plan items) line ≡ r → ((more : List Item) → GoesOnTo more (following plan more lines).items)
+    by_result : (r : Result Item Refusal) → answer_to (said_by plan items) line ≡ r → ((more : List Item) → GoesOnTo more (following plan more lines).items)
         → GoesOnTo items (accepted_if r items (λ more. following plan more lines)).items
     by_result (Ok i) e on = goes_on_behind plan items i (following plan (items ++ i ∷ []) lines).items (tested_is_timely plan items line i e) (on (items ++ i ∷ []))
     by_result (Err refusal) e on = no_more items

@@ -9,7 +9,7 @@ use Rattle.sb_record.specs.declared.intake.TheConstants.{MAX_LINES}
 use Rattle.sb_record.specs.declared.intake.Stop.{Stop}
 use Rattle.sb_record.specs.declared.intake.Stop.TheVariants.{End, Refused, Fault}
 use Rattle.sb_record.specs.Progress.{Progress}
-use Rattle.sb_record.specs.Intake.{tested, after}
+use Rattle.sb_record.specs.Intake.{answer_to, after}
 use Rattle.sb_record.specs.Inputs.{Accepted, accepted_if, stop_of}
 use Rattle.sb_record.proofs.InputLemmas.{progress-more}
 use Rattle.sb_outside.specs.Lines.{lines}
@@ -45,11 +45,11 @@ after-lines Skip p = refl
 after-lines (Late n t m) p = refl
 
 -- the lines behind an accepted one are tested after its item too
-accepted-more : (plan : Shape) (items : List Item) (line : List ℕ) (rest : List (List ℕ)) (i : Item) → tested (said_by plan items) line ≡ Ok i
+accepted-more : (plan : Shape) (items : List Item) (line : List ℕ) (rest : List (List ℕ)) (i : Item) → answer_to (said_by plan items) line ≡ Ok i
     → following plan items (line ∷ rest) ≡ following plan (items ++ i ∷ []) rest
 accepted-more plan items line rest i ok = ap (λ r. accepted_if r items (λ more. following plan more rest)) ok
 
-accepted-stops : (plan : Shape) (items : List Item) (line : List ℕ) (rest : List (List ℕ)) (refusal : Refusal) → tested (said_by plan items) line ≡ Err refusal
+accepted-stops : (plan : Shape) (items : List Item) (line : List ℕ) (rest : List (List ℕ)) (refusal : Refusal) → answer_to (said_by plan items) line ≡ Err refusal
     → following plan items (line ∷ rest) ≡ record { items = items; refused = Some refusal }
 accepted-stops plan items line rest refusal bad = ap (λ r. accepted_if r items (λ more. following plan more rest)) bad
 
@@ -69,7 +69,7 @@ module _ {S : Type 0} (left_of : S → Option (List ℕ)) where
             ap (λ l. starting plan (lines ended l)) (append_assoc t.bytes takes.more later)
             ∙ t.accepts ended (takes.more ++ later) before
             ∙ ap (following plan items) first
-            ∙ accepted-more plan items takes.line (rest_of_lines held'.halt held'.at_hand ended later) i (ap (λ q. tested q takes.line) (sym t.progress) ∙ takes.tests);
+            ∙ accepted-more plan items takes.line (rest_of_lines held'.halt held'.at_hand ended later) i (ap (λ q. answer_to q takes.line) (sym t.progress) ∙ takes.tests);
         progress = takes.progress ∙ ap (after i) t.progress ∙ sym (progress-more (streams_of plan) plan.late plan.keys items i);
         room = let one = ap (λ (q : Progress). q.lines) takes.progress ∙ after-lines i p in omega (arith, one, room);
         no_fault = same ∙ t.no_fault;
@@ -95,7 +95,7 @@ module _ {S : Type 0} (left_of : S → Option (List ℕ)) where
           → (a : Accepted) × (following plan items ls ≡ a) × (a.items ≡ items) × (stop_of stops.ended a.refused ≡ stop)
       by_why (Refused refusal) ls (line, rest, are, bad) = (
         record { items = items; refused = Some refusal },
-        ap (following plan items) are ∙ accepted-stops plan items line rest refusal (ap (λ q. tested q line) (sym t.progress) ∙ bad),
+        ap (following plan items) are ∙ accepted-stops plan items line rest refusal (ap (λ q. answer_to q line) (sym t.progress) ∙ bad),
         refl,
         refl,
       )

@@ -7,7 +7,7 @@ use Rattle.sb_record.specs.declared.item.Item.{Item}
 use Rattle.sb_record.specs.declared.intake.Refusal.{Refusal}
 use Rattle.sb_record.specs.declared.intake.Stop.TheVariants.{Refused}
 use Rattle.sb_record.specs.Progress.{Progress}
-use Rattle.sb_record.specs.Intake.{tested, too_long, after}
+use Rattle.sb_record.specs.Intake.{answer_to, too_long, after}
 use Rattle.sb_outside.specs.Lines.{lines, is_too_long}
 use Rattle.sb_outside.specs.declared.lines.Halt.{Halt}
 use Rattle.sb_outside.specs.declared.lines.Halt.TheVariants as halt
@@ -29,7 +29,7 @@ ended_there None left last e = cc
 ended_there (Some h) left last e = last.1
 
 -- a line of more than 128 bytes is refused
-pub too_long_tested : (p : Progress) (line : List ℕ) → is_too_long line ≡ true → tested p line ≡ Err (too_long p)
+pub too_long_tested : (p : Progress) (line : List ℕ) → is_too_long line ≡ true → answer_to p line ≡ Err (too_long p)
 too_long_tested p line long = elim (cases_Bool (nat_le 4294967295 p.lines)) [ inl many ↦ rw many refl | inr few ↦ rw (few, long) refl ]
 
 -- a reader that gave a line goes on, or its source has ended
@@ -42,7 +42,7 @@ goes_on (Some halt.Fault) left last = cc last.0
 module _ {S : Type 0} (left : S → Option (List ℕ)) (faults : S → ℕ) where
   -- an accepted line gives its item
   pub accepted_taken : (s : Option Halt) (old new : Reading S) (p p' : Progress) (item : Item) → old.halt ≡ s → IsGoing s (left old.source) → Advances left faults s old new step.Line
-      → tested p new.line ≡ Ok item → p' ≡ after item p → TakesItem left old new p p' item
+      → answer_to p new.line ≡ Ok item → p' ≡ after item p → TakesItem left old new p p' item
   accepted_taken None old new p p' item none going on good is =
       let gives = on.tells.0 in
       record {
@@ -63,7 +63,7 @@ module _ {S : Type 0} (left : S → Option (List ℕ)) (faults : S → ℕ) wher
 
   -- a refused line stops the reading
   pub refused_stops : (s : Option Halt) (old new : Reading S) (p p' : Progress) (refusal : Refusal) → old.halt ≡ s → IsGoing s (left old.source) → Advances left faults s old new step.Line
-      → tested p new.line ≡ Err refusal → p' ≡ p → StopsReading left old new p p' (Refused refusal)
+      → answer_to p new.line ≡ Err refusal → p' ≡ p → StopsReading left old new p p' (Refused refusal)
   refused_stops None old new p p' refusal none going on bad same =
       let gives = on.tells.0 in
       let e = ended_by new.halt in

@@ -9,13 +9,13 @@ use Rattle.sb_record.specs.declared.item.Stream.TheVariants.{A, B}
 use Rattle.sb_record.specs.Streams.{last_or}
 use Rattle.sb_record.proofs.Elements.{All-join}
 use Rattle.sb_bundle.specs.declared.bundle.Bundle.{Bundle}
-use Rattle.sb_bundle.specs.Calls.{joined, parts_of}
+use Rattle.sb_bundle.specs.Calls.{records_in_order, parts_of}
 use Rattle.sb_pipeline.specs.Shapes.{Shape}
 use Rattle.sb_feed.specs.Feeds.{Fed, AreRowsSoFar, IsFrom, MayArrive, fed_of, floor_in, with_bundle, with_mark}
 use Rattle.sb_feed.proofs.FirstRows.{rows_same}
 use Rattle.sb_feed.proofs.LaterItems.{from_later}
 
-joined-append : (xs : List (List Record)) (ys : List (List Record)) → joined (xs ++ ys) ≡ joined xs ++ joined ys
+joined-append : (xs : List (List Record)) (ys : List (List Record)) → records_in_order (xs ++ ys) ≡ records_in_order xs ++ records_in_order ys
 joined-append xs ys = flat_map-append (λ p. p) xs ys
 
 -- a bundle more leaves what may come
@@ -44,8 +44,8 @@ so_far_bundle plan size s b f rows may h = record {
     same_floor B A l all = all
     same_floor B B l all = all
 
-    one_more : (l : List Bundle) → joined (parts_of l) ++ b.records ≡ joined (parts_of (l ++ b ∷ []))
-    one_more l = ap (λ x. joined (parts_of l) ++ x) (sym (append-nil b.records)) ∙ sym (ap joined (map-append (λ (c : Bundle). c.records) l (b ∷ [])) ∙ joined-append (parts_of l) (b.records ∷ []))
+    one_more : (l : List Bundle) → records_in_order (parts_of l) ++ b.records ≡ records_in_order (parts_of (l ++ b ∷ []))
+    one_more l = ap (λ x. records_in_order (parts_of l) ++ x) (sym (append-nil b.records)) ∙ sym (ap records_in_order (map-append (λ (c : Bundle). c.records) l (b ∷ [])) ∙ joined-append (parts_of l) (b.records ∷ []))
 
     fed_more : (s u : Stream) → fed_of f u ++ new_of s u ≡ fed_of (with_bundle s b f) u
     fed_more A A = one_more f.bundles_a

@@ -11,7 +11,7 @@ use Rattle.sb_record.specs.declared.item.TheConstants.{END_MARK}
 use Rattle.sb_record.specs.declared.intake.Stop.{Stop}
 use Rattle.sb_record.specs.declared.intake.Stop.TheVariants.{End, Refused, Fault}
 use Rattle.sb_record.specs.Streams.{uses, watermark_in, last_watermark, records_of}
-use Rattle.sb_bundle.specs.Cuts.{started}
+use Rattle.sb_bundle.specs.Cuts.{first_cutting}
 use Rattle.sb_bundle.specs.Cutting.{Cutting}
 use Rattle.sb_bundle.specs.Laws.{bundles_of, cutting_after}
 use Rattle.sb_feed.specs.declared.cutters.Cutters.{Cutters}
@@ -20,7 +20,7 @@ use Rattle.sb_feed.specs.Feeds.{Fed, bundles_in, marks_in, floor_in, fed_of, IsF
 
 -- before the first record
 abbrev pub new_cutters : ℕ → Cutters
-new_cutters size = record { a = started size; b = started size }
+new_cutters size = record { a = first_cutting size; b = first_cutting size }
 
 -- the cutter of a stream
 abbrev pub cutter_of : Cutters → Stream → Cutting

@@ -7,7 +7,7 @@ use Rattle.sb_record.specs.declared.item.Stream.TheVariants.{A, B}
 use Rattle.sb_record.specs.declared.item.TheConstants.{END_MARK, MAX_TIME}
 use Rattle.sb_record.specs.Streams.{last_or, uses}
 use Rattle.sb_bundle.specs.declared.bundle.Bundle.{Bundle}
-use Rattle.sb_bundle.specs.Calls.{parts_of, joined}
+use Rattle.sb_bundle.specs.Calls.{parts_of, records_in_order}
 use Rattle.sb_pipeline.specs.Shapes.{Shape, streams_of}
 use Rattle.sb_pipeline.specs.Results.{rows_below}
 
@@ -40,7 +40,7 @@ with_mark B t f = record f { marks_b = f.marks_b ++ t ∷ [] }
 
 -- the records of the stream that were fed
 abbrev pub fed_of : Fed → Stream → List Record
-fed_of f s = joined (parts_of (bundles_in f s))
+fed_of f s = records_in_order (parts_of (bundles_in f s))
 
 -- the last watermark of the stream, 0 before the first
 abbrev pub floor_in : Fed → Stream → ℕ

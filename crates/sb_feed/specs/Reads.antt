@@ -5,7 +5,7 @@ use Rattle.sb_record.specs.declared.item.Item.{Item}
 use Rattle.sb_record.specs.declared.intake.Stop.{Stop}
 use Rattle.sb_record.specs.declared.intake.Stop.TheVariants.{End, Refused, Fault}
 use Rattle.sb_record.specs.Progress.{Progress}
-use Rattle.sb_record.specs.Intake.{tested, after}
+use Rattle.sb_record.specs.Intake.{answer_to, after}
 use Rattle.sb_outside.specs.Sources.{Rose}
 use Rattle.sb_outside.specs.declared.lines.Halt.{Halt}
 use Rattle.sb_outside.specs.declared.lines.Halt.TheVariants as halt
@@ -21,7 +21,7 @@ IsGoing (Some halt.Fault) left = ⊥
 -- why reading stops at the first of these lines, after what the lines before have said
 abbrev pub StopsAt : Progress → Bool → List (List ℕ) → Stop → Type 0
 StopsAt p ended lines (Refused refusal) =
-    (line : List ℕ) × (rest : List (List ℕ)) × (lines ≡ line ∷ rest) × (tested p line ≡ Err refusal)
+    (line : List ℕ) × (rest : List (List ℕ)) × (lines ≡ line ∷ rest) × (answer_to p line ≡ Err refusal)
 StopsAt p ended lines End = (lines ≡ []) × (ended ≡ true)
 StopsAt p ended lines Fault = (lines ≡ []) × (ended ≡ false)
 
@@ -35,7 +35,7 @@ pub record TakesItem {S : Type 0} (left : S → Option (List ℕ)) (old new : Re
       → MayCome old.halt ended (more ++ later)
       × (rest_of_lines old.halt old.at_hand ended (more ++ later)
       ≡ line ∷ rest_of_lines new.halt new.at_hand ended later)
-  pub tests : tested p line ≡ Ok item
+  pub tests : answer_to p line ≡ Ok item
   pub progress : p' ≡ after item p
   pub going : IsGoing new.halt (left new.source)
 

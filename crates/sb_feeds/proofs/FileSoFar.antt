@@ -10,7 +10,7 @@ use Rattle.sb_record.specs.declared.item.Item.{Item}
 use Rattle.sb_record.specs.declared.item.Item.TheVariants.{Rec, Mark, Skip, Late}
 use Rattle.sb_record.specs.declared.item.Stream.TheVariants.{A, B}
 use Rattle.sb_record.specs.Inputs.{Accepted, accepted, accepted_after, accepted_if, progress_of}
-use Rattle.sb_record.specs.Intake.{after, tested}
+use Rattle.sb_record.specs.Intake.{after, answer_to}
 use Rattle.sb_record.specs.Progress.{Progress}
 use Rattle.sb_record.proofs.InputLemmas.{progress-more}
 use Rattle.sb_outside.specs.Lines.{lines}
@@ -57,11 +57,11 @@ may_come (Some halt.TooLong) left going = absurd going
 may_come (Some halt.Fault) left going = absurd going
 
 -- an accepted line and a refused one
-behind_accepted : (new : Progress) (items : List Item) (line : List ℕ) (rest : List (List ℕ)) (i : Item) → tested (progress_of new.streams new.late new.keys items) line ≡ Ok i
+behind_accepted : (new : Progress) (items : List Item) (line : List ℕ) (rest : List (List ℕ)) (i : Item) → answer_to (progress_of new.streams new.late new.keys items) line ≡ Ok i
     → following new items (line ∷ rest) ≡ following new (items ++ i ∷ []) rest
 behind_accepted new items line rest i good = ap (λ r. accepted_if r items (λ more. following new more rest)) good
 
-at_refused : (new : Progress) (items : List Item) (line : List ℕ) (rest : List (List ℕ)) (refusal : Refusal) → tested (progress_of new.streams new.late new.keys items) line ≡ Err refusal
+at_refused : (new : Progress) (items : List Item) (line : List ℕ) (rest : List (List ℕ)) (refusal : Refusal) → answer_to (progress_of new.streams new.late new.keys items) line ≡ Err refusal
     → following new items (line ∷ rest) ≡ record { items = items; refused = Some refusal }
 at_refused new items line rest refusal bad = ap (λ r. accepted_if r items (λ more. following new more rest)) bad
 
@@ -76,7 +76,7 @@ item_read new bytes left left' held held' p p' values values' i t takes room sen
       t.accepts
       ∙ ap (λ l. following new t.items (rest_of_lines held.halt held.at_hand true l)) takes.given
       ∙ ap (following new t.items) (takes.first true left' (may_come held'.halt left' takes.going)).1
-      ∙ behind_accepted new t.items takes.line (rest_of_lines held'.halt held'.at_hand true left') i (ap (λ q. tested q takes.line) (sym t.progress) ∙ takes.tests);
+      ∙ behind_accepted new t.items takes.line (rest_of_lines held'.halt held'.at_hand true left') i (ap (λ q. answer_to q takes.line) (sym t.progress) ∙ takes.tests);
   progress = takes.progress ∙ ap (after i) t.progress ∙ sym (progress-more new.streams new.late new.keys t.items i);
   are = sent ∙ ap (λ l. l ++ fed_in i) t.are ∙ ap (λ l. flat_map fed_in t.items ++ l) (sym (append-nil (fed_in i))) ∙ sym (flat_map-append fed_in t.items (i ∷ []));
   room = let one = ap (λ (q : Progress). q.lines) takes.progress ∙ lines-after i p in omega (arith, one, room);
@@ -89,8 +89,8 @@ never_fails (Refused refusal) cause = λ e. cc e
 never_fails Fault cause = λ e. let bad : 1 ≤ 0 = cause in omega (arith, bad)
 
 -- the first of the lines that are left is refused, though not all of their bytes were read
-refused_line : (p : Progress) (h : Option Halt) (at_hand more later line : List ℕ) (rest : List (List ℕ)) (ended : Bool) (refusal : Refusal) → (ended ≡ true → later ≡ []) → rest_of_lines h at_hand ended more ≡ line ∷ rest → tested p line ≡ Err refusal
-    → (first : List ℕ) × (others : List (List ℕ)) × (rest_of_lines h at_hand true (more ++ later) ≡ first ∷ others) × (tested p first ≡ Err refusal)
+refused_line : (p : Progress) (h : Option Halt) (at_hand more later line : List ℕ) (rest : List (List ℕ)) (ended : Bool) (refusal : Refusal) → (ended ≡ true → later ≡ []) → rest_of_lines h at_hand ended more ≡ line ∷ rest → answer_to p line ≡ Err refusal
+    → (first : List ℕ) × (others : List (List ℕ)) × (rest_of_lines h at_hand true (more ++ later) ≡ first ∷ others) × (answer_to p first ≡ Err refusal)
 refused_line p (Some h) at_hand more later line rest ended refusal at_end are bad = absurd (let none : ◌≡◌ {A = List (List ℕ)} [] (line ∷ rest) = are in cc none)
 refused_line p None at_hand more later line rest true refusal at_end are bad = (line, rest, ap (λ l. lines true (at_hand ++ l)) (ap (λ l. more ++ l) (at_end refl) ∙ append-nil more) ∙ are, bad)
 refused_line p None at_hand more later line rest false refusal at_end are bad =
@@ -117,7 +117,7 @@ all_fed new bytes left left' held held' p p' values values' stop why t stops cau
         let (first, others, begin, refused) = refused_line p held.halt held.at_hand stops.more left' line rest stops.ended refusal stops.at_end are bad in
         ap (λ l. following new t.items (rest_of_lines held.halt held.at_hand true l)) stops.given
         ∙ ap (following new t.items) begin
-        ∙ at_refused new t.items first others refusal (ap (λ q. tested q first) (sym t.progress) ∙ refused)
+        ∙ at_refused new t.items first others refusal (ap (λ q. answer_to q first) (sym t.progress) ∙ refused)
     by_why End (none, ended) some =
         let all : left ≡ stops.more = stops.given ∙ ap (λ l. stops.more ++ l) (stops.at_end ended) ∙ append-nil stops.more in
         ap (λ l. following new t.items (rest_of_lines held.halt held.at_hand true l)) all

@@ -2,7 +2,7 @@
 use Rattle.std.proofs.Common.{◌≡◌, ◌==◌, ◌⊎◌, ℕ, ◌++◌, List, [], ◌∷◌, true, false, Err, refl, sym, ap, ◌∙◌, inl, inr}
 use Rattle.std.proofs.lemmas.Bool.{cases_Bool}
 use Rattle.sb_record.specs.declared.intake.Refusal.{Refusal}
-use Rattle.sb_record.specs.Intake.{tested}
+use Rattle.sb_record.specs.Intake.{answer_to}
 use Rattle.sb_record.specs.Progress.{Progress}
 use Rattle.sb_outside.specs.Lines.{without_cr, is_too_long, lines_from}
 use Rattle.sb_outside.proofs.FirstLines.{begun_too_long}
@@ -35,9 +35,9 @@ first_with_more (b ∷ bytes) begun later line rest h = elim (cases_Bool (b == 1
 ]
 
 -- so it is refused as it was
-pub still_refused : (p : Progress) (line : List ℕ) (ls : List (List ℕ)) (refusal : Refusal) → tested p line ≡ Err refusal → (b : BeginsAs line ls) → tested p b.first ≡ Err refusal
+pub still_refused : (p : Progress) (line : List ℕ) (ls : List (List ℕ)) (refusal : Refusal) → answer_to p line ≡ Err refusal → (b : BeginsAs line ls) → answer_to p b.first ≡ Err refusal
 still_refused p line ls refusal bad b = by_case b.same
   where
-    by_case : (b.first ≡ line) ⊎ ((is_too_long b.first ≡ true) × (is_too_long line ≡ true)) → tested p b.first ≡ Err refusal
-    by_case (inl same) = ap (tested p) same ∙ bad
+    by_case : (b.first ≡ line) ⊎ ((is_too_long b.first ≡ true) × (is_too_long line ≡ true)) → answer_to p b.first ≡ Err refusal
+    by_case (inl same) = ap (answer_to p) same ∙ bad
     by_case (inr (long, also)) = too_long_tested p b.first long ∙ sym (too_long_tested p line also) ∙ bad

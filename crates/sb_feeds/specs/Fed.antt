@@ -8,7 +8,7 @@ use Rattle.sb_record.specs.declared.intake.Stop.TheVariants.{End, Refused, Fault
 use Rattle.sb_record.specs.declared.item.Item.{Item}
 use Rattle.sb_record.specs.declared.item.Item.TheVariants as item
 use Rattle.sb_record.specs.Inputs.{Accepted, accepted}
-use Rattle.sb_record.specs.Intake.{started}
+use Rattle.sb_record.specs.Intake.{first_progress}
 use Rattle.sb_record.specs.Progress.{Progress}
 use Rattle.sb_outside.specs.Lines.{lines}
 use Rattle.sb_feeds.specs.declared.fed.FeedStop.{FeedStop}
@@ -55,7 +55,7 @@ fed_of a = flat_map fed_in a.items ++ fed.Stop (stop_from a.refused) ∷ []
 
 -- nothing was accepted yet, so that the next line is the first
 abbrev pub IsNew : Progress → Type 0
-IsNew p = p ≡ started p.streams 0 p.late p.keys
+IsNew p = p ≡ first_progress p.streams 0 p.late p.keys
 
 -- what the bytes of a file feed, where the intake says which streams, late records and keys are accepted
 abbrev pub fed_by_file : Progress → List ℕ → List Fed

@@ -15,7 +15,7 @@ use Rattle.sb_record.specs.declared.intake.LatePolicy.TheVariants.{Refuse}
 use Rattle.sb_record.specs.declared.intake.Refusal.{Refusal}
 use Rattle.sb_record.specs.declared.intake.TheConstants.{MAX_LINES}
 use Rattle.sb_record.specs.Progress.{Progress}
-use Rattle.sb_record.specs.Intake.{tested, timely, after}
+use Rattle.sb_record.specs.Intake.{answer_to, timely, after}
 use Rattle.sb_record.specs.declared.intake.Stop.TheVariants.{Refused}
 use Rattle.sb_record.specs.Inputs.{Accepted, progress_of, accepted_if, accepted_after, stop_of}
 use Rattle.sb_record.specs.Reading.{item_of}
@@ -40,7 +40,7 @@ pub none_before : (streams : Streams) (late : LatePolicy) (keys : Keys) (xs ys :
     → (accepted_after streams late keys items (xs ++ ys)).refused ≡ None → (accepted_after streams late keys items xs).refused ≡ None
 none_before streams late keys [] ys items h = refl
 none_before streams late keys (x ∷ xs) ys items h =
-    by_result (tested (progress_of streams late keys items) x) (λ more. none_before streams late keys xs ys more) h
+    by_result (answer_to (progress_of streams late keys items) x) (λ more. none_before streams late keys xs ys more) h
   where
     by_result : (r : Result Item Refusal)
         → ((more : List Item) → (accepted_after streams late keys more (xs ++ ys)).refused ≡ None → (accepted_after streams late keys more xs).refused ≡ None)
@@ -49,12 +49,12 @@ none_before streams late keys (x ∷ xs) ys items h =
     by_result (Ok i) on e = on (items ++ i ∷ []) e
     by_result (Err refusal) on e = cc e
 
-one_accepted : (items : List Item) (line : List ℕ) (lines : List (List ℕ)) (item : Item) → tested (said items) line ≡ Ok item
+one_accepted : (items : List Item) (line : List ℕ) (lines : List (List ℕ)) (item : Item) → answer_to (said items) line ≡ Ok item
     → accepted_behind items (line ∷ lines) ≡ accepted_behind (items ++ item ∷ []) lines
 one_accepted items line lines item h = ap (λ r. accepted_if r items (λ more. accepted_behind more lines)) h
 
 tested_passes : (items : List Item) (line : List ℕ) (item : Item) → length items < MAX_LINES → length line ≤ 128
-    → item_of Numbers line ≡ Some item → timely (said items) (length items + 1) item ≡ Ok item → tested (said items) line ≡ Ok item
+    → item_of Numbers line ≡ Some item → timely (said items) (length items + 1) item ≡ Ok item → answer_to (said items) line ≡ Ok item
 tested_passes items line item few short read in_time = rw (lt-leb 4294967295 (length items) few, le-ltb 128 (length line) short, read) in_time
 
 mark_more : (items : List Item) (i : Item) → last_watermark A (items ++ i ∷ []) ≡ (after i (said items)).mark_a
@@ -62,13 +62,13 @@ mark_more items i = ap (λ (p : Progress). p.mark_a) (progress-more only_a Refus
 
 -- a record that is not below the last watermark is accepted
 record_passes : (i : ℕ) (items : List Item) → i < MAX_RECORDS → last_watermark A items ≤ (record_at i).time → length items < MAX_LINES
-    → tested (said items) (line_of (Rec A (record_at i))) ≡ Ok (Rec A (record_at i))
+    → answer_to (said items) (line_of (Rec A (record_at i))) ≡ Ok (Rec A (record_at i))
 record_passes i items less mark few =
     tested_passes items (line_of (Rec A (record_at i))) (Rec A (record_at i)) few (record_line i less).short (record_read i less)
     (rw (le-ltb (record_at i).time (last_watermark A items) mark) refl)
 
 mark_passes : (i : ℕ) (items : List Item) → i < MAX_RECORDS → last_watermark A items ≤ i + 1 → length items < MAX_LINES
-    → tested (said items) (line_of (Mark A (i + 1))) ≡ Ok (Mark A (i + 1))
+    → answer_to (said items) (line_of (Mark A (i + 1))) ≡ Ok (Mark A (i + 1))
 mark_passes i items less mark few =
     tested_passes items (line_of (Mark A (i + 1))) (Mark A (i + 1)) few (mark_line i less).short (mark_read i less)
     (rw (le-ltb (i + 1) (last_watermark A items) mark) refl)

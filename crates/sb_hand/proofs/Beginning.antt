@@ -5,7 +5,7 @@ use Rattle.std.specs.List.{slice_get, slice_set, list_any}
 use Rattle.std.proofs.lemmas.List.{map-set}
 use Rattle.sb_record.specs.declared.item.Record.{Record}
 use Rattle.sb_record.specs.Reading.{◌>>=◌}
-use Rattle.sb_record.specs.Records.{sorted, before}
+use Rattle.sb_record.specs.Records.{sorted_records, before}
 use Rattle.sb_record.specs.declared.element.KeptRec.{KeptRec}
 use Rattle.sb_pipeline.specs.Shapes.{Shape}
 use Rattle.sb_pipeline.specs.Plans.{IsPlan}
@@ -20,10 +20,10 @@ use Rattle.sb_core.specs.declared.held.Held.{Held}
 use Rattle.sb_core.specs.declared.held.Held.TheVariants.{Close}
 use Rattle.sb_core.specs.declared.event.Event.TheVariants.{Begin}
 use Rattle.sb_core.specs.Bounds.{bound_at}
-use Rattle.sb_core.specs.Closings.{kept_at, rows_at, collected, is_sink}
+use Rattle.sb_core.specs.Closings.{kept_at, rows_at, rows_at_sink, is_sink}
 use Rattle.sb_core.specs.Events.{after}
 use Rattle.sb_core.specs.Lanes.{closable, with_first_closing}
-use Rattle.sb_core.specs.Marks.{before_closing, first_is_closing, closed}
+use Rattle.sb_core.specs.Marks.{before_closing, first_is_closing, least_begun_mark}
 use Rattle.sb_core.specs.Moments.{set_lane, is_close_of}
 use Rattle.sb_core.specs.Parts.{Part, part_after, with_part}
 use Rattle.sb_core.specs.Soundness.{IsSound}
@@ -61,9 +61,9 @@ abbrev pub begun_part : Operator → ℕ → ℕ → Node → CoreLane → Cont 
 begun_part op k l n lane c =
     let begun = set_lane l (record lane { conts = with_first_closing lane.conts }) n in
     record {
-      node = record begun { kept = kept_at op (closed begun.lanes) n.kept; closings = n.closings + 1 };
-      held = Close k l c.epoch n.closings (closed n.lanes) (closed begun.lanes) (rows_at op (closed n.lanes) (closed begun.lanes) n.kept) (is_sink op) ∷ [];
-      rows = collected op (closed begun.lanes) n.kept;
+      node = record begun { kept = kept_at op (least_begun_mark begun.lanes) n.kept; closings = n.closings + 1 };
+      held = Close k l c.epoch n.closings (least_begun_mark n.lanes) (least_begun_mark begun.lanes) (rows_at op (least_begun_mark n.lanes) (least_begun_mark begun.lanes) n.kept) (is_sink op) ∷ [];
+      rows = rows_at_sink op (least_begun_mark begun.lanes) n.kept;
     }
 
 module _ (plan : Shape) (is_plan : IsPlan plan) (bundle : ℕ) (nodes : List NodeState) (rows : List Record) (m : Moment) (s : Stands plan bundle nodes [] rows m) (k l : ℕ) (within : k ≤ length plan.steps) (lane : LaneView) (has : HasLane k l lane nodes) (close : LaneClose) (looks : look_of (conts_of lane.containers) ≡ Ok close) (n : Node) (at_m : slice_get m.nodes k ≡ Some n) where
@@ -99,17 +99,17 @@ module _ (plan : Shape) (is_plan : IsPlan plan) (bundle : ℕ) (nodes : List Nod
   pub part_is : part_after plan bundle (Begin k l) n ≡ Some (begun_part (operator_at (slice_get plan.steps k)) k l n (lane_of lane) may.first)
   part_is = chain (slice_get n.lanes l) _ (lane_of lane) _ lane_in (chain (closable lane.ended (conts_of lane.containers)) _ may.first _ may.may (passing _ _ _ (ap not none_any) refl))
 
-  pub mark_is : closed (slice_set n.lanes l (record (lane_of lane) { conts = with_first_closing (conts_of lane.containers) })) ≡ mark_for l (map lane_of has.own.lanes.items)
+  pub mark_is : least_begun_mark (slice_set n.lanes l (record (lane_of lane) { conts = with_first_closing (conts_of lane.containers) })) ≡ mark_for l (map lane_of has.own.lanes.items)
   mark_is =
       mark_for-is l n.lanes (lane_of lane) may.first may.rest two lane_in may.conts none ∙ ap (mark_for l) shown.lanes
     where
       two : length n.lanes ≤ 2
       two = let e : length n.lanes ≡ lanes_of (operator_at (slice_get plan.steps k)) = ap (λ (x : Node). length x.lanes) (sym (node_is m k n at_m)) ∙ s.sound.lanes_there k within in omega (arith, e, lanes_two (operator_at (slice_get plan.steps k)))
 
-  pub floor_is : before_closing (map lane_of has.own.lanes.items) ≡ closed n.lanes
+  pub floor_is : before_closing (map lane_of has.own.lanes.items) ≡ least_begun_mark n.lanes
   floor_is = ap before_closing (sym shown.lanes) ∙ calm_before n.lanes none
 
-  rises_in : (rest : List Held) → IsSound plan (with_part k [] m (begun_part (operator_at (slice_get plan.steps k)) k l n (lane_of lane) may.first)) → closed n.lanes ≤ closed (slice_set n.lanes l (record (lane_of lane) { conts = with_first_closing (conts_of lane.containers) }))
+  rises_in : (rest : List Held) → IsSound plan (with_part k [] m (begun_part (operator_at (slice_get plan.steps k)) k l n (lane_of lane) may.first)) → least_begun_mark n.lanes ≤ least_begun_mark (slice_set n.lanes l (record (lane_of lane) { conts = with_first_closing (conts_of lane.containers) }))
   rises_in rest still = still.holds.0.rises
 
   -- the mark does not fall
@@ -126,12 +126,12 @@ rows_at-sink (ParDo op) floor mark kept h = cc
 rows_at-sink (Windowed g) floor mark kept h = cc
 rows_at-sink Sink floor mark kept h = refl
 
-collected-sink : (op : Operator) (floor mark : ℕ) (kept : List KeptRec) → is_sink op ≡ true → collected op mark kept ≡ sorted (before mark (given_by op floor kept))
+collected-sink : (op : Operator) (floor mark : ℕ) (kept : List KeptRec) → is_sink op ≡ true → rows_at_sink op mark kept ≡ sorted_records (before mark (given_by op floor kept))
 collected-sink (ParDo op) floor mark kept h = cc
 collected-sink (Windowed g) floor mark kept h = cc
 collected-sink Sink floor mark kept h = refl
 
-collected-other : (op : Operator) (mark : ℕ) (kept : List KeptRec) → is_sink op ≡ false → collected op mark kept ≡ []
+collected-other : (op : Operator) (mark : ℕ) (kept : List KeptRec) → is_sink op ≡ false → rows_at_sink op mark kept ≡ []
 collected-other (ParDo op) mark kept h = refl
 collected-other (Windowed g) mark kept h = refl
 collected-other Sink mark kept h = cc
@@ -157,19 +157,19 @@ module _ (plan : Shape) (is_plan : IsPlan plan) (bundle : ℕ) (nodes new : List
     sh : ShowsNode op b.sets.own n
     sh = shown plan is_plan bundle nodes rows m s k l within lane has_it close looks n at_m
 
-    floor_path : closed n.lanes ≡ floor
+    floor_path : least_begun_mark n.lanes ≡ floor
     floor_path = sym (floor_is plan is_plan bundle nodes rows m s k l within lane has_it close looks n at_m) ∙ sym b.floor_is
 
     floor_now : closed_mark b.was ≡ floor
     floor_now = ap closed_mark (sym b.sets.was_so) ∙ sh.kept.closed_is ∙ floor_path
 
-    mark_path : closed (slice_set n.lanes l begun_lane) ≡ mark
+    mark_path : least_begun_mark (slice_set n.lanes l begun_lane) ≡ mark
     mark_path = mark_is plan is_plan bundle nodes rows m s k l within lane has_it close looks n at_m ∙ sym b.mark_is
 
     shows0 : StandsFor op floor (gives b.was) n.kept
     shows0 = subst (λ x. StandsFor op x (gives b.was) n.kept) floor_now (subst (λ (x : Kept). ShowsKept op x n.kept) b.sets.was_so sh.kept.kept)
 
-    out_is : sorted (before mark (given_by op floor n.kept)) ≡ out
+    out_is : sorted_records (before mark (given_by op floor n.kept)) ≡ out
     out_is = sym (rows-closes op floor mark (gives b.was) (gives b.is) n.kept out shows0 b.closes)
 
     epoch_path : first.epoch ≡ close.epoch
@@ -194,17 +194,17 @@ module _ (plan : Shape) (is_plan : IsPlan plan) (bundle : ℕ) (nodes new : List
         }
 
     -- what the diary says of it
-    line_is : (taken added : List Record) → rows_at op floor mark n.kept ≡ taken → collected op mark n.kept ≡ added → length taken + length added ≡ length out → line_after plan (Begin k l) n ≡ line.Begin l close.epoch mark (length out)
+    line_is : (taken added : List Record) → rows_at op floor mark n.kept ≡ taken → rows_at_sink op mark n.kept ≡ added → length taken + length added ≡ length out → line_after plan (Begin k l) n ≡ line.Begin l close.epoch mark (length out)
     line_is taken added taken_is added_is count =
         (λ i. begun (get_or_from_slice_get n.lanes l (lane_of lane) empty_lane lane_there i))
-        ∙ (λ i. line.Begin l (oldest_path i) (mark_path i) (length (rows_at op (floor_path i) (mark_path i) n.kept) + length (collected op (mark_path i) n.kept)))
+        ∙ (λ i. line.Begin l (oldest_path i) (mark_path i) (length (rows_at op (floor_path i) (mark_path i) n.kept) + length (rows_at_sink op (mark_path i) n.kept)))
         ∙ (λ i. line.Begin l close.epoch mark (length (taken_is i) + length (added_is i)))
         ∙ ap (λ c. line.Begin l close.epoch mark c) count
       where
         begun : CoreLane → DiaryEvent
         begun x =
-            line.Begin l x.ended (closed (set_lane l (record x { conts = with_first_closing x.conts }) n).lanes)
-            (length (rows_at op (closed n.lanes) (closed (set_lane l (record x { conts = with_first_closing x.conts }) n).lanes) n.kept) + length (collected op (closed (set_lane l (record x { conts = with_first_closing x.conts }) n).lanes) n.kept))
+            line.Begin l x.ended (least_begun_mark (set_lane l (record x { conts = with_first_closing x.conts }) n).lanes)
+            (length (rows_at op (least_begun_mark n.lanes) (least_begun_mark (set_lane l (record x { conts = with_first_closing x.conts }) n).lanes) n.kept) + length (rows_at_sink op (least_begun_mark (set_lane l (record x { conts = with_first_closing x.conts }) n).lanes) n.kept))
 
         lane_there : slice_get n.lanes l ≡ Some (lane_of lane)
         lane_there = lane_in plan is_plan bundle nodes rows m s k l within lane has_it close looks n at_m
@@ -212,9 +212,9 @@ module _ (plan : Shape) (is_plan : IsPlan plan) (bundle : ℕ) (nodes new : List
         oldest_path : lane.ended ≡ close.epoch
         oldest_path = sym (may plan is_plan bundle nodes rows m s k l within lane has_it close looks n at_m).oldest ∙ epoch_path
 
-    pub begins : (taken added : List Record) (passed : Bool) → is_sink op ≡ passed → rows_at op floor mark n.kept ≡ taken → collected op mark n.kept ≡ added → length taken + length added ≡ length out → Reaches plan bundle (Begin k l ∷ []) m (diaries_of nodes) new (Close k l close.epoch serial floor mark taken passed ∷ []) (rows ++ added)
+    pub begins : (taken added : List Record) (passed : Bool) → is_sink op ≡ passed → rows_at op floor mark n.kept ≡ taken → rows_at_sink op mark n.kept ≡ added → length taken + length added ≡ length out → Reaches plan bundle (Begin k l ∷ []) m (diaries_of nodes) new (Close k l close.epoch serial floor mark taken passed ∷ []) (rows ++ added)
     begins taken added passed sink taken_is added_is count =
-        subst (λ z. z) (λ i. Reaches plan bundle (Begin k l ∷ []) m (diaries_of nodes) (sym b.sets.set i) (Close k l (epoch_path i) (serial_path i) (floor_path i) (mark_path i) ((ap (λ f. rows_at op f (closed (slice_set n.lanes l begun_lane)) n.kept) floor_path ∙ ap (λ x. rows_at op floor x n.kept) mark_path ∙ taken_is) i) (sink i) ∷ []) (rows ++ (ap (λ x. collected op x n.kept) mark_path ∙ added_is) i))
+        subst (λ z. z) (λ i. Reaches plan bundle (Begin k l ∷ []) m (diaries_of nodes) (sym b.sets.set i) (Close k l (epoch_path i) (serial_path i) (floor_path i) (mark_path i) ((ap (λ f. rows_at op f (least_begun_mark (slice_set n.lanes l begun_lane)) n.kept) floor_path ∙ ap (λ x. rows_at op floor x n.kept) mark_path ∙ taken_is) i) (sink i) ∷ []) (rows ++ (ap (λ x. rows_at_sink op x n.kept) mark_path ∙ added_is) i))
         (event-free plan is_plan bundle nodes [] rows m s k b.sets.own b.sets.with n part b.sets.there at_m (Begin k l) (line.Begin l close.epoch mark (length out)) refl refl (part_is plan is_plan bundle nodes rows m s k l within lane has_it close looks n at_m) b.sets.diary (line_is taken added taken_is added_is count) node_shows)
 
   -- a closing of a transform

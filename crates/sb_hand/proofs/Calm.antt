@@ -12,7 +12,7 @@ use Rattle.sb_core.specs.declared.moment.Node.{Node}
 use Rattle.sb_core.specs.declared.moment.Moment.{Moment}
 use Rattle.sb_core.specs.Bounds.{bound_at}
 use Rattle.sb_core.specs.LaneOrder.{IsLane}
-use Rattle.sb_core.specs.Marks.{begun, last_of_first, closed}
+use Rattle.sb_core.specs.Marks.{begun_count, last_of_first, least_begun_mark}
 use Rattle.sb_core.specs.Moments.{no_node, node_at}
 use Rattle.sb_core.specs.Soundness.{IsSound}
 use Rattle.sb_core.proofs.times.InTime.{begun_within}
@@ -32,17 +32,17 @@ longer mark marks n h = ⊎_elim
     (cases_eq n 0)
 
 module _ (plan : Shape) (m later : Moment) (sound : IsSound plan m) (still : IsSound plan later) (k l : ℕ) (n now : Node) (lane with : CoreLane) where
-  pub calm : slice_get m.nodes k ≡ Some n → slice_get later.nodes k ≡ Some now → slice_get n.lanes l ≡ Some lane → now.lanes ≡ slice_set n.lanes l with → now.closings ≡ n.closings → SameMarks lane with → closed now.lanes ≡ closed n.lanes
-  calm at at_now in_it set closings marks = ap closed set ∙ closed-set n.lanes l lane with in_it same_mark
+  pub calm : slice_get m.nodes k ≡ Some n → slice_get later.nodes k ≡ Some now → slice_get n.lanes l ≡ Some lane → now.lanes ≡ slice_set n.lanes l with → now.closings ≡ n.closings → SameMarks lane with → least_begun_mark now.lanes ≡ least_begun_mark n.lanes
+  calm at at_now in_it set closings marks = ap least_begun_mark set ∙ closed-set n.lanes l lane with in_it same_mark
     where
-      old : n.closings ≡ sum_by begun n.lanes
-      old = subst (λ (x : Node). x.closings ≡ sum_by begun x.lanes) (node_is m k n at) (sound.closings k)
+      old : n.closings ≡ sum_by begun_count n.lanes
+      old = subst (λ (x : Node). x.closings ≡ sum_by begun_count x.lanes) (node_is m k n at) (sound.closings k)
 
-      new : now.closings ≡ sum_by begun now.lanes
-      new = subst (λ (x : Node). x.closings ≡ sum_by begun x.lanes) (node_is later k now at_now) (still.closings k)
+      new : now.closings ≡ sum_by begun_count now.lanes
+      new = subst (λ (x : Node). x.closings ≡ sum_by begun_count x.lanes) (node_is later k now at_now) (still.closings k)
 
-      as_many : begun with ≡ begun lane
-      as_many = let e = ap (sum_by begun) set in omega (arith, old, new, e, closings, sum_by-set_get begun n.lanes l lane with in_it)
+      as_many : begun_count with ≡ begun_count lane
+      as_many = let e = ap (sum_by begun_count) set in omega (arith, old, new, e, closings, sum_by-set_get begun_count n.lanes l lane with in_it)
 
       there : ((slice_get m.nodes k) >>= λ x. slice_get x.lanes l) ≡ Some lane
       there = ap (λ (o : Option Node). o >>= λ x. slice_get x.lanes l) at ∙ in_it
@@ -53,5 +53,5 @@ module _ (plan : Shape) (m later : Moment) (sound : IsSound plan m) (still : IsS
       same_mark : begun_mark with ≡ begun_mark lane
       same_mark = ⊎_elim
           (λ e. (λ i. last_of_first (as_many i) (e i)))
-          (λ w. (λ i. last_of_first (as_many i) (w.1 i)) ∙ longer w.0 lane.marks (begun lane) (begun_within (bound_at plan k) lane ok))
+          (λ w. (λ i. last_of_first (as_many i) (w.1 i)) ∙ longer w.0 lane.marks (begun_count lane) (begun_within (bound_at plan k) lane ok))
           marks

@@ -20,12 +20,12 @@ use Rattle.sb_core.specs.declared.held.Held.TheVariants.{Work}
 use Rattle.sb_core.specs.declared.event.Event.TheVariants.{Finish}
 use Rattle.sb_core.specs.Bounds.{bound_at}
 use Rattle.sb_core.specs.Choices.{is_empty}
-use Rattle.sb_core.specs.Closings.{delivery, absorbed, is_pardo}
+use Rattle.sb_core.specs.Closings.{delivery, kept_elements, is_pardo}
 use Rattle.sb_core.specs.Holdings.{IsHeld, IsWork}
 use Rattle.sb_core.specs.LaneOrder.{IsWithin}
 use Rattle.sb_core.specs.Lanes.{finish_in}
 use Rattle.sb_core.specs.Laws.{concerns}
-use Rattle.sb_core.specs.Marks.{closed}
+use Rattle.sb_core.specs.Marks.{least_begun_mark}
 use Rattle.sb_core.specs.Moments.{set_lane}
 use Rattle.sb_core.specs.Parts.{Part, only_node, with_part}
 use Rattle.sb_core.specs.Soundness.{IsSound}
@@ -53,12 +53,12 @@ not_pardo (ParDo op) records h = cc
 not_pardo (Windowed g) records h = refl
 not_pardo Sink records h = refl
 
-absorbs_all : (op : Operator) (es : List KeptRec) → is_pardo op ≡ false → absorbed op es ≡ es
+absorbs_all : (op : Operator) (es : List KeptRec) → is_pardo op ≡ false → kept_elements op es ≡ es
 absorbs_all (ParDo op) es h = cc
 absorbs_all (Windowed g) es h = refl
 absorbs_all Sink es h = refl
 
-absorbs_none : (op : Operator) (es : List KeptRec) → is_pardo op ≡ true → absorbed op es ≡ []
+absorbs_none : (op : Operator) (es : List KeptRec) → is_pardo op ≡ true → kept_elements op es ≡ []
 absorbs_none (ParDo op) es h = refl
 absorbs_none (Windowed g) es h = cc
 absorbs_none Sink es h = cc
@@ -68,15 +68,15 @@ pub the_work : (plan : Shape) (m : Moment) → IsSound plan m → (k l epoch flo
 the_work plan m sound k l epoch floor number records delivered held = (subst (λ (hs : List Held). AllByRecursion (IsHeld plan m) hs) held sound.holds).0
 
 -- its records are from the mark of its node on
-pub work_from : (plan : Shape) (m : Moment) → IsSound plan m → (k l epoch floor number : ℕ) (records : List Record) (delivered : Bool) → m.held ≡ Work k l epoch floor number records delivered ∷ [] → (n : Node) → slice_get m.nodes k ≡ Some n → IsFrom (closed n.lanes) (on_lane l records)
+pub work_from : (plan : Shape) (m : Moment) → IsSound plan m → (k l epoch floor number : ℕ) (records : List Record) (delivered : Bool) → m.held ≡ Work k l epoch floor number records delivered ∷ [] → (n : Node) → slice_get m.nodes k ≡ Some n → IsFrom (least_begun_mark n.lanes) (on_lane l records)
 work_from plan m sound k l epoch floor number records delivered held n at =
     let w = the_work plan m sound k l epoch floor number records delivered held in
     let in_it : slice_get n.lanes l ≡ Some w.lane = sym (ap (λ (o : Option Node). o >>= λ y. slice_get y.lanes l) at) ∙ w.there in
-    let a : closed n.lanes ≤ begun_mark w.lane = closed_least n.lanes l w.lane in_it in
+    let a : least_begun_mark n.lanes ≤ begun_mark w.lane = closed_least n.lanes l w.lane in_it in
     let b = work_floor (bound_at plan k) w.lane (sound.lanes (record { node = k; lane = l }) w.lane w.there) epoch number w.cont w.of_epoch w.is_out in
     go records w.times (omega (arith, a, b, w.floor_is))
   where
-    go : (rs : List Record) → IsWithin floor (bound_at plan k) rs → closed n.lanes ≤ floor → IsFrom (closed n.lanes) (on_lane l rs)
+    go : (rs : List Record) → IsWithin floor (bound_at plan k) rs → least_begun_mark n.lanes ≤ floor → IsFrom (least_begun_mark n.lanes) (on_lane l rs)
     go [] all h = tt
     go (r ∷ rs) all h = (omega (arith, all.0.0), go rs all.1 h)
 
@@ -96,7 +96,7 @@ module _ (plan : Shape) (is_plan : IsPlan plan) (bundle : ℕ) (old new : List N
       let in_it = lane_in plan is_plan bundle old new held rows m s k l lane t.now (line.Finish l number count) t.sets n at.1 in
       let ok = s.sound.lanes (record { node = k; lane = l }) (lane_of lane) (ap (λ (o : Option Node). o >>= λ y. slice_get y.lanes l) at.1 ∙ in_it) in
       let is : lane_of t.now ≡ record (lane_of lane) { conts = finish_in epoch number (conts_of lane.containers) } = t.is ∙ ap (λ cs. record (lane_of lane) { conts = cs }) (finish-first (bound_at plan k) epoch number (lane_of lane) ok) in
-      let none : n.kept ++ absorbed op (on_lane l records) ≡ n.kept = ap (λ es. n.kept ++ es) (absorbs_none op (on_lane l records) pardo) ∙ append-nil n.kept in
+      let none : n.kept ++ kept_elements op (on_lane l records) ≡ n.kept = ap (λ es. n.kept ++ es) (absorbs_none op (on_lane l records) pardo) ∙ append-nil n.kept in
       lane-held plan is_plan bundle old new held rows m s k l lane t.now (line.Finish l number count) t.sets n at.1 (inl (ap (λ (x : CoreLane). x.marks) t.is)) (Finish k l number) (Work k l epoch floor number records delivered) [] refl (found delivered) refl
       (chain (slice_get n.lanes l) _ (lane_of lane) _ in_it
       (passing _ _ _ done (λ i. Some (only_node [] (record (set_lane l (sym is i) n) { kept = none i })))))
@@ -117,11 +117,11 @@ module _ (plan : Shape) (is_plan : IsPlan plan) (bundle : ℕ) (old new : List N
       let ok = s.sound.lanes (record { node = k; lane = l }) (lane_of lane) (ap (λ (o : Option Node). o >>= λ y. slice_get y.lanes l) at.1 ∙ in_it) in
       let done_lane : CoreLane = record (lane_of lane) { conts = finish_in epoch number (conts_of lane.containers) } in
       let is : lane_of a.now ≡ done_lane = a.lane_is ∙ ap (λ cs. record (lane_of lane) { conts = cs }) (finish-first (bound_at plan k) epoch number (lane_of lane) ok) in
-      let p : Part = only_node [] (record (set_lane l done_lane n) { kept = n.kept ++ absorbed op (on_lane l records) }) in
+      let p : Part = only_node [] (record (set_lane l done_lane n) { kept = n.kept ++ kept_elements op (on_lane l records) }) in
       let from = work_from plan m s.sound k l epoch floor number records false s.held_is n at.1 in
       let shows : IsSound plan (with_part k [] m p) → ShowsNode op a.sets.with p.node = λ still.
-      let same : closed p.node.lanes ≡ closed n.lanes = calm plan m (with_part k [] m p) s.sound still k l n p.node (lane_of lane) done_lane at.1 (slice_get-set_same m.nodes k n p.node at.1) in_it refl refl (inl refl) in
-      let was_closed : closed_mark a.was ≡ closed n.lanes = ap closed_mark (sym a.sets.was_so) ∙ sh.kept.closed_is in
+      let same : least_begun_mark p.node.lanes ≡ least_begun_mark n.lanes = calm plan m (with_part k [] m p) s.sound still k l n p.node (lane_of lane) done_lane at.1 (slice_get-set_same m.nodes k n p.node at.1) in_it refl refl (inl refl) in
+      let was_closed : closed_mark a.was ≡ least_begun_mark n.lanes = ap closed_mark (sym a.sets.was_so) ∙ sh.kept.closed_is in
       let shows0 : ShowsKept op a.was n.kept = subst (λ (x : Kept). ShowsKept op x n.kept) a.sets.was_so sh.kept.kept in
       let made0 : IsMadeFor op a.was = subst (λ (x : Kept). IsMadeFor op x) a.sets.was_so sh.kept.made in
       let es = on_lane l records in

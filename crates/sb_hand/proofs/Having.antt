@@ -18,7 +18,7 @@ use Rattle.sb_core.specs.declared.held.Held.{Held}
 use Rattle.sb_core.specs.declared.held.Held.TheVariants.{Close}
 use Rattle.sb_core.specs.Bounds.{bound_at}
 use Rattle.sb_core.specs.Holdings.{IsHeld, IsClosing}
-use Rattle.sb_core.specs.Marks.{first_is_closing, begun}
+use Rattle.sb_core.specs.Marks.{first_is_closing, begun_count}
 use Rattle.sb_core.specs.Moments.{lane_at}
 use Rattle.sb_core.proofs.times.InTime.{begun_within}
 use Rattle.sb_lane.specs.LaneView.{LaneView, lane_of}
@@ -76,7 +76,7 @@ module _ (plan : Shape) (bundle : ℕ) (nodes : List NodeState) (held : List Hel
       let e : first_is_closing (conts_of f.lane.containers) ≡ true = ap (λ (x : CoreLane). first_is_closing x.conts) f.lane_is ∙ c.closing in
       let ok = s.sound.lanes (record { node = k; lane = l }) c.lane c.there in
       let b = begun_within (bound_at plan k) c.lane ok in
-      let n : begun c.lane ≡ c.lane.ended + 1 = ap (λ b. cond b (c.lane.ended + 1) c.lane.ended) c.closing in
+      let n : begun_count c.lane ≡ c.lane.ended + 1 = ap (λ b. cond b (c.lane.ended + 1) c.lane.ended) c.closing in
       let x = ap (λ (x : CoreLane). x.ended) f.lane_is in
       let y = ap (λ (x : CoreLane). length x.marks) f.lane_is in
       (f.lane, f.has, e, omega (arith, b, n, x, y))

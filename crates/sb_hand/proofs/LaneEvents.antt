@@ -14,7 +14,7 @@ use Rattle.sb_core.specs.declared.held.Held.{Held}
 use Rattle.sb_core.specs.declared.event.Event.{Event}
 use Rattle.sb_core.specs.Lanes.{with_arrival}
 use Rattle.sb_core.specs.Laws.{place_of, concerns}
-use Rattle.sb_core.specs.Marks.{closed}
+use Rattle.sb_core.specs.Marks.{least_begun_mark}
 use Rattle.sb_core.specs.Moments.{set_lane}
 use Rattle.sb_core.specs.Parts.{only_node, put_in, part_after, held_after, with_part}
 use Rattle.sb_core.specs.Soundness.{IsSound}
@@ -32,7 +32,7 @@ use Rattle.sb_hand.specs.Showing.{ShowsNode, IsKept, Stands, Reaches, diaries_of
 use Rattle.sb_hand.proofs.Calm.{SameMarks, calm}
 use Rattle.sb_hand.proofs.Single.{chain, passing, get-map, event-free, event-held}
 
-pub kept-stays : (op : Operator) (k with : Kept) (n now : Node) → with ≡ k → now.kept ≡ n.kept → closed now.lanes ≡ closed n.lanes → IsKept op k n → IsKept op with now
+pub kept-stays : (op : Operator) (k with : Kept) (n now : Node) → with ≡ k → now.kept ≡ n.kept → least_begun_mark now.lanes ≡ least_begun_mark n.lanes → IsKept op k n → IsKept op with now
 kept-stays op k with n now e f same h = record {
   made = subst (λ (x : Kept). IsMadeFor op x) (sym e) h.made;
   unspent = subst (λ (x : Kept). IsSpent x → ⊥) (sym e) h.unspent;
@@ -57,7 +57,7 @@ module _ (plan : Shape) (is_plan : IsPlan plan) (bundle : ℕ) (nodes new : List
   module _ (marks : SameMarks (lane_of lane) (lane_of now)) where
     shows : (rest held' : List Held) → IsSound plan (with_part k rest m (only_node held' (set_lane l (lane_of now) n))) → ShowsNode (operator_at (slice_get plan.steps k)) sets.with (set_lane l (lane_of now) n)
     shows rest held' still =
-        let same : closed (set_lane l (lane_of now) n).lanes ≡ closed n.lanes = calm plan m (with_part k rest m (only_node held' (set_lane l (lane_of now) n))) s.sound still k l n (set_lane l (lane_of now) n) (lane_of lane) (lane_of now) at_m (slice_get-set_same m.nodes k n (set_lane l (lane_of now) n) at_m) lane_in refl refl marks in
+        let same : least_begun_mark (set_lane l (lane_of now) n).lanes ≡ least_begun_mark n.lanes = calm plan m (with_part k rest m (only_node held' (set_lane l (lane_of now) n))) s.sound still k l n (set_lane l (lane_of now) n) (lane_of lane) (lane_of now) at_m (slice_get-set_same m.nodes k n (set_lane l (lane_of now) n) at_m) lane_in refl refl marks in
         record {
           lanes = ap (λ ls. slice_set ls l (lane_of now)) shown.lanes ∙ sym (map-set lane_of sets.own.lanes.items l now) ∙ ap (map lane_of) (sym sets.lanes);
           closings = shown.closings ∙ sym sets.closings;

@@ -11,7 +11,7 @@ use Rattle.sb_core.specs.declared.moment.CoreLane.{CoreLane}
 use Rattle.sb_core.specs.Choices.{only_if, is_empty}
 use Rattle.sb_core.specs.LaneOrder.{IsLane, AreOpen, AreContainers}
 use Rattle.sb_core.specs.Lanes.{finish_in, closable, with_first_closing}
-use Rattle.sb_core.specs.Marks.{first_is_closing, last_of_first, begun, before_closing, closed}
+use Rattle.sb_core.specs.Marks.{first_is_closing, last_of_first, begun_count, before_closing, least_begun_mark}
 use Rattle.sb_lane.specs.declared.answers.LaneClose.{LaneClose}
 use Rattle.sb_lane.specs.Looks.{look_of, look_closing, look_marked}
 use Rattle.sb_lane.specs.Taking.{finish_first}
@@ -97,20 +97,20 @@ may-close bound lane close ok h = by_conts lane.conts refl (drop lane.ended lane
         by_closing false h = by_mark c.mark refl h
 
 -- ---- the mark of a closing
-calm_mark : (lane : CoreLane) → first_is_closing lane.conts ≡ false → last_of_first (begun lane) lane.marks ≡ ended_mark lane
+calm_mark : (lane : CoreLane) → first_is_closing lane.conts ≡ false → last_of_first (begun_count lane) lane.marks ≡ ended_mark lane
 calm_mark lane h = ap (λ b. last_of_first (cond b (lane.ended + 1) lane.ended) lane.marks) h
 
 -- where none is closing, the node is closed as if none had begun
-pub calm_before : (lanes : List CoreLane) → ((i : ℕ) (x : CoreLane) → slice_get lanes i ≡ Some x → first_is_closing x.conts ≡ false) → before_closing lanes ≡ closed lanes
+pub calm_before : (lanes : List CoreLane) → ((i : ℕ) (x : CoreLane) → slice_get lanes i ≡ Some x → first_is_closing x.conts ≡ false) → before_closing lanes ≡ least_begun_mark lanes
 calm_before [] none = refl
 calm_before (a ∷ []) none = sym (calm_mark a (none 0 a refl))
 calm_before (a ∷ b ∷ lanes) none = λ i. min (sym (calm_mark a (none 0 a refl)) i) (calm_before (b ∷ lanes) (λ j. none (suc j)) i)
 
-closing_mark : (lane : CoreLane) (c : Cont) (cs : List Cont) → lane.conts ≡ c ∷ cs → last_of_first (begun (record lane { conts = with_first_closing lane.conts })) lane.marks ≡ next_mark lane
+closing_mark : (lane : CoreLane) (c : Cont) (cs : List Cont) → lane.conts ≡ c ∷ cs → last_of_first (begun_count (record lane { conts = with_first_closing lane.conts })) lane.marks ≡ next_mark lane
 closing_mark lane c cs h = ap (λ l. last_of_first (cond (first_is_closing (with_first_closing l)) (lane.ended + 1) lane.ended) lane.marks) h
 
 pub mark_for-is : (l : ℕ) (lanes : List CoreLane) (lane : CoreLane) (c : Cont) (cs : List Cont) → length lanes ≤ 2 → slice_get lanes l ≡ Some lane → lane.conts ≡ c ∷ cs → ((i : ℕ) (x : CoreLane) → slice_get lanes i ≡ Some x → first_is_closing x.conts ≡ false)
-    → closed (slice_set lanes l (record lane { conts = with_first_closing lane.conts })) ≡ mark_for l lanes
+    → least_begun_mark (slice_set lanes l (record lane { conts = with_first_closing lane.conts })) ≡ mark_for l lanes
 mark_for-is l [] lane c cs two at has none = cc
 mark_for-is zero (a ∷ []) lane c cs two at has none =
     let e : a ≡ lane = same_Some a lane at in

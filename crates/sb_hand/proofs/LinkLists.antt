@@ -7,7 +7,7 @@ use Rattle.std.proofs.lemmas.Option.{same_Some}
 use Rattle.sb_core.specs.LaneOrder.{IsLane, AreOpen, AreContainers}
 use Rattle.sb_core.specs.Marks.{last_of_first}
 use Rattle.sb_lane.specs.LaneView.{LaneView, lane_of}
-use Rattle.sb_lane.specs.Links.{Link, down_of, link_in, linked, links_of, new_link, with_place}
+use Rattle.sb_lane.specs.Links.{Link, down_of, link_in, with_link, links_of, new_link, with_place}
 use Rattle.sb_lane.specs.Placed.{Placed, conts_of}
 use Rattle.sb_hand.specs.Linking.{place_in}
 
@@ -98,33 +98,33 @@ pub ended-other : (epoch : ℕ) (k : Link) (ks : List Link) → k.epoch ≢ epoc
 ended-other epoch k ks ne = sym (ap (λ b. cond b (Some k) (link_in epoch ks)) (ne_eqb k.epoch epoch ne))
 
 -- ---- a link is set
-pub linked-other : (epoch e down : ℕ) (ks : List Link) → epoch ≢ e → link_in epoch (linked e down ks) ≡ link_in epoch ks
+pub linked-other : (epoch e down : ℕ) (ks : List Link) → epoch ≢ e → link_in epoch (with_link e down ks) ≡ link_in epoch ks
 linked-other epoch e down [] ne = refl
 linked-other epoch e down (k ∷ ks) ne = by_case (eqb k.epoch e) refl (linked-other epoch e down ks ne)
   where
-    by_case : (here : Bool) → eqb k.epoch e ≡ here → link_in epoch (linked e down ks) ≡ link_in epoch ks
-        → link_in epoch (cond here (record k { down = Some down } ∷ ks) (k ∷ linked e down ks)) ≡ link_in epoch (k ∷ ks)
+    by_case : (here : Bool) → eqb k.epoch e ≡ here → link_in epoch (with_link e down ks) ≡ link_in epoch ks
+        → link_in epoch (cond here (record k { down = Some down } ∷ ks) (k ∷ with_link e down ks)) ≡ link_in epoch (k ∷ ks)
     by_case true q ih =
         let away : eqb k.epoch epoch ≡ false = ne_eqb k.epoch epoch (λ z. ne (sym z ∙ eqb-true k.epoch e q)) in
         ap (λ b. cond b (Some (record k { down = Some down })) (link_in epoch ks)) away ∙ sym (ap (λ b. cond b (Some k) (link_in epoch ks)) away)
     by_case false q ih = ap (λ o. cond (eqb k.epoch epoch) (Some k) o) ih
 
-pub linked-here : (e down : ℕ) (ks : List Link) (x : Link) → link_in e (linked e down ks) ≡ Some x → x.down ≡ Some down
+pub linked-here : (e down : ℕ) (ks : List Link) (x : Link) → link_in e (with_link e down ks) ≡ Some x → x.down ≡ Some down
 linked-here e down [] x h = cc
 linked-here e down (k ∷ ks) x h = by_case (eqb k.epoch e) refl h (λ z. linked-here e down ks x z)
   where
-    by_case : (here : Bool) → eqb k.epoch e ≡ here → link_in e (cond here (record k { down = Some down } ∷ ks) (k ∷ linked e down ks)) ≡ Some x → (link_in e (linked e down ks) ≡ Some x → x.down ≡ Some down) → x.down ≡ Some down
+    by_case : (here : Bool) → eqb k.epoch e ≡ here → link_in e (cond here (record k { down = Some down } ∷ ks) (k ∷ with_link e down ks)) ≡ Some x → (link_in e (with_link e down ks) ≡ Some x → x.down ≡ Some down) → x.down ≡ Some down
     by_case true q h ih =
         let is : record k { down = Some down } ≡ x = same_Some (record k { down = Some down }) x (sym (ap (λ b. cond b (Some (record k { down = Some down })) (link_in e ks)) q) ∙ h) in
         ap (λ (k : Link). k.down) (sym is)
-    by_case false q h ih = ih (sym (ap (λ b. cond b (Some k) (link_in e (linked e down ks))) q) ∙ h)
+    by_case false q h ih = ih (sym (ap (λ b. cond b (Some k) (link_in e (with_link e down ks))) q) ∙ h)
 
-pub linked-place : (epoch e down : ℕ) (ks : List Link) → place_in epoch (linked e down ks) ≡ place_in epoch ks
+pub linked-place : (epoch e down : ℕ) (ks : List Link) → place_in epoch (with_link e down ks) ≡ place_in epoch ks
 linked-place epoch e down [] = refl
 linked-place epoch e down (k ∷ ks) = by_case (eqb k.epoch e) (eqb k.epoch epoch) (linked-place epoch e down ks)
   where
-    by_case : (here is : Bool) → place_in epoch (linked e down ks) ≡ place_in epoch ks
-        → option_map (λ (k : Link). k.place) (link_in epoch (cond here (record k { down = Some down } ∷ ks) (k ∷ linked e down ks))) ≡ option_map (λ (k : Link). k.place) (link_in epoch (k ∷ ks))
+    by_case : (here is : Bool) → place_in epoch (with_link e down ks) ≡ place_in epoch ks
+        → option_map (λ (k : Link). k.place) (link_in epoch (cond here (record k { down = Some down } ∷ ks) (k ∷ with_link e down ks))) ≡ option_map (λ (k : Link). k.place) (link_in epoch (k ∷ ks))
     by_case true is ih = of (eqb k.epoch epoch)
       where
         of : (b : Bool) → option_map (λ (k : Link). k.place) (cond b (Some (record k { down = Some down })) (link_in epoch ks)) ≡ option_map (λ (k : Link). k.place) (cond b (Some k) (link_in epoch ks))
@@ -132,7 +132,7 @@ linked-place epoch e down (k ∷ ks) = by_case (eqb k.epoch e) (eqb k.epoch epoc
         of false = refl
     by_case false is ih = of (eqb k.epoch epoch)
       where
-        of : (b : Bool) → option_map (λ (k : Link). k.place) (cond b (Some k) (link_in epoch (linked e down ks))) ≡ option_map (λ (k : Link). k.place) (cond b (Some k) (link_in epoch ks))
+        of : (b : Bool) → option_map (λ (k : Link). k.place) (cond b (Some k) (link_in epoch (with_link e down ks))) ≡ option_map (λ (k : Link). k.place) (cond b (Some k) (link_in epoch ks))
         of true = refl
         of false = ih
 

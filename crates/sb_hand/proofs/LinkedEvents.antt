@@ -13,7 +13,7 @@ use Rattle.sb_core.specs.declared.moment.Cont.{Cont}
 use Rattle.sb_core.specs.Closings.{is_pardo}
 use Rattle.sb_lane.specs.LaneView.{LaneView, lane_of, link_at}
 use Rattle.sb_lane.specs.Links.{Link, link_in, links_of, with_place}
-use Rattle.sb_lane.specs.Links.{linked as set_link}
+use Rattle.sb_lane.specs.Links.{with_link as set_link}
 use Rattle.sb_lane.specs.Placed.{Placed, conts_of}
 use Rattle.sb_node.specs.declared.state.NodeState.{NodeState}
 use Rattle.sb_node.specs.LinkChanges.{DropsLink, GetsLink, LinksStay}

@@ -10,7 +10,7 @@ use Rattle.sb_pipeline.specs.Operators.{Operator, operator_of, operator_at, lane
 use Rattle.sb_pipeline.specs.Operators.Operator.{ParDo, Windowed, Sink}
 use Rattle.sb_pipeline.specs.Operators.WindowOperator.{Aggregated, Sessions, Joined}
 use Rattle.sb_pipeline.specs.Plans.{IsPlan}
-use Rattle.sb_core.specs.Marks.{closed}
+use Rattle.sb_core.specs.Marks.{least_begun_mark}
 use Rattle.sb_core.specs.Moments as moments
 use Rattle.sb_core.proofs.sound.FirstMoment.{at_node, node_count, first-sound}
 use Rattle.sb_lane.specs.LaneView.{LaneView, empty_lane, lane_of}
@@ -48,7 +48,7 @@ map-replicate : {X Y : Type 0} (f : X → Y) (n : ℕ) (x : X) → map f (replic
 map-replicate f zero x = refl
 map-replicate f (suc n) x = ap (λ l. f x ∷ l) (map-replicate f n x)
 
-none_closed : (op : Operator) → closed (replicate (lanes_of op) moments.empty_lane) ≡ 0
+none_closed : (op : Operator) → least_begun_mark (replicate (lanes_of op) moments.empty_lane) ≡ 0
 none_closed (ParDo op) = refl
 none_closed (Windowed (Aggregated agg windows)) = refl
 none_closed (Windowed (Sessions agg gap)) = refl

@@ -7,8 +7,8 @@ use Rattle.std.proofs.lemmas.List.Sums.{sum_by-append}
 use Rattle.std.proofs.lemmas.List.Elements.{filter-append}
 use Rattle.sb_record.specs.declared.item.Record.{Record}
 use Rattle.sb_record.specs.declared.element.KeptRec.{KeptRec}
-use Rattle.sb_record.specs.Records.{record_cmp, sorted, before, at_least}
-use Rattle.sb_pipeline.specs.Operators.{Operator, grouped}
+use Rattle.sb_record.specs.Records.{record_cmp, sorted_records, before, at_least}
+use Rattle.sb_pipeline.specs.Operators.{Operator, operator_rows}
 use Rattle.sb_pipeline.specs.Operators.Operator.{ParDo, Windowed, Sink}
 use Rattle.sb_record.specs.Elements.{all_records}
 use Rattle.sb_core.specs.Closings.{still_open, kept_at, rows_at, is_sink}
@@ -87,8 +87,8 @@ before-after w (r ∷ l) = by_case (nat_lt r.time w) refl (before-after w l)
     by_case true e h = h
     by_case false e h = (λ i. cond (e i) (r ∷ before w (at_least w l)) (before w (at_least w l))) ∙ h
 
-after-sorted : (w : ℕ) (l : List Record) → IsReordered (at_least w (sorted (before w l))) []
-after-sorted w l f = IsReordered-filter (λ r. not (nat_lt r.time w)) (sorted (before w l)) (before w l) (IsReordered-in_order record_cmp (before w l)) f ∙ ap (sum_by f) (none l)
+after-sorted : (w : ℕ) (l : List Record) → IsReordered (at_least w (sorted_records (before w l))) []
+after-sorted w l f = IsReordered-filter (λ r. not (nat_lt r.time w)) (sorted_records (before w l)) (before w l) (IsReordered-in_order record_cmp (before w l)) f ∙ ap (sum_by f) (none l)
   where
     none : (l : List Record) → at_least w (before w l) ≡ []
     none [] = refl
@@ -100,7 +100,7 @@ after-sorted w l f = IsReordered-filter (λ r. not (nat_lt r.time w)) (sorted (b
 
 module _ (op : Operator) (floor mark : ℕ) (gives later : List KeptRec → List Record) (kept : List KeptRec) (rows : List Record) where
   -- the rows are those below the mark of what is kept
-  pub rows-closes : StandsFor op floor gives kept → Closes mark gives rows later → rows ≡ sorted (before mark (given_by op floor kept))
+  pub rows-closes : StandsFor op floor gives kept → Closes mark gives rows later → rows ≡ sorted_records (before mark (given_by op floor kept))
   rows-closes shows closes =
       sorted-unique rows (before mark (given_by op floor kept)) (subst (λ (l : List Record). IsAscending record_cmp l) (sym closes.in_order) (in_order-ascending records_total rows)) same
     where
@@ -138,15 +138,15 @@ given-rest Sink groups floor mark kept l rises late f = ap (sum_by f)
     ∙ (λ i. sym (all_records-filter (λ r. not (nat_lt r.time mark)) kept) i ++ after-high mark (all_records l) (all_from mark l late) i)
     ∙ sym (all_records-append (kept_at Sink mark kept) l))
 given-rest (Windowed g) groups floor mark kept l rises late f =
-    IsReordered-filter (λ r. not (nat_lt r.time mark)) (at_least floor (grouped g (kept ++ l))) (own ++ at_least mark rest) (closing groups floor mark kept l rises late) f
+    IsReordered-filter (λ r. not (nat_lt r.time mark)) (at_least floor (operator_rows g (kept ++ l))) (own ++ at_least mark rest) (closing groups floor mark kept l rises late) f
     ∙ ap (sum_by f) (filter-append (λ r. not (nat_lt r.time mark)) own (at_least mark rest)) ∙ sum_by-append f (at_least mark own) (at_least mark (at_least mark rest))
-    ∙ (λ i. after-sorted mark (at_least floor (grouped g kept)) f i + sum_by f (filter_once (λ r. not (nat_lt r.time mark)) rest i)) ∙ zero_first (sum_by f (at_least mark rest))
+    ∙ (λ i. after-sorted mark (at_least floor (operator_rows g kept)) f i + sum_by f (filter_once (λ r. not (nat_lt r.time mark)) rest i)) ∙ zero_first (sum_by f (at_least mark rest))
   where
     own : List Record
-    own = sorted (before mark (at_least floor (grouped g kept)))
+    own = sorted_records (before mark (at_least floor (operator_rows g kept)))
 
     rest : List Record
-    rest = grouped g (still_open g mark kept ++ l)
+    rest = operator_rows g (still_open g mark kept ++ l)
 
     zero_first : (n : ℕ) → 0 + n ≡ n
     zero_first n = omega arith
@@ -155,7 +155,7 @@ pub shows-closes : (op : Operator) → IsGroupingAt op → (floor mark : ℕ) (g
 shows-closes op groups floor mark gives later kept rows rises shows closes l late f = rest-closes op floor mark gives later kept rows rises shows closes l late f ∙ given-rest op groups floor mark kept l rises late f
 
 -- the rows of the core's closing
-pub rows-at : (op : Operator) (floor mark : ℕ) (kept : List KeptRec) → is_sink op ≡ false → rows_at op floor mark kept ≡ sorted (before mark (given_by op floor kept))
+pub rows-at : (op : Operator) (floor mark : ℕ) (kept : List KeptRec) → is_sink op ≡ false → rows_at op floor mark kept ≡ sorted_records (before mark (given_by op floor kept))
 rows-at (ParDo op) floor mark kept h = refl
 rows-at (Windowed g) floor mark kept h = refl
 rows-at Sink floor mark kept h = cc

@@ -26,9 +26,9 @@ use Rattle.sb_core.proofs.parts.PartsLaw.{parts-are_events, held-parts_are_event
 use Rattle.sb_node.specs.declared.state.NodeState.{NodeState}
 use Rattle.std.proofs.lemmas.List.{map-set}
 use Rattle.std.proofs.lemmas.Option.{get_or_from_slice_get}
-use Rattle.sb_core.specs.Choices.{pulled}
+use Rattle.sb_core.specs.Choices.{first_and_rest}
 use Rattle.sb_diary.specs.declared.event.DiaryEvent.{DiaryEvent}
-use Rattle.sb_tally.specs.Written.{logged, line_after, held_line}
+use Rattle.sb_tally.specs.Written.{diaries_with, line_after, held_line}
 use Rattle.sb_tally.specs.Keeping.{line_at, logged_at, diaries_after, if_some, diaries_by}
 use Rattle.sb_hand.specs.Showing.{ShowsNode, Stands, Reaches, diaries_of}
 use Rattle.sb_hand.proofs.Calm.{node_is}
@@ -53,16 +53,16 @@ get-map f (z ∷ xs) (suc k) x h = get-map f xs k x h
 
 -- a line more in the diary of a node
 pub told-one : (nodes : List NodeState) (k : ℕ) (own with : NodeState) (line : DiaryEvent) → slice_get nodes k ≡ Some own → with.diary.events ≡ own.diary.events ++ line ∷ []
-    → diaries_of (slice_set nodes k with) ≡ logged k line (diaries_of nodes)
+    → diaries_of (slice_set nodes k with) ≡ diaries_with k line (diaries_of nodes)
 told-one nodes k own with line at more =
     map-set (λ (n : NodeState). n.diary.events) nodes k with
     ∙ ap (slice_set (diaries_of nodes) k) (more ∙ ap (λ d. d ++ line ∷ []) (sym (get_or_from_slice_get (diaries_of nodes) k own.diary.events [] (get-map (λ (n : NodeState). n.diary.events) nodes k own at))))
 
 -- the diaries after one event, of which the line is known
 pub told-by : (plan : Shape) (m later : Moment) (e : Event) (k : ℕ) (line : DiaryEvent) (ds : List (List DiaryEvent)) → after plan m e ≡ Some later → place_of plan e ≡ Some k
-    → line_at plan m.bundle e (pulled (concerns e) m.held) (node_at m k) ≡ line → logged k line ds ≡ diaries_by plan (e ∷ []) m ds
+    → line_at plan m.bundle e (first_and_rest (concerns e) m.held) (node_at m k) ≡ line → diaries_with k line ds ≡ diaries_by plan (e ∷ []) m ds
 told-by plan m later e k line ds is place line_is =
-    ap (λ x. logged k x ds) (sym line_is) ∙ (λ i. logged_at (sym place i) plan m e ds) ∙ (λ i. if_some (sym is i) (λ x. diaries_by plan [] x (diaries_after plan m e ds)) ds)
+    ap (λ x. diaries_with k x ds) (sym line_is) ∙ (λ i. logged_at (sym place i) plan m e ds) ∙ (λ i. if_some (sym is i) (λ x. diaries_by plan [] x (diaries_after plan m e ds)) ds)
 
 module _ (plan : Shape) (is_plan : IsPlan plan) (bundle : ℕ) (nodes : List NodeState) (held : List Held) (rows : List Record) (m : Moment) (s : Stands plan bundle nodes held rows m) (k : ℕ) (own with : NodeState) (n : Node) (p : Part)
     (at : slice_get nodes k ≡ Some own) (at_m : slice_get m.nodes k ≡ Some n) where
@@ -83,7 +83,7 @@ module _ (plan : Shape) (is_plan : IsPlan plan) (bundle : ℕ) (nodes : List Nod
       elsewhere : j ≢ k → ShowsNode (operator_at (slice_get plan.steps j)) x y
       elsewhere ne = s.each j x y (sym (slice_get-set_other nodes k j with ne) ∙ h) (sym (slice_get-set_other m.nodes k j p.node ne) ∙ g')
 
-  reached : (e : Event) (rest : List Held) (line : DiaryEvent) → after plan m e ≡ Some (with_part k rest m p) → place_of plan e ≡ Some k → with.diary.events ≡ own.diary.events ++ line ∷ [] → line_at plan bundle e (pulled (concerns e) m.held) n ≡ line
+  reached : (e : Event) (rest : List Held) (line : DiaryEvent) → after plan m e ≡ Some (with_part k rest m p) → place_of plan e ≡ Some k → with.diary.events ≡ own.diary.events ++ line ∷ [] → line_at plan bundle e (first_and_rest (concerns e) m.held) n ≡ line
       → (IsSound plan (with_part k rest m p) → ShowsNode (operator_at (slice_get plan.steps k)) with p.node) → Reaches plan bundle (e ∷ []) m (diaries_of nodes) (slice_set nodes k with) (rest ++ p.held) (rows ++ p.rows)
   reached e rest line is place more line_is shows =
       let sound = (events-keep_sound plan is_plan m (with_part k rest m p) e is s.sound).0 in
@@ -93,7 +93,7 @@ module _ (plan : Shape) (is_plan : IsPlan plan) (bundle : ℕ) (nodes : List Nod
         told =
             told-one nodes k own with line at more
             ∙ told-by plan m (with_part k rest m p) e k line (diaries_of nodes) is place
-            ((λ i. line_at plan (s.bundle_is i) e (pulled (concerns e) m.held) (node_is m k n at_m i)) ∙ line_is);
+            ((λ i. line_at plan (s.bundle_is i) e (first_and_rest (concerns e) m.held) (node_is m k n at_m i)) ∙ line_is);
         stands = record {
           bundle_is = s.bundle_is;
           count = omega (arith, s.count, length-set m.nodes k p.node, length-set nodes k with);
@@ -110,7 +110,7 @@ module _ (plan : Shape) (is_plan : IsPlan plan) (bundle : ℕ) (nodes : List Nod
       → Reaches plan bundle (e ∷ []) m (diaries_of nodes) (slice_set nodes k with) (held ++ p.held) (rows ++ p.rows)
   event-free e line none place h more line_is shows =
       reached e held line (parts-are_events plan m e k n p s.sound place at_m (ap (λ b. part_after plan b e n) s.bundle_is ∙ h) ∙ ap (λ l. Some (with_part k l m p)) s.held_is) place more
-      ((λ i. line_at plan bundle e (pulled (concerns e) ((s.held_is ∙ none) i)) n) ∙ line_is) shows
+      ((λ i. line_at plan bundle e (first_and_rest (concerns e) ((s.held_is ∙ none) i)) n) ∙ line_is) shows
 
   -- and of the one thing held
   pub event-held : (e : Event) (h : Held) (line : DiaryEvent) → held ≡ h ∷ [] → concerns e h ≡ true → place_of plan e ≡ Some k → held_after plan bundle e h n ≡ Some p → with.diary.events ≡ own.diary.events ++ line ∷ [] → held_line plan bundle e h n ≡ line
@@ -119,4 +119,4 @@ module _ (plan : Shape) (is_plan : IsPlan plan) (bundle : ℕ) (nodes : List Nod
   event-held e h line only c place g more line_is shows =
       let same : with_held (h ∷ []) m ≡ m = λ i. record m { held = sym (s.held_is ∙ only) i } in
       reached e [] line (ap (λ z. after plan z e) (sym same) ∙ held-parts_are_events plan m e h [] k n p c place at_m (ap (λ b. held_after plan b e h n) s.bundle_is ∙ g)) place more
-      ((λ i. line_at plan bundle e (pulled (concerns e) ((s.held_is ∙ only) i)) n) ∙ (λ i. line_at plan bundle e (cond (c i) (Some (h, [])) (pulled (concerns e) [] >>= λ q. Some (q.0, h ∷ q.1))) n) ∙ line_is) shows
+      ((λ i. line_at plan bundle e (first_and_rest (concerns e) ((s.held_is ∙ only) i)) n) ∙ (λ i. line_at plan bundle e (cond (c i) (Some (h, [])) (first_and_rest (concerns e) [] >>= λ q. Some (q.0, h ∷ q.1))) n) ∙ line_is) shows

@@ -8,7 +8,7 @@ use Rattle.sb_core.specs.declared.moment.Moment.{Moment}
 use Rattle.sb_core.specs.declared.held.Held.{Held}
 use Rattle.sb_core.specs.declared.event.Event.{Event}
 use Rattle.sb_core.specs.Events.{run}
-use Rattle.sb_core.specs.Marks.{closed}
+use Rattle.sb_core.specs.Marks.{least_begun_mark}
 use Rattle.sb_core.specs.Soundness.{IsSound}
 use Rattle.sb_diary.specs.declared.event.DiaryEvent.{DiaryEvent}
 use Rattle.sb_tally.specs.Keeping.{diaries_by}
@@ -21,7 +21,7 @@ use Rattle.sb_node.specs.declared.state.NodeState.{NodeState}
 pub record IsKept (op : Operator) (k : Kept) (n : Node) : Type 0 where
   pub made : IsMadeFor op k
   pub unspent : IsSpent k → ⊥
-  pub closed_is : closed_mark k ≡ closed n.lanes
+  pub closed_is : closed_mark k ≡ least_begun_mark n.lanes
   pub kept : ShowsKept op k n.kept
 
 pub record ShowsNode (op : Operator) (own : NodeState) (n : Node) : Type 0 where

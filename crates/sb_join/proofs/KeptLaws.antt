@@ -33,7 +33,7 @@ use Rattle.sb_join.specs.declared.join.Combine.{Combine}
 use Rattle.sb_join.specs.declared.join.Side.{Side}
 use Rattle.sb_join.specs.declared.join.Side.TheVariants.{Left, Right}
 use Rattle.sb_join.specs.declared.sides.Sides.{Sides}
-use Rattle.sb_join.specs.Entries.{values_of, paired, values_at, kept_of, IsOpen, AreKept, Gathers, first_open, ClosesWindows}
+use Rattle.sb_join.specs.Entries.{values_of, combined_values, values_at, kept_of, IsOpen, AreKept, Gathers, first_open, ClosesWindows}
 use Rattle.sb_join.specs.Joins.{join_rows}
 use Rattle.sb_join.specs.Kept.{JoinState, lane_of}
 use Rattle.sb_join.specs.Orderless.{gives-orderless}
@@ -144,12 +144,12 @@ module _ (combine : Combine) (windows : Spacing) (fixed : windows.size ≡ windo
           ∙ (λ j. before-all mark (kept_of s c.closed.entries) (early-rows (values_of s)) j ++ before-none mark (kept_of s n.entries) (late-rows (values_of s)) j)) i ++ before-none mark (of_lane (lane_of s) l) (lane-from (lane_of s)) i)
           ∙ append-nil (kept_of s c.closed.entries ++ []) ∙ append-nil (kept_of s c.closed.entries)
 
-      rows-before : before mark (join_rows combine windows (all Left) (all Right)) ≡ rows_of_entries (paired combine) c.closed.entries
+      rows-before : before mark (join_rows combine windows (all Left) (all Right)) ≡ rows_of_entries (combined_values combine) c.closed.entries
       rows-before =
           joins-before combine windows mark (all Left) (all Right)
           ∙ (λ i. before mark (join_rows combine windows (all-before Left i) (all-before Right i)))
           ∙ ap (before mark) (join_rows-kept combine windows fixed floor c.closed closed-kept)
-          ∙ before-all mark (rows_of_entries (paired combine) c.closed.entries) (early-rows (paired combine))
+          ∙ before-all mark (rows_of_entries (combined_values combine) c.closed.entries) (early-rows (combined_values combine))
 
       -- from the mark on there is what stays
       none-closed : (q : KeyedWindow) → mark ≤ q.end - 1 → get keyed_window_cmp c.closed q ≡ None
@@ -179,13 +179,13 @@ module _ (combine : Combine) (windows : Spacing) (fixed : windows.size ≡ windo
       gives-parts f =
           ap (sum_by f) (at_least-all floor (join_rows combine windows (all Left) (all Right)) (join_rows-from combine windows floor (all Left) (all Right) (All-join (λ r. floor ≤ r.time) (kept_of Left m.entries) (of_lane 0 l) floor-rows (every (λ r h. omega (arith, h, rising)) (of_lane 0 l) (lane-from 0)))))
           ∙ sym (sum_by-filter_both (λ r. nat_lt r.time mark) (λ r. not (nat_lt r.time mark)) (λ r. refl) f (join_rows combine windows (all Left) (all Right)))
-          ∙ (λ i. (ap (sum_by f) rows-before ∙ sym (ap (sum_by f) c.in_order ∙ IsReordered-in_order record_cmp (rows_of_entries (paired combine) c.closed.entries) f)) i + sum_by f (rows-after i))
+          ∙ (λ i. (ap (sum_by f) rows-before ∙ sym (ap (sum_by f) c.in_order ∙ IsReordered-in_order record_cmp (rows_of_entries (combined_values combine) c.closed.entries) f)) i + sum_by f (rows-after i))
           ∙ sym (sum_by-append f rows (gives_of mark n l))
 
     pub closes : Closes mark (gives_of floor m) rows (gives_of mark n)
     closes = record {
-      in_order = sorted-unique rows rows (subst (λ (l : List Record). IsAscending record_cmp l) (sym c.in_order) (in_order-ascending records_total (rows_of_entries (paired combine) c.closed.entries))) (λ f. refl);
-      low = subst (λ (l : List Record). AllByRecursion (λ r. r.time < mark) l) (sym c.in_order) (All-in_order (λ r. r.time < mark) record_cmp (rows_of_entries (paired combine) c.closed.entries) (early-rows (paired combine)));
+      in_order = sorted-unique rows rows (subst (λ (l : List Record). IsAscending record_cmp l) (sym c.in_order) (in_order-ascending records_total (rows_of_entries (combined_values combine) c.closed.entries))) (λ f. refl);
+      low = subst (λ (l : List Record). AllByRecursion (λ r. r.time < mark) l) (sym c.in_order) (All-in_order (λ r. r.time < mark) record_cmp (rows_of_entries (combined_values combine) c.closed.entries) (early-rows (combined_values combine)));
       same = λ l from. gives-parts l from;
       high = λ l from. All-at_least mark (join_rows combine windows (kept_of Left n.entries ++ of_lane 0 l) (kept_of Right n.entries ++ of_lane 1 l));
     }

@@ -24,7 +24,7 @@ use Rattle.sb_join.specs.declared.join.Combine.{Combine}
 use Rattle.sb_join.specs.declared.join.Side.TheVariants.{Left, Right}
 use Rattle.sb_join.specs.declared.sides.Sides.{Sides}
 use Rattle.sb_join.specs.Joins.{pair_values, pairs, join_rows}
-use Rattle.sb_join.specs.Entries.{paired, values_at, kept_of, AreKept}
+use Rattle.sb_join.specs.Entries.{combined_values, values_at, kept_of, AreKept}
 use Rattle.sb_join.proofs.KeptValues.{values_in-kept}
 
 -- ---- the times of rows
@@ -86,12 +86,12 @@ module _ (combine : Combine) (windows : Spacing) (fixed : windows.size ≡ windo
   none-paired : (q : KeyedWindow) → has_left q ≡ false → pairs combine windows left right q ≡ []
   none-paired q none = ap (λ vs. map (row q) (pair_values combine vs (values_in windows q right))) (values_in-kept windows fixed mark m kept Left q ∙ none-left (values_at Left (get keyed_window_cmp m q)) none)
 
-  each : (es : List (KeyedWindow × Sides)) → AllByRecursion (λ (e : KeyedWindow × Sides). get keyed_window_cmp m e.0 ≡ Some e.1) es → flat_map (pairs combine windows left right) (keys_of es) ≡ rows_of_entries (paired combine) es
+  each : (es : List (KeyedWindow × Sides)) → AllByRecursion (λ (e : KeyedWindow × Sides). get keyed_window_cmp m e.0 ≡ Some e.1) es → flat_map (pairs combine windows left right) (keys_of es) ≡ rows_of_entries (combined_values combine) es
   each [] all = refl
   each (e ∷ es) all = λ i.
       map (row e.0) (pair_values combine ((values_in-kept windows fixed mark m kept Left e.0 ∙ ap (values_at Left) all.0) i) ((values_in-kept windows fixed mark m kept Right e.0 ∙ ap (values_at Right) all.0) i)) ++ each es all.1 i
 
-  pub join_rows-kept : join_rows combine windows left right ≡ rows_of_entries (paired combine) m.entries
+  pub join_rows-kept : join_rows combine windows left right ≡ rows_of_entries (combined_values combine) m.entries
   join_rows-kept =
       ap (flat_map (pairs combine windows left right)) windows-left
       ∙ flat_map-passing has_left (pairs combine windows left right) none-paired (keys m)

@@ -3,7 +3,7 @@ use Rattle.std.specs.Prelude.{◌≡◌, ℕ, ℤ, ◌+◌, ◌-◌, ◌%◌, �
 use Rattle.std.specs.BTreeMap.{BTreeMap, IsOrdered, get, keys}
 use Rattle.sb_record.specs.declared.item.Record.{Record}
 use Rattle.sb_record.specs.Elements.{on_lane, of_lane}
-use Rattle.sb_record.specs.Records.{sorted}
+use Rattle.sb_record.specs.Records.{sorted_records}
 use Rattle.sb_window.specs.declared.keyed_window.KeyedWindow.{KeyedWindow}
 use Rattle.sb_window.specs.Gatherings.{rows_of_entries}
 use Rattle.sb_window.specs.Spacing.{Spacing}
@@ -21,8 +21,8 @@ values_of Left s = s.left
 values_of Right s = s.right
 
 -- the combined values of both sides
-abbrev pub paired : Combine → Sides → List ℤ
-paired combine s = pair_values combine s.left s.right
+abbrev pub combined_values : Combine → Sides → List ℤ
+combined_values combine s = pair_values combine s.left s.right
 
 -- no values
 abbrev pub no_values : Sides
@@ -74,7 +74,7 @@ pub record ClosesWindows (combine : Combine) (mark : ℕ) (m : BTreeMap KeyedWin
     (rows : List Record) (n : BTreeMap KeyedWindow Sides) : Type 0 where
   pub closed : BTreeMap KeyedWindow Sides
   pub parts : m.entries ≡ closed.entries ++ n.entries
-  pub in_order : rows ≡ sorted (rows_of_entries (paired combine) closed.entries)
+  pub in_order : rows ≡ sorted_records (rows_of_entries (combined_values combine) closed.entries)
   pub closed_ordered : IsOrdered keyed_window_cmp closed
   pub ordered : IsOrdered keyed_window_cmp n
   pub ended : All (λ q. q.end < first_open mark) (keys closed)

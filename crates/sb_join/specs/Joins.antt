@@ -10,18 +10,18 @@ use Rattle.sb_join.specs.declared.join.Combine.{Combine}
 use Rattle.sb_join.specs.declared.join.Combine.TheVariants.{Add, Sub, Mul, Min, Max, Left, Right}
 
 -- the value of a pair
-abbrev pub combined : Combine → ℤ → ℤ → ℤ
-combined Add x y = int_wrapping_add w64 x y
-combined Sub x y = int_wrapping_sub w64 x y
-combined Mul x y = int_wrapping_mul w64 x y
-combined Min x y = int_min x y
-combined Max x y = int_max x y
-combined Left x y = x
-combined Right x y = y
+abbrev pub pair_value : Combine → ℤ → ℤ → ℤ
+pair_value Add x y = int_wrapping_add w64 x y
+pair_value Sub x y = int_wrapping_sub w64 x y
+pair_value Mul x y = int_wrapping_mul w64 x y
+pair_value Min x y = int_min x y
+pair_value Max x y = int_max x y
+pair_value Left x y = x
+pair_value Right x y = y
 
 -- the values of the pairs of each left value with each right one, left by left
 abbrev pub pair_values : Combine → List ℤ → List ℤ → List ℤ
-pair_values combine xs ys = flat_map (λ x. map (λ y. combined combine x y) ys) xs
+pair_values combine xs ys = flat_map (λ x. map (λ y. pair_value combine x y) ys) xs
 
 -- a record for each pair of a left and a right record of the keyed window; its time is the last one in the window
 abbrev pub pairs : Combine → Spacing → List Record → List Record → KeyedWindow → List Record

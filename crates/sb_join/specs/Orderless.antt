@@ -13,15 +13,15 @@ use Rattle.sb_window.specs.Spacing.{Spacing}
 use Rattle.sb_window.specs.Windows.{is_in, keyed_windows, values_in}
 use Rattle.sb_window.proofs.Rows.{row, values_in-reordered, keyed_windows-same}
 use Rattle.sb_join.specs.declared.join.Combine.{Combine}
-use Rattle.sb_join.specs.Joins.{combined, pair_values, pairs, join_rows}
+use Rattle.sb_join.specs.Joins.{pair_value, pair_values, pairs, join_rows}
 use Rattle.sb_join.specs.Kept.{JoinState, gives}
 
 module _ (combine : Combine) (windows : Spacing) where
   reordered_pair_values : (xs ws ys zs : List ℤ) → IsReordered xs ws → IsReordered ys zs
       → IsReordered (pair_values combine xs ys) (pair_values combine ws zs)
   reordered_pair_values xs ws ys zs h k =
-      IsReordered-flat_map_each (λ x. map (combined combine x) ys) (λ x. map (combined combine x) zs)
-      (λ x. IsReordered-map (combined combine x) ys zs k) xs ws h
+      IsReordered-flat_map_each (λ x. map (pair_value combine x) ys) (λ x. map (pair_value combine x) zs)
+      (λ x. IsReordered-map (pair_value combine x) ys zs k) xs ws h
 
   pairs-reordered : (q : KeyedWindow) (l m r s : List Record) → IsReordered l m → IsReordered r s
       → IsReordered (pairs combine windows l r q) (pairs combine windows m s q)

@@ -34,7 +34,7 @@ pub enum Combine {
 impl Combine {
     /// The combined value of a pair.
     pub fn combine(self, left: i64, right: i64) -> i64
-        ensures { result ≡ spec.combined self left right }
+        ensures { result ≡ spec.pair_value self left right }
     {
         match self {
             Combine::Add => left.wrapping_add(right),
@@ -81,7 +81,7 @@ fn pair_with_each(
     right: &[i64],
     into: &mut Vec<i64>,
 ) -> Result<(), NoMemory>
-    ensures ok { OnOk result (into.new.items ≡ into.old.items ++ map (spec.combined combine left) right.now) }
+    ensures ok { OnOk result (into.new.items ≡ into.old.items ++ map (spec.pair_value combine left) right.now) }
     ensures len { OnOk result (vec_len into.new ≡ vec_len into.old + length right.now) }
     ensures capacity { vec_capacity into.old ≤ vec_capacity into.new }
     ensures err { OnErr result (take (vec_len into.old) into.new.items ≡ into.old.items) }

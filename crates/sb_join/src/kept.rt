@@ -11,7 +11,7 @@ ghost use Rattle.std.specs.BTreeMap.{get, is_at, insert_entry, IsOrdered};
 ghost use Rattle.sb_record.specs.declared.element.KeptRec.{KeptRec as Element};
 ghost use Rattle.sb_record.specs.declared.item.TheConstants.{END_MARK};
 ghost use Rattle.sb_record.specs.Elements.{of_lane};
-ghost use Rattle.sb_record.specs.Records.{sorted};
+ghost use Rattle.sb_record.specs.Records.{sorted_records};
 ghost use Rattle.sb_window.specs.declared.keyed_window.KeyedWindow.{KeyedWindow as Window};
 ghost use Rattle.sb_window.specs.Gatherings.{rows_of_entries};
 ghost use Rattle.sb_window.specs.Groupings.{IsFrom, Adds, Closes};
@@ -284,7 +284,8 @@ fn rows_of(
     combine: Combine,
     values: BTreeMap<KeyedWindow, Sides>,
 ) -> Result<Vec<Record>, NoMemory>
-    ensures { IfOk result (λ rows. rows.items ≡ sorted (rows_of_entries (entries.paired combine) values.entries)) }
+    ensures { IfOk result
+        (λ rows. rows.items ≡ sorted_records (rows_of_entries (entries.combined_values combine) values.entries)) }
 {
     let mut rows = Vec::new(alloc);
     let mut pairs = Vec::new(alloc);

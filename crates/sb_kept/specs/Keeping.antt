@@ -11,7 +11,7 @@ use Rattle.sb_aggregate.specs.Groups as aggregate
 use Rattle.sb_emit.specs.Sinks as sink
 use Rattle.sb_join.specs.Kept as join
 use Rattle.sb_session.specs.SessionStates as session
-use Rattle.sb_pipeline.specs.Operators.{Operator, grouped, lanes_of}
+use Rattle.sb_pipeline.specs.Operators.{Operator, operator_rows, lanes_of}
 use Rattle.sb_pipeline.specs.Operators.Operator.{ParDo, Windowed, Sink}
 use Rattle.sb_pipeline.specs.Operators.WindowOperator.{Aggregated, Sessions, Joined}
 use Rattle.sb_work.specs.declared.outputs.Part.{Part}
@@ -64,7 +64,7 @@ pub record IsPartFor (g : Kept) (part : Part) (lane : ℕ) (records : List Recor
 -- what a node gives of all of its elements, from its closed mark on; the sink gives them as they are
 abbrev pub given_by : Operator → ℕ → List KeptRec → List Record
 given_by (ParDo op) closed es = []
-given_by (Windowed grouping) closed es = at_least closed (grouped grouping es)
+given_by (Windowed grouping) closed es = at_least closed (operator_rows grouping es)
 given_by Sink closed es = all_records es
 
 -- it stands for these elements: it gives what the node gives of them and of what comes

@@ -9,7 +9,7 @@ use Rattle.sb_record.specs.Reading.{◌>>=◌}
 use Rattle.sb_bundle.specs.declared.bundle.Bundle.{Bundle}
 use Rattle.sb_core.specs.declared.moment.Cont.{Cont}
 use Rattle.sb_core.specs.declared.moment.CoreLane.{CoreLane}
-use Rattle.sb_core.specs.Choices.{pulled, only_if, is_empty}
+use Rattle.sb_core.specs.Choices.{first_and_rest, only_if, is_empty}
 use Rattle.sb_core.specs.LaneOrder.{IsLane, AreOpen, AreContainers}
 use Rattle.sb_core.specs.Lanes.{take_from, finish_in, closable}
 use Rattle.sb_core.specs.Marks.{last_of_first}
@@ -24,7 +24,7 @@ use Rattle.sb_lane.specs.Taking.{first_taken, take_first, with_finished, finish_
 abbrev take_in : ℕ → Cont → List Bundle → List Cont → Option (Bundle × List Cont)
 take_in number c waiting cs =
     cond {A = Option (Bundle × List Cont)} (list_any (λ b. eqb b.number number) waiting)
-    (pulled (λ b. eqb b.number number) waiting >>= λ q. Some (q.0, record c { waiting = q.1; out = c.out ++ number ∷ [] } ∷ cs))
+    (first_and_rest (λ b. eqb b.number number) waiting >>= λ q. Some (q.0, record c { waiting = q.1; out = c.out ++ number ∷ [] } ∷ cs))
     (take_from number cs >>= λ q. Some (q.0, c ∷ q.1))
 
 pub take_first-is : (cs : List Cont) (q : Bundle × List Cont) → take_first cs ≡ Some q → take_from q.0.number cs ≡ Some q
@@ -39,7 +39,7 @@ take_first-is (c ∷ cs) q h = by_case c.waiting refl h (take_first-is cs)
 
     first : (b : Bundle) (bs : List Bundle) → take_in b.number c (b ∷ bs) cs ≡ Some (b, record c { waiting = bs; out = c.out ++ b.number ∷ [] } ∷ cs)
     first b bs = λ i. cond {A = Option (Bundle × List Cont)} (eq-eqb b.number b.number refl i || list_any (λ x. eqb x.number b.number) bs)
-        (cond {A = Option (Bundle × List Bundle)} (eq-eqb b.number b.number refl i) (Some (b, bs)) (pulled (λ x. eqb x.number b.number) bs >>= λ q. Some (q.0, b ∷ q.1)) >>= λ q. Some (q.0, record c { waiting = q.1; out = c.out ++ b.number ∷ [] } ∷ cs))
+        (cond {A = Option (Bundle × List Bundle)} (eq-eqb b.number b.number refl i) (Some (b, bs)) (first_and_rest (λ x. eqb x.number b.number) bs >>= λ q. Some (q.0, b ∷ q.1)) >>= λ q. Some (q.0, record c { waiting = q.1; out = c.out ++ b.number ∷ [] } ∷ cs))
         (take_from b.number cs >>= λ q. Some (q.0, c ∷ q.1))
 
     by_case : (w : List Bundle) → c.waiting ≡ w → first_taken c.waiting c cs (take_first cs) ≡ Some q → ((r : Bundle × List Cont) → take_first cs ≡ Some r → take_from r.0.number cs ≡ Some r) → take_from q.0.number (c ∷ cs) ≡ Some q

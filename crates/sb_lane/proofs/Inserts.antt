@@ -5,7 +5,7 @@ use Rattle.std.proofs.lemmas.List.Sums.{sum_by-insert, sum_by-append}
 use Rattle.std.proofs.lemmas.List.Edits.{length-insert}
 use Rattle.std.proofs.lemmas.List.{length-set}
 use Rattle.sb_lane.specs.declared.container.Container.{Container}
-use Rattle.sb_lane.specs.Placed.{Placed, placed_at, no_container, slot, arranged}
+use Rattle.sb_lane.specs.Placed.{Placed, placed_at, no_container, slot, containers_at}
 use Rattle.sb_lane.specs.Slots.{times_in, AreSlots}
 use Rattle.sb_lane.proofs.Places.{times-cons, times-same, untouched, slot-same}
 use Rattle.std.proofs.lemmas.List.{length-map, get_or-map}
@@ -46,7 +46,7 @@ slot-last slots c =
     last [] = refl
     last (y ∷ l) = last l
 
-arranged-append : (slots : List Container) (c : Container) (order : List ℕ) → ((p : ℕ) → 1 ≤ times_in p order → p < length slots) → arranged (slots ++ c ∷ []) order ≡ arranged slots order
+arranged-append : (slots : List Container) (c : Container) (order : List ℕ) → ((p : ℕ) → 1 ≤ times_in p order → p < length slots) → containers_at (slots ++ c ∷ []) order ≡ containers_at slots order
 arranged-append slots c [] there = refl
 arranged-append slots c (q ∷ order) there =
     λ i. slot-append slots c q (there q (omega (arith, times-same q q order refl))) i ∷ arranged-append slots c order (λ p h. there p (omega (arith, h, times-cons p q order))) i
@@ -66,7 +66,7 @@ module _ (slots : List Container) (room : ℕ) (order : List ℕ) (at : ℕ) (c 
     within : p < length slots
     within = are.there p (omega (arith, here))
 
-    pub reuse-arranged : arranged (set slots p c) (insert order at p) ≡ insert (arranged slots order) at (placed_at p c)
+    pub reuse-arranged : containers_at (set slots p c) (insert order at p) ≡ insert (containers_at slots order) at (placed_at p c)
     reuse-arranged = map-insert (slot (set slots p c)) order at p ∙ (λ i. insert (untouched slots p c order absent i) at (slot-same slots p c within i))
 
     pub reuse-are : AreSlots (length (set slots p c)) room (insert order at p) free
@@ -79,7 +79,7 @@ module _ (slots : List Container) (room : ℕ) (order : List ℕ) (at : ℕ) (c 
 
   -- into a new one
   module _ (more : ℕ) (are : AreSlots (length slots) room order []) where
-    pub new-arranged : arranged (slots ++ c ∷ []) (insert order at (length slots)) ≡ insert (arranged slots order) at (placed_at (length slots) c)
+    pub new-arranged : containers_at (slots ++ c ∷ []) (insert order at (length slots)) ≡ insert (containers_at slots order) at (placed_at (length slots) c)
     new-arranged = map-insert (slot (slots ++ c ∷ [])) order at (length slots) ∙ (λ i. insert (arranged-append slots c order (λ p k. are.there p (omega (arith, k))) i) at (slot-last slots c i))
 
     pub new-are : length slots + 1 ≤ room → AreSlots (length (slots ++ c ∷ [])) room (insert order at (length slots)) []

@@ -12,7 +12,7 @@ use Rattle.sb_core.specs.Marks.{last_of_first}
 use Rattle.sb_lane.specs.Unfinished.{unfinished_of}
 use Rattle.sb_lane.specs.Finding.{OthersBefore}
 use Rattle.sb_lane.specs.Changes.{Changes}
-use Rattle.sb_lane.specs.Links.{Link, link_of, links_of, link_in, linked, down_of}
+use Rattle.sb_lane.specs.Links.{Link, link_of, links_of, link_in, with_link, down_of}
 use Rattle.sb_lane.specs.Placed.{Placed, conts_of}
 use Rattle.sb_lane.specs.Taking.{at_epoch}
 use Rattle.sb_lane.proofs.Counts.{unfinished-set, unfinished-bundle}
@@ -53,17 +53,17 @@ at_epoch-at epoch change (c ∷ cs) (suc i) d h others here =
     ap (λ b. cond b (change c ∷ cs) (c ∷ at_epoch epoch change cs)) (ne_eqb c.epoch epoch (others 0 c (omega arith)))
     ∙ ap (λ l. c ∷ l) (at_epoch-at epoch change cs i d (omega arith) (λ k e z. others (suc k) e (omega arith)) here)
 
-pub linked-at : (epoch down : ℕ) (xs : List Placed) (i : ℕ) (d : Link) → i < length xs → OthersBefore epoch i (conts_of xs) → ((c : Cont) → (get_or (conts_of xs) i c).epoch ≡ epoch) → linked epoch down (links_of xs) ≡ set (links_of xs) i (record (get_or (links_of xs) i d) { down = Some down })
+pub linked-at : (epoch down : ℕ) (xs : List Placed) (i : ℕ) (d : Link) → i < length xs → OthersBefore epoch i (conts_of xs) → ((c : Cont) → (get_or (conts_of xs) i c).epoch ≡ epoch) → with_link epoch down (links_of xs) ≡ set (links_of xs) i (record (get_or (links_of xs) i d) { down = Some down })
 linked-at epoch down [] i d h others here = absurd (omega arith)
-linked-at epoch down (x ∷ xs) zero d h others here = ap (λ b. cond b (record (link_of x) { down = Some down } ∷ links_of xs) (link_of x ∷ linked epoch down (links_of xs))) (eq-eqb x.cont.epoch epoch (here x.cont))
+linked-at epoch down (x ∷ xs) zero d h others here = ap (λ b. cond b (record (link_of x) { down = Some down } ∷ links_of xs) (link_of x ∷ with_link epoch down (links_of xs))) (eq-eqb x.cont.epoch epoch (here x.cont))
 linked-at epoch down (x ∷ xs) (suc i) d h others here =
-    ap (λ b. cond b (record (link_of x) { down = Some down } ∷ links_of xs) (link_of x ∷ linked epoch down (links_of xs))) (ne_eqb x.cont.epoch epoch (others 0 x.cont (omega arith)))
+    ap (λ b. cond b (record (link_of x) { down = Some down } ∷ links_of xs) (link_of x ∷ with_link epoch down (links_of xs))) (ne_eqb x.cont.epoch epoch (others 0 x.cont (omega arith)))
     ∙ ap (λ l. link_of x ∷ l) (linked-at epoch down xs i d (omega arith) (λ k e z. others (suc k) e (omega arith)) here)
 
-pub linked-none : (epoch down : ℕ) (xs : List Placed) → OthersBefore epoch (length xs) (conts_of xs) → linked epoch down (links_of xs) ≡ links_of xs
+pub linked-none : (epoch down : ℕ) (xs : List Placed) → OthersBefore epoch (length xs) (conts_of xs) → with_link epoch down (links_of xs) ≡ links_of xs
 linked-none epoch down [] others = refl
 linked-none epoch down (x ∷ xs) others =
-    ap (λ b. cond b (record (link_of x) { down = Some down } ∷ links_of xs) (link_of x ∷ linked epoch down (links_of xs))) (ne_eqb x.cont.epoch epoch (others 0 x.cont (omega arith)))
+    ap (λ b. cond b (record (link_of x) { down = Some down } ∷ links_of xs) (link_of x ∷ with_link epoch down (links_of xs))) (ne_eqb x.cont.epoch epoch (others 0 x.cont (omega arith)))
     ∙ ap (λ l. link_of x ∷ l) (linked-none epoch down xs (λ k e z. others (suc k) e (omega arith)))
 
 pub down-at : (epoch : ℕ) (xs : List Placed) (i : ℕ) (d : Link) → i < length xs → OthersBefore epoch i (conts_of xs) → ((c : Cont) → (get_or (conts_of xs) i c).epoch ≡ epoch) → down_of epoch (links_of xs) ≡ (get_or (links_of xs) i d).down

@@ -9,7 +9,7 @@ use Rattle.std.proofs.lemmas.List.Sums.{sum_by-cons}
 use Rattle.sb_lane.specs.declared.container.Container.{Container}
 use Rattle.sb_lane.specs.Changes.{Changes, DifferInRooms}
 use Rattle.sb_lane.specs.Links.{Link, link_of, links_of}
-use Rattle.sb_lane.specs.Placed.{Placed, cont_of, room_of, conts_of, placed_at, no_container, slot, arranged}
+use Rattle.sb_lane.specs.Placed.{Placed, cont_of, room_of, conts_of, placed_at, no_container, slot, containers_at}
 use Rattle.sb_lane.specs.Slots.{times_in, AreSlots}
 
 one : ℕ → ℕ → ℕ
@@ -37,7 +37,7 @@ module _ (slots : List Container) (p : ℕ) (c : Container) where
   pub slot-same : p < length slots → slot (set slots p c) p ≡ placed_at p c
   slot-same h = ap (λ l. get_or l p no_container) (map-set (placed_at p) slots p c) ∙ get_or-set_same (map (placed_at p) slots) p (placed_at p c) no_container (omega (arith, length-map slots (placed_at p)))
 
-  pub untouched : (ps : List ℕ) → times_in p ps ≡ 0 → arranged (set slots p c) ps ≡ arranged slots ps
+  pub untouched : (ps : List ℕ) → times_in p ps ≡ 0 → containers_at (set slots p c) ps ≡ containers_at slots ps
   untouched [] h = refl
   untouched (q ∷ ps) h = λ i. slot-other q differ i ∷ untouched ps (omega (arith, times-other p q ps differ)) i
     where
@@ -45,7 +45,7 @@ module _ (slots : List Container) (p : ℕ) (c : Container) where
       differ e = absurd (omega (arith, times-same p q ps e))
 
   -- a write to the place at an index of the order
-  pub arranged-write : (order : List ℕ) (i : ℕ) → times_in p order ≤ 1 → i < length order → p ≡ get_or order i p → p < length slots → arranged (set slots p c) order ≡ set (arranged slots order) i (placed_at p c)
+  pub arranged-write : (order : List ℕ) (i : ℕ) → times_in p order ≤ 1 → i < length order → p ≡ get_or order i p → p < length slots → containers_at (set slots p c) order ≡ set (containers_at slots order) i (placed_at p c)
   arranged-write [] i once h at within = absurd (omega arith)
   arranged-write (q ∷ order) zero once h at within =
       let e : q ≡ p = sym at in
@@ -55,14 +55,14 @@ module _ (slots : List Container) (p : ℕ) (c : Container) where
       (λ j. slot-other q (λ e. absurd (omega (arith, times-same p q order e))) j ∷ arranged-write order i (omega (arith, times-cons p q order)) (omega arith) at within j)
 
 -- what stands at an index of the order
-pub arranged-read : (slots : List Container) (order : List ℕ) (i p : ℕ) (c : Container) (d : Placed) → i < length order → p ≡ get_or order i p → p < length slots → c ≡ get_or slots p c → get_or (arranged slots order) i d ≡ placed_at p c
+pub arranged-read : (slots : List Container) (order : List ℕ) (i p : ℕ) (c : Container) (d : Placed) → i < length order → p ≡ get_or order i p → p < length slots → c ≡ get_or slots p c → get_or (containers_at slots order) i d ≡ placed_at p c
 arranged-read slots order i p c d h at within is =
     get_or-map (slot slots) order i p d h
     ∙ ap (slot slots) (sym at)
     ∙ get_or-map (placed_at p) slots p c no_container within
     ∙ ap (placed_at p) (sym is)
 
-pub arranged-length : (slots : List Container) (order : List ℕ) → length (arranged slots order) ≡ length order
+pub arranged-length : (slots : List Container) (order : List ℕ) → length (containers_at slots order) ≡ length order
 arranged-length slots order = length-map order (slot slots)
 
 -- a write keeps the places
@@ -76,13 +76,13 @@ still slots room order free are p c = record {
 
 -- of an arena that is seen as this list: the place at an index of its order
 pub record StandsIn (slots : List Container) (order : List ℕ) (v : List Placed) (i p : ℕ) : Type 0 where
-  pub seen : arranged slots order ≡ v
+  pub seen : containers_at slots order ≡ v
   pub in_order : i < length order
   pub at : p ≡ get_or order i p
   pub once : times_in p order ≤ 1
   pub within : p < length slots
 
-pub stands-in : (slots : List Container) (order : List ℕ) {room : ℕ} {free : List ℕ} {v : List Placed} {i p : ℕ} → AreSlots (length slots) room order free → arranged slots order ≡ v → i < length v → p ≡ get_or order i p → StandsIn slots order v i p
+pub stands-in : (slots : List Container) (order : List ℕ) {room : ℕ} {free : List ℕ} {v : List Placed} {i p : ℕ} → AreSlots (length slots) room order free → containers_at slots order ≡ v → i < length v → p ≡ get_or order i p → StandsIn slots order v i p
 stands-in slots order {room} {free} {v} {i} {p} are seen h at = record {
   seen = seen;
   in_order = in_order;
@@ -92,11 +92,11 @@ stands-in slots order {room} {free} {v} {i} {p} are seen h at = record {
 }
   where
     in_order : i < length order
-    in_order = let k : length (arranged slots order) ≡ length v = ap length seen in omega (arith, arranged-length slots order)
+    in_order = let k : length (containers_at slots order) ≡ length v = ap length seen in omega (arith, arranged-length slots order)
 
 module _ {slots : List Container} {order : List ℕ} {v : List Placed} {i p : ℕ} (here : StandsIn slots order v i p) where
   seen-length : length order ≡ length v
-  seen-length = let k : length (arranged slots order) ≡ length v = ap length here.seen in omega (arith, arranged-length slots order)
+  seen-length = let k : length (containers_at slots order) ≡ length v = ap length here.seen in omega (arith, arranged-length slots order)
 
   -- the container in that place is read
   module _ (c : Container) (is : c ≡ get_or slots p c) where
@@ -117,10 +117,10 @@ module _ {slots : List Container} {order : List ℕ} {v : List Placed} {i p : �
 
     -- and written
     module _ (with : Container) where
-      written : arranged (set slots p with) order ≡ set v i (placed_at p with)
+      written : containers_at (set slots p with) order ≡ set v i (placed_at p with)
       written = arranged-write slots p with order i here.once here.in_order here.at here.within ∙ ap (λ l. set l i (placed_at p with)) here.seen
 
-      pub changes : (change : Cont → Cont) → cont_of with ≡ change (cont_of c) → with.down ≡ c.down → (change (cont_of c)).epoch ≡ c.epoch → Changes change i v (arranged (set slots p with) order)
+      pub changes : (change : Cont → Cont) → cont_of with ≡ change (cont_of c) → with.down ≡ c.down → (change (cont_of c)).epoch ≡ c.epoch → Changes change i v (containers_at (set slots p with) order)
       changes change e down epochs = record {
         conts = λ d. ap conts_of written ∙ map-set (λ (x : Placed). x.cont) v i (placed_at p with) ∙ ap (set (conts_of v) i) (e ∙ ap change (sym (cont-read d)));
         links =
@@ -128,21 +128,21 @@ module _ {slots : List Container} {order : List ℕ} {v : List Placed} {i p : �
             ap links_of written ∙ map-set_same link_of v i (placed_at p with) (placed_at p c) (same ∙ ap link_of (sym (placed-read (placed_at p c))));
       }
 
-      pub same : cont_of with ≡ cont_of c → with.down ≡ c.down → DifferInRooms v (arranged (set slots p with) order)
+      pub same : cont_of with ≡ cont_of c → with.down ≡ c.down → DifferInRooms v (containers_at (set slots p with) order)
       same e down =
           let k = changes (λ x. x) e down refl in
           record { conts = k.conts (cont_of c) ∙ set-get_or (conts_of v) i (cont_of c); links = k.links }
 
-      pub room-written : 1 ≤ room_of with → (d : Placed) → 1 ≤ (get_or (arranged (set slots p with) order) i d).room
+      pub room-written : 1 ≤ room_of with → (d : Placed) → 1 ≤ (get_or (containers_at (set slots p with) order) i d).room
       room-written h d =
-          let e : (get_or (arranged (set slots p with) order) i d).room ≡ room_of with = ap (λ l. (get_or l i d).room) written ∙ ap (λ (x : Placed). x.room) (get_or-set_same v i (placed_at p with) d there) in
+          let e : (get_or (containers_at (set slots p with) order) i d).room ≡ room_of with = ap (λ l. (get_or l i d).room) written ∙ ap (λ (x : Placed). x.room) (get_or-set_same v i (placed_at p with) d there) in
           omega (arith, e)
 
       -- where a link alone is set
-      pub conts-linked : cont_of with ≡ cont_of c → conts_of (arranged (set slots p with) order) ≡ conts_of v
+      pub conts-linked : cont_of with ≡ cont_of c → conts_of (containers_at (set slots p with) order) ≡ conts_of v
       conts-linked e = ap conts_of written ∙ map-set_same (λ (x : Placed). x.cont) v i (placed_at p with) (placed_at p c) (e ∙ ap (λ (x : Placed). x.cont) (sym (placed-read (placed_at p c))))
 
-      pub links-linked : (down : Option ℕ) → cont_of with ≡ cont_of c → with.down ≡ down → (d : Link) → links_of (arranged (set slots p with) order) ≡ set (links_of v) i (record (get_or (links_of v) i d) { down = down })
+      pub links-linked : (down : Option ℕ) → cont_of with ≡ cont_of c → with.down ≡ down → (d : Link) → links_of (containers_at (set slots p with) order) ≡ set (links_of v) i (record (get_or (links_of v) i d) { down = down })
       links-linked down e is_down d =
           let same_link : link_of (placed_at p with) ≡ record (link_of (placed_at p c)) { down = down } = λ j. record { epoch = (ap (λ (x : Cont). x.epoch) e) j; place = p; down = is_down j } in
           ap links_of written ∙ map-set link_of v i (placed_at p with)
@@ -152,7 +152,7 @@ module _ {slots : List Container} {order : List ℕ} {v : List Placed} {i p : �
   pub place-read : (d : Link) → (get_or (links_of v) i d).place ≡ p
   place-read d =
       ap (λ l. (get_or (links_of l) i d).place) (sym here.seen)
-      ∙ ap (λ (k : Link). k.place) (get_or-map link_of (arranged slots order) i no_container d (omega (arith, here.in_order, arranged-length slots order)))
+      ∙ ap (λ (k : Link). k.place) (get_or-map link_of (containers_at slots order) i no_container d (omega (arith, here.in_order, arranged-length slots order)))
       ∙ ap (λ (x : Placed). x.place) (get_or-map (slot slots) order i p no_container here.in_order)
       ∙ ap (λ q. (slot slots q).place) (sym here.at)
       ∙ place_in p slots p here.within
@@ -163,7 +163,7 @@ module _ {slots : List Container} {order : List ℕ} {v : List Placed} {i p : �
       place_in r (c ∷ slots) (suc q) h = place_in r slots q (omega arith)
 
 -- a place by that of the list
-pub stands-at : (slots : List Container) (order : List ℕ) {room : ℕ} {free : List ℕ} {v : List Placed} {p : ℕ} (i : ℕ) → AreSlots (length slots) room order free → arranged slots order ≡ v → i < length v → ((d : Link) → (get_or (links_of v) i d).place ≡ p) → StandsIn slots order v i p
+pub stands-at : (slots : List Container) (order : List ℕ) {room : ℕ} {free : List ℕ} {v : List Placed} {p : ℕ} (i : ℕ) → AreSlots (length slots) room order free → containers_at slots order ≡ v → i < length v → ((d : Link) → (get_or (links_of v) i d).place ≡ p) → StandsIn slots order v i p
 stands-at slots order {room} {free} {v} {p} i are seen h is = subst (StandsIn slots order v i) (sym (place-read here no_link) ∙ is no_link) here
   where
     no_link : Link
@@ -176,5 +176,5 @@ stands-at slots order {room} {free} {v} {p} i are seen h is = subst (StandsIn sl
 
     here : StandsIn slots order v i (get_or order i p)
     here =
-        let k : length (arranged slots order) ≡ length v = ap length seen in
+        let k : length (containers_at slots order) ≡ length v = ap length seen in
         stands-in slots order are seen h (any_default order i p (get_or order i p) (omega (arith, arranged-length slots order)))

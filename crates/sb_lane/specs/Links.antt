@@ -34,10 +34,10 @@ with_place epoch place (k ∷ ks) =
     else if nat_lt epoch k.epoch then new_link epoch place ∷ k ∷ ks else k ∷ with_place epoch place ks
 
 -- the links, with that of an epoch set to a place below
-abbrev pub linked : ℕ → ℕ → List Link → List Link
-linked epoch down [] = []
-linked epoch down (k ∷ ks) =
-    if k.epoch == epoch then record k { down = Some down } ∷ ks else k ∷ linked epoch down ks
+abbrev pub with_link : ℕ → ℕ → List Link → List Link
+with_link epoch down [] = []
+with_link epoch down (k ∷ ks) =
+    if k.epoch == epoch then record k { down = Some down } ∷ ks else k ∷ with_link epoch down ks
 
 -- the place below that the container of an epoch is linked to
 abbrev pub down_of : ℕ → List Link → Option ℕ

@@ -41,8 +41,8 @@ abbrev pub slot : List Container → ℕ → Placed
 slot slots p = slice_index_or (map (placed_at p) slots) p no_container
 
 -- the containers of places, in the order of these places
-abbrev pub arranged : List Container → List ℕ → List Placed
-arranged slots order = map (slot slots) order
+abbrev pub containers_at : List Container → List ℕ → List Placed
+containers_at slots order = map (slot slots) order
 
 -- the containers as the core has them
 abbrev pub conts_of : List Placed → List Cont

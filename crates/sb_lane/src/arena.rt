@@ -9,7 +9,7 @@ ghost use Rattle.sb_core.specs.declared.moment.Cont.{Cont as ACont};
 ghost use Rattle.sb_core.specs.Lanes.{fresh, with_bundle};
 ghost use Rattle.sb_lane.specs.Changes.{Changes, DifferInRooms, HasRoomAt, IsPlacedAt, LinksAt};
 ghost use Rattle.sb_lane.specs.Links.{Link, links_of};
-ghost use Rattle.sb_lane.specs.Placed.{Placed, arranged, placed_at, cont_of, conts_of};
+ghost use Rattle.sb_lane.specs.Placed.{Placed, containers_at, placed_at, cont_of, conts_of};
 ghost use Rattle.sb_lane.specs.Slots.{AreSlots, HasPlace};
 ghost use Rattle.sb_lane.specs.Taking.{with_finished};
 ghost use Rattle.sb_lane.specs.Unfinished.{unfinished_in};
@@ -35,12 +35,12 @@ pub(crate) struct Arena {
 
 impl Model for Arena {
     ghost use Rattle.std.specs.Prelude.{List, length, vec_capacity};
-    ghost use Rattle.sb_lane.specs.Placed.{Placed, arranged};
+    ghost use Rattle.sb_lane.specs.Placed.{Placed, containers_at};
     ghost use Rattle.sb_lane.specs.Slots.{AreSlots};
 
     ghost Value = { List Placed };
 
-    ghost view = { λ s. arranged s.slots.items s.order.items };
+    ghost view = { λ s. containers_at s.slots.items s.order.items };
 
     ghost invariant = { λ s. AreSlots (length s.slots.items) (vec_capacity s.free) s.order.items s.free.items };
 }
@@ -92,8 +92,8 @@ fn insert_made(
         (vec_len free.old) (vec_capacity free.old) }
     requires are { AreSlots (length slots.old.items) (vec_capacity free.old) order.old.items free.old.items }
     ensures are { AreSlots (length slots.new.items) (vec_capacity free.new) order.new.items free.new.items }
-    ensures list { arranged slots.new.items order.new.items
-        ≡ insert (arranged slots.old.items order.old.items) at (placed_at result made) }
+    ensures list { containers_at slots.new.items order.new.items
+        ≡ insert (containers_at slots.old.items order.old.items) at (placed_at result made) }
 {
     match free.pop() {
         Some(place) => {

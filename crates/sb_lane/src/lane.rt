@@ -9,7 +9,7 @@ ghost use Rattle.sb_lane.specs.Arriving.{IsRefused};
 ghost use Rattle.sb_lane.specs.Changes.{StandsAt, StandsWithRoom};
 ghost use Rattle.sb_lane.specs.LaneChanges.{Admits, Becomes, EndsOldest, GivesPlace, HasContainers, IsUnchanged, Seals};
 ghost use Rattle.sb_lane.specs.LaneView.{empty_lane, lane_of, one_search_more};
-ghost use Rattle.sb_lane.specs.Links.{down_of, linked, links_of};
+ghost use Rattle.sb_lane.specs.Links.{down_of, with_link, links_of};
 ghost use Rattle.sb_lane.specs.Looks.{look_of};
 ghost use Rattle.sb_lane.specs.Placed.{conts_of, room_in};
 ghost use Rattle.sb_lane.specs.Taking.{finish_first, take_first};
@@ -269,7 +269,7 @@ impl Lane {
     /// Links the container of an epoch, where it is there, to the place below that takes its output.
     pub fn link(&mut self, epoch: u64, down: u64)
         ensures lane { Becomes (lane_of self.old) self.old self.new }
-        ensures links { links_of self.new.containers ≡ linked epoch down (links_of self.old.containers) }
+        ensures links { links_of self.new.containers ≡ with_link epoch down (links_of self.old.containers) }
         ensures searches { self.new.searches ≡ self.old.searches }
     {
         link_in_epoch(&mut self.containers, epoch, down);

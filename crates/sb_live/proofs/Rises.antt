@@ -8,7 +8,7 @@ use Rattle.std.proofs.lemmas.Bool.Decides.{nat_tests}
 use Rattle.sb_record.specs.declared.item.Record.{Record}
 use Rattle.sb_record.specs.Keys.{key_cmp}
 use Rattle.sb_record.specs.Orders.{IsAscending}
-use Rattle.sb_record.specs.Records.{record_cmp, sorted}
+use Rattle.sb_record.specs.Records.{record_cmp, sorted_records}
 use Rattle.sb_record.proofs.Elements.{every, All-anything}
 use Rattle.sb_record.proofs.Sorting.{in_order-ascending, records_total}
 use Rattle.sb_live.specs.Rising.{RiseFrom}
@@ -26,9 +26,9 @@ rise_ascending : (floor : ℕ) (rows : List Record) → AllByRecursion (λ r. fl
 rise_ascending floor [] low up = tt
 rise_ascending floor (r ∷ rows) low up = (low.0, rise_ascending r.time rows (every (not_earlier r) rows up.0) up.1)
 
-pub sorted_rise : (records : List Record) → RiseFrom 0 (sorted records)
-sorted_rise records = rise_ascending 0 (sorted records) (every (λ r _. omega arith) (sorted records) (All-anything (sorted records))) (in_order-ascending records_total records)
+pub sorted_rise : (records : List Record) → RiseFrom 0 (sorted_records records)
+sorted_rise records = rise_ascending 0 (sorted_records records) (every (λ r _. omega arith) (sorted_records records) (All-anything (sorted_records records))) (in_order-ascending records_total records)
 
 -- the first of sorted records rise
-pub first_sorted_rise : (records rows rest : List Record) → sorted records ≡ rows ++ rest → RiseFrom 0 rows
+pub first_sorted_rise : (records rows rest : List Record) → sorted_records records ≡ rows ++ rest → RiseFrom 0 rows
 first_sorted_rise records rows rest are = rise_first 0 rows rest (subst (RiseFrom 0) are (sorted_rise records))

@@ -4,7 +4,7 @@ use Rattle.sb_record.specs.declared.item.Record.{Record}
 use Rattle.sb_record.specs.declared.key.Key.{Key}
 use Rattle.sb_record.specs.declared.key.Keys.{Keys}
 use Rattle.sb_record.specs.Keys.{IsKeyInRange, key_text}
-use Rattle.sb_record.specs.Records.{sorted}
+use Rattle.sb_record.specs.Records.{sorted_records}
 use Rattle.sb_live.specs.declared.change.Change.{Change}
 use Rattle.sb_live.specs.Changes.{rows_in}
 use Rattle.sb_live.specs.Lasts.{last_if_any, last_named, last_of, last_row}
@@ -24,7 +24,7 @@ RisingRowsAreNeverRefused =
 
 -- the first of sorted records rise
 abbrev pub FirstSortedRowsRise : Type 0
-FirstSortedRowsRise = (records rows rest : List Record) → sorted records ≡ rows ++ rest → RiseFrom 0 rows
+FirstSortedRowsRise = (records rows rest : List Record) → sorted_records records ≡ rows ++ rest → RiseFrom 0 rows
 
 -- a text names the key of which it is the text, where a line can give that key
 abbrev pub KeysAreNamedByTheirText : Type 0

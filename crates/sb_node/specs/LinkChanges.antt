@@ -2,7 +2,7 @@
 use Rattle.std.specs.Prelude.{◌≡◌, ℕ, drop}
 use Rattle.sb_lane.specs.Changes.{StandsAt}
 use Rattle.sb_lane.specs.LaneView.{LaneView, one_search_more}
-use Rattle.sb_lane.specs.Links.{linked, links_of, with_place}
+use Rattle.sb_lane.specs.Links.{with_link, links_of, with_place}
 
 -- the links are as before, and so are the searches
 pub record LinksStay (was is : LaneView) : Type 0 where
@@ -29,5 +29,5 @@ pub record FindsPlace (epoch place : ℕ) (was is : LaneView) : Type 0 where
 
 -- the link of an epoch is set
 pub record GetsLink (epoch down : ℕ) (was is : LaneView) : Type 0 where
-  pub links : links_of is.containers ≡ linked epoch down (links_of was.containers)
+  pub links : links_of is.containers ≡ with_link epoch down (links_of was.containers)
   pub searches : is.searches ≡ was.searches

@@ -3,7 +3,7 @@ use Rattle.std.specs.Prelude.{ℕ, Bool, ◌||◌, List, [], map, Option, is_non
 use Rattle.std.specs.BTreeMap.{BTreeMap}
 use Rattle.std.specs.Map.{lookup}
 use Rattle.sb_outside.specs.Folders.{Load}
-use Rattle.sb_outside.specs.Schedules.{counted, next_fails}
+use Rattle.sb_outside.specs.Schedules.{next_count, next_fails}
 
 -- a file: its name and its bytes
 abbrev pub File : Type 0
@@ -34,4 +34,4 @@ load_fails m name = next_fails m.failing m.calls || is_none (file_named m.files 
 
 -- the folder behind the next load, but for the list of those that failed
 abbrev pub after_load : MemLoading → List Load → MemLoading
-after_load m failed = record m { calls = counted m.calls; failed = failed }
+after_load m failed = record m { calls = next_count m.calls; failed = failed }

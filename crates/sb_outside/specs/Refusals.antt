@@ -1,21 +1,21 @@
 -- What a sink over std counts.
 use Rattle.std.specs.Prelude.{◌≡◌, ◌⊎◌, ◌≤◌, true, false, Result, Ok, Err}
-use Rattle.sb_outside.specs.Schedules.{counted}
+use Rattle.sb_outside.specs.Schedules.{next_count}
 use Rattle.sb_outside.specs.Sinks.{SinkState}
 use Rattle.sb_outside.specs.declared.sink.SinkFault.{SinkFault}
 use Rattle.sb_outside.specs.declared.sink.SinkFault.TheVariants as fault
 
 -- one fault more
 abbrev pub after_fault : SinkState → SinkState
-after_fault s = record s { faults = counted s.faults }
+after_fault s = record s { faults = next_count s.faults }
 
 -- one shortage of memory more
 abbrev pub after_shortage : SinkState → SinkState
-after_shortage s = record s { shortages = counted s.shortages }
+after_shortage s = record s { shortages = next_count s.shortages }
 
 -- one fault more, which nobody was told of
 abbrev pub after_untold : SinkState → SinkState
-after_untold s = record s { faults = counted s.faults; refuses = true }
+after_untold s = record s { faults = next_count s.faults; refuses = true }
 
 -- no count falls
 abbrev pub NeverFalls : SinkState → SinkState → Type 0

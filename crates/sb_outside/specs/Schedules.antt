@@ -11,12 +11,12 @@ pub record Schedule : Type 0 where
   pub faults : ℕ
 
 -- one more, up to the end of the count's type
-abbrev pub counted : ℕ → ℕ
-counted n = min (n + 1) (2 ^ 64 - 1)
+abbrev pub next_count : ℕ → ℕ
+next_count n = min (n + 1) (2 ^ 64 - 1)
 
 -- whether the next call, behind so many, is one of those that fail
 abbrev pub next_fails : List ℕ → ℕ → Bool
-next_fails failing calls = list_any (λ call. call == counted calls) failing
+next_fails failing calls = list_any (λ call. call == next_count calls) failing
 
 -- whether the next call fails
 abbrev pub fails : Schedule → Bool
@@ -24,8 +24,8 @@ fails s = next_fails s.failing s.calls
 
 -- how many of the bytes that are offered the next call may take: there is no limit behind the end of the list
 abbrev pub piece_of : Schedule → ℕ → ℕ
-piece_of s offered = min (unwrap_or (slice_get s.pieces (counted s.calls - 1)) offered) offered
+piece_of s offered = min (unwrap_or (slice_get s.pieces (next_count s.calls - 1)) offered) offered
 
 -- the schedule behind the next call
 abbrev pub after_call : Schedule → Schedule
-after_call s = record s { calls = counted s.calls; faults = if fails s then counted s.faults else s.faults }
+after_call s = record s { calls = next_count s.calls; faults = if fails s then next_count s.faults else s.faults }

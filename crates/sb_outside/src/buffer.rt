@@ -23,10 +23,10 @@ pub struct Buffer {
 }
 
 impl Buffer {
-    ghost use Rattle.sb_outside.specs.Buffers.{pending};
+    ghost use Rattle.sb_outside.specs.Buffers.{pending_bytes};
 
     pub fn new() -> Buffer
-        ensures { pending result ≡ [] }
+        ensures { pending_bytes result ≡ [] }
     {
         Buffer {
             bytes: [0; CAPACITY],
@@ -37,15 +37,15 @@ impl Buffer {
 
     /// The bytes at hand.
     pub fn held(&self) -> &[u8]
-        ensures { result.now ≡ pending self.now }
+        ensures { result.now ≡ pending_bytes self.now }
     {
         &self.bytes[self.start..self.end]
     }
 
     /// Takes bytes off the front of those at hand.
     pub fn take(&mut self, count: usize)
-        requires { count ≤ length (pending self.old) }
-        ensures held { pending self.new ≡ drop count (pending self.old) }
+        requires { count ≤ length (pending_bytes self.old) }
+        ensures held { pending_bytes self.new ≡ drop count (pending_bytes self.old) }
         ensures bytes { self.new.bytes ≡ self.old.bytes }
     {
         self.start += count;
@@ -53,7 +53,7 @@ impl Buffer {
 
     /// Takes all bytes at hand.
     pub fn clear(&mut self)
-        ensures held { pending self.new ≡ [] }
+        ensures held { pending_bytes self.new ≡ [] }
         ensures bytes { self.new.bytes ≡ self.old.bytes }
     {
         self.start = self.end;
@@ -61,10 +61,10 @@ impl Buffer {
 
     /// Makes room for more bytes: the whole place, where no byte is at hand.
     fn make_room(&mut self)
-        requires { length (pending self.old) ≤ longest_line + 1 }
-        ensures held { pending self.new ≡ pending self.old }
+        requires { length (pending_bytes self.old) ≤ longest_line + 1 }
+        ensures held { pending_bytes self.new ≡ pending_bytes self.old }
         ensures room { self.new.end < CAPACITY }
-        ensures whole { pending self.old ≡ [] → self.new.end ≡ 0 }
+        ensures whole { pending_bytes self.old ≡ [] → self.new.end ≡ 0 }
     {
         let len = self.end - self.start;
         // Bytes that would overlap the place that they move to have room behind them.
@@ -77,9 +77,9 @@ impl Buffer {
 
     /// Reads more bytes behind those at hand: none only at the end of the source.
     pub fn fill<S: Source>(&mut self, source: &mut S) -> Result<usize, SourceFault>
-        requires { length (pending self.old) ≤ longest_line + 1 }
+        requires { length (pending_bytes self.old) ≤ longest_line + 1 }
         ensures bytes { Fills (S.left source.old) (S.left source.new)
-            (pending self.old) (pending self.new) result }
+            (pending_bytes self.old) (pending_bytes self.new) result }
         ensures cause { SourceCause (S.faults source.old) (S.faults source.new) result }
         ensures end { result ≡ Ok 0 → S.has_ended source.new }
         ensures name { S.name source.new ≡ S.name source.old }

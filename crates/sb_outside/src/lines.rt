@@ -80,14 +80,14 @@ pub struct LineBuffer {
 
 impl Model for LineBuffer {
     ghost use Rattle.std.specs.Prelude.{◌≤◌, ◌+◌, slice_range};
-    ghost use Rattle.sb_outside.specs.Buffers.{pending};
+    ghost use Rattle.sb_outside.specs.Buffers.{pending_bytes};
     ghost use Rattle.sb_outside.specs.declared.buffer.TheConstants.{CAPACITY};
     ghost use Rattle.sb_outside.specs.Readings.{Held};
 
     ghost Value = { Held };
 
     ghost view = { λ r. record {
-      at_hand = pending r.buffer;
+      at_hand = pending_bytes r.buffer;
       line = slice_range r.buffer.bytes r.from (r.from + r.len);
       halt = r.halt;
     } };

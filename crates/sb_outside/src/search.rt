@@ -2,7 +2,7 @@
 
 ghost use Rattle.std.specs.Prelude.{◌≡◌, ◌≢◌, [], false};
 ghost use Rattle.sb_outside.specs.Lines.{lines};
-ghost use Rattle.sb_outside.specs.Buffers.{pending};
+ghost use Rattle.sb_outside.specs.Buffers.{pending_bytes};
 ghost use Rattle.sb_outside.specs.Looks.{IsOpen};
 ghost use Rattle.sb_outside.specs.Searches.{IsLast, MeetsEnd, Says, Gives};
 
@@ -26,10 +26,10 @@ pub enum Found {
 #[tactic(auto, using(crate::proofs::Searches::gives_more))]
 pub fn search<S: Source>(source: &mut S, buffer: &mut Buffer) -> Found
     ensures bytes { Gives (S.left source.old) (S.left source.new)
-        (pending buffer.old) (pending buffer.new) }
-    ensures says { Says (pending buffer.new) (S.left source.new)
+        (pending_bytes buffer.old) (pending_bytes buffer.new) }
+    ensures says { Says (pending_bytes buffer.new) (S.left source.new)
         (S.faults source.old) (S.faults source.new) result }
-    ensures unread { lines false (pending buffer.old) ≢ [] → source.new ≡ source.old }
+    ensures unread { lines false (pending_bytes buffer.old) ≢ [] → source.new ≡ source.old }
     ensures end { MeetsEnd result → S.has_ended source.new }
     ensures name { S.name source.new ≡ S.name source.old }
 {

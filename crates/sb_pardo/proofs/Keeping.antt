@@ -13,7 +13,7 @@ use Rattle.sb_record.proofs.Elements.{All-map}
 use Rattle.sb_pardo.specs.declared.operation.Change.{Change}
 use Rattle.sb_pardo.specs.declared.operation.Change.TheVariants.{KeyMod, KeyDiv, KeySet, ValueAdd, ValueMul, ValueSet}
 use Rattle.sb_pardo.specs.declared.operation.Op.TheVariants.{Filter, Map, Expand, Lookup}
-use Rattle.sb_pardo.specs.Outputs.{changed, field_of, is_passed, value_plus, with_image}
+use Rattle.sb_pardo.specs.Outputs.{changed_record, field_of, is_passed, value_plus, with_image}
 use Rattle.sb_pardo.specs.KeyNumbers.{number_changed}
 use Rattle.sb_pardo.specs.Validity.{IsValidChange}
 use Rattle.sb_pardo.specs.Laws.{OutputsKeepKeysInRange, OutputsKeepTheTime, OutputsAreFew}
@@ -30,7 +30,7 @@ key_with_image : (image : Option Key) (r : Record) → IfSome image IsKey → Al
 key_with_image (Some image) r small = (small, tt)
 key_with_image None r small = tt
 
-time-changed : (change : Change) (r : Record) → (changed change r).time ≡ r.time
+time-changed : (change : Change) (r : Record) → (changed_record change r).time ≡ r.time
 time-changed (KeyMod n) r = refl
 time-changed (KeyDiv n) r = refl
 time-changed (KeySet n) r = refl
@@ -43,7 +43,7 @@ number_kept : (change : ℕ → ℕ) → ((k : ℕ) → change k ≤ k) → (key
 number_kept change less (Number k) small = omega (arith, less k)
 number_kept change less (Word w) small = small
 
-key_changed : (change : Change) (r : Record) → IsValidChange change → IsKey r.key → IsKey (changed change r).key
+key_changed : (change : Change) (r : Record) → IsValidChange change → IsKey r.key → IsKey (changed_record change r).key
 key_changed (KeyMod n) r valid small = number_kept (λ k. k % n) (λ k. omega arith) r.key small
 key_changed (KeyDiv n) r valid small = number_kept (λ k. k / n) (λ k. div-le_self k n) r.key small
 key_changed (KeySet n) r valid small = valid

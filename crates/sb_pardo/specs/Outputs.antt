@@ -42,13 +42,13 @@ value_plus r n = record r { value = int_wrapping_add w64 r.value n }
 abbrev pub value_times : Record → ℤ → Record
 value_times r n = record r { value = int_wrapping_mul w64 r.value n }
 
-abbrev pub changed : Change → Record → Record
-changed (KeyMod n) r = record r { key = number_changed (λ k. k % n) r.key }
-changed (KeyDiv n) r = record r { key = number_changed (λ k. k / n) r.key }
-changed (KeySet n) r = record r { key = Number n }
-changed (ValueAdd n) r = value_plus r n
-changed (ValueMul n) r = value_times r n
-changed (ValueSet n) r = record r { value = n }
+abbrev pub changed_record : Change → Record → Record
+changed_record (KeyMod n) r = record r { key = number_changed (λ k. k % n) r.key }
+changed_record (KeyDiv n) r = record r { key = number_changed (λ k. k / n) r.key }
+changed_record (KeySet n) r = record r { key = Number n }
+changed_record (ValueAdd n) r = value_plus r n
+changed_record (ValueMul n) r = value_times r n
+changed_record (ValueSet n) r = record r { value = n }
 
 -- the record under the image of its key, where there is one
 abbrev pub with_image : Option RecordKey → Record → List Record
@@ -57,7 +57,7 @@ with_image None r = []
 
 abbrev pub outputs_of : Op → Record → List Record
 outputs_of (Filter field test n) r = if is_passed test (field_of field r) n then r ∷ [] else []
-outputs_of (Map change) r = changed change r ∷ []
+outputs_of (Map change) r = changed_record change r ∷ []
 outputs_of (Expand addends) r = map (value_plus r) addends
 outputs_of (Lookup table) r = with_image (get table r.key) r
 

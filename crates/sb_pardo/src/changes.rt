@@ -60,7 +60,7 @@ fn quotient(key: Key, divisor: u64) -> Key
 /// The record, changed.
 pub(crate) fn changed(change: Change, input: &Record) -> Record
     requires { IsValidChange change }
-    ensures { result ≡ spec.changed change input.now }
+    ensures { result ≡ spec.changed_record change input.now }
 {
     match change {
         Change::KeyMod(divisor) => with_key(input, remainder(input.key, divisor)),

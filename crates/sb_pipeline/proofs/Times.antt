@@ -8,7 +8,7 @@ use Rattle.sb_record.specs.declared.item.Record.{Record}
 use Rattle.sb_record.specs.declared.item.Stream.{Stream}
 use Rattle.sb_record.specs.declared.item.Stream.TheVariants.{A, B}
 use Rattle.sb_record.specs.declared.item.TheConstants.{MAX_TIME, END_MARK}
-use Rattle.sb_record.specs.Records.{before, sorted}
+use Rattle.sb_record.specs.Records.{before, sorted_records}
 use Rattle.sb_record.proofs.Elements.{every, All-join, All-flat_map}
 use Rattle.sb_window.specs.declared.windows.TheConstants.{MAX_SIZE}
 use Rattle.sb_pardo.specs.Outputs.{outputs_of}
@@ -25,7 +25,7 @@ use Rattle.sb_record.specs.Elements.{on_lane, all_records, of_lane}
 use Rattle.sb_pipeline.specs.Operators.{operator_of, operator_at, output}
 use Rattle.sb_pipeline.specs.Shapes.{Shape}
 use Rattle.sb_pipeline.specs.Plans.{IsPlan, IsValidKind}
-use Rattle.sb_pipeline.specs.Flow.{Sent, arriving, from_stream, from_streams, from_step, sent_from}
+use Rattle.sb_pipeline.specs.Flow.{Sent, arrivals_at, from_stream, from_streams, from_step, sent_from}
 use Rattle.sb_pipeline.specs.Results.{output_at, output_of, all_rows}
 use Rattle.sb_record.proofs.OnLanes.{All-on_lane, All-all_records, All-of_lane}
 use Rattle.sb_pipeline.proofs.Steps.{kind-at}
@@ -61,7 +61,7 @@ output-times (Join combine windows) valid bound elements low =
     (join_rows-times combine windows bound (of_lane 0 elements) (of_lane 1 elements) (All-of_lane (λ r. r.time ≤ bound) 0 elements low))
 
 -- what arrives at a node
-pub arriving-times : (k : ℕ) (sent : List Sent) → AreTimely sent → AllByRecursion (λ e. e.rec.time ≤ latest k) (arriving k sent)
+pub arriving-times : (k : ℕ) (sent : List Sent) → AreTimely sent → AllByRecursion (λ e. e.rec.time ≤ latest k) (arrivals_at k sent)
 arriving-times k sent timely = All-flat_map IsTimely (λ e. e.rec.time ≤ latest k) (λ s. cond (eqb s.down.node k) (on_lane s.down.lane s.records) []) (λ s h. by_case s (eqb s.down.node k) refl h) sent timely
   where
     by_case : (s : Sent) (b : Bool) → eqb s.down.node k ≡ b → IsTimely s → AllByRecursion (λ e. e.rec.time ≤ latest k) (cond b (on_lane s.down.lane s.records) [])
@@ -69,16 +69,16 @@ arriving-times k sent timely = All-flat_map IsTimely (λ e. e.rec.time ≤ lates
     by_case s false e h = tt
 
 -- what one transform sends
-pub from_step-timely : (plan : Shape) → IsPlan plan → (k : ℕ) (s : Step) → slice_get plan.steps k ≡ Some s → (sent : List Sent) → AreTimely sent → IsTimely (from_step s (output_at plan k (arriving k sent)))
+pub from_step-timely : (plan : Shape) → IsPlan plan → (k : ℕ) (s : Step) → slice_get plan.steps k ≡ Some s → (sent : List Sent) → AreTimely sent → IsTimely (from_step s (output_at plan k (arrivals_at k sent)))
 from_step-timely plan is k s at sent timely =
     let later : k < s.down.node = is.further k s at in
-    every (λ r h. omega (arith, h, later)) (output_at plan k (arriving k sent))
-    (subst (λ o. AllByRecursion (λ r. r.time ≤ latest k + MAX_SIZE) (output (operator_at o) (arriving k sent))) (sym at)
-    (output-times s.kind (kind-at plan is k s at) (latest k) (arriving k sent) (arriving-times k sent timely)))
+    every (λ r h. omega (arith, h, later)) (output_at plan k (arrivals_at k sent))
+    (subst (λ o. AllByRecursion (λ r. r.time ≤ latest k + MAX_SIZE) (output (operator_at o) (arrivals_at k sent))) (sym at)
+    (output-times s.kind (kind-at plan is k s at) (latest k) (arrivals_at k sent) (arriving-times k sent timely)))
 
 -- one step of the flow
-pub sent-step-timely : (plan : Shape) → IsPlan plan → (k : ℕ) (s : Step) → slice_get plan.steps k ≡ Some s → (sent : List Sent) → AreTimely sent → AreTimely (sent ++ from_step s (output_at plan k (arriving k sent)) ∷ [])
-sent-step-timely plan is k s at sent timely = All-join IsTimely sent (from_step s (output_at plan k (arriving k sent)) ∷ []) timely (from_step-timely plan is k s at sent timely, tt)
+pub sent-step-timely : (plan : Shape) → IsPlan plan → (k : ℕ) (s : Step) → slice_get plan.steps k ≡ Some s → (sent : List Sent) → AreTimely sent → AreTimely (sent ++ from_step s (output_at plan k (arrivals_at k sent)) ∷ [])
+sent-step-timely plan is k s at sent timely = All-join IsTimely sent (from_step s (output_at plan k (arrivals_at k sent)) ∷ []) timely (from_step-timely plan is k s at sent timely, tt)
 
 -- what the streams send
 pub from_streams-timely : (plan : Shape) (streams : Stream → List Record) → ((s : Stream) → IsInTime (streams s)) → AreTimely (from_streams plan streams)
@@ -94,7 +94,7 @@ pub sent_from-timely : (plan : Shape) → IsPlan plan → (k : ℕ) (steps : Lis
     → (sent : List Sent) → AreTimely sent → AreTimely (sent_from (output_at plan) k steps sent)
 sent_from-timely plan is k [] at sent timely = timely
 sent_from-timely plan is k (s ∷ steps) at sent timely =
-    sent_from-timely plan is (k + 1) steps later (sent ++ from_step s (output_at plan k (arriving k sent)) ∷ []) (sent-step-timely plan is k s here sent timely)
+    sent_from-timely plan is (k + 1) steps later (sent ++ from_step s (output_at plan k (arrivals_at k sent)) ∷ []) (sent-step-timely plan is k s here sent timely)
   where
     here : slice_get plan.steps k ≡ Some s
     here = let z : k + 0 ≡ k = omega arith in ap (slice_get plan.steps) (sym z) ∙ at 0 s refl
@@ -108,15 +108,15 @@ output_of-times plan is streams in_time =
     let n : ℕ = length plan.steps in
     let sent : List Sent = sent_from (output_at plan) 0 plan.steps (from_streams plan streams) in
     let timely : AreTimely sent = sent_from-timely plan is 0 plan.steps from_first (from_streams plan streams) (from_streams-timely plan streams in_time) in
-    subst (λ o. AllByRecursion (λ r. r.time < END_MARK) (output (operator_at o) (arriving n sent))) (sym (slice_get_past plan.steps n (omega arith)))
-    (All-all_records (λ r. r.time < END_MARK) (arriving n sent) (every (λ e h. omega (arith, h, is.most)) (arriving n sent) (arriving-times n sent timely)))
+    subst (λ o. AllByRecursion (λ r. r.time < END_MARK) (output (operator_at o) (arrivals_at n sent))) (sym (slice_get_past plan.steps n (omega arith)))
+    (All-all_records (λ r. r.time < END_MARK) (arrivals_at n sent) (every (λ e h. omega (arith, h, is.most)) (arrivals_at n sent) (arriving-times n sent timely)))
   where
     from_first : (i : ℕ) (s : Step) → slice_get plan.steps i ≡ Some s → slice_get plan.steps (0 + i) ≡ Some s
     from_first i s h = let e : 0 + i ≡ i = omega arith in ap (slice_get plan.steps) e ∙ h
 
 -- so the rows of all windows are all that the plan gives
-pub all_rows-sorted : (plan : Shape) → IsPlan plan → (streams : Stream → List Record) → ((s : Stream) → IsInTime (streams s)) → all_rows plan streams ≡ sorted (output_of plan streams)
-all_rows-sorted plan is streams in_time = ap sorted (none_late (output_of plan streams) (output_of-times plan is streams in_time))
+pub all_rows-sorted : (plan : Shape) → IsPlan plan → (streams : Stream → List Record) → ((s : Stream) → IsInTime (streams s)) → all_rows plan streams ≡ sorted_records (output_of plan streams)
+all_rows-sorted plan is streams in_time = ap sorted_records (none_late (output_of plan streams) (output_of-times plan is streams in_time))
   where
     none_late : (l : List Record) → AllByRecursion (λ r. r.time < END_MARK) l → before END_MARK l ≡ l
     none_late [] low = refl

@@ -15,8 +15,8 @@ pub record Sent : Type 0 where
   pub records : List Record
 
 -- what arrives at node k, of all that was sent
-abbrev pub arriving : ℕ → List Sent → List KeptRec
-arriving k sent = flat_map (λ s. if s.down.node == k then on_lane s.down.lane s.records else []) sent
+abbrev pub arrivals_at : ℕ → List Sent → List KeptRec
+arrivals_at k sent = flat_map (λ s. if s.down.node == k then on_lane s.down.lane s.records else []) sent
 
 -- what a stream sends
 abbrev pub from_stream : Option Down → List Record → List Sent
@@ -36,9 +36,10 @@ from_step step records = record { down = step.down; records = records }
 abbrev pub sent_from : (ℕ → List KeptRec → List Record) → ℕ → List Step → List Sent → List Sent
 sent_from gives k [] sent = sent
 sent_from gives k (step ∷ steps) sent =
-    sent_from gives (k + 1) steps (sent ++ from_step step (gives k (arriving k sent)) ∷ [])
+    sent_from gives (k + 1) steps (sent ++ from_step step (gives k (arrivals_at k sent)) ∷ [])
 
 -- what the sink gives for what arrives at it
 abbrev pub flow : Shape → (ℕ → List KeptRec → List Record) → (Stream → List Record) → List Record
 flow plan gives streams =
-    gives (length plan.steps) (arriving (length plan.steps) (sent_from gives 0 plan.steps (from_streams plan streams)))
+    gives (length plan.steps)
+    (arrivals_at (length plan.steps) (sent_from gives 0 plan.steps (from_streams plan streams)))

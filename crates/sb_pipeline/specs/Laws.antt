@@ -4,9 +4,9 @@ use Rattle.sb_record.specs.declared.item.Record.{Record}
 use Rattle.sb_record.specs.declared.item.Stream.{Stream}
 use Rattle.sb_record.specs.declared.item.Stream.TheVariants.{A}
 use Rattle.sb_record.specs.Lines.{IsInRange}
-use Rattle.sb_record.specs.Records.{before, sorted}
+use Rattle.sb_record.specs.Records.{before, sorted_records}
 use Rattle.sb_window.specs.declared.windows.TheConstants.{MAX_SIZE}
-use Rattle.sb_window.specs.Spacing.{fixed}
+use Rattle.sb_window.specs.Spacing.{fixed_windows}
 use Rattle.sb_window.specs.Aggregations.{sum_rows}
 use Rattle.sb_aggregate.specs.declared.session.TheConstants.{MAX_GAP}
 use Rattle.sb_pipeline.specs.declared.transform.TheConstants.{MAX_TRANSFORMS}
@@ -27,7 +27,7 @@ SumPlanIsPlan = (size : ℕ) → 1 ≤ size → size ≤ MAX_SIZE → IsPlan (su
 abbrev pub SumPlanGivesSums : Type 0
 SumPlanGivesSums =
     (size w : ℕ) (streams : Stream → List Record)
-    → rows_below w (sum_shape size) streams ≡ sorted (before w (sum_rows (fixed size) (streams A)))
+    → rows_below w (sum_shape size) streams ≡ sorted_records (before w (sum_rows (fixed_windows size) (streams A)))
 
 -- the rows below a watermark begin those below each later one
 abbrev pub RowsOfEarlierWatermarksComeFirst : Type 0
@@ -39,4 +39,5 @@ RowsOfEarlierWatermarksComeFirst =
 abbrev pub AllRowsAreTheSortedOutput : Type 0
 AllRowsAreTheSortedOutput =
     (plan : Shape) → IsPlan plan → (streams : Stream → List Record)
-    → ((s : Stream) → All (IsInRange plan.keys) (streams s)) → all_rows plan streams ≡ sorted (output_of plan streams)
+    → ((s : Stream) → All (IsInRange plan.keys) (streams s))
+    → all_rows plan streams ≡ sorted_records (output_of plan streams)

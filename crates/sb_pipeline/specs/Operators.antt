@@ -54,13 +54,13 @@ reach (Sessions agg gap) = gap
 reach (Joined combine windows) = windows.size
 
 -- what a window operator gives over all of its input
-abbrev pub grouped : WindowOperator → List KeptRec → List Record
-grouped (Aggregated agg windows) elements = aggregate_rows agg windows (all_records elements)
-grouped (Sessions agg gap) elements = session_rows agg gap (all_records elements)
-grouped (Joined combine windows) elements = join_rows combine windows (of_lane 0 elements) (of_lane 1 elements)
+abbrev pub operator_rows : WindowOperator → List KeptRec → List Record
+operator_rows (Aggregated agg windows) elements = aggregate_rows agg windows (all_records elements)
+operator_rows (Sessions agg gap) elements = session_rows agg gap (all_records elements)
+operator_rows (Joined combine windows) elements = join_rows combine windows (of_lane 0 elements) (of_lane 1 elements)
 
 -- what a node gives over all of its input; the sink gives it as it is
 abbrev pub output : Operator → List KeptRec → List Record
 output (ParDo op) elements = flat_map (outputs_of op) (all_records elements)
-output (Windowed grouping) elements = grouped grouping elements
+output (Windowed grouping) elements = operator_rows grouping elements
 output Sink elements = all_records elements

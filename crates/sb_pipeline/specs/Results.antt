@@ -3,7 +3,7 @@ use Rattle.std.specs.Prelude.{ℕ, List, slice_get}
 use Rattle.sb_record.specs.declared.item.Record.{Record}
 use Rattle.sb_record.specs.declared.item.Stream.{Stream}
 use Rattle.sb_record.specs.declared.item.TheConstants.{END_MARK}
-use Rattle.sb_record.specs.Records.{before, sorted}
+use Rattle.sb_record.specs.Records.{before, sorted_records}
 use Rattle.sb_record.specs.declared.element.KeptRec.{KeptRec}
 use Rattle.sb_pipeline.specs.Flow.{flow}
 use Rattle.sb_pipeline.specs.Operators.{operator_at, output}
@@ -19,7 +19,7 @@ output_of plan streams = flow plan (output_at plan) streams
 
 -- the rows with time below w
 abbrev pub rows_below : ℕ → Shape → (Stream → List Record) → List Record
-rows_below w plan streams = sorted (before w (output_of plan streams))
+rows_below w plan streams = sorted_records (before w (output_of plan streams))
 
 -- the rows of all windows: the end of the streams is a watermark above every time
 abbrev pub all_rows : Shape → (Stream → List Record) → List Record

@@ -7,7 +7,7 @@ use Rattle.sb_record.specs.declared.item.Stream.TheVariants.{A, B}
 use Rattle.sb_record.specs.declared.item.Streams.{Streams}
 use Rattle.sb_record.specs.declared.key.Keys.{Keys}
 use Rattle.sb_record.specs.declared.key.Keys.TheVariants.{Numbers}
-use Rattle.sb_window.specs.Spacing.{fixed}
+use Rattle.sb_window.specs.Spacing.{fixed_windows}
 use Rattle.sb_aggregate.specs.declared.aggregate.Agg.TheVariants.{Sum}
 use Rattle.sb_pipeline.specs.declared.transform.Down.{Down}
 use Rattle.sb_pipeline.specs.declared.transform.Kind.TheVariants.{Group}
@@ -62,5 +62,5 @@ feeds plan place = count_by (is_same_place place) (downs plan)
 -- one sum over fixed windows of stream a
 abbrev pub sum_shape : ℕ → Shape
 sum_shape size =
-    shape_of (record { kind = Group Sum (fixed size); down = record { node = 1; lane = 0 } } ∷ [])
+    shape_of (record { kind = Group Sum (fixed_windows size); down = record { node = 1; lane = 0 } } ∷ [])
     (Some (record { node = 0; lane = 0 })) None

@@ -8,7 +8,7 @@ use Rattle.sb_plan.specs.declared.entry.Entry.{Entry}
 use Rattle.sb_plan.specs.Failures.{by_text}
 use Rattle.sb_plan.specs.Failures.Failure.{Fails}
 use Rattle.sb_plan.specs.Entries.{entry_at}
-use Rattle.sb_plan.specs.Wiring.{connected}
+use Rattle.sb_plan.specs.Wiring.{with_transform}
 use Rattle.std.proofs.lemmas.List.{drop_all}
 use Rattle.toml.specs.View.{items_view}
 use Rattle.toml.specs.declared.value.Value.{Value}
@@ -26,7 +26,7 @@ unfolding wired_from
 takes_refused files place old value rest cause h = rw h refl
 
 pub element_wired-entry : (files : Files) (wiring : Wiring) (value : Data) (table : Members) (entry : Entry) → as_table value ≡ Some table → entry_at files wiring.keys wiring.parts table ≡ Ok entry
-    → element_wired files wiring value ≡ by_text (connected entry wiring)
+    → element_wired files wiring value ≡ by_text (with_transform entry wiring)
 unfolding element_wired
 element_wired-entry files wiring value table entry is h = rw is (rw h refl)
 

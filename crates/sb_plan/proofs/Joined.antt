@@ -22,7 +22,7 @@ use Rattle.sb_plan.proofs.Counting.{count_by-not_any}
 use Rattle.sb_plan.proofs.Passed.{of_text, passed, passed_unless}
 use Rattle.sb_plan.specs.Answers.{ChangesTo}
 use Rattle.sb_plan.specs.Failures.{by_text}
-use Rattle.sb_plan.specs.Wiring.{input_sent, right_sent, inputs_sent, is_second_join, with_part, connected}
+use Rattle.sb_plan.specs.Wiring.{input_sent, right_sent, inputs_sent, is_second_join, with_part, with_transform}
 use Rattle.sb_plan.specs.Soundness.{IsSound, IsValidEntry, IsLane, lanes_in, goes, fed_by}
 use Rattle.sb_plan.proofs.Sent.{Sent, sent_none, sent_more, new_at, kind_of}
 
@@ -197,8 +197,8 @@ all_sent entry n w v two h =
         subst (λ m. Sent n m w v) (sym many) (sent_more n 1 w x s key.With input v g)
 
 -- a transform that is connected keeps the wiring sound
-pub connected_sound : (entry : Entry) (w u : Wiring) → connected entry w ≡ Ok u → IsValidEntry entry → IsSound w → IsSound u × (length u.parts ≡ length w.parts + 1)
-unfolding connected
+pub connected_sound : (entry : Entry) (w u : Wiring) → with_transform entry w ≡ Ok u → IsValidEntry entry → IsSound w → IsSound u × (length u.parts ≡ length w.parts + 1)
+unfolding with_transform
 connected_sound entry w u h valid is =
     let single = passed_unless (is_second_join entry.kind w.parts) cause.TwoJoins _ u h in
     let sent = passed (inputs_sent (length w.parts) entry w) _ u single.1 in
@@ -211,7 +211,7 @@ connected_sound entry w u h valid is =
     )
 
 -- the same of an answer that may want memory
-pub connects_sound : {A : Type 0} (entry : Entry) (w u : Wiring) (r : Result A Stop) → ChangesTo r (by_text (connected entry w)) u → IsValidEntry entry → IsSound w
+pub connects_sound : {A : Type 0} (entry : Entry) (w u : Wiring) (r : Result A Stop) → ChangesTo r (by_text (with_transform entry w)) u → IsValidEntry entry → IsSound w
     → OnOk r (IsSound u × (length u.parts ≡ length w.parts + 1))
-connects_sound entry w u (Ok x) h valid is = connected_sound entry w u (of_text (connected entry w) u h) valid is
+connects_sound entry w u (Ok x) h valid is = connected_sound entry w u (of_text (with_transform entry w) u h) valid is
 connects_sound entry w u (Err s) h valid is = tt

@@ -17,7 +17,7 @@ use Rattle.sb_record.specs.Words.{is_word}
 use Rattle.sb_record.proofs.Numbers.{whole_number_exact}
 use Rattle.sb_outside.specs.Folders.{Files}
 use Rattle.sb_window.specs.declared.windows.TheConstants.{MAX_SIZE, MAX_WINDOWS_OF_A_TIME}
-use Rattle.sb_window.specs.Spacing.{Spacing, AreWindows, fixed}
+use Rattle.sb_window.specs.Spacing.{Spacing, AreWindows, fixed_windows}
 use Rattle.sb_window.specs.Windows.{spacing_of}
 use Rattle.sb_window.specs.declared.windows.BadWindow.TheVariants as bad
 use Rattle.sb_pardo.proofs.Tables.{no_images, images_with}
@@ -113,7 +113,7 @@ expand-valid table t h =
     let same : Do (Expand addends.0) ≡ t = let is_ok = fits.1 in cc in
     subst (IsOfKind kind.Expand) same ((leb-true 1 (length addends.0) both.0, leb-true (length addends.0) MAX_ADDENDS both.1), refl)
 
-fixed-valid : (size : ℕ) → 1 ≤ size → size ≤ MAX_SIZE → AreWindows (fixed size)
+fixed-valid : (size : ℕ) → 1 ≤ size → size ≤ MAX_SIZE → AreWindows (fixed_windows size)
 fixed-valid size some most = search rules
 
 spacing-valid : (size every : ℕ) (w : Spacing) → spacing_of size every ≡ Ok w → AreWindows w
@@ -139,11 +139,11 @@ every-valid : (size : ℕ) (table : Members) (w : Spacing) → 1 ≤ size → si
 unfolding windows_every
 every-valid size table w some most h = by_case (is_some (get_member (key_text key.Every) table)) h
   where
-    by_case : (b : Bool) → cond b (then_test (number_at 1 MAX_SIZE key.Every table) (λ every. in_place_of (λ _. OutOfRange key.Every) (spacing_of size every))) (Ok (fixed size)) ≡ Ok w → AreWindows w
+    by_case : (b : Bool) → cond b (then_test (number_at 1 MAX_SIZE key.Every table) (λ every. in_place_of (λ _. OutOfRange key.Every) (spacing_of size every))) (Ok (fixed_windows size)) ≡ Ok w → AreWindows w
     by_case true g =
         let every = passed (number_at 1 MAX_SIZE key.Every table) _ w g in
         spacing-valid size every.0 w (in_place (λ _. OutOfRange key.Every) (spacing_of size every.0) w every.2)
-    by_case false g = let same : fixed size ≡ w = cc in subst AreWindows same (fixed-valid size some most)
+    by_case false g = let same : fixed_windows size ≡ w = cc in subst AreWindows same (fixed-valid size some most)
 
 windows-valid : (table : Members) (w : Spacing) → windows_at table ≡ Ok w → AreWindows w
 unfolding windows_at
@@ -191,7 +191,7 @@ join-valid table t h =
     let size = passed (number_at 1 MAX_SIZE key.Size table) _ t h in
     let combine = passed (word_at combine_named key.Give table) _ t size.2 in
     let range = numbers 1 MAX_SIZE key.Size table size.0 size.1 in
-    let same : Join combine.0 (fixed size.0) ≡ t = cc in
+    let same : Join combine.0 (fixed_windows size.0) ≡ t = cc in
     subst (IsOfKind kind.Join) same ((fixed-valid size.0 range.0 range.1, refl), refl)
 
 -- what a field spells is a key

@@ -30,9 +30,9 @@ use Rattle.sb_plan.specs.Keys.{typed_at, word_or}
 use Rattle.sb_plan.specs.Words.{keys_named, late_named}
 use Rattle.sb_plan.specs.Kinds.{transform_at}
 use Rattle.sb_plan.specs.Entries.{all_keys, entry_at, is_key_of, kind_at, name_at, right_at}
-use Rattle.sb_plan.specs.Wiring.{connected}
+use Rattle.sb_plan.specs.Wiring.{with_transform}
 use Rattle.sb_plan.specs.Soundness.{IsOfKind, IsSound, IsValidEntry, names_join}
-use Rattle.sb_plan.specs.PlanFiles.{at_place, document_of, element_wired, fault_at, finished, first_unused, is_document_key, item_count, plan_of, shape_of, transforms_of, unwired, used_by, wired_from}
+use Rattle.sb_plan.specs.PlanFiles.{at_place, document_of, element_wired, fault_at, finished_plan, first_unused, is_document_key, item_count, plan_of, shape_of, transforms_of, first_wiring, used_by, wired_from}
 use Rattle.sb_plan.proofs.Naming.{kind_at-named}
 use Rattle.sb_plan.proofs.OfKinds.{transform-valid}
 use Rattle.sb_plan.proofs.Passed.{of_text, passed, passed_if, passed_text, passed_unless}
@@ -83,11 +83,11 @@ wired_sound files place w u (item value rest) is h =
     let more = passed_place place (element_wired files w value) _ u h in
     let table = passed_text (or_fault (cause.WrongType key.Transform) (as_table value)) _ more.0 more.1 in
     let entry = passed (entry_at files w.keys w.parts table.0) _ more.0 table.2 in
-    let one = connected_sound entry.0 w more.0 (of_text (connected entry.0 w) more.0 entry.2) (entry-valid files w.keys w.parts table.0 entry.0 entry.1) is in
+    let one = connected_sound entry.0 w more.0 (of_text (with_transform entry.0 w) more.0 entry.2) (entry-valid files w.keys w.parts table.0 entry.0 entry.1) is in
     let all = wired_sound files (place + 1) more.0 u rest one.0 more.2 in
     (all.0, omega (arith, all.1, one.1))
 
-unwired_sound : (late : LatePolicy) (keys : Keys) → IsSound (unwired late keys)
+unwired_sound : (late : LatePolicy) (keys : Keys) → IsSound (first_wiring late keys)
 unwired_sound late keys = record {
   kinds = λ k p at. cc;
   joins = omega arith;
@@ -100,15 +100,15 @@ unwired_sound late keys = record {
 
 -- the plan of the elements
 elements_plan : (files : Files) (late : LatePolicy) (keys : Keys) (items : Items) (plan : Shape) → transforms_of files late keys items ≡ Ok plan → IsPlan plan
-unfolding transforms_of finished
+unfolding transforms_of finished_plan
 elements_plan files late keys items plan h =
     let some = passed_unless (item_count items == 0) (Fails (fault_at 0 (cause.OutOfRange key.Transform))) _ plan h in
     let most = passed_unless (nat_lt MAX_TRANSFORMS (item_count items)) (Fails (fault_at 0 cause.TooMany)) _ plan some.1 in
-    let wired = passed (wired_from files 1 (unwired late keys) items) _ plan most.1 in
-    let sound = wired_sound files 1 (unwired late keys) wired.0 items (unwired_sound late keys) wired.1 in
+    let wired = passed (wired_from files 1 (first_wiring late keys) items) _ plan most.1 in
+    let sound = wired_sound files 1 (first_wiring late keys) wired.0 items (unwired_sound late keys) wired.1 in
     let one : 1 ≤ item_count items = let e = some.0 in grind (arith, nat_tests) in
     let twelve : item_count items ≤ MAX_TRANSFORMS = ltb-false MAX_TRANSFORMS (item_count items) most.0 in
-    by_used wired.0 sound.0 (omega (arith, sound.1, one)) (omega (arith, sound.1, twelve)) (first_unused wired.0.parts) refl (of_text (finished wired.0) plan wired.2)
+    by_used wired.0 sound.0 (omega (arith, sound.1, one)) (omega (arith, sound.1, twelve)) (first_unused wired.0.parts) refl (of_text (finished_plan wired.0) plan wired.2)
   where
     by_used : (w : Wiring) → IsSound w → 1 ≤ length w.parts → length w.parts ≤ MAX_TRANSFORMS → (o : Option ℕ) → first_unused w.parts ≡ o → used_by o w ≡ Ok plan → IsPlan plan
     by_used w is one twelve (Some k) e g = cc

@@ -14,7 +14,7 @@ use Rattle.sb_plan.specs.declared.fault.PlanKey.{PlanKey}
 use Rattle.sb_plan.specs.declared.fault.PlanCause.{PlanCause}
 use Rattle.sb_plan.specs.declared.fault.PlanCause.TheVariants.{UnknownFrom}
 use Rattle.sb_plan.proofs.Counting.{All-unfound}
-use Rattle.sb_plan.specs.Wiring.{part_sent, sent_once, inputs_sent, is_second_join, with_part, connected}
+use Rattle.sb_plan.specs.Wiring.{part_sent, sent_once, inputs_sent, is_second_join, with_part, with_transform}
 
 abbrev pub has_name : List ℕ → Part → Bool
 has_name input part = bytes_eq part.name input
@@ -51,13 +51,13 @@ part_sent-none k input place ps none = none_named ps (All-unfound (has_name inpu
         rw other (rw (none_named qs (All-tail (λ p. has_name input p ≡ false) q qs others)) refl)
 
 pub connected-passed : (entry : Entry) (wiring sent : Wiring) (node : ℕ) → is_second_join entry.kind wiring.parts ≡ false → node ≡ length wiring.parts
-    → inputs_sent node entry wiring ≡ Ok sent → connected entry wiring ≡ Ok (with_part entry sent)
-unfolding connected
+    → inputs_sent node entry wiring ≡ Ok sent → with_transform entry wiring ≡ Ok (with_part entry sent)
+unfolding with_transform
 connected-passed entry wiring sent node single at passed = rw single (rw (sym at) (rw passed refl))
 
 pub connected-refused : (entry : Entry) (wiring : Wiring) (node : ℕ) (cause : PlanCause) → is_second_join entry.kind wiring.parts ≡ false → node ≡ length wiring.parts
-    → inputs_sent node entry wiring ≡ Err cause → connected entry wiring ≡ Err cause
-unfolding connected
+    → inputs_sent node entry wiring ≡ Err cause → with_transform entry wiring ≡ Err cause
+unfolding with_transform
 connected-refused entry wiring node cause single at refused = rw single (rw (sym at) (rw refused refl))
 
 -- the same, as the code finds it: the elements read from the list qs that it holds

@@ -4,7 +4,7 @@ use Rattle.toml.specs.Data.{Data, Items, no_items, item, Members, get_member, as
 use Rattle.sb_outside.specs.Folders.{Files}
 use Rattle.sb_record.specs.declared.key.Keys.{Keys}
 use Rattle.sb_window.specs.declared.windows.TheConstants.{MAX_SIZE}
-use Rattle.sb_window.specs.Spacing.{Spacing, fixed}
+use Rattle.sb_window.specs.Spacing.{Spacing, fixed_windows}
 use Rattle.sb_window.specs.Windows.{spacing_of}
 use Rattle.sb_pardo.specs.declared.operation.TheConstants.{MAX_ADDENDS}
 use Rattle.sb_pardo.specs.declared.operation.Op.TheVariants.{Filter, Map, Expand, Lookup}
@@ -68,7 +68,7 @@ windows_every size table =
     if is_some (get_member (key_text key.Every) table)
     then then_test (number_at 1 MAX_SIZE key.Every table) (λ every.
     in_place_of (λ _. OutOfRange key.Every) (spacing_of size every))
-    else Ok (fixed size)
+    else Ok (fixed_windows size)
 
 -- windows: `size`, `every`
 unfoldable pub windows_at : Members → Result Spacing PlanCause
@@ -97,7 +97,7 @@ unfoldable pub join_at : Members → Result Kind PlanCause
 join_at table =
     then_test (number_at 1 MAX_SIZE key.Size table) (λ size.
     then_test (word_at combine_named key.Give table) (λ combine.
-    Ok (Join combine (fixed size))))
+    Ok (Join combine (fixed_windows size))))
 
 -- the name of a file: a text of at least one byte
 abbrev pub file_name : List ℕ → Option (List ℕ)

@@ -29,7 +29,7 @@ use Rattle.sb_plan.specs.Failures.Failure.{Fails, NoFile}
 use Rattle.sb_plan.specs.Keys.{is_one_of, typed_at, word_or}
 use Rattle.sb_plan.specs.Words.{keys_named, late_named}
 use Rattle.sb_plan.specs.Entries.{all_keys, entry_at}
-use Rattle.sb_plan.specs.Wiring.{connected}
+use Rattle.sb_plan.specs.Wiring.{with_transform}
 
 -- the table that some bytes are, if they are UTF-8 and TOML
 unfoldable pub document_of : List ℕ → Option Members
@@ -51,7 +51,7 @@ unfoldable pub element_wired : Files → Wiring → Data → Result Wiring (Fail
 element_wired files wiring value =
     then_test (by_text (or_fault (WrongType key.Transform) (as_table value))) (λ table.
     then_test (entry_at files wiring.keys wiring.parts table) (λ entry.
-    by_text (connected entry wiring)))
+    by_text (with_transform entry wiring)))
 
 -- the elements from this place on, after the earlier ones
 unfoldable pub wired_from : Files → ℕ → Wiring → Items → Result Wiring (Failure PlanFault)
@@ -60,8 +60,8 @@ wired_from files place wiring (item value rest) =
     at_place place (element_wired files wiring value) (λ more. wired_from files (place + 1) more rest)
 
 -- no transforms yet, in a plan with this policy on late records and with these keys
-abbrev pub unwired : LatePolicy → Keys → Wiring
-unwired late keys = record { parts = []; source_a = None; source_b = None; late = late; keys = keys }
+abbrev pub first_wiring : LatePolicy → Keys → Wiring
+first_wiring late keys = record { parts = []; source_a = None; source_b = None; late = late; keys = keys }
 
 -- the first transform that goes nowhere, of all but the last
 abbrev pub first_unused : List Part → Option ℕ
@@ -83,18 +83,18 @@ shape_of wiring =
     }
 
 -- there is an aggregation or a join
-abbrev pub windowed : Wiring → Result Shape PlanFault
-windowed wiring =
+abbrev pub plan_with_window : Wiring → Result Shape PlanFault
+plan_with_window wiring =
     if list_any (λ part. has_windows part.kind) wiring.parts then Ok (shape_of wiring) else Err (fault_at 0 NoWindow)
 
 -- each transform but the last goes somewhere, and what is left to test passes
 abbrev pub used_by : Option ℕ → Wiring → Result Shape PlanFault
 used_by (Some k) wiring = Err (fault_at (k + 1) Unused)
-used_by None wiring = windowed wiring
+used_by None wiring = plan_with_window wiring
 
 -- the tests of the whole, and the plan
-unfoldable pub finished : Wiring → Result Shape PlanFault
-finished wiring = used_by (first_unused wiring.parts) wiring
+unfoldable pub finished_plan : Wiring → Result Shape PlanFault
+finished_plan wiring = used_by (first_unused wiring.parts) wiring
 
 -- how many elements there are
 abbrev pub item_count : Items → ℕ
@@ -106,7 +106,7 @@ unfoldable pub transforms_of : Files → LatePolicy → Keys → Items → Resul
 transforms_of files late keys items =
     if item_count items == 0 then Err (Fails (fault_at 0 (OutOfRange key.Transform)))
     else if nat_lt MAX_TRANSFORMS (item_count items) then Err (Fails (fault_at 0 TooMany))
-    else then_test (wired_from files 1 (unwired late keys) items) (λ wiring. by_text (finished wiring))
+    else then_test (wired_from files 1 (first_wiring late keys) items) (λ wiring. by_text (finished_plan wiring))
 
 -- the keys of a document
 abbrev pub is_document_key : List ℕ → Bool

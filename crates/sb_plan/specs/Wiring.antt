@@ -56,7 +56,7 @@ with_part entry wiring =
     record wiring { parts = wiring.parts ++ record { name = entry.name; kind = entry.kind; down = None } ∷ [] }
 
 -- one transform more, with its inputs: there is no second join, and each input is there and goes nowhere else
-unfoldable pub connected : Entry → Wiring → Result Wiring PlanCause
-connected entry wiring =
+unfoldable pub with_transform : Entry → Wiring → Result Wiring PlanCause
+with_transform entry wiring =
     if is_second_join entry.kind wiring.parts then Err TwoJoins
     else then_test (inputs_sent (length wiring.parts) entry wiring) (λ sent. Ok (with_part entry sent))

@@ -16,12 +16,12 @@ use sb_record::NoMemory;
 use std::alloc::Global;
 
 /// The plan of the transforms, if each but the last goes somewhere, and one is an aggregation or a join.
-#[tactic(auto, unfolding(crate::specs::PlanFiles::finished))]
+#[tactic(auto, unfolding(crate::specs::PlanFiles::finished_plan))]
 pub(crate) fn finish(alloc: Global, wiring: Wiring) -> Result<Plan, PlanStop>
     requires some { 1 ≤ length wiring.parts }
     requires most { length wiring.parts ≤ MAX_TRANSFORMS }
     requires sound { IsSound wiring }
-    ensures exact { AnswersPlan result (by_text (spec.finished wiring)) }
+    ensures exact { AnswersPlan result (by_text (spec.finished_plan wiring)) }
     ensures cause { result ≢ Err PlanStop.Folder }
 {
     let parts = wiring.parts.as_slice();

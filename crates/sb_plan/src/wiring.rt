@@ -38,10 +38,10 @@ pub(crate) struct Wiring {
 /// # Errors
 ///
 /// A second join, and then what is wrong with its inputs, the left one first. The wiring is then of no more use.
-#[tactic(auto, unfolding(crate::specs::Wiring::connected))]
+#[tactic(auto, unfolding(crate::specs::Wiring::with_transform))]
 pub(crate) fn connect(entry: Entry, wiring: &mut Wiring) -> Result<(), Stop>
     requires { length wiring.old.parts < MAX_TRANSFORMS }
-    ensures exact { ChangesTo result (by_text (spec.connected entry wiring.old)) wiring.new }
+    ensures exact { ChangesTo result (by_text (spec.with_transform entry wiring.old)) wiring.new }
     ensures sound { IsValidEntry entry → IsSound wiring.old
         → OnOk result (IsSound wiring.new × (length wiring.new.parts ≡ length wiring.old.parts + 1)) }
     ensures cause { result ≢ Err Stop.Folder }

@@ -12,7 +12,7 @@ use Rattle.sb_record.specs.declared.item.Record.{Record}
 use Rattle.sb_record.specs.Keys.{key_cmp}
 use Rattle.sb_record.specs.Orders.{IsAscending}
 use Rattle.sb_record.specs.Reorderings.{IsReordered}
-use Rattle.sb_record.specs.Records.{record_cmp, sorted, before, at_least}
+use Rattle.sb_record.specs.Records.{record_cmp, sorted_records, before, at_least}
 use Rattle.sb_record.proofs.Elements.{every, All-join, All-anything, All-passed, filter_of_filter}
 use Rattle.sb_record.proofs.Sorting.{IsReordered-in_order, All-in_order, records_total, in_order-ascending, sorted-unique}
 
@@ -32,18 +32,18 @@ pub at_least-high : (w : ℕ) (l : List Record) → AllByRecursion (λ r. w ≤ 
 at_least-high w l = All-passed (λ _. Unit {0}) (λ r. w ≤ r.time) (λ r. not (nat_lt r.time w)) (λ r _ h. grind (arith, nat_tests)) l (All-anything l)
 
 -- sorting goes on from the earlier records to the others
-pub sorted-split : (w : ℕ) (l : List Record) → sorted l ≡ sorted (before w l) ++ sorted (at_least w l)
-sorted-split w l = sym (sorted-unique (sorted (before w l) ++ sorted (at_least w l)) l up same)
+pub sorted-split : (w : ℕ) (l : List Record) → sorted_records l ≡ sorted_records (before w l) ++ sorted_records (at_least w l)
+sorted-split w l = sym (sorted-unique (sorted_records (before w l) ++ sorted_records (at_least w l)) l up same)
   where
-    up : IsAscending record_cmp (sorted (before w l) ++ sorted (at_least w l))
+    up : IsAscending record_cmp (sorted_records (before w l) ++ sorted_records (at_least w l))
     up =
-        ascending-join w (sorted (before w l)) (sorted (at_least w l))
+        ascending-join w (sorted_records (before w l)) (sorted_records (at_least w l))
         (in_order-ascending records_total (before w l)) (in_order-ascending records_total (at_least w l))
         (All-in_order (λ r. r.time < w) record_cmp (before w l) (before-low w l)) (All-in_order (λ r. w ≤ r.time) record_cmp (at_least w l) (at_least-high w l))
 
-    same : IsReordered (sorted (before w l) ++ sorted (at_least w l)) l
+    same : IsReordered (sorted_records (before w l) ++ sorted_records (at_least w l)) l
     same f =
-        sum_by-append f (sorted (before w l)) (sorted (at_least w l))
+        sum_by-append f (sorted_records (before w l)) (sorted_records (at_least w l))
         ∙ (λ i. IsReordered-in_order record_cmp (before w l) f i + IsReordered-in_order record_cmp (at_least w l) f i)
         ∙ sum_by-filter_both (λ r. nat_lt r.time w) (λ r. not (nat_lt r.time w)) (λ r. refl) f l
 
@@ -52,5 +52,5 @@ pub before-before : (v w : ℕ) (l : List Record) → v ≤ w → before v (befo
 before-before v w l le = filter_of_filter (λ r. nat_lt r.time v) (λ r. nat_lt r.time w) (λ r h. grind (arith, nat_tests)) l
 
 -- the sorted records before a time begin those before a later time
-pub sorted_before-front : (v w : ℕ) (l : List Record) → v ≤ w → sorted (before w l) ≡ sorted (before v l) ++ sorted (at_least v (before w l))
-sorted_before-front v w l le = sorted-split v (before w l) ∙ ap (λ m. sorted m ++ sorted (at_least v (before w l))) (before-before v w l le)
+pub sorted_before-front : (v w : ℕ) (l : List Record) → v ≤ w → sorted_records (before w l) ≡ sorted_records (before v l) ++ sorted_records (at_least v (before w l))
+sorted_before-front v w l le = sorted-split v (before w l) ∙ ap (λ m. sorted_records m ++ sorted_records (at_least v (before w l))) (before-before v w l le)

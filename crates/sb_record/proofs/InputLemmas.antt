@@ -16,7 +16,7 @@ use Rattle.sb_record.specs.declared.intake.LatePolicy.{LatePolicy}
 use Rattle.sb_record.specs.declared.intake.LatePolicy.TheVariants.{Refuse, Drop}
 use Rattle.sb_record.specs.declared.intake.Refusal.{Refusal}
 use Rattle.sb_record.specs.Progress.{Progress}
-use Rattle.sb_record.specs.Intake.{tested, timely, timely_if, when_late, after, mark_of, IsItemOf}
+use Rattle.sb_record.specs.Intake.{answer_to, timely, timely_if, when_late, after, mark_of, IsItemOf}
 use Rattle.sb_record.specs.Inputs.{progress_of, accepted_if, accepted_after, accepted}
 use Rattle.sb_record.specs.Lines.{IsTextOf, IsItemInRange}
 use Rattle.sb_record.specs.Reading.{item_of}
@@ -85,7 +85,7 @@ timely_if_ok : (p : Progress) (line : List ℕ) (o : Option Item) (i : Item) →
 timely_if_ok p line None i read h = cc
 timely_if_ok p line (Some item) i read h = timely_ok p line item i (item_some p.keys line item read) h
 
-pub tested_ok : (p : Progress) (line : List ℕ) (i : Item) → tested p line ≡ Ok i → IsItemOf p i line
+pub tested_ok : (p : Progress) (line : List ℕ) (i : Item) → answer_to p line ≡ Ok i → IsItemOf p i line
 tested_ok p line i h = elim (cases_Bool (nat_le 4294967295 p.lines)) [
   | inl many ↦ cc (rw many at h)
   | inr few ↦ elim (cases_Bool (nat_lt 128 (length line))) [
@@ -111,9 +111,9 @@ accepted_after-in_range : (streams : Streams) (late : LatePolicy) (keys : Keys) 
     → AllByRecursion (IsItemInRange keys) items → AllByRecursion (IsItemInRange keys) (accepted_after streams late keys items lines).items
 accepted_after-in_range streams late keys [] items all = all
 accepted_after-in_range streams late keys (line ∷ lines) items all =
-    by_result (tested (progress_of streams late keys items) line) refl (λ more. accepted_after-in_range streams late keys lines more)
+    by_result (answer_to (progress_of streams late keys items) line) refl (λ more. accepted_after-in_range streams late keys lines more)
   where
-    by_result : (r : Result Item Refusal) → tested (progress_of streams late keys items) line ≡ r
+    by_result : (r : Result Item Refusal) → answer_to (progress_of streams late keys items) line ≡ r
         → ((more : List Item) → AllByRecursion (IsItemInRange keys) more → AllByRecursion (IsItemInRange keys) (accepted_after streams late keys more lines).items)
         → AllByRecursion (IsItemInRange keys) (accepted_if r items (λ more. accepted_after streams late keys more lines)).items
     by_result (Ok i) e on = on (items ++ i ∷ []) (All-join (IsItemInRange keys) items (i ∷ []) all (item_in_range (progress_of streams late keys items) i line (tested_ok _ line i e), tt))

@@ -6,10 +6,10 @@ use Rattle.std.specs.Fmt.{decimal}
 use Rattle.std.specs.Char.{is_ascii_digit}
 use Rattle.std.specs.Prelude.{Option}
 use Rattle.std.proofs.lemmas.Option.{same_Some}
-use Rattle.sb_record.specs.Reading.{◌>>=◌, value_at_end, whole_number, at_most, number_at, digits_from, ended, is_leading_zero}
+use Rattle.sb_record.specs.Reading.{◌>>=◌, value_at_end, whole_number, at_most, number_at, digits_from, ended_number, is_leading_zero}
 
 -- digits that ended give what was read, and there was at least one
-ended_some : (value len : ℕ) (xs : List ℕ) (v : ℕ) (rest : List ℕ) → ended value len xs ≡ Some (v, rest)
+ended_some : (value len : ℕ) (xs : List ℕ) (v : ℕ) (rest : List ℕ) → ended_number value len xs ≡ Some (v, rest)
     → (0 < len) × (value ≡ v) × (xs ≡ rest)
 ended_some value len xs v rest h = elim (cases_lt 0 len) [
   | inl some ↦

@@ -11,9 +11,9 @@ use Rattle.std.proofs.lemmas.List.Sums.{take_while-cons}
 use Rattle.std.proofs.lemmas.Bool.{ne_eqb}
 use Rattle.sb_record.proofs.WordBytes.{AreWordBytes, are_word_bytes, first_of_both, second_of_both, above_zero, word_length}
 use Rattle.sb_record.specs.declared.key.TheConstants.{MAX_WORD_LENGTH}
-use Rattle.sb_record.specs.Words.{is_word, is_word_byte, word_cmp, padded, unpadded, IsPaddedWord}
+use Rattle.sb_record.specs.Words.{is_word, is_word_byte, word_cmp, word_with_zeros, word_before_zeros, IsPaddedWord}
 
-unpadded-zeros : (word : List ℕ) (zeros : ℕ) → AreWordBytes word → unpadded (word ++ replicate zeros 0) ≡ word
+unpadded-zeros : (word : List ℕ) (zeros : ℕ) → AreWordBytes word → word_before_zeros (word ++ replicate zeros 0) ≡ word
 unpadded-zeros [] zero bytes = refl
 unpadded-zeros [] (suc n) bytes = refl
 unpadded-zeros (b ∷ word) zeros bytes =
@@ -22,11 +22,11 @@ unpadded-zeros (b ∷ word) zeros bytes =
     take_while-cons (λ x. not (x == 0)) b (word ++ replicate zeros 0)
     ∙ (λ i. cond (not (some i)) (b ∷ unpadded-zeros word zeros (second_of_both (is_word_byte b) (list_all is_word_byte word) bytes) i) [])
 
-pub unpadded-padded : (word : List ℕ) → is_word word ≡ true → unpadded (padded word) ≡ word
+pub unpadded-padded : (word : List ℕ) → is_word word ≡ true → word_before_zeros (word_with_zeros word) ≡ word
 unpadded-padded word h = unpadded-zeros word (MAX_WORD_LENGTH - length word) (are_word_bytes word h)
 
-pub padded_word : (word : List ℕ) → is_word word ≡ true → IsPaddedWord (padded word)
-padded_word word h = record { word = subst (λ w. IsTrue (is_word w)) (sym (unpadded-padded word h)) h; zeros = ap padded (unpadded-padded word h) }
+pub padded_word : (word : List ℕ) → is_word word ≡ true → IsPaddedWord (word_with_zeros word)
+padded_word word h = record { word = subst (λ w. IsTrue (is_word w)) (sym (unpadded-padded word h)) h; zeros = ap word_with_zeros (unpadded-padded word h) }
 
 cmp-zeros : (v w : List ℕ) (j k : ℕ) → AreWordBytes v → AreWordBytes w → length v + j ≡ length w + k
     → slice_cmp nat_cmp (v ++ replicate j 0) (w ++ replicate k 0) ≡ word_cmp v w
@@ -41,15 +41,15 @@ cmp-zeros (x ∷ v) (y ∷ w) j k a b same =
     ap (ordering_then (nat_cmp x y)) (cmp-zeros v w j k (second_of_both (is_word_byte x) _ a) (second_of_both (is_word_byte y) _ b) (omega arith))
 
 -- words that are held compare as the words do
-pub cmp-held : (v w : List ℕ) → IsPaddedWord v → IsPaddedWord w → slice_cmp nat_cmp v w ≡ word_cmp (unpadded v) (unpadded w)
+pub cmp-held : (v w : List ℕ) → IsPaddedWord v → IsPaddedWord w → slice_cmp nat_cmp v w ≡ word_cmp (word_before_zeros v) (word_before_zeros w)
 cmp-held v w a b =
     (λ i. slice_cmp nat_cmp (sym a.zeros i) (sym b.zeros i))
-    ∙ cmp-zeros (unpadded v) (unpadded w) (MAX_WORD_LENGTH - length (unpadded v)) (MAX_WORD_LENGTH - length (unpadded w)) (are_word_bytes (unpadded v) a.word) (are_word_bytes (unpadded w) b.word)
-    (omega (arith, word_length (unpadded v) a.word, word_length (unpadded w) b.word))
+    ∙ cmp-zeros (word_before_zeros v) (word_before_zeros w) (MAX_WORD_LENGTH - length (word_before_zeros v)) (MAX_WORD_LENGTH - length (word_before_zeros w)) (are_word_bytes (word_before_zeros v) a.word) (are_word_bytes (word_before_zeros w) b.word)
+    (omega (arith, word_length (word_before_zeros v) a.word, word_length (word_before_zeros w) b.word))
 
-pub eq-held : (v w : List ℕ) → IsPaddedWord v → IsPaddedWord w → pointwise nat_eq v w ≡ eq_by_cmp word_cmp (unpadded v) (unpadded w)
+pub eq-held : (v w : List ℕ) → IsPaddedWord v → IsPaddedWord w → pointwise nat_eq v w ≡ eq_by_cmp word_cmp (word_before_zeros v) (word_before_zeros w)
 eq-held v w a b = texts_ties v w ∙ ap is_eq (cmp-held v w a b)
 
 -- a word that is written over zeros
-pub written : (word : List ℕ) → word ++ drop (length word) (replicate MAX_WORD_LENGTH 0) ≡ padded word
+pub written : (word : List ℕ) → word ++ drop (length word) (replicate MAX_WORD_LENGTH 0) ≡ word_with_zeros word
 written word = ap (λ l. word ++ l) (drop-replicate (length word) MAX_WORD_LENGTH 0)

@@ -18,7 +18,7 @@ use Rattle.sb_record.specs.declared.key.Key.{Key}
 use Rattle.sb_record.specs.Keys.{key_cmp}
 use Rattle.sb_record.specs.KeyOrder.{key_cmp_total}
 use Rattle.sb_record.specs.Orders.{put_in_order, in_order, IsAscending}
-use Rattle.sb_record.specs.Records.{record_cmp, count_of, sorted}
+use Rattle.sb_record.specs.Records.{record_cmp, count_of, sorted_records}
 use Rattle.sb_record.proofs.Elements.{every, All-any}
 use Rattle.sb_record.proofs.KeyOrder.{exact_keys}
 use Rattle.sb_record.proofs.Sums.{IsReordered, any_by_count}
@@ -136,17 +136,17 @@ module _ {X : Type 0} {cmp : X → X → Ordering} (o : IsTotalOrder cmp) where
 counts : (l m : List Record) → IsReordered l m → (r : Record) → count_of r l ≡ count_of r m
 counts l m same r = same (λ x. cond (eq_by_cmp record_cmp r x) 1 0)
 
-pub sorted-unique : (rows l : List Record) → IsAscending record_cmp rows → IsReordered rows l → rows ≡ sorted l
+pub sorted-unique : (rows l : List Record) → IsAscending record_cmp rows → IsReordered rows l → rows ≡ sorted_records l
 sorted-unique rows l up same = ascending-in_order records_total exact_records rows l up (counts rows l same)
 
 -- lists that hold each record equally often differ in order alone
 pub IsReordered-from_counts : (l m : List Record) → ((r : Record) → count_of r l ≡ count_of r m) → IsReordered l m
 IsReordered-from_counts l m same f = sym (IsReordered-in_order record_cmp l f) ∙ ap (sum_by f) sorted_alike ∙ IsReordered-in_order record_cmp m f
   where
-    sorted_alike : sorted l ≡ sorted m
+    sorted_alike : sorted_records l ≡ sorted_records m
     sorted_alike =
-        ascending-in_order records_total exact_records (sorted l) m (in_order-ascending records_total l)
-        (λ r. counts (sorted l) l (IsReordered-in_order record_cmp l) r ∙ same r)
+        ascending-in_order records_total exact_records (sorted_records l) m (in_order-ascending records_total l)
+        (λ r. counts (sorted_records l) l (IsReordered-in_order record_cmp l) r ∙ same r)
 
 pub counts_tell : (l m : List Record) → IsReordered l m ↔ ((r : Record) → count_of r l ≡ count_of r m)
 counts_tell l m = (counts l m, IsReordered-from_counts l m)

@@ -3,10 +3,10 @@ use Rattle.std.proofs.Common.{◌≡◌, ℕ, ◌+◌, ◌-◌, ◌*◌, ◌<◌
 use Rattle.std.proofs.lemmas.List.{drop_more}
 use Rattle.std.proofs.lemmas.Bool.{lt-leb, le-leb}
 use Rattle.std.specs.Char.{is_ascii_digit}
-use Rattle.sb_record.specs.Reading.{digits_from, ended, is_leading_zero}
+use Rattle.sb_record.specs.Reading.{digits_from, ended_number, is_leading_zero}
 
 pub digits_stop : (value n : ℕ) (xs : List ℕ) (i : ℕ) → i < length xs → is_ascii_digit (slice_index xs i) ≡ false
-    → digits_from value n (drop i xs) ≡ ended value n (drop i xs)
+    → digits_from value n (drop i xs) ≡ ended_number value n (drop i xs)
 unfolding digits_from
 digits_stop value n xs i lt d = rw (drop_more xs i 0 lt, d) refl
 

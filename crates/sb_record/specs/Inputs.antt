@@ -9,7 +9,7 @@ use Rattle.sb_record.specs.declared.intake.Refusal.{Refusal}
 use Rattle.sb_record.specs.declared.intake.Stop.{Stop}
 use Rattle.sb_record.specs.declared.intake.Stop.TheVariants.{End, Refused, Fault}
 use Rattle.sb_record.specs.Progress.{Progress}
-use Rattle.sb_record.specs.Intake.{tested}
+use Rattle.sb_record.specs.Intake.{answer_to}
 use Rattle.sb_record.specs.Streams.{last_watermark}
 
 -- what the accepted items of an input have said
@@ -37,7 +37,7 @@ accepted_if (Err refusal) items rest = record { items = items; refused = Some re
 abbrev pub accepted_after : Streams → LatePolicy → Keys → List Item → List (List ℕ) → Accepted
 accepted_after streams late keys items [] = record { items = items; refused = None }
 accepted_after streams late keys items (line ∷ lines) =
-    accepted_if (tested (progress_of streams late keys items) line) items
+    accepted_if (answer_to (progress_of streams late keys items) line) items
     (λ more. accepted_after streams late keys more lines)
 
 -- the accepted items of an input

@@ -18,8 +18,8 @@ use Rattle.sb_record.specs.Reading.{item_of}
 use Rattle.sb_record.specs.Streams.{uses, least_of}
 
 -- after so many lines, none of them a watermark
-abbrev pub started : Streams → ℕ → LatePolicy → Keys → Progress
-started streams lines late keys = record {
+abbrev pub first_progress : Streams → ℕ → LatePolicy → Keys → Progress
+first_progress streams lines late keys = record {
   streams = streams;
   mark_a = 0;
   mark_b = 0;
@@ -57,8 +57,8 @@ timely_if p n None = Err (refusal.Malformed n)
 timely_if p n (Some item) = timely p n item
 
 -- the item of the next line, or the first test that it fails
-abbrev pub tested : Progress → List ℕ → Result Item Refusal
-tested p line =
+abbrev pub answer_to : Progress → List ℕ → Result Item Refusal
+answer_to p line =
     if nat_le MAX_LINES p.lines then Err refusal.TooMany
     else if nat_lt MAX_LINE_LENGTH (length line) then Err (refusal.TooLong (p.lines + 1))
     else timely_if p (p.lines + 1) (item_of p.keys line)

@@ -21,8 +21,8 @@ None >>= f = None
 (Some x) >>= f = f x
 
 -- a number whose digits have ended, where there was one
-abbrev pub ended : ℕ → ℕ → List ℕ → Option (ℕ × List ℕ)
-ended value len rest = if nat_lt 0 len then Some (value, rest) else None
+abbrev pub ended_number : ℕ → ℕ → List ℕ → Option (ℕ × List ℕ)
+ended_number value len rest = if nat_lt 0 len then Some (value, rest) else None
 
 -- whether a number has gone on past a first digit of zero
 abbrev pub is_leading_zero : ℕ → ℕ → Bool
@@ -30,13 +30,13 @@ is_leading_zero value len = value == 0 && nat_lt 0 len
 
 -- a number, from the value and the count of the digits read so far
 unfoldable pub digits_from : ℕ → ℕ → List ℕ → Option (ℕ × List ℕ)
-digits_from value len [] = ended value len []
+digits_from value len [] = ended_number value len []
 digits_from value len (b ∷ rest) =
     if is_ascii_digit b then
     if is_leading_zero value len then None
     else if nat_le 1000000000000000000 value then None
     else digits_from (value * 10 + (b - 48)) (len + 1) rest
-    else ended value len (b ∷ rest)
+    else ended_number value len (b ∷ rest)
 
 -- a number and what follows it, where the number is up to this bound
 abbrev pub at_most : ℕ → ℕ × List ℕ → Option (ℕ × List ℕ)

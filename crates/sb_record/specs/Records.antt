@@ -15,8 +15,8 @@ abbrev pub count_of : Record → List Record → ℕ
 count_of r records = count_by (eq_by_cmp record_cmp r) records
 
 -- the records sorted
-abbrev pub sorted : List Record → List Record
-sorted records = in_order record_cmp records
+abbrev pub sorted_records : List Record → List Record
+sorted_records records = in_order record_cmp records
 
 -- the records with a time below w
 abbrev pub before : ℕ → List Record → List Record

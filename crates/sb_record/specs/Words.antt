@@ -20,14 +20,14 @@ abbrev pub word_cmp : List ℕ → List ℕ → Ordering
 word_cmp v w = slice_cmp nat_cmp v w
 
 -- the word with zeros behind it
-abbrev pub padded : List ℕ → List ℕ
-padded word = word ++ replicate (MAX_WORD_LENGTH - length word) 0
+abbrev pub word_with_zeros : List ℕ → List ℕ
+word_with_zeros word = word ++ replicate (MAX_WORD_LENGTH - length word) 0
 
 -- what stands before the first zero
-abbrev pub unpadded : List ℕ → List ℕ
-unpadded bytes = before_first (λ b. b == 0) bytes
+abbrev pub word_before_zeros : List ℕ → List ℕ
+word_before_zeros bytes = before_first (λ b. b == 0) bytes
 
 -- the bytes are those of a word, with zeros behind it
 pub record IsPaddedWord (bytes : List ℕ) : Type 0 where
-  pub word : IsTrue (is_word (unpadded bytes))
-  pub zeros : padded (unpadded bytes) ≡ bytes
+  pub word : IsTrue (is_word (word_before_zeros bytes))
+  pub zeros : word_with_zeros (word_before_zeros bytes) ≡ bytes

@@ -89,7 +89,7 @@ impl Intake {
     /// The intake of an input after its first `before` lines, at most 4,294,967,295, none of them a watermark.
     pub fn new(streams: Streams, before: u64, late: LatePolicy, keys: Keys) -> Intake
         requires { before ≤ MAX_LINES }
-        ensures { result ≡ spec.started streams before late keys }
+        ensures { result ≡ spec.first_progress streams before late keys }
     {
         Intake {
             streams,
@@ -126,7 +126,7 @@ impl Intake {
     #[tactic(auto, using(crate::proofs::InputLemmas::tested_ok))]
     pub fn accept(&mut self, line: &[u8]) -> Result<Item, Refusal>
         requires { length line.now ≤ MAX_LINE_LENGTH }
-        ensures value { result ≡ spec.tested self.old line.now }
+        ensures value { result ≡ spec.answer_to self.old line.now }
         ensures ok { IfOk result (λ i. self.new ≡ spec.after i self.old) }
         ensures err { OnErr result (self.new ≡ self.old) }
         ensures item { IfOk result (λ i. spec.IsItemOf self.old i line.now) }
@@ -145,7 +145,7 @@ impl Intake {
     /// The item of the next line, or the first test that it fails.
     fn tested(&self, line: &[u8]) -> Result<Item, Refusal>
         requires { length line.now ≤ MAX_LINE_LENGTH }
-        ensures value { result ≡ spec.tested self.now line.now }
+        ensures value { result ≡ spec.answer_to self.now line.now }
         ensures room { IfOk result (λ _. self.now.lines < MAX_LINES) }
     {
         if self.before >= MAX_LINES {

@@ -38,15 +38,15 @@ pub struct Word {
 
 impl Model for Word {
     ghost use Rattle.std.specs.Prelude.{ℕ, List};
-    ghost use Rattle.sb_record.specs.Words.{IsPaddedWord, padded, unpadded};
+    ghost use Rattle.sb_record.specs.Words.{IsPaddedWord, word_with_zeros, word_before_zeros};
 
     ghost Value = { List ℕ };
 
-    ghost view = { λ w. unpadded w.bytes };
+    ghost view = { λ w. word_before_zeros w.bytes };
 
     ghost invariant = { λ w. IsPaddedWord w.bytes };
 
-    ghost inverse = { λ word. record { bytes = padded word } };
+    ghost inverse = { λ word. record { bytes = word_with_zeros word } };
 
     ghost inverse_ok = { λ w held i. record { bytes = held.zeros i } };
 }

@@ -7,7 +7,7 @@ ghost use Rattle.sb_record.specs.Reading as spec;
 /// The number whose digits end after `len` bytes, and what follows it: none where there is no digit.
 fn ended(bytes: &[u8], value: u64, len: usize) -> Option<(u64, &[u8])>
     requires { len ≤ length bytes.now }
-    ensures { option_map (λ x. (x.0, x.1.now)) result ≡ spec.ended value len (drop len bytes.now) }
+    ensures { option_map (λ x. (x.0, x.1.now)) result ≡ spec.ended_number value len (drop len bytes.now) }
 {
     if len > 0 {
         Some((value, &bytes[len..]))

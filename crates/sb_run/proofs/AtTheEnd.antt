@@ -12,14 +12,14 @@ use Rattle.sb_record.specs.declared.item.TheConstants.{END_MARK}
 use Rattle.sb_record.specs.declared.intake.Refusal.{Refusal}
 use Rattle.sb_record.specs.declared.intake.Stop.TheVariants.{End}
 use Rattle.sb_record.specs.Inputs.{accepted_if}
-use Rattle.sb_record.specs.Intake.{tested}
+use Rattle.sb_record.specs.Intake.{answer_to}
 use Rattle.sb_record.specs.Streams.{last_or, records_of, uses, watermark_in}
 use Rattle.sb_outside.specs.Lines.{lines}
 use Rattle.sb_bundle.specs.declared.bundle.Bundle.{Bundle}
 use Rattle.sb_bundle.specs.Calls as calls
-use Rattle.sb_bundle.specs.Calls.{Call, joined, parts_of}
+use Rattle.sb_bundle.specs.Calls.{Call, records_in_order, parts_of}
 use Rattle.sb_bundle.specs.Calls.Call.{Mark, Push}
-use Rattle.sb_bundle.specs.Cuts.{started}
+use Rattle.sb_bundle.specs.Cuts.{first_cutting}
 use Rattle.sb_bundle.specs.Laws.{bundles_of}
 use Rattle.sb_pipeline.specs.Shapes.{Shape, streams_of}
 use Rattle.sb_tally.specs.Whole.{marks_of}
@@ -51,9 +51,9 @@ one_quiet streams items B (item.Late n t m) unused h = refl
 
 all_quiet : (plan : Shape) (s : Stream) → uses (streams_of plan) s ≡ false → (all : List (List ℕ)) (items : List Item) → calls_of s items ≡ [] → calls_of s (following plan items all).items ≡ []
 all_quiet plan s unused [] items h = h
-all_quiet plan s unused (line ∷ later) items h = by_result (tested (said_by plan items) line) refl (λ more. all_quiet plan s unused later more)
+all_quiet plan s unused (line ∷ later) items h = by_result (answer_to (said_by plan items) line) refl (λ more. all_quiet plan s unused later more)
   where
-    by_result : (r : Result Item Refusal) → tested (said_by plan items) line ≡ r
+    by_result : (r : Result Item Refusal) → answer_to (said_by plan items) line ≡ r
         → ((more : List Item) → calls_of s more ≡ [] → calls_of s (following plan more later).items ≡ [])
         → calls_of s (accepted_if r items (λ more. following plan more later)).items ≡ []
     by_result (Ok i) e on =
@@ -113,7 +113,7 @@ marks_then B (item.Skip ∷ items) = marks_then B items
 marks_then A (item.Late n t m ∷ items) = marks_then A items
 marks_then B (item.Late n t m ∷ items) = marks_then B items
 
-joined_is : (bs : List Bundle) → joined (parts_of bs) ≡ flat_map (λ b. b.records) bs
+joined_is : (bs : List Bundle) → records_in_order (parts_of bs) ≡ flat_map (λ b. b.records) bs
 joined_is [] = refl
 joined_is (b ∷ bs) = ap (λ l. b.records ++ l) (joined_is bs)
 
@@ -150,9 +150,9 @@ module _ (plan : Shape) (size : ℕ) (items : List Item) (f : Fed) (c : Cutters)
   -- all records were fed
   pub pushed_at_end : (s : Stream) → fed_of f s ≡ calls.records_of (calls_of s items)
   pushed_at_end s =
-      ap (λ l. joined (parts_of l)) (bundles_at_end s)
+      ap (λ l. records_in_order (parts_of l)) (bundles_at_end s)
       ∙ joined_is (bundles_of size (calls_of s items ++ Mark END_MARK ∷ []))
-      ∙ cutter-records (calls_of s items) (started size) END_MARK
+      ∙ cutter-records (calls_of s items) (first_cutting size) END_MARK
 
   pub fed_at_end : (s : Stream) → fed_of f s ≡ records_of s items
   fed_at_end s = pushed_at_end s ∙ pushed s items

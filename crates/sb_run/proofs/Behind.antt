@@ -17,7 +17,7 @@ use Rattle.sb_core.specs.declared.moment.Moment.{Moment}
 use Rattle.sb_core.specs.Bounds.{bound_at}
 use Rattle.sb_core.specs.Holdings.{IsHeld, is_unpassed}
 use Rattle.sb_core.specs.Laws.{written_to}
-use Rattle.sb_core.specs.Marks.{closed}
+use Rattle.sb_core.specs.Marks.{least_begun_mark}
 use Rattle.sb_core.specs.Moments.{floor_at, floor_of, lane_at, node_at}
 use Rattle.sb_core.specs.Soundness.{IsSound}
 use Rattle.sb_core.proofs.ends.AtRest.{in_place}
@@ -37,7 +37,7 @@ some_lane Sink = omega arith
 
 module _ (plan : Shape) (is_plan : IsPlan plan) (m : Moment) (sound : IsSound plan m) where
   -- a node has closed no further than its lanes' floors
-  no_further : (d : Down) (lane : CoreLane) → lane_at m d ≡ Some lane → closed (node_at m d.node).lanes ≤ floor_at m d
+  no_further : (d : Down) (lane : CoreLane) → lane_at m d ≡ Some lane → least_begun_mark (node_at m d.node).lanes ≤ floor_at m d
   no_further d lane at =
       let least = closed_least (node_at m d.node).lanes d.lane lane (lane_of plan m (lawful_of sound) d.node d.lane lane at) in
       let behind = begun_behind (bound_at plan d.node) lane (sound.lanes d lane at) in
@@ -46,33 +46,33 @@ module _ (plan : Shape) (is_plan : IsPlan plan) (m : Moment) (sound : IsSound pl
 
   -- a closing whose mark is not passed is of a mark that is not below the floor of the lane below
   unpassed_behind : (k : ℕ) (s : Step) → slice_get plan.steps k ≡ Some s → (hs : List Held) → AllByRecursion (IsHeld plan m) hs → list_any (is_unpassed k) hs ≡ true
-      → floor_at m s.down ≤ closed (node_at m k).lanes
+      → floor_at m s.down ≤ least_begun_mark (node_at m k).lanes
   unpassed_behind k s is [] all h = cc
   unpassed_behind k s is (Work n l epoch floor number records delivered ∷ hs) all h = unpassed_behind k s is hs all.1 h
   unpassed_behind k s is (Close n l epoch serial floor mark rows passed ∷ hs) all h = by_case (eqb n k) passed refl refl h (λ z. unpassed_behind k s is hs all.1 z)
     where
-      by_case : (a p : Bool) → eqb n k ≡ a → passed ≡ p → ((a && not p) || list_any (is_unpassed k) hs) ≡ true → (list_any (is_unpassed k) hs ≡ true → floor_at m s.down ≤ closed (node_at m k).lanes)
-          → floor_at m s.down ≤ closed (node_at m k).lanes
+      by_case : (a p : Bool) → eqb n k ≡ a → passed ≡ p → ((a && not p) || list_any (is_unpassed k) hs) ≡ true → (list_any (is_unpassed k) hs ≡ true → floor_at m s.down ≤ least_begun_mark (node_at m k).lanes)
+          → floor_at m s.down ≤ least_begun_mark (node_at m k).lanes
       by_case true false e f h ih =
           let nk : n ≡ k = eqb-true n k e in
           let under : floor_at m s.down ≡ floor = all.0.under f s (ap (slice_get plan.steps) nk ∙ is) in
           let rises = all.0.rises in
-          let mark : mark ≡ closed (node_at m k).lanes = all.0.mark_is ∙ ap (λ k. closed (node_at m k).lanes) nk in
+          let mark : mark ≡ least_begun_mark (node_at m k).lanes = all.0.mark_is ∙ ap (λ k. least_begun_mark (node_at m k).lanes) nk in
           omega (arith, under, rises, mark)
       by_case true true e f h ih = ih h
       by_case false p e f h ih = ih h
 
   -- the lane below a transform is sealed no further than the transform has closed
-  passed_behind : (k : ℕ) (s : Step) → slice_get plan.steps k ≡ Some s → floor_at m s.down ≤ closed (node_at m k).lanes
+  passed_behind : (k : ℕ) (s : Step) → slice_get plan.steps k ≡ Some s → floor_at m s.down ≤ least_begun_mark (node_at m k).lanes
   passed_behind k s is = by_case (list_any (is_unpassed k) m.held) refl
     where
-      by_case : (b : Bool) → list_any (is_unpassed k) m.held ≡ b → floor_at m s.down ≤ closed (node_at m k).lanes
+      by_case : (b : Bool) → list_any (is_unpassed k) m.held ≡ b → floor_at m s.down ≤ least_begun_mark (node_at m k).lanes
       by_case true e = unpassed_behind k s is m.held sound.holds e
       by_case false e = let same = (sound.below k s is).as_passed e in omega (arith, same)
 
   -- some stream's lane is sealed as far as a node has closed
   Leads : ℕ → Type 0
-  Leads k = (s : Stream) × (d : Down) × (source plan s ≡ Some d) × (closed (node_at m k).lanes ≤ floor_at m d)
+  Leads k = (s : Stream) × (d : Down) × (source plan s ≡ Some d) × (least_begun_mark (node_at m k).lanes ≤ floor_at m d)
 
   from_one : (k : ℕ) → k ≤ length plan.steps → Leads k
   unfolding Leads
@@ -87,12 +87,12 @@ module _ (plan : Shape) (is_plan : IsPlan plan) (m : Moment) (sound : IsSound pl
           let one = first_lane (node_at m k).lanes (omega (arith, sound.lanes_there k b, some_lane (operator_at (slice_get plan.steps k)))) in
           let place : Down = record { node = k; lane = 0 } in
           let at : lane_at m place ≡ Some one.0 = of_node plan m (lawful_of sound) k 0 one.0 one.1 in
-          let low : closed (node_at m k).lanes ≤ floor_at m place = no_further place one.0 at in
+          let low : least_begun_mark (node_at m k).lanes ≤ floor_at m place = no_further place one.0 at in
           ⊎_elim
           (λ s. (s.0, place, s.1, low))
           (λ s. let lower : s.0 < k = subst (λ (d : Down). s.0 < d.node) s.3 (is_plan.further s.0 s.1 s.2) in
           let r : Leads s.0 = before s.0 lower in
-          let under : floor_at m place ≤ closed (node_at m s.0).lanes = subst (λ (d : Down). floor_at m d ≤ closed (node_at m s.0).lanes) s.3 (passed_behind s.0 s.1 s.2) in
+          let under : floor_at m place ≤ least_begun_mark (node_at m s.0).lanes = subst (λ (d : Down). floor_at m d ≤ least_begun_mark (node_at m s.0).lanes) s.3 (passed_behind s.0 s.1 s.2) in
           let so = r.3 in
           (r.0, r.1, r.2, omega (arith, low, under, so)))
           (Feeding.fed plan is_plan place (in_place plan m sound k 0 one.0 b one.1))

@@ -8,7 +8,7 @@ use Rattle.sb_record.specs.declared.item.Stream.{Stream}
 use Rattle.sb_record.specs.declared.item.TheConstants.{END_MARK, MAX_TIME}
 use Rattle.sb_record.specs.Streams.{last_or}
 use Rattle.sb_bundle.specs.declared.bundle.Bundle.{Bundle}
-use Rattle.sb_bundle.specs.Calls.{joined, parts_of}
+use Rattle.sb_bundle.specs.Calls.{records_in_order, parts_of}
 use Rattle.sb_core.specs.declared.event.Event.TheVariants.{Arrive, Seal}
 use Rattle.sb_core.specs.Exactness.{IsExact}
 use Rattle.sb_core.specs.Lanes.{next_floor}
@@ -41,7 +41,7 @@ pub still_then : (c : Cascade) (p q r : CascadePass) → IsStill c p q → IsSti
 still_then c p q r first then = record { ready = then.ready; out = then.out ∙ first.out }
 
 -- the records that were fed, as the tally has them
-records-are : (bs : List Bundle) → flat_map (λ (b : tally.Fed). b.records) (map as_fed bs) ≡ joined (parts_of bs)
+records-are : (bs : List Bundle) → flat_map (λ (b : tally.Fed). b.records) (map as_fed bs) ≡ records_in_order (parts_of bs)
 records-are [] = refl
 records-are (b ∷ bs) = ap (λ l. b.records ++ l) (records-are bs)
 

@@ -9,7 +9,7 @@ use Rattle.sb_record.specs.declared.item.TheConstants.{END_MARK}
 use Rattle.sb_record.specs.Streams.{last_or}
 use Rattle.sb_bundle.specs.declared.bundle.Bundle.{Bundle}
 use Rattle.sb_bundle.specs.declared.bundle.TheConstants.{MAX_BUNDLE}
-use Rattle.sb_bundle.specs.Calls.{joined, parts_of}
+use Rattle.sb_bundle.specs.Calls.{records_in_order, parts_of}
 use Rattle.sb_pipeline.specs.Shapes.{Shape}
 use Rattle.sb_pipeline.specs.Plans.{IsPlan}
 use Rattle.sb_core.specs.declared.event.Event.{Event}
@@ -85,10 +85,10 @@ whole-stepped h n node did.Nothing f rows s is same w =
     subst (λ x. IsWhole x f rows) (equal ∙ same_but h n same.plan same.bundle same.pending (is ∙ sym w.unspent)) w
 
 -- a bundle of a stream arrives
-one_more : (l : List Bundle) (b : Bundle) → joined (parts_of l) ++ b.records ≡ joined (parts_of (l ++ b ∷ []))
+one_more : (l : List Bundle) (b : Bundle) → records_in_order (parts_of l) ++ b.records ≡ records_in_order (parts_of (l ++ b ∷ []))
 one_more l b =
-    ap (λ x. joined (parts_of l) ++ x) (sym (append-nil b.records))
-    ∙ sym (ap joined (map-append (λ (c : Bundle). c.records) l (b ∷ [])) ∙ flat_map-append (λ p. p) (parts_of l) (b.records ∷ []))
+    ap (λ x. records_in_order (parts_of l) ++ x) (sym (append-nil b.records))
+    ∙ sym (ap records_in_order (map-append (λ (c : Bundle). c.records) l (b ∷ [])) ∙ flat_map-append (λ p. p) (parts_of l) (b.records ∷ []))
 
 fed-arrives : (s : Stream) (b : Bundle) (f : Fed) (u : Stream) → fed_after (Arrive s b.records) (fed_of f) u ≡ fed_of (with_bundle s b f) u
 fed-arrives A b f A = one_more f.bundles_a b

@@ -27,15 +27,15 @@ use Rattle.sb_aggregate.specs.declared.aggregate.Agg.{Agg}
 use Rattle.sb_aggregate.specs.Aggregates.{aggregate_values}
 use Rattle.sb_aggregate.specs.Sessions.{session_end, session_of, sessions_of, is_in_session, values_in_session, session_rows}
 use Rattle.sb_aggregate.proofs.SessionRows.{any_sessions}
-use Rattle.sb_slow.specs.Gathered.{followed, session_values_at}
+use Rattle.sb_slow.specs.Gathered.{values_with, session_values_at}
 
 -- one record more
 pub session_values-more : (gap : ℕ) (l m : List Record) (r : Record) (q : KeyedWindow)
-    → session_values_at gap l (m ++ r ∷ []) q ≡ cond (is_at (keyed_window_cmp (session_of gap l r)) q) (followed (session_values_at gap l m (session_of gap l r)) (Some (r.value ∷ []))) (session_values_at gap l m q)
+    → session_values_at gap l (m ++ r ∷ []) q ≡ cond (is_at (keyed_window_cmp (session_of gap l r)) q) (values_with (session_values_at gap l m (session_of gap l r)) (Some (r.value ∷ []))) (session_values_at gap l m q)
 session_values-more gap l m r q =
     (λ i. cond (list_any-append (is_in_session gap l q) m (r ∷ []) i) (Some (values-append i)) None)
     ∙ by_case (is_in_session gap l q r) (list_any (is_in_session gap l q) m) refl refl
-    ∙ ap (λ b. cond b (followed (session_values_at gap l m (session_of gap l r)) (Some (r.value ∷ []))) (session_values_at gap l m q)) (sym (same_keyed_window (session_of gap l r) q ∙ and_comm (eqb (session_end gap l r) q.end) (same_key r.key q.key)))
+    ∙ ap (λ b. cond b (values_with (session_values_at gap l m (session_of gap l r)) (Some (r.value ∷ []))) (session_values_at gap l m q)) (sym (same_keyed_window (session_of gap l r) q ∙ and_comm (eqb (session_end gap l r) q.end) (same_key r.key q.key)))
   where
     values-append : map (λ (r : Record). r.value) (filter (is_in_session gap l q) (m ++ r ∷ [])) ≡ map (λ r. r.value) (filter (is_in_session gap l q) m) ++ map (λ r. r.value) (filter (is_in_session gap l q) (r ∷ []))
     values-append = ap (map (λ (r : Record). r.value)) (filter-append (is_in_session gap l q) m (r ∷ [])) ∙ map-append (λ (r : Record). r.value) (filter (is_in_session gap l q) m) (filter (is_in_session gap l q) (r ∷ []))
@@ -48,11 +48,11 @@ session_values-more gap l m r q =
 
     by_case : (a b : Bool) → is_in_session gap l q r ≡ a → list_any (is_in_session gap l q) m ≡ b
         → cond {A = Option (List ℤ)} (b || (a || false)) (Some (map (λ r. r.value) (filter (is_in_session gap l q) m) ++ map (λ (r : Record). r.value) (cond a (r ∷ []) []))) None
-        ≡ cond a (followed (session_values_at gap l m (session_of gap l r)) (Some (r.value ∷ []))) (cond b (Some (map (λ r. r.value) (filter (is_in_session gap l q) m))) None)
-    by_case true true e f = ap (λ o. followed o (Some (r.value ∷ []))) (sym (ap (λ b. cond {A = Option (List ℤ)} b (Some (map (λ r. r.value) (filter (is_in_session gap l q) m))) None) f) ∙ ap (session_values_at gap l m) (here e))
+        ≡ cond a (values_with (session_values_at gap l m (session_of gap l r)) (Some (r.value ∷ []))) (cond b (Some (map (λ r. r.value) (filter (is_in_session gap l q) m))) None)
+    by_case true true e f = ap (λ o. values_with o (Some (r.value ∷ []))) (sym (ap (λ b. cond {A = Option (List ℤ)} b (Some (map (λ r. r.value) (filter (is_in_session gap l q) m))) None) f) ∙ ap (session_values_at gap l m) (here e))
     by_case true false e f =
         ap (λ (xs : List Record). Some (map (λ (r : Record). r.value) xs ++ r.value ∷ [])) (none_pass (is_in_session gap l q) m f)
-        ∙ ap (λ o. followed o (Some (r.value ∷ []))) (sym (ap (λ b. cond {A = Option (List ℤ)} b (Some (map (λ r. r.value) (filter (is_in_session gap l q) m))) None) f) ∙ ap (session_values_at gap l m) (here e))
+        ∙ ap (λ o. values_with o (Some (r.value ∷ []))) (sym (ap (λ b. cond {A = Option (List ℤ)} b (Some (map (λ r. r.value) (filter (is_in_session gap l q) m))) None) f) ∙ ap (session_values_at gap l m) (here e))
     by_case false true e f = ap (λ xs. Some xs) (append-nil (map (λ (r : Record). r.value) (filter (is_in_session gap l q) m)))
     by_case false false e f = refl
 

@@ -13,7 +13,7 @@ use Rattle.sb_record.proofs.OnLanes.{all_records-on_lane, All-all_records, All-o
 use Rattle.sb_pipeline.specs.declared.transform.Down.{Down}
 use Rattle.sb_pipeline.specs.declared.transform.Kind.{Kind}
 use Rattle.sb_pipeline.specs.declared.transform.Kind.TheVariants.{Do, Group, Session, Join}
-use Rattle.sb_pipeline.specs.Flow.{Sent, arriving}
+use Rattle.sb_pipeline.specs.Flow.{Sent, arrivals_at}
 use Rattle.sb_pipeline.specs.Operators.{operator_of, output}
 use Rattle.sb_pipeline.specs.Plans.{is_join}
 use Rattle.sb_slow.specs.Taken.{first_lane, first_input, second_input, given_for}
@@ -38,18 +38,18 @@ of_lane-on_lane lane l (r ∷ records) false e =
 
 -- ---- what is taken
 -- the records of all that arrives at a node
-pub records_to-node : (k : ℕ) (sent : List Sent) → records_to k None sent ≡ all_records (arriving k sent)
+pub records_to-node : (k : ℕ) (sent : List Sent) → records_to k None sent ≡ all_records (arrivals_at k sent)
 records_to-node k [] = refl
-records_to-node k (s ∷ sent) = (λ i. here (eqb s.down.node k) i ++ records_to-node k sent i) ∙ sym (map-append (λ (e : KeptRec). e.rec) (brought k s) (arriving k sent))
+records_to-node k (s ∷ sent) = (λ i. here (eqb s.down.node k) i ++ records_to-node k sent i) ∙ sym (map-append (λ (e : KeptRec). e.rec) (brought k s) (arrivals_at k sent))
   where
     here : (b : Bool) → cond b s.records [] ≡ all_records (cond b (on_lane s.down.lane s.records) [])
     here true = sym (all_records-on_lane s.down.lane s.records) ∙ ap all_records (append-nil (on_lane s.down.lane s.records))
     here false = refl
 
 -- those of a lane
-records_to-lane : (k lane : ℕ) (sent : List Sent) → records_to k (Some lane) sent ≡ of_lane lane (arriving k sent)
+records_to-lane : (k lane : ℕ) (sent : List Sent) → records_to k (Some lane) sent ≡ of_lane lane (arrivals_at k sent)
 records_to-lane k lane [] = refl
-records_to-lane k lane (s ∷ sent) = (λ i. here (eqb s.down.node k) i ++ records_to-lane k lane sent i) ∙ sym (of_lane-append lane (brought k s) (arriving k sent))
+records_to-lane k lane (s ∷ sent) = (λ i. here (eqb s.down.node k) i ++ records_to-lane k lane sent i) ∙ sym (of_lane-append lane (brought k s) (arrivals_at k sent))
   where
     here : (b : Bool) → cond (b && eqb s.down.lane lane) s.records [] ≡ of_lane lane (cond b (on_lane s.down.lane s.records) [])
     here true = of_lane-on_lane lane s.down.lane s.records (eqb s.down.lane lane) refl
@@ -78,18 +78,18 @@ none_left k (s ∷ sent) = by_case (none_left k sent) (eqb s.down.node k) refl
     by_case rest false e = λ i. cond (e i && eqb s.down.lane 1) s.records [] ++ rest i
 
 -- so a transform takes its inputs
-pub first-taken : (kind : Kind) (k : ℕ) (lane : Option ℕ) (sent : List Sent) (taken : List Record) → lane ≡ first_lane kind → taken ≡ records_to k lane sent → taken ≡ first_input kind (arriving k sent)
+pub first-taken : (kind : Kind) (k : ℕ) (lane : Option ℕ) (sent : List Sent) (taken : List Record) → lane ≡ first_lane kind → taken ≡ records_to k lane sent → taken ≡ first_input kind (arrivals_at k sent)
 first-taken kind k lane sent taken is same = same ∙ ap (λ l. records_to k l sent) is ∙ by_case (is_join kind)
   where
-    by_case : (b : Bool) → records_to k (cond b (Some 0) None) sent ≡ cond b (of_lane 0 (arriving k sent)) (all_records (arriving k sent))
+    by_case : (b : Bool) → records_to k (cond b (Some 0) None) sent ≡ cond b (of_lane 0 (arrivals_at k sent)) (all_records (arrivals_at k sent))
     by_case true = records_to-lane k 0 sent
     by_case false = records_to-node k sent
 
 pub second-taken : (kind : Kind) (k : ℕ) (lane : Option ℕ) (sent others : List Sent) (taken : List Record) → lane ≡ first_lane kind → others ≡ sent_elsewhere k lane sent → taken ≡ records_to k (Some 1) others
-    → taken ≡ second_input kind (arriving k sent)
+    → taken ≡ second_input kind (arrivals_at k sent)
 second-taken kind k lane sent others taken is left same = same ∙ ap (records_to k (Some 1)) left ∙ ap (λ l. records_to k (Some 1) (sent_elsewhere k l sent)) is ∙ by_case (is_join kind)
   where
-    by_case : (b : Bool) → records_to k (Some 1) (sent_elsewhere k (cond b (Some 0) None) sent) ≡ cond b (of_lane 1 (arriving k sent)) []
+    by_case : (b : Bool) → records_to k (Some 1) (sent_elsewhere k (cond b (Some 0) None) sent) ≡ cond b (of_lane 1 (arrivals_at k sent)) []
     by_case true = lane_left k sent ∙ records_to-lane k 1 sent
     by_case false = none_left k sent
 
@@ -116,7 +116,7 @@ All-second_input P kind elements all = by_case (is_join kind)
 
 -- ---- what is left
 -- what arrives at a later node is as before
-pub arriving-elsewhere : (k : ℕ) (lane : Option ℕ) (behind : ℕ) → k < behind → (sent : List Sent) → arriving behind (sent_elsewhere k lane sent) ≡ arriving behind sent
+pub arriving-elsewhere : (k : ℕ) (lane : Option ℕ) (behind : ℕ) → k < behind → (sent : List Sent) → arrivals_at behind (sent_elsewhere k lane sent) ≡ arrivals_at behind sent
 arriving-elsewhere k lane behind later [] = refl
 arriving-elsewhere k lane behind later (s ∷ sent) = by_case (arriving-elsewhere k lane behind later sent) (is_to k lane s.down) refl
   where
@@ -124,18 +124,18 @@ arriving-elsewhere k lane behind later (s ∷ sent) = by_case (arriving-elsewher
     at_node None e = e
     at_node (Some l) e = (and_parts (eqb s.down.node k) (eqb s.down.lane l) e).0
 
-    by_case : arriving behind (sent_elsewhere k lane sent) ≡ arriving behind sent → (b : Bool) → is_to k lane s.down ≡ b
-        → arriving behind (cond (not b) (s ∷ sent_elsewhere k lane sent) (sent_elsewhere k lane sent)) ≡ arriving behind (s ∷ sent)
+    by_case : arrivals_at behind (sent_elsewhere k lane sent) ≡ arrivals_at behind sent → (b : Bool) → is_to k lane s.down ≡ b
+        → arrivals_at behind (cond (not b) (s ∷ sent_elsewhere k lane sent) (sent_elsewhere k lane sent)) ≡ arrivals_at behind (s ∷ sent)
     by_case rest true e =
         let here : s.down.node ≡ k = eqb-true s.down.node k (at_node lane e) in
         let not_there : eqb s.down.node behind ≡ false = false_from_ne_true _ (λ there. let same : s.down.node ≡ behind = eqb-true s.down.node behind there in omega (arith, here, same, later)) in
-        rest ∙ (λ i. cond (sym not_there i) (on_lane s.down.lane s.records) [] ++ arriving behind sent)
+        rest ∙ (λ i. cond (sym not_there i) (on_lane s.down.lane s.records) [] ++ arrivals_at behind sent)
     by_case rest false e = ap (λ l. brought behind s ++ l) rest
 
 -- and so it stays with one list more
-pub arriving-more : (behind : ℕ) (left all : List Sent) (down : Down) (rows same : List Record) → arriving behind left ≡ arriving behind all → rows ≡ same
-    → arriving behind (left ++ record { down = down; records = rows } ∷ []) ≡ arriving behind (all ++ record { down = down; records = same } ∷ [])
+pub arriving-more : (behind : ℕ) (left all : List Sent) (down : Down) (rows same : List Record) → arrivals_at behind left ≡ arrivals_at behind all → rows ≡ same
+    → arrivals_at behind (left ++ record { down = down; records = rows } ∷ []) ≡ arrivals_at behind (all ++ record { down = down; records = same } ∷ [])
 arriving-more behind left all down rows same before is =
     flat_map-append (brought behind) left (record { down = down; records = rows } ∷ [])
-    ∙ (λ i. before i ++ arriving behind (record { down = down; records = is i } ∷ []))
+    ∙ (λ i. before i ++ arrivals_at behind (record { down = down; records = is i } ∷ []))
     ∙ sym (flat_map-append (brought behind) all (record { down = down; records = same } ∷ []))

@@ -4,14 +4,14 @@ use Rattle.std.specs.List.{flat_map, list_any}
 use Rattle.sb_record.specs.declared.item.Record.{Record}
 use Rattle.sb_window.specs.declared.keyed_window.KeyedWindow.{KeyedWindow}
 use Rattle.sb_window.specs.Spacing.{Spacing}
-use Rattle.sb_window.specs.Gatherings.{gathered, joined}
+use Rattle.sb_window.specs.Gatherings.{gathered_value, joined_value}
 use Rattle.sb_aggregate.specs.Sessions.{is_in_session}
 use Rattle.sb_join.specs.declared.join.Combine.{Combine}
 use Rattle.sb_join.specs.Joins.{pair_values}
 
 -- the values of the records that lie in a keyed window, where there are any
 abbrev pub values_at : Spacing → List Record → KeyedWindow → Option (List ℤ)
-values_at windows l q = gathered (λ vs. vs) windows l q
+values_at windows l q = gathered_value (λ vs. vs) windows l q
 
 -- the values of those of the records that are in a session of the list, where there are any
 abbrev pub session_values_at : ℕ → List Record → List Record → KeyedWindow → Option (List ℤ)
@@ -21,8 +21,8 @@ session_values_at gap l records q =
     else None
 
 -- values followed by others, where there are any
-abbrev pub followed : Option (List ℤ) → Option (List ℤ) → Option (List ℤ)
-followed first more = joined (λ vs ws. vs ++ ws) first more
+abbrev pub values_with : Option (List ℤ) → Option (List ℤ) → Option (List ℤ)
+values_with first more = joined_value (λ vs ws. vs ++ ws) first more
 
 -- the rows of the pairs of each left entry with the right values of the same keyed window, if there are any
 abbrev pub rows_of_pairs : Combine → (KeyedWindow → Option (List ℤ)) → List (KeyedWindow × List ℤ) → List Record

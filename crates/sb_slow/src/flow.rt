@@ -80,11 +80,11 @@ fn pass_on(
     sent: Vec<Sent>,
 ) -> Result<Vec<Sent>, NoMemory>
     requires valid { IsValidKind kind.now }
-    requires times { All (λ e. e.rec.time < END_MARK) (flow.arriving node sent.items) }
-    ensures { IfOk result (λ next. (behind : ℕ) → node < behind → flow.arriving behind next.items
-        ≡ flow.arriving behind (sent.items ++ record {
+    requires times { All (λ e. e.rec.time < END_MARK) (flow.arrivals_at node sent.items) }
+    ensures { IfOk result (λ next. (behind : ℕ) → node < behind → flow.arrivals_at behind next.items
+        ≡ flow.arrivals_at behind (sent.items ++ record {
           down = down;
-          records = operators.output (operators.operator_of kind.now) (flow.arriving node sent.items);
+          records = operators.output (operators.operator_of kind.now) (flow.arrivals_at node sent.items);
         } ∷ [])) }
 {
     let (first, sent) = take_sent(alloc, node, first_lane(kind), sent)?;

@@ -79,7 +79,7 @@ fn add_record(
     requires { «record».now.time < END_MARK }
     ensures { OnOk result
         ((q : Window) → get keyed_window_cmp values.new q
-        ≡ spec.followed (get keyed_window_cmp values.old q) (spec.values_at windows.now («record».now ∷ []) q)) }
+        ≡ spec.values_with (get keyed_window_cmp values.old q) (spec.values_at windows.now («record».now ∷ []) q)) }
 {
     for end in windows.ends(record.time) {
         let window = KeyedWindow {
@@ -100,7 +100,7 @@ fn add_value(
 ) -> Result<(), AllocError>
     ensures { OnOk result ((q : Window) → get keyed_window_cmp values.new q
         ≡ (if is_at (keyed_window_cmp window) q
-        then spec.followed (get keyed_window_cmp values.old window) (Some («record».now.value ∷ []))
+        then spec.values_with (get keyed_window_cmp values.old window) (Some («record».now.value ∷ []))
         else get keyed_window_cmp values.old q)) }
 {
     let list = values

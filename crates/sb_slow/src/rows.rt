@@ -1,7 +1,7 @@
 //! Rows put in order, and cut off at a time.
 
 ghost use Rattle.std.specs.Prelude.{◌≡◌, OnOk, OnErr};
-ghost use Rattle.sb_record.specs.Records.{before, sorted};
+ghost use Rattle.sb_record.specs.Records.{before, sorted_records};
 
 use sb_record::{NoMemory, Record};
 use std::alloc::AllocError;
@@ -12,7 +12,7 @@ use std::alloc::AllocError;
 ///
 /// [`NoMemory`] if there is no memory for putting them in order; those below the mark are kept as they stood.
 pub fn sort_below(rows: &mut Vec<Record>, mark: u64) -> Result<(), NoMemory>
-    ensures ok { OnOk result (rows.new.items ≡ sorted (before mark rows.old.items)) }
+    ensures ok { OnOk result (rows.new.items ≡ sorted_records (before mark rows.old.items)) }
     ensures err { OnErr result (rows.new.items ≡ before mark rows.old.items) }
 {
     keep_below(rows, mark);
@@ -27,7 +27,7 @@ fn keep_below(rows: &mut Vec<Record>, mark: u64)
 }
 
 fn sort_rows(rows: &mut Vec<Record>) -> Result<(), AllocError>
-    ensures ok { OnOk result (rows.new.items ≡ sorted rows.old.items) }
+    ensures ok { OnOk result (rows.new.items ≡ sorted_records rows.old.items) }
     ensures err { OnErr result (rows.new.items ≡ rows.old.items) }
 {
     rows.sort()?;

@@ -1,7 +1,7 @@
 //! Entering a turn: in one try, or by waiting for it.
 ghost use Rattle.std.specs.Prelude.{◌≡◌, ℕ, ◌<◌, ◌≤◌, [], ◌∷◌, IfOk, IfSome, MatchOption, MatchResult};
 ghost use Rattle.sb_turn.specs.declared.turns.Slot.TheVariants.{Empty};
-ghost use Rattle.sb_turn.specs.Turning.{lost, won, tried};
+ghost use Rattle.sb_turn.specs.Turning.{lost_view, won_view, tried_view};
 ghost use Rattle.sb_turn.specs.Facts.{Finds};
 ghost use Rattle.sb_turn.specs.Passes.{IsPassOf, IsFree, IsSamePass, node_count, about, seat_view};
 
@@ -25,8 +25,8 @@ impl<K: Keep> Turns<K> {
         ensures pass { IsSamePass pass.old pass.new }
         ensures turn { MatchResult result
             (λ g. (g.node ≡ node) × (g.found.value ≡ g.state)
-            × (pass.new.me ≡ (won node g.state (seat_view pass.old), (node, Empty) ∷ [])))
-            (λ _. pass.new.me ≡ (lost node (seat_view pass.old), [])) }
+            × (pass.new.me ≡ (won_view node g.state (seat_view pass.old), (node, Empty) ∷ [])))
+            (λ _. pass.new.me ≡ (lost_view node (seat_view pass.old), [])) }
         ensures lines { IfOk result (λ g. K.lines_of g.state ≤ MAX_STATE_LINES) }
         ensures fact { IfOk result (λ g. M.fact (seat_view pass.old).client node g.state) }
     {
@@ -52,9 +52,9 @@ impl<K: Keep> Turns<K> {
         requires node { node < node_count self.now }
         ensures pass { IsSamePass pass.old pass.new }
         ensures turn { MatchOption result
-            (pass.new.me ≡ (lost node (seat_view pass.old), []))
+            (pass.new.me ≡ (lost_view node (seat_view pass.old), []))
             (λ g. (g.node ≡ node) × (g.found.value ≡ g.state)
-            × (pass.new.me ≡ (won node g.state (seat_view pass.old), (node, Empty) ∷ []))) }
+            × (pass.new.me ≡ (won_view node g.state (seat_view pass.old), (node, Empty) ∷ []))) }
         ensures lines { IfSome result (λ g. K.lines_of g.state ≤ MAX_STATE_LINES) }
         ensures finds { IfSome result (λ g. K.finds (about self.now) (seat_view pass.old).client node g.state) }
     {
@@ -72,7 +72,7 @@ impl<K: Keep> Turns<K> {
         ensures pass { IsSamePass pass.old pass.new }
         ensures turn { (result.node ≡ node) × (result.found.value ≡ result.state)
             × ((tries : ℕ) × (pass.new.me
-            ≡ (won node result.state (tried node tries (seat_view pass.old)), (node, Empty) ∷ []))) }
+            ≡ (won_view node result.state (tried_view node tries (seat_view pass.old)), (node, Empty) ∷ []))) }
         ensures lines { K.lines_of result.state ≤ MAX_STATE_LINES }
         ensures finds { K.finds (about self.now) (seat_view pass.old).client node result.state }
     {

@@ -3,7 +3,7 @@ ghost use Rattle.std.specs.Prelude.{◌≡◌, ℕ, ◌+◌, ◌*◌, ◌<◌, �
 ghost use Rattle.crossbeam_utils.specs.Padded.{padded_value};
 ghost use Rattle.crossbeam_utils.specs.declared.cache_padded.CachePadded.{CachePadded};
 ghost use Rattle.sb_turn.specs.declared.turns.Slot.TheVariants.{State as Lies};
-ghost use Rattle.sb_turn.specs.Turning.{hold_of, left, one_if};
+ghost use Rattle.sb_turn.specs.Turning.{hold_of, left_view, one_if};
 ghost use Rattle.sb_turn.specs.Owed.{Leaves};
 ghost use Rattle.sb_turn.specs.Passes.{IsPassOf, Holds, IsSamePass, node_count, about, seat_view};
 
@@ -41,7 +41,7 @@ impl<K: Keep> Turns<K> {
             (K.after (seat_view pass.old).client node change.now) }
         ensures pass { IsSamePass pass.old pass.new }
         ensures turn { pass.new.me ≡ (
-          left node lines change.now
+          left_view node lines change.now
               (K.after (seat_view pass.old).client node change.now) (seat_view pass.old),
           [],
         ) }
@@ -71,7 +71,7 @@ impl<K: Keep> Turns<K> {
             (K.after (seat_view pass.old).client guard.node change) }
         ensures pass { IsSamePass pass.old pass.new }
         ensures turn { pass.new.me ≡ (
-          left guard.node (K.lines_of guard.state) change
+          left_view guard.node (K.lines_of guard.state) change
               (K.after (seat_view pass.old).client guard.node change) (seat_view pass.old),
           [],
         ) }

@@ -3,7 +3,7 @@ ghost use Rattle.std.specs.Prelude.{◌≡◌, ◌≢◌, ℕ, ◌+◌, ◌<◌,
 ghost use Rattle.std.specs.Prelude.{MatchBool, MatchOption, IfSome, IfNone};
 ghost use Rattle.std.specs.List.{All};
 ghost use Rattle.sb_turn.specs.declared.turns.Slot.TheVariants.{Empty, Piece};
-ghost use Rattle.sb_turn.specs.Turning.{grips, missed, missed_alone, filled, claimed, freed};
+ghost use Rattle.sb_turn.specs.Turning.{grips, missed_view, missed_alone, filled_view, claimed_view, freed_view};
 ghost use Rattle.sb_turn.specs.Turning.{after_looks, after_put, after_search, after_claim};
 ghost use Rattle.sb_turn.specs.Facts.{Fits};
 ghost use Rattle.sb_turn.specs.Owed.{Lays, Takes};
@@ -25,7 +25,7 @@ impl<K: Keep> Turns<K> {
         ensures pass { IsSamePass pass.old pass.new }
         ensures place { MatchBool result
             (pass.new.me ≡ (grips place (seat_view pass.old), (node_count self.now + place, Empty) ∷ []))
-            ((found : ℕ) × (found ≢ 0) × (pass.new.me ≡ (missed place found (seat_view pass.old), []))) }
+            ((found : ℕ) × (found ≢ 0) × (pass.new.me ≡ (missed_view place found (seat_view pass.old), []))) }
     {
         let word = self.count as usize + 1 + place as usize;
         self.table
@@ -43,7 +43,8 @@ impl<K: Keep> Turns<K> {
         requires rule { Lays (K.rule (about self.now)) pass.old.id (seat_view pass.old).client piece
             (K.laid (seat_view pass.old).client piece) }
         ensures pass { IsSamePass pass.old pass.new }
-        ensures place { pass.new.me ≡ (filled (K.laid (seat_view pass.old).client piece) (seat_view pass.old), []) }
+        ensures place { pass.new.me
+            ≡ (filled_view (K.laid (seat_view pass.old).client piece) (seat_view pass.old), []) }
     {
         let slot = self.count as usize + place as usize;
         match self.table.shared.exchange(pass, slot, Slot::Piece(piece)) {
@@ -87,7 +88,7 @@ impl<K: Keep> Turns<K> {
         ensures place { MatchOption result
             ((found : ℕ) × (found ≢ 2) × (pass.new.me ≡ (missed_alone place found (seat_view pass.old), [])))
             (λ p. pass.new.me
-            ≡ (freed (claimed place (K.claimed (seat_view pass.old).client p) (seat_view pass.old)), [])) }
+            ≡ (freed_view (claimed_view place (K.claimed (seat_view pass.old).client p) (seat_view pass.old)), [])) }
         ensures fact { IfSome result M.fact }
     {
         let word = self.count as usize + 1 + place as usize;

@@ -1,6 +1,6 @@
 //! The state word, by which passes tell each other that the work ends. It only rises.
 ghost use Rattle.std.specs.Prelude.{◌≡◌, ◌≤◌, true};
-ghost use Rattle.sb_turn.specs.Turning.{saw, raised, AtMost};
+ghost use Rattle.sb_turn.specs.Turning.{saw, raised_view, AtMost};
 ghost use Rattle.sb_turn.specs.Owed.{Learns, Raises};
 ghost use Rattle.sb_turn.specs.Passes.{IsPassOf, IsSamePass, about, seat_view};
 ghost use Rattle.sb_turn.specs.Reasons.{number_of};
@@ -18,7 +18,7 @@ impl<K: Keep> Turns<K> {
             (K.told (seat_view pass.old).client (number_of reason)) }
         ensures pass { IsSamePass pass.old pass.new }
         ensures word { pass.new.me ≡ (
-          raised (number_of reason)
+          raised_view (number_of reason)
               (K.told (seat_view pass.old).client (number_of reason)) (seat_view pass.old),
           pass.old.me.1,
         ) }

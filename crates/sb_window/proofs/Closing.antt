@@ -12,7 +12,7 @@ use Rattle.sb_record.specs.declared.element.KeptRec.{KeptRec}
 use Rattle.sb_record.specs.declared.item.Record.{Record}
 use Rattle.sb_record.specs.Elements.{all_records}
 use Rattle.sb_record.specs.Orders.{IsAscending}
-use Rattle.sb_record.specs.Records.{record_cmp, sorted, before, at_least}
+use Rattle.sb_record.specs.Records.{record_cmp, sorted_records, before, at_least}
 use Rattle.sb_record.proofs.Elements.{All-any, All-anything, All-passed, every, filter_of_filter}
 use Rattle.sb_record.proofs.OnLanes.{All-all_records}
 use Rattle.sb_record.proofs.Sorting.{records_total, in_order-ascending, sorted-unique, IsReordered-in_order, All-in_order}
@@ -20,14 +20,14 @@ use Rattle.sb_window.specs.declared.keyed_window.KeyedWindow.{KeyedWindow}
 use Rattle.sb_window.specs.Spacing.{Spacing}
 use Rattle.sb_window.specs.Windows.{keyed_window_cmp, keyed_windows, is_in, values_in}
 use Rattle.sb_window.specs.Aggregations.{rows_by}
-use Rattle.sb_window.specs.Gatherings.{gathered, rows_of_entries}
+use Rattle.sb_window.specs.Gatherings.{gathered_value, rows_of_entries}
 use Rattle.sb_window.specs.Groupings.{IsFrom, Closes}
 use Rattle.sb_window.proofs.Gathering.{entries-passing}
 use Rattle.sb_window.proofs.Rows.{end-of, when, when-rows, rows_by-closed}
 
 -- the rows of a map that has what is gathered in the keyed windows whose rows are of some times
 pub rows_of_entries-when : {V : Type 0} (made : List ℤ → V) (values : V → List ℤ) (windows : Spacing) (t : ℕ → Bool) (l : List Record) (m : BTreeMap KeyedWindow V) → IsOrdered keyed_window_cmp m
-    → ((q : KeyedWindow) → get keyed_window_cmp m q ≡ cond (t (q.end - 1)) (gathered made windows l q) None) → rows_of_entries values m.entries ≡ when t (rows_by (λ vs. values (made vs)) windows l)
+    → ((q : KeyedWindow) → get keyed_window_cmp m q ≡ cond (t (q.end - 1)) (gathered_value made windows l q) None) → rows_of_entries values m.entries ≡ when t (rows_by (λ vs. values (made vs)) windows l)
 rows_of_entries-when {V} made values windows t l m ordered at =
     ap (rows_of_entries values) (entries-passing windows (λ q. t (q.end - 1)) l (λ q. made (values_in windows q l)) m ordered (λ q. at q ∙ both (t (q.end - 1)) (list_any (is_in windows q) l) (made (values_in windows q l))))
     ∙ flat_map-map (λ (e : KeyedWindow × V). map (λ v. record { time = e.0.end - 1; key = e.0.key; value = v }) (values e.1)) (λ q. (q, made (values_in windows q l))) (filter (λ q. t (q.end - 1)) (keyed_windows windows l))
@@ -81,7 +81,7 @@ module _ (values : List ℤ → List ℤ) (windows : Spacing) (closed mark : ℕ
       low x h = ltb-true x mark (and_parts (not (nat_lt x closed)) (nat_lt x mark) h).1
 
   -- the rows between the marks, in order, are a closing
-  pub closes-between : (rows : List Record) → rows ≡ sorted (when (is_between closed mark) (rows_by values windows absorbed))
+  pub closes-between : (rows : List Record) → rows ≡ sorted_records (when (is_between closed mark) (rows_by values windows absorbed))
       → Closes mark (λ l. at_least closed (rows_by values windows (absorbed ++ all_records l))) rows (λ l. at_least mark (rows_by values windows (absorbed ++ all_records l)))
   closes-between rows are = record {
     in_order = sorted-unique rows rows (subst (λ (l : List Record). IsAscending record_cmp l) (sym are) (in_order-ascending records_total (when (is_between closed mark) (rows_by values windows absorbed)))) (λ f. refl);

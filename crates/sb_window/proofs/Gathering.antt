@@ -26,11 +26,11 @@ use Rattle.sb_window.specs.declared.keyed_window.KeyedWindow.{KeyedWindow}
 use Rattle.sb_window.specs.Spacing.{Spacing}
 use Rattle.sb_window.specs.Windows.{window_ends, keyed_window_cmp, windows_of, keyed_windows, is_in, values_in}
 use Rattle.sb_window.specs.Aggregations.{rows_by}
-use Rattle.sb_window.specs.Gatherings.{gathered, joined, rows_of_entries}
+use Rattle.sb_window.specs.Gatherings.{gathered_value, joined_value, rows_of_entries}
 use Rattle.sb_window.proofs.Multiples.{Rising}
 use Rattle.sb_window.proofs.Rows.{keyed_windows_total, exact_keyed_windows, any_keyed_windows, same_keyed_window}
 
-pub joined_none : {V : Type 0} (join : V → V → V) (o : Option V) → joined join o None ≡ o
+pub joined_none : {V : Type 0} (join : V → V → V) (o : Option V) → joined_value join o None ≡ o
 joined_none join None = refl
 joined_none join (Some v) = refl
 
@@ -44,7 +44,7 @@ some_pass p l h = by_case (filter p l) refl
 
 -- what is made of the values of two lists, where join makes it of what is made of each
 pub gathered-append : {V : Type 0} (made : List ℤ → V) (join : V → V → V) → ((v w : ℤ) (vs ws : List ℤ) → made ((v ∷ vs) ++ w ∷ ws) ≡ join (made (v ∷ vs)) (made (w ∷ ws)))
-    → (windows : Spacing) (q : KeyedWindow) (l m : List Record) → gathered made windows (l ++ m) q ≡ joined join (gathered made windows l q) (gathered made windows m q)
+    → (windows : Spacing) (q : KeyedWindow) (l m : List Record) → gathered_value made windows (l ++ m) q ≡ joined_value join (gathered_value made windows l q) (gathered_value made windows m q)
 gathered-append {V} made join joins windows q l m =
     (λ i. cond (list_any-append (is_in windows q) l m i) (Some (made ((ap (map (λ r. r.value)) (filter-append (is_in windows q) l m) ∙ map-append (λ r. r.value) (filter (is_in windows q) l) (filter (is_in windows q) m)) i))) None)
     ∙ by_case (list_any (is_in windows q) l) (list_any (is_in windows q) m) refl refl
@@ -56,7 +56,7 @@ gathered-append {V} made join joins windows q l m =
     ws = values_in windows q m
 
     by_case : (a b : Bool) → list_any (is_in windows q) l ≡ a → list_any (is_in windows q) m ≡ b
-        → cond {A = Option V} (a || b) (Some (made (values_in windows q l ++ values_in windows q m))) None ≡ joined join (cond a (Some (made (values_in windows q l))) None) (cond b (Some (made (values_in windows q m))) None)
+        → cond {A = Option V} (a || b) (Some (made (values_in windows q l ++ values_in windows q m))) None ≡ joined_value join (cond a (Some (made (values_in windows q l))) None) (cond b (Some (made (values_in windows q m))) None)
     by_case true true e f =
         let x = some_pass (is_in windows q) l e in
         let y = some_pass (is_in windows q) m f in
@@ -81,7 +81,7 @@ pub made_at-no_ends : {V : Type 0} (v : V) (key : Key) (q : KeyedWindow) → mad
 made_at-no_ends {V} v key q = elim (same_key key q.key) as (λ b. cond {A = Option V} (b && false) (Some v) None ≡ None) [ true ↦ refl | false ↦ refl ]
 
 -- at all ends of its time it is what is gathered of the record
-pub made_at-window_ends : {V : Type 0} (made : List ℤ → V) (windows : Spacing) (r : Record) (q : KeyedWindow) → made_at (made (r.value ∷ [])) r.key (window_ends windows r.time) q ≡ gathered made windows (r ∷ []) q
+pub made_at-window_ends : {V : Type 0} (made : List ℤ → V) (windows : Spacing) (r : Record) (q : KeyedWindow) → made_at (made (r.value ∷ [])) r.key (window_ends windows r.time) q ≡ gathered_value made windows (r ∷ []) q
 made_at-window_ends {V} made windows r q = by_case (is_in windows q r)
   where
     by_case : (b : Bool) → cond {A = Option V} b (Some (made (r.value ∷ []))) None ≡ cond (b || false) (Some (made (map (λ (x : Record). x.value) (cond b (r ∷ []) [])))) None
@@ -94,22 +94,22 @@ not_among x es all = list_any_none (λ e. eqb e x) es (All-from_recursion (λ e.
 
 -- a step of a loop over rising ends, which joins what is made of one value to what there is at each
 pub made_at-more : {V : Type 0} (join : V → V → V) (v : V) (key : Key) (e : ℕ) (es : List ℕ) → Rising (e ∷ es) → (now later : KeyedWindow → Option V)
-    → ((q : KeyedWindow) → later q ≡ cond (is_at (keyed_window_cmp (record { end = e; key = key })) q) (joined join (now (record { end = e; key = key })) (Some v)) (now q))
-    → (q : KeyedWindow) → joined join (later q) (made_at v key es q) ≡ joined join (now q) (made_at v key (e ∷ es) q)
+    → ((q : KeyedWindow) → later q ≡ cond (is_at (keyed_window_cmp (record { end = e; key = key })) q) (joined_value join (now (record { end = e; key = key })) (Some v)) (now q))
+    → (q : KeyedWindow) → joined_value join (later q) (made_at v key es q) ≡ joined_value join (now q) (made_at v key (e ∷ es) q)
 made_at-more {V} join v key e es rising now later step q =
-    ap (λ o. joined join o (made_at v key es q)) (step q ∙ ap (λ b. cond b (joined join (now (record { end = e; key = key })) (Some v)) (now q)) (same_keyed_window (record { end = e; key = key }) q))
+    ap (λ o. joined_value join o (made_at v key es q)) (step q ∙ ap (λ b. cond b (joined_value join (now (record { end = e; key = key })) (Some v)) (now q)) (same_keyed_window (record { end = e; key = key }) q))
     ∙ by_case (eqb e q.end) (same_key key q.key) refl refl
   where
     by_case : (a k : Bool) → eqb e q.end ≡ a → same_key key q.key ≡ k
-        → joined join (cond (a && k) (joined join (now (record { end = e; key = key })) (Some v)) (now q)) (cond (k && list_any (λ x. eqb x q.end) es) (Some v) None)
-        ≡ joined join (now q) (cond (k && (a || list_any (λ x. eqb x q.end) es)) (Some v) None)
+        → joined_value join (cond (a && k) (joined_value join (now (record { end = e; key = key })) (Some v)) (now q)) (cond (k && list_any (λ x. eqb x q.end) es) (Some v) None)
+        ≡ joined_value join (now q) (cond (k && (a || list_any (λ x. eqb x q.end) es)) (Some v) None)
     by_case true true c d =
         let end_is : e ≡ q.end = eqb-true e q.end c in
         let key_is : key ≡ q.key = tells_apart exact_keys key q.key d in
         let none : list_any (λ x. eqb x q.end) es ≡ false = ap (λ y. list_any (λ x. eqb x y) es) (sym end_is) ∙ not_among e es rising.0 in
-        ap (λ b. joined join (joined join (now (record { end = e; key = key })) (Some v)) (cond b (Some v) None)) none
-        ∙ joined_none join (joined join (now (record { end = e; key = key })) (Some v))
-        ∙ ap (λ o. joined join o (Some v)) (λ i. now (record { end = end_is i; key = key_is i }))
+        ap (λ b. joined_value join (joined_value join (now (record { end = e; key = key })) (Some v)) (cond b (Some v) None)) none
+        ∙ joined_none join (joined_value join (now (record { end = e; key = key })) (Some v))
+        ∙ ap (λ o. joined_value join o (Some v)) (λ i. now (record { end = end_is i; key = key_is i }))
     by_case true false c d = refl
     by_case false true c d = refl
     by_case false false c d = refl
@@ -150,7 +150,7 @@ entries-keyed_windows windows l f m ordered at = entries-passing windows (λ _. 
 
 -- the rows of a map that gathers the values of records are the rows over the records
 pub rows_of_entries-gathered : {V : Type 0} (made : List ℤ → V) (values : V → List ℤ) (windows : Spacing) (l : List Record) (m : BTreeMap KeyedWindow V) → IsOrdered keyed_window_cmp m
-    → ((q : KeyedWindow) → get keyed_window_cmp m q ≡ gathered made windows l q) → rows_of_entries values m.entries ≡ rows_by (λ vs. values (made vs)) windows l
+    → ((q : KeyedWindow) → get keyed_window_cmp m q ≡ gathered_value made windows l q) → rows_of_entries values m.entries ≡ rows_by (λ vs. values (made vs)) windows l
 rows_of_entries-gathered {V} made values windows l m ordered at =
     ap (rows_of_entries values) (entries-keyed_windows windows l (λ q. made (values_in windows q l)) m ordered at)
     ∙ flat_map-map (λ (e : KeyedWindow × V). map (λ v. record { time = e.0.end - 1; key = e.0.key; value = v }) (values e.1)) (λ q. (q, made (values_in windows q l))) (keyed_windows windows l)

@@ -10,11 +10,11 @@ use Rattle.std.specs.declared.cmp.Ordering.{Ordering}
 use Rattle.std.specs.declared.cmp.Ordering.TheVariants.{Less, Equal, Greater}
 use Rattle.sb_window.specs.declared.keyed_window.KeyedWindow.{KeyedWindow}
 use Rattle.sb_window.specs.Windows.{keyed_window_cmp}
-use Rattle.sb_window.specs.Gatherings.{joined}
+use Rattle.sb_window.specs.Gatherings.{joined_value}
 use Rattle.sb_window.proofs.Rows.{keyed_windows_total, exact_keyed_windows}
 use Rattle.sb_window.proofs.Gathering.{joined_none}
 
-pub joined-swapped : {V : Type 0} (join : V → V → V) → ((v w : V) → join v w ≡ join w v) → (a b : Option V) → joined join a b ≡ joined join b a
+pub joined-swapped : {V : Type 0} (join : V → V → V) → ((v w : V) → join v w ≡ join w v) → (a b : Option V) → joined_value join a b ≡ joined_value join b a
 joined-swapped join swaps None None = refl
 joined-swapped join swaps None (Some w) = refl
 joined-swapped join swaps (Some v) None = refl
@@ -38,22 +38,22 @@ not_there at (e ∷ rest) all = ap (λ o. cond (is_eq o) (Some e.1) (value_at at
 
 -- a step of a loop over the entries of a map
 pub join-step : {V : Type 0} (join : V → V → V) (into later : KeyedWindow → Option V) (at : KeyedWindow) (v : V) (rest : List (KeyedWindow × V)) → IsStrictlySortedBy keyed_window_cmp (at ∷ keys_of rest)
-    → ((q : KeyedWindow) → later q ≡ cond (is_at (keyed_window_cmp at) q) (joined join (into at) (Some v)) (into q))
-    → (q : KeyedWindow) → joined join (later q) (value_at q rest) ≡ joined join (into q) (value_at q ((at, v) ∷ rest))
+    → ((q : KeyedWindow) → later q ≡ cond (is_at (keyed_window_cmp at) q) (joined_value join (into at) (Some v)) (into q))
+    → (q : KeyedWindow) → joined_value join (later q) (value_at q rest) ≡ joined_value join (into q) (value_at q ((at, v) ∷ rest))
 join-step {V} join into later at v rest sorted step q = by_case (keyed_window_cmp at q) refl
   where
-    here : joined join (later at) (value_at at rest) ≡ joined join (into at) (value_at at ((at, v) ∷ rest))
+    here : joined_value join (later at) (value_at at rest) ≡ joined_value join (into at) (value_at at ((at, v) ∷ rest))
     here =
-        (λ i. joined join ((step at ∙ ap (λ o. cond (is_eq o) (joined join (into at) (Some v)) (into at)) (tied_itself keyed_windows_total at)) i) (not_there at rest (sorted-first at (keys_of rest) sorted) i))
-        ∙ joined_none join (joined join (into at) (Some v))
-        ∙ ap (joined join (into at)) (sym (ap (λ o. cond (is_eq o) (Some v) (value_at at rest)) (tied_itself keyed_windows_total at)))
+        (λ i. joined_value join ((step at ∙ ap (λ o. cond (is_eq o) (joined_value join (into at) (Some v)) (into at)) (tied_itself keyed_windows_total at)) i) (not_there at rest (sorted-first at (keys_of rest) sorted) i))
+        ∙ joined_none join (joined_value join (into at) (Some v))
+        ∙ ap (joined_value join (into at)) (sym (ap (λ o. cond (is_eq o) (Some v) (value_at at rest)) (tied_itself keyed_windows_total at)))
 
-    other : (o : Ordering) → keyed_window_cmp at q ≡ o → is_eq o ≡ false → is_eq (ordering_reverse o) ≡ false → joined join (later q) (value_at q rest) ≡ joined join (into q) (value_at q ((at, v) ∷ rest))
+    other : (o : Ordering) → keyed_window_cmp at q ≡ o → is_eq o ≡ false → is_eq (ordering_reverse o) ≡ false → joined_value join (later q) (value_at q rest) ≡ joined_value join (into q) (value_at q ((at, v) ∷ rest))
     other o e n r =
-        (λ i. joined join ((step q ∙ ap (λ b. cond b (joined join (into at) (Some v)) (into q)) (ap is_eq e ∙ n)) i) (value_at q rest))
-        ∙ ap (λ b. joined join (into q) (cond b (Some v) (value_at q rest))) (sym (ap is_eq (keyed_windows_total.antisymm q at ∙ ap ordering_reverse e) ∙ r))
+        (λ i. joined_value join ((step q ∙ ap (λ b. cond b (joined_value join (into at) (Some v)) (into q)) (ap is_eq e ∙ n)) i) (value_at q rest))
+        ∙ ap (λ b. joined_value join (into q) (cond b (Some v) (value_at q rest))) (sym (ap is_eq (keyed_windows_total.antisymm q at ∙ ap ordering_reverse e) ∙ r))
 
-    by_case : (o : Ordering) → keyed_window_cmp at q ≡ o → joined join (later q) (value_at q rest) ≡ joined join (into q) (value_at q ((at, v) ∷ rest))
+    by_case : (o : Ordering) → keyed_window_cmp at q ≡ o → joined_value join (later q) (value_at q rest) ≡ joined_value join (into q) (value_at q ((at, v) ∷ rest))
     by_case Less e = other Less e refl refl
-    by_case Equal e = subst (λ (q : KeyedWindow). joined join (later q) (value_at q rest) ≡ joined join (into q) (value_at q ((at, v) ∷ rest))) (exact_keyed_windows at q e) here
+    by_case Equal e = subst (λ (q : KeyedWindow). joined_value join (later q) (value_at q rest) ≡ joined_value join (into q) (value_at q ((at, v) ∷ rest))) (exact_keyed_windows at q e) here
     by_case Greater e = other Greater e refl refl

@@ -16,5 +16,5 @@ pub record AreWindows (windows : Spacing) : Type 0 where
   pub most_windows : windows.size / windows.every ≤ MAX_WINDOWS_OF_A_TIME
 
 -- fixed windows: each begins where the one before it ends
-abbrev pub fixed : ℕ → Spacing
-fixed size = record { size = size; every = size }
+abbrev pub fixed_windows : ℕ → Spacing
+fixed_windows size = record { size = size; every = size }

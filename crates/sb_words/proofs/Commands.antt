@@ -6,7 +6,7 @@ use Rattle.std.proofs.lemmas.Fmt.{decimal_injective}
 use Rattle.std.proofs.lemmas.Option.{same_Some}
 use Rattle.sb_words.specs.declared.options.Options.{Options}
 use Rattle.sb_words.specs.declared.request.Request.{Request}
-use Rattle.sb_words.specs.Words.{Asked, IsAmount, IsCommand, IsFileName, IsKeyWord, IsNoCommand, IsSize, IsValid, asked}
+use Rattle.sb_words.specs.Words.{Asked, IsAmount, IsCommand, IsFileName, IsKeyWord, IsNoCommand, IsSize, IsValid, asked_of}
 use Rattle.sb_words.specs.Words.Asked.{Sum, Run, Slow, Audit, Work, Watch, Part, Save, Resume}
 use Rattle.sb_words.proofs.Sizes.{AreAnswered, AreSizesAnswered}
 
@@ -15,19 +15,19 @@ abbrev pub Answers : Option Asked → List (List ℕ) → Type 0
 Answers answer words = (wanted : Asked) → (answer ≡ Some wanted) ↔ IsCommand wanted words
 
 -- no answer where nothing is asked for
-pub no_answer : (r : Option Request) → r ≡ None → (words : List (List ℕ)) → IsNoCommand words → Answers (option_map asked r) words
+pub no_answer : (r : Option Request) → r ≡ None → (words : List (List ℕ)) → IsNoCommand words → Answers (option_map asked_of r) words
 no_answer r is words none wanted = (
-  λ e. absurd (cc (sym (ap (option_map asked) is) ∙ e)),
+  λ e. absurd (cc (sym (ap (option_map asked_of) is) ∙ e)),
   λ command. absurd (none wanted command),
 )
 
 -- where no words are answered, nothing is asked for, and the other way round
-pub refused : (r : Option Request) (words : List (List ℕ)) → Answers (option_map asked r) words → (r ≡ None) ↔ IsNoCommand words
-refused r words exact = (λ is wanted command. absurd (cc (sym (ap (option_map asked) is) ∙ (exact wanted).1 command)), unanswered r exact)
+pub refused : (r : Option Request) (words : List (List ℕ)) → Answers (option_map asked_of r) words → (r ≡ None) ↔ IsNoCommand words
+refused r words exact = (λ is wanted command. absurd (cc (sym (ap (option_map asked_of) is) ∙ (exact wanted).1 command)), unanswered r exact)
   where
-    unanswered : (r : Option Request) → Answers (option_map asked r) words → IsNoCommand words → r ≡ None
+    unanswered : (r : Option Request) → Answers (option_map asked_of r) words → IsNoCommand words → r ≡ None
     unanswered None exact silent = refl
-    unanswered (Some request) exact silent = absurd (silent (asked request) ((exact (asked request)).0 refl))
+    unanswered (Some request) exact silent = absurd (silent (asked_of request) ((exact (asked_of request)).0 refl))
 
 -- the word of a command
 abbrev pub word_of : Asked → List ℕ
@@ -188,14 +188,14 @@ no_resume name checkpoint words others are none wanted is =
     silent wanted command = let same = begins wanted (codes "resume") (name ∷ checkpoint ∷ others) command in search rules
 
 -- what is read in the words of a command is its own reading
-pub read_is : (read : Option Request) (own : Request) (words : List (List ℕ)) → Answers (Some (asked own)) words
-    → ((wanted : Asked) → IsCommand wanted words → option_map asked read ≡ Some wanted) → option_map asked read ≡ Some (asked own)
-read_is read own words exact reads = reads (asked own) ((exact (asked own)).0 refl)
+pub read_is : (read : Option Request) (own : Request) (words : List (List ℕ)) → Answers (Some (asked_of own)) words
+    → ((wanted : Asked) → IsCommand wanted words → option_map asked_of read ≡ Some wanted) → option_map asked_of read ≡ Some (asked_of own)
+read_is read own words exact reads = reads (asked_of own) ((exact (asked_of own)).0 refl)
 
-pub read_exact : (read : Option Request) (own : Request) (words : List (List ℕ)) → Answers (Some (asked own)) words
-    → ((wanted : Asked) → IsCommand wanted words → option_map asked read ≡ Some wanted) → Answers (option_map asked read) words
+pub read_exact : (read : Option Request) (own : Request) (words : List (List ℕ)) → Answers (Some (asked_of own)) words
+    → ((wanted : Asked) → IsCommand wanted words → option_map asked_of read ≡ Some wanted) → Answers (option_map asked_of read) words
 read_exact read own words exact reads = subst (λ answer. Answers answer words) (sym (read_is read own words exact reads)) exact
 
-pub read_valid : (read : Option Request) (own : Request) → option_map asked read ≡ Some (asked own) → IsValid (asked own) → IfSome read (λ request. IsValid (asked request))
+pub read_valid : (read : Option Request) (own : Request) → option_map asked_of read ≡ Some (asked_of own) → IsValid (asked_of own) → IfSome read (λ request. IsValid (asked_of request))
 read_valid None own is valid = absurd (cc is)
-read_valid (Some request) own is valid = subst IsValid (sym (same_Some (asked request) (asked own) is)) valid
+read_valid (Some request) own is valid = subst IsValid (sym (same_Some (asked_of request) (asked_of own) is)) valid

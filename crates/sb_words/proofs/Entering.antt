@@ -8,7 +8,7 @@ use Rattle.clap.specs.Walk.{Names, Row, Text, Walk, answers_to, first_of, nothin
 use Rattle.clap.specs.Walk.Waiting.{idle}
 use Rattle.clap.proofs.OnLiterals.{clap_on_literals}
 use Rattle.sb_words.specs.Clapped.{bare, of_one, program}
-use Rattle.sb_words.specs.Options.{AreOptions, IsSetting, name_of, spelled}
+use Rattle.sb_words.specs.Options.{AreOptions, IsSetting, name_of, words_of_option}
 use Rattle.sb_words.specs.declared.options.Options.{Options}
 use Rattle.sb_words.specs.declared.setting.Setting.{Setting}
 use Rattle.sb_words.specs.Readings.{AreRead, IsReadAs}
@@ -125,18 +125,18 @@ key_is_plain (byte ∷ bytes) word is key = subst IsPlainWord (sym is) (is_plain
 
 -- clap takes arguments and options behind the name of a command
 level_taken : (arguments : Arguments) (name : Text) → ArePlain arguments → (settings : List Setting) → AllByRecursion IsSetting settings → IsDistinct bytes_eq (map name_of settings)
-    → level_passes (built_of arguments name) [] nothing_held (texts_of arguments ++ flat_map spelled settings) false ≡ true
+    → level_passes (built_of arguments name) [] nothing_held (texts_of arguments ++ flat_map words_of_option settings) false ≡ true
 level_taken (one argument) name is settings range once =
     let arguments = one argument in
     let taken = words_taken arguments name is settings range once in
     let a = taken.passes in
     let b = taken.settles in
-    let given : is_given (codes "argument") (complete arguments (settled (rules arguments) (fold (walked (rules arguments) []) (walk_from nothing_held) (argument ∷ flat_map spelled settings)).held).rows) ≡ true =
+    let given : is_given (codes "argument") (complete arguments (settled (rules arguments) (fold (walked (rules arguments) []) (walk_from nothing_held) (argument ∷ flat_map words_of_option settings)).held).rows) ≡ true =
     ap (λ rows. is_given (codes "argument") (complete arguments rows)) taken.rows ∙ argument_given argument settings in
     rw (a, b, given) refl
 level_taken (two argument second) name is settings range once =
     let arguments = two argument second in
-    let words = argument ∷ second ∷ flat_map spelled settings in
+    let words = argument ∷ second ∷ flat_map words_of_option settings in
     let taken = words_taken arguments name is settings range once in
     let a = taken.passes in
     let b = taken.settles in
@@ -149,7 +149,7 @@ level_taken (two argument second) name is settings range once =
 
 -- and has these rows
 level_rows : (arguments : Arguments) (name : Text) → ArePlain arguments → (settings : List Setting) → AllByRecursion IsSetting settings → IsDistinct bytes_eq (map name_of settings)
-    → rows_after (rules arguments) [] (texts_of arguments ++ flat_map spelled settings) ≡ complete arguments (rows_of_words arguments settings)
+    → rows_after (rules arguments) [] (texts_of arguments ++ flat_map words_of_option settings) ≡ complete arguments (rows_of_words arguments settings)
 level_rows arguments name is settings range once = ap (complete arguments) (words_taken arguments name is settings range once).rows
 
 -- the rows of a subcommand that clap enters
@@ -166,7 +166,7 @@ options_taken : (arguments : Arguments) (name : Text) → IsNamed name (built_of
     → takes program (command ∷ texts_of arguments ++ words) ≡ true
 options_taken arguments name named plain command is options words given =
     ap (λ (ws : List Text). takes program ws) (λ i. is i ∷ texts_of arguments ++ given.exactly i)
-    ∙ enters name (built_of arguments name) named (texts_of arguments ++ flat_map spelled given.settings)
+    ∙ enters name (built_of arguments name) named (texts_of arguments ++ flat_map words_of_option given.settings)
     (level_taken arguments name plain given.settings given.in_range given.once)
 
 -- clap takes the words of every command
@@ -207,7 +207,7 @@ options_read arguments name named plain command is options words given =
     record {
       rows = complete arguments (rows_of_words arguments settings);
       entered = ap (λ (ws : List Text). subcommand_of program ws) (λ i. is i ∷ texts_of arguments ++ given.exactly i)
-          ∙ enters_rows name (built_of arguments name) named (texts_of arguments ++ flat_map spelled settings)
+          ∙ enters_rows name (built_of arguments name) named (texts_of arguments ++ flat_map words_of_option settings)
           ∙ ap (λ (r : List Row). Some (name, r)) (level_rows arguments name plain settings given.in_range given.once);
       given = arguments_read arguments settings;
       set = subst (λ o. AreRead o (complete arguments (rows_of_words arguments settings))) (sym given.given)

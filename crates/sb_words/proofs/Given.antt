@@ -6,7 +6,7 @@ use Rattle.std.specs.Str.{bytes_eq}
 use Rattle.std.proofs.lemmas.Option.{same_Some}
 use Rattle.sb_words.specs.declared.options.Options.{Options}
 use Rattle.sb_words.specs.declared.setting.Setting.{Setting}
-use Rattle.sb_words.specs.Options.{AreOptions, IsSetting, defaults, name_of, options_of, spelled, with_setting}
+use Rattle.sb_words.specs.Options.{AreOptions, IsSetting, defaults, name_of, options_of, words_of_option, with_setting}
 use Rattle.sb_words.specs.Texts.{texts}
 use Rattle.sb_words.proofs.Settings.{first_is_one}
 use Rattle.sb_words.proofs.Naming.{any_text, named, none_passes, passes_none}
@@ -19,12 +19,12 @@ pub record StartsWith (options : Options) (words : List (List ℕ)) : Type 0 whe
   pub in_range : AllByRecursion IsSetting others
   pub apart : AllByRecursion (λ name. bytes_eq (name_of setting) name ≡ false) (map name_of others)
   pub once : IsDistinct bytes_eq (map name_of others)
-  pub exactly : words ≡ spelled setting ++ flat_map spelled others
+  pub exactly : words ≡ words_of_option setting ++ flat_map words_of_option others
   pub given : options ≡ with_setting setting (options_of others)
 
 -- words that give options are none, or begin with one
 view_of : (options : Options) (words : List (List ℕ)) (settings : List Setting) → AllByRecursion IsSetting settings
-    → IsDistinct bytes_eq (map name_of settings) → words ≡ flat_map spelled settings → options ≡ options_of settings
+    → IsDistinct bytes_eq (map name_of settings) → words ≡ flat_map words_of_option settings → options ≡ options_of settings
     → ((words ≡ []) × (options ≡ defaults)) ⊎ StartsWith options words
 unfolding IsDistinct
 view_of options words [] range once exactly given = inl (exactly, given)
@@ -65,7 +65,7 @@ no_words given are words none options = (
   λ e. record { settings = []; in_range = tt; once = tt; exactly = no_texts words none; given = sym (same_Some given options e) ∙ are },
   λ is. elim (view options (texts words) is) [
     | inl v ↦ ap (λ o. Some o) (are ∙ sym v.1)
-    | inr v ↦ let nothing : spelled v.setting ++ flat_map spelled v.others ≡ [] = sym v.exactly ∙ no_texts words none in absurd cc
+    | inr v ↦ let nothing : words_of_option v.setting ++ flat_map words_of_option v.others ≡ [] = sym v.exactly ∙ no_texts words none in absurd cc
   ],
 )
 
@@ -74,24 +74,24 @@ no_words_of [] none = refl
 no_words_of (word ∷ words) none = absurd cc
 
 -- words that begin with no option give none
-pub no_option : {Y : Type 0} (words : List (String Y)) → (length words ≡ 0 → ⊥) → ((setting : Setting) (rest : List (List ℕ)) → IsSetting setting → texts words ≢ spelled setting ++ rest)
+pub no_option : {Y : Type 0} (words : List (String Y)) → (length words ≡ 0 → ⊥) → ((setting : Setting) (rest : List (List ℕ)) → IsSetting setting → texts words ≢ words_of_option setting ++ rest)
     → (options : Options) → AreOptions options (texts words) → ⊥
 no_option words some none options is = elim (view options (texts words) is) [
   | inl v ↦ some (no_words_of words v.0)
-  | inr v ↦ none v.setting (flat_map spelled v.others) v.is v.exactly
+  | inr v ↦ none v.setting (flat_map words_of_option v.others) v.is v.exactly
 ]
 
 -- the options behind the first, if options begin with one
-after_first : (setting : Setting) (words rest : List (List ℕ)) → IsSetting setting → words ≡ spelled setting ++ rest
-    → (options : Options) → (v : StartsWith options words) → (v.setting ≡ setting) × (flat_map spelled v.others ≡ rest)
+after_first : (setting : Setting) (words rest : List (List ℕ)) → IsSetting setting → words ≡ words_of_option setting ++ rest
+    → (options : Options) → (v : StartsWith options words) → (v.setting ≡ setting) × (flat_map words_of_option v.others ≡ rest)
 after_first setting words rest is begins options v = first_is_one v.setting setting _ _ v.is is (sym v.exactly ∙ begins)
 
 -- words that give an option twice are no options
-pub twice : {Y : Type 0} (setting : Setting) (words : List (List ℕ)) (rest : List (String Y)) → IsSetting setting → words ≡ spelled setting ++ texts rest
+pub twice : {Y : Type 0} (setting : Setting) (words : List (List ℕ)) (rest : List (String Y)) → IsSetting setting → words ≡ words_of_option setting ++ texts rest
     → (name : List ℕ) → name ≡ name_of setting → list_any (λ w. bytes_eq name (string_bytes w)) rest ≡ true
     → (options : Options) → AreOptions options words → ⊥
 twice setting words rest is begins name names again options are = elim (view options words are) [
-  | inl v ↦ let nothing : spelled setting ++ texts rest ≡ [] = sym begins ∙ v.0 in absurd cc
+  | inl v ↦ let nothing : words_of_option setting ++ texts rest ≡ [] = sym begins ∙ v.0 in absurd cc
   | inr v ↦
       let same = after_first setting words (texts rest) is begins options v in
       let none : list_any (bytes_eq (name_of v.setting)) (texts rest) ≡ false =
@@ -102,12 +102,12 @@ twice setting words rest is begins name names again options are = elim (view opt
 ]
 
 -- if what stands behind the first option gives no options, all of it gives none
-pub no_others : {Y : Type 0} (setting : Setting) (words : List (List ℕ)) (rest : List (String Y)) → IsSetting setting → words ≡ spelled setting ++ texts rest
+pub no_others : {Y : Type 0} (setting : Setting) (words : List (List ℕ)) (rest : List (String Y)) → IsSetting setting → words ≡ words_of_option setting ++ texts rest
     → ((options : Options) → AreOptions options (texts rest) → ⊥)
     → (options : Options) → AreOptions options words → ⊥
 unfolding IsDistinct
 no_others setting words rest is begins none options are = elim (view options words are) [
-  | inl v ↦ let nothing : spelled setting ++ texts rest ≡ [] = sym begins ∙ v.0 in absurd cc
+  | inl v ↦ let nothing : words_of_option setting ++ texts rest ≡ [] = sym begins ∙ v.0 in absurd cc
   | inr v ↦
       let same = after_first setting words (texts rest) is begins options v in
       none (options_of v.others) record {
@@ -125,7 +125,7 @@ pub none_gives : (r : Option Options) → r ≡ None → (words : List (List ℕ
 none_gives r is words none options = (λ e. absurd (cc (sym is ∙ e)), λ are. absurd (none options are))
 
 -- options, and one more in front of them
-pub one_more : {Y : Type 0} (setting : Setting) (words : List (List ℕ)) (rest : List (String Y)) → IsSetting setting → words ≡ spelled setting ++ texts rest
+pub one_more : {Y : Type 0} (setting : Setting) (words : List (List ℕ)) (rest : List (String Y)) → IsSetting setting → words ≡ words_of_option setting ++ texts rest
     → (name : List ℕ) → name ≡ name_of setting → list_any (λ w. bytes_eq name (string_bytes w)) rest ≡ false
     → (others : Options) → ((options : Options) → (◌≡◌ {A = Option Options} (Some others) (Some options)) ↔ AreOptions options (texts rest))
     → (given : Options) → given ≡ with_setting setting others
@@ -141,11 +141,11 @@ one_more setting words rest is begins name names new others exact given is_with 
         settings = setting ∷ o.settings;
         in_range = (is, o.in_range);
         once = (passes_none (bytes_eq (name_of setting)) (map name_of o.settings) apart, o.once);
-        exactly = begins ∙ ap (λ ws. spelled setting ++ ws) o.exactly;
+        exactly = begins ∙ ap (λ ws. words_of_option setting ++ ws) o.exactly;
         given = sym (same_Some given options e) ∙ is_with ∙ ap (with_setting setting) o.given;
       },
   λ are. elim (view options words are) [
-    | inl v ↦ let nothing : spelled setting ++ texts rest ≡ [] = sym begins ∙ v.0 in absurd cc
+    | inl v ↦ let nothing : words_of_option setting ++ texts rest ≡ [] = sym begins ∙ v.0 in absurd cc
     | inr v ↦
         let same = after_first setting words (texts rest) is begins options v in
         let o : AreOptions (options_of v.others) (texts rest) = record {

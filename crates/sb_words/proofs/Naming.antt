@@ -9,7 +9,7 @@ use Rattle.std.proofs.lemmas.List.Folds.{list_any-append}
 use Rattle.std.proofs.lemmas.Slice.Eq.{bytes_eq-Decides}
 use Rattle.sb_words.specs.declared.setting.Setting.{Setting}
 use Rattle.sb_words.specs.declared.setting.Setting.TheVariants.{Workers, Bundle, Pending, Diary, Taps}
-use Rattle.sb_words.specs.Options.{IsSetting, name_of, spelled, value_of}
+use Rattle.sb_words.specs.Options.{IsSetting, name_of, words_of_option, value_of}
 use Rattle.sb_words.specs.Texts.{texts}
 
 -- a list that begins with a digit
@@ -52,11 +52,11 @@ no_value s Taps is = refl
 
 -- the words of options have this name if one of the options does
 pub named : (s : Setting) (settings : List Setting) → AllByRecursion IsSetting settings
-    → list_any (bytes_eq (name_of s)) (flat_map spelled settings) ≡ list_any (bytes_eq (name_of s)) (map name_of settings)
+    → list_any (bytes_eq (name_of s)) (flat_map words_of_option settings) ≡ list_any (bytes_eq (name_of s)) (map name_of settings)
 named s [] range = refl
 named s (t ∷ settings) range =
     let first = bytes_eq (name_of s) (name_of t) in
-    ap (λ b. first || b) (list_any-append (bytes_eq (name_of s)) (value_of t) (flat_map spelled settings) ∙ rw (no_value s t range.0) (named s settings range.1))
+    ap (λ b. first || b) (list_any-append (bytes_eq (name_of s)) (value_of t) (flat_map words_of_option settings) ∙ rw (no_value s t range.0) (named s settings range.1))
 
 -- a test that no element passes
 pub none_passes : {X : Type 0} (test : X → Bool) (xs : List X) → AllByRecursion (λ x. test x ≡ false) xs → list_any test xs ≡ false

@@ -3,7 +3,7 @@ use Rattle.std.proofs.Common.{◌≡◌, ℕ, List, [], ◌∷◌, ◌++◌, ref
 use Rattle.std.proofs.lemmas.Fmt.{decimal_injective}
 use Rattle.sb_words.specs.declared.setting.Setting.{Setting}
 use Rattle.sb_words.specs.declared.setting.Setting.TheVariants.{Workers, Bundle, Pending, Diary, Taps}
-use Rattle.sb_words.specs.Options.{IsSetting, spelled}
+use Rattle.sb_words.specs.Options.{IsSetting, words_of_option}
 
 abbrev second_of : List (List ℕ) → List ℕ
 second_of (x ∷ y ∷ xs) = y
@@ -19,10 +19,10 @@ letter_of ((a ∷ b ∷ c ∷ bytes) ∷ words) = c
 letter_of words = 0
 
 -- the words at the front are of one option, and what is behind them is one list
-pub first_is_one : (s t : Setting) (a b : List (List ℕ)) → IsSetting s → IsSetting t → spelled s ++ a ≡ spelled t ++ b → (s ≡ t) × (a ≡ b)
+pub first_is_one : (s t : Setting) (a b : List (List ℕ)) → IsSetting s → IsSetting t → words_of_option s ++ a ≡ words_of_option t ++ b → (s ≡ t) × (a ≡ b)
 first_is_one (Workers m) (Workers n) a b is it e = (ap (λ k. Workers k) (decimal_injective m n (omega arith) (omega arith) (ap second_of e)), ap after_two e)
 first_is_one (Bundle m) (Bundle n) a b is it e = (ap (λ k. Bundle k) (decimal_injective m n (omega arith) (omega arith) (ap second_of e)), ap after_two e)
 first_is_one (Pending m) (Pending n) a b is it e = (ap (λ k. Pending k) (decimal_injective m n (omega arith) (omega arith) (ap second_of e)), ap after_two e)
 first_is_one Diary Diary a b is it e = (refl, cc)
 first_is_one Taps Taps a b is it e = (refl, cc)
-first_is_one s t a b is it e = let other : letter_of (spelled s ++ a) ≡ letter_of (spelled t ++ b) = ap letter_of e in absurd (omega (arith, other))
+first_is_one s t a b is it e = let other : letter_of (words_of_option s ++ a) ≡ letter_of (words_of_option t ++ b) = ap letter_of e in absurd (omega (arith, other))

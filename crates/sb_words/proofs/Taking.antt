@@ -15,7 +15,7 @@ use Rattle.clap.proofs.OnLiterals.{clap_on_literals}
 use Rattle.sb_words.specs.declared.setting.Setting.{Setting}
 use Rattle.sb_words.specs.declared.setting.Setting.TheVariants.{Workers, Bundle, Pending, Diary, Taps}
 use Rattle.sb_words.specs.Clapped.{bare, of_one, of_two, with_options}
-use Rattle.sb_words.specs.Options.{IsSetting, name_of, spelled}
+use Rattle.sb_words.specs.Options.{IsSetting, name_of, words_of_option}
 use Rattle.sb_words.proofs.Naming.{decimal_begins}
 use Rattle.sb_words.proofs.Rows.{row, used_new}
 
@@ -286,7 +286,7 @@ setting_row setting = row (setting_id setting) (setting_values setting)
 
 setting_after : (setting : Setting) → IsSetting setting → (arguments : Arguments) (name : Text) (rows : List Row) (held : Awaited) (skip : ℕ) → Settles arguments rows held skip
     → (base : List Row) → rows_at arguments rows held skip ≡ base → has_row (setting_id setting) base ≡ false → (rest : List Text)
-    → After arguments name (base ++ setting_row setting ∷ []) (between arguments rows held skip) (spelled setting ++ rest) rest
+    → After arguments name (base ++ setting_row setting ∷ []) (between arguments rows held skip) (words_of_option setting ++ rest) rest
 setting_after (Workers n) is arguments name rows held skip settles base now new rest = value_after arguments workers name rows held skip settles base now new (decimal n) (number_is_plain n (omega arith)) rest
 setting_after (Bundle n) is arguments name rows held skip settles base now new rest = value_after arguments bundle name rows held skip settles base now new (decimal n) (number_is_plain n (omega arith)) rest
 setting_after (Pending n) is arguments name rows held skip settles base now new rest = value_after arguments pending name rows held skip settles base now new (decimal n) (number_is_plain n (omega arith)) rest
@@ -329,15 +329,15 @@ comes_taken arguments name base w after words rest comes taken = record {
 
 settings_taken : (arguments : Arguments) (name : Text) (settings : List Setting) → AllByRecursion IsSetting settings → IsDistinct bytes_eq (map name_of settings)
     → (rows : List Row) (held : Awaited) (skip : ℕ) → Settles arguments rows held skip → (base : List Row) → rows_at arguments rows held skip ≡ base → AreNew base settings
-    → Taken arguments name (base ++ map setting_row settings) (between arguments rows held skip) (flat_map spelled settings)
+    → Taken arguments name (base ++ map setting_row settings) (between arguments rows held skip) (flat_map words_of_option settings)
 unfolding walk_passes IsDistinct
 settings_taken arguments name [] range once rows held skip settles base now new = record { passes = refl; settles = settles; rows = now ∙ sym (append-nil base) }
 settings_taken arguments name (setting ∷ settings) range once rows held skip settles base now new =
-    let after = setting_after setting range.0 arguments name rows held skip settles base now new.0 (flat_map spelled settings) in
+    let after = setting_after setting range.0 arguments name rows held skip settles base now new.0 (flat_map words_of_option settings) in
     let more = settings_taken arguments name settings range.1 once.1 after.rows after.held after.skip after.settles (base ++ setting_row setting ∷ []) after.becomes
     (stay_new base setting settings new.1 once.0) in
-    comes_taken arguments name (base ++ map setting_row (setting ∷ settings)) (between arguments rows held skip) (between arguments after.rows after.held after.skip) (spelled setting ++ flat_map spelled settings) (flat_map spelled settings)
-    after.comes (subst (λ all. Taken arguments name all (between arguments after.rows after.held after.skip) (flat_map spelled settings)) (append_assoc base (setting_row setting ∷ []) (map setting_row settings)) more)
+    comes_taken arguments name (base ++ map setting_row (setting ∷ settings)) (between arguments rows held skip) (between arguments after.rows after.held after.skip) (words_of_option setting ++ flat_map words_of_option settings) (flat_map words_of_option settings)
+    after.comes (subst (λ all. Taken arguments name all (between arguments after.rows after.held after.skip) (flat_map words_of_option settings)) (append_assoc base (setting_row setting ∷ []) (map setting_row settings)) more)
 
 -- the words of arguments, which are plain, and their rows
 abbrev pub texts_of : Arguments → List Text
@@ -408,14 +408,14 @@ second_next argument second is = let x = is.long in let y = is.short in let z = 
 
 -- clap takes the words of arguments and options, and has their rows
 pub words_taken : (arguments : Arguments) (name : Text) → ArePlain arguments → (settings : List Setting) → AllByRecursion IsSetting settings → IsDistinct bytes_eq (map name_of settings)
-    → Taken arguments name (rows_of_words arguments settings) (walk_from nothing_held) (texts_of arguments ++ flat_map spelled settings)
+    → Taken arguments name (rows_of_words arguments settings) (walk_from nothing_held) (texts_of arguments ++ flat_map words_of_option settings)
 words_taken (one argument) name is settings range once =
-    comes_taken (one argument) name (rows_of_words (one argument) settings) (walk_from nothing_held) (behind_first argument) (argument ∷ flat_map spelled settings) (flat_map spelled settings)
-    (one_word (built_of (one argument) name) [] (walk_from nothing_held) argument _ (flat_map spelled settings) (argument_passes (one argument) name argument is) (argument_next (one argument) argument is))
+    comes_taken (one argument) name (rows_of_words (one argument) settings) (walk_from nothing_held) (behind_first argument) (argument ∷ flat_map words_of_option settings) (flat_map words_of_option settings)
+    (one_word (built_of (one argument) name) [] (walk_from nothing_held) argument _ (flat_map words_of_option settings) (argument_passes (one argument) name argument is) (argument_next (one argument) argument is))
     (settings_taken (one argument) name settings range once [] (Some (codes "argument", argument ∷ [])) 0 refl (rows_of_arguments (one argument)) refl (all_new (one argument) settings))
 words_taken (two argument second) name is settings range once =
     let arguments = two argument second in
-    let rest = flat_map spelled settings in
+    let rest = flat_map words_of_option settings in
     comes_taken arguments name (rows_of_words arguments settings) (walk_from nothing_held) _ (argument ∷ second ∷ rest) rest
     (then (built_of arguments name) [] (walk_from nothing_held) _ _ (argument ∷ second ∷ rest) (second ∷ rest) rest
     (one_word (built_of arguments name) [] (walk_from nothing_held) argument _ (second ∷ rest) (argument_passes arguments name argument is.0) (argument_next arguments argument is.0))

@@ -33,8 +33,8 @@ value_of Diary = []
 value_of Taps = []
 
 -- the words of an option
-abbrev pub spelled : Setting → List (List ℕ)
-spelled setting = name_of setting ∷ value_of setting
+abbrev pub words_of_option : Setting → List (List ℕ)
+words_of_option setting = name_of setting ∷ value_of setting
 
 -- the options if none is given
 abbrev pub defaults : Options
@@ -65,7 +65,7 @@ pub record AreOptions (options : Options) (words : List (List ℕ)) : Type 0 whe
   pub settings : List Setting
   pub in_range : AllByRecursion IsSetting settings
   pub once : IsDistinct bytes_eq (map name_of settings)
-  pub exactly : words ≡ flat_map spelled settings
+  pub exactly : words ≡ flat_map words_of_option settings
   pub given : options ≡ options_of settings
 
 -- the values that options may have

@@ -6,7 +6,7 @@ use Rattle.sb_words.specs.declared.options.Options.{Options}
 use Rattle.sb_words.specs.declared.options.TheConstants.{DEFAULT_WORKERS, DEFAULT_BUNDLE, DEFAULT_PENDING}
 use Rattle.sb_words.specs.declared.request.Request.{Request}
 use Rattle.sb_words.specs.Options.{AreInRange}
-use Rattle.sb_words.specs.Words.{Asked, IsAmount, IsSize, asked}
+use Rattle.sb_words.specs.Words.{Asked, IsAmount, IsSize, asked_of}
 use Rattle.sb_words.specs.Words.Asked.{Sum, Run, Slow, Audit, Work, Watch, Part, Save, Resume}
 
 -- a number that is spelled, or the default if none is
@@ -53,4 +53,4 @@ IsReadAs wanted None = ⊥
 -- the answer is what the subcommand of this name and its rows say
 abbrev pub IsReading : Option Request → Text → List Row → Type 0
 IsReading answer name rows =
-    (wanted : Asked) → IsReadAs wanted (Some (name, rows)) → option_map asked answer ≡ Some wanted
+    (wanted : Asked) → IsReadAs wanted (Some (name, rows)) → option_map asked_of answer ≡ Some wanted

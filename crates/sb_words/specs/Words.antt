@@ -23,16 +23,16 @@ pub data Asked : Type 0 where
   Save : (name : List ℕ) → Asked
   Resume : (name checkpoint : List ℕ) → (options : Options) → Asked
 
-abbrev pub asked : Request → Asked
-asked (request.Sum size options) = Sum size options
-asked (request.Run name options) = Run name.now options
-asked (request.Slow name) = Slow name.now
-asked request.Audit = Audit
-asked (request.Work records options) = Work records options
-asked (request.Watch name key options) = Watch name.now key.now options
-asked (request.Part name options) = Part name.now options
-asked (request.Save name) = Save name.now
-asked (request.Resume name checkpoint options) = Resume name.now checkpoint.now options
+abbrev pub asked_of : Request → Asked
+asked_of (request.Sum size options) = Sum size options
+asked_of (request.Run name options) = Run name.now options
+asked_of (request.Slow name) = Slow name.now
+asked_of request.Audit = Audit
+asked_of (request.Work records options) = Work records options
+asked_of (request.Watch name key options) = Watch name.now key.now options
+asked_of (request.Part name options) = Part name.now options
+asked_of (request.Save name) = Save name.now
+asked_of (request.Resume name checkpoint options) = Resume name.now checkpoint.now options
 
 -- a size of windows that users may ask for
 abbrev pub IsSize : ℕ → Type 0

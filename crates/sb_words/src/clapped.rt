@@ -6,7 +6,7 @@ ghost use Rattle.clap.specs.Words.{App, kind_of, rule_of};
 ghost use Rattle.sb_words.specs.Clapped.{IsAs};
 ghost use Rattle.sb_words.specs.Clapped as spec;
 ghost use Rattle.sb_words.specs.Texts.{texts};
-ghost use Rattle.sb_words.specs.Words.{Asked, IsCommand, asked};
+ghost use Rattle.sb_words.specs.Words.{Asked, IsCommand, asked_of};
 
 use crate::matched::request_of;
 use crate::request::Request;
@@ -128,7 +128,7 @@ fn program<'a>(alloc: Global) -> Result<Command<'a>, AllocError>
 /// words that are no command, as `--bundle=8` for an option.
 pub(crate) fn read_by_clap(alloc: Global, words: &[String]) -> Result<Option<Request<'_>>, NoMemory>
     ensures { IfOk result (λ read. (wanted : Asked) → IsCommand wanted (texts words.now)
-        → option_map asked read ≡ Some wanted) }
+        → option_map asked_of read ≡ Some wanted) }
 {
     let command = program(alloc)?;
     match command.try_get_matches_from(words) {

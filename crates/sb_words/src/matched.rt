@@ -4,7 +4,7 @@ ghost use Rattle.std.specs.Prelude.{◌≡◌, ◌≤◌, ℕ, Bool, Some, codes
 ghost use Rattle.std.specs.Option.{option_map};
 ghost use Rattle.clap.specs.Words.{first_of, found_of, one_of, rows_of, subcommand_rows_of};
 ghost use Rattle.sb_words.specs.Readings.{AreRead, IsFlag, IsRead, IsReadAs, IsReading};
-ghost use Rattle.sb_words.specs.Words.{Asked, asked};
+ghost use Rattle.sb_words.specs.Words.{Asked, asked_of};
 
 use crate::options::{
     DEFAULT_BUNDLE, DEFAULT_PENDING, DEFAULT_WORKERS, MAX_PENDING, MAX_WORKERS, Options,
@@ -165,7 +165,7 @@ fn asked_by<'a>(name: &str, matches: &ArgMatches<'a>) -> Option<Request<'a>>
 /// What the matches ask for.
 pub(crate) fn request_of<'a>(matches: &ArgMatches<'a>) -> Option<Request<'a>>
     ensures { (wanted : Asked) → IsReadAs wanted (subcommand_rows_of matches.now)
-        → option_map asked result ≡ Some wanted }
+        → option_map asked_of result ≡ Some wanted }
 {
     let (name, inner) = matches.subcommand()?;
     asked_by(name, inner)

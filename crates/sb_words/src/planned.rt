@@ -3,7 +3,7 @@
 ghost use Rattle.std.specs.Prelude.{◌≡◌, ◌≢◌, ◌↔◌, ◌∷◌, Some, IsTrue, IfSome, codes};
 ghost use Rattle.std.specs.Option.{option_map};
 ghost use Rattle.sb_words.specs.Texts.{texts};
-ghost use Rattle.sb_words.specs.Words.{Asked, IsCommand, IsFileName, IsKeyWord, IsValid, asked};
+ghost use Rattle.sb_words.specs.Words.{Asked, IsCommand, IsFileName, IsKeyWord, IsValid, asked_of};
 
 use crate::options::{read_options, read_sizes};
 use crate::request::Request;
@@ -17,9 +17,9 @@ pub(crate) fn read_planned<'a>(
 ) -> Option<Request<'a>>
     requires no_sum { command.now ≢ codes "sum" }
     requires no_work { command.now ≢ codes "work" }
-    ensures exact { (wanted : Asked) → (option_map asked result ≡ Some wanted)
+    ensures exact { (wanted : Asked) → (option_map asked_of result ≡ Some wanted)
         ↔ IsCommand wanted (command.now ∷ argument.now ∷ texts rest.now) }
-    ensures valid { IfSome result (λ request. IsValid (asked request)) }
+    ensures valid { IfSome result (λ request. IsValid (asked_of request)) }
 {
     if !is_file_name(argument) {
         return None;
@@ -48,9 +48,9 @@ pub(crate) fn read_planned<'a>(
 /// What the plan of `run` and the words behind it ask for.
 fn read_run<'a>(plan: &'a str, rest: &[String]) -> Option<Request<'a>>
     requires { IsFileName plan.now }
-    ensures exact { (wanted : Asked) → (option_map asked result ≡ Some wanted)
+    ensures exact { (wanted : Asked) → (option_map asked_of result ≡ Some wanted)
         ↔ IsCommand wanted (codes "run" ∷ plan.now ∷ texts rest.now) }
-    ensures valid { IfSome result (λ request. IsValid (asked request)) }
+    ensures valid { IfSome result (λ request. IsValid (asked_of request)) }
 {
     let options = read_options(rest)?;
     Some(Request::Run(plan, options))
@@ -59,9 +59,9 @@ fn read_run<'a>(plan: &'a str, rest: &[String]) -> Option<Request<'a>>
 /// What the plan of `slow` and the words behind it ask for.
 fn read_slow<'a>(plan: &'a str, rest: &[String]) -> Option<Request<'a>>
     requires { IsFileName plan.now }
-    ensures exact { (wanted : Asked) → (option_map asked result ≡ Some wanted)
+    ensures exact { (wanted : Asked) → (option_map asked_of result ≡ Some wanted)
         ↔ IsCommand wanted (codes "slow" ∷ plan.now ∷ texts rest.now) }
-    ensures valid { IfSome result (λ request. IsValid (asked request)) }
+    ensures valid { IfSome result (λ request. IsValid (asked_of request)) }
 {
     if rest.is_empty() {
         Some(Request::Slow(plan))
@@ -73,9 +73,9 @@ fn read_slow<'a>(plan: &'a str, rest: &[String]) -> Option<Request<'a>>
 /// What the plan of `watch` and the words behind it ask for.
 fn read_watch<'a>(plan: &'a str, rest: &'a [String]) -> Option<Request<'a>>
     requires { IsFileName plan.now }
-    ensures exact { (wanted : Asked) → (option_map asked result ≡ Some wanted)
+    ensures exact { (wanted : Asked) → (option_map asked_of result ≡ Some wanted)
         ↔ IsCommand wanted (codes "watch" ∷ plan.now ∷ texts rest.now) }
-    ensures valid { IfSome result (λ request. IsValid (asked request)) }
+    ensures valid { IfSome result (λ request. IsValid (asked_of request)) }
 {
     let (first, others) = rest.split_first()?;
     let key = first.as_str();
@@ -89,9 +89,9 @@ fn read_watch<'a>(plan: &'a str, rest: &'a [String]) -> Option<Request<'a>>
 /// What the plan of `part` and the words behind it ask for.
 fn read_part<'a>(plan: &'a str, rest: &[String]) -> Option<Request<'a>>
     requires { IsFileName plan.now }
-    ensures exact { (wanted : Asked) → (option_map asked result ≡ Some wanted)
+    ensures exact { (wanted : Asked) → (option_map asked_of result ≡ Some wanted)
         ↔ IsCommand wanted (codes "part" ∷ plan.now ∷ texts rest.now) }
-    ensures valid { IfSome result (λ request. IsValid (asked request)) }
+    ensures valid { IfSome result (λ request. IsValid (asked_of request)) }
 {
     let options = read_sizes(rest)?;
     Some(Request::Part(plan, options))
@@ -100,9 +100,9 @@ fn read_part<'a>(plan: &'a str, rest: &[String]) -> Option<Request<'a>>
 /// What the plan of `save` and the words behind it ask for.
 fn read_save<'a>(plan: &'a str, rest: &[String]) -> Option<Request<'a>>
     requires { IsFileName plan.now }
-    ensures exact { (wanted : Asked) → (option_map asked result ≡ Some wanted)
+    ensures exact { (wanted : Asked) → (option_map asked_of result ≡ Some wanted)
         ↔ IsCommand wanted (codes "save" ∷ plan.now ∷ texts rest.now) }
-    ensures valid { IfSome result (λ request. IsValid (asked request)) }
+    ensures valid { IfSome result (λ request. IsValid (asked_of request)) }
 {
     if rest.is_empty() {
         Some(Request::Save(plan))
@@ -114,9 +114,9 @@ fn read_save<'a>(plan: &'a str, rest: &[String]) -> Option<Request<'a>>
 /// What the plan of `resume` and the words behind it ask for.
 fn read_resume<'a>(plan: &'a str, rest: &'a [String]) -> Option<Request<'a>>
     requires { IsFileName plan.now }
-    ensures exact { (wanted : Asked) → (option_map asked result ≡ Some wanted)
+    ensures exact { (wanted : Asked) → (option_map asked_of result ≡ Some wanted)
         ↔ IsCommand wanted (codes "resume" ∷ plan.now ∷ texts rest.now) }
-    ensures valid { IfSome result (λ request. IsValid (asked request)) }
+    ensures valid { IfSome result (λ request. IsValid (asked_of request)) }
 {
     let (first, others) = rest.split_first()?;
     let checkpoint = first.as_str();

@@ -3,7 +3,7 @@
 ghost use Rattle.std.specs.Prelude.{◌≡◌, ◌≤◌, ◌<◌, ◌^◌, ◌↔◌, ◌∷◌, [], ℕ, Some, None, IfOk, IfSome, codes, decimal};
 ghost use Rattle.std.specs.Option.{option_map};
 ghost use Rattle.sb_words.specs.Texts.{texts};
-ghost use Rattle.sb_words.specs.Words.{Asked, IsCommand, IsNoCommand, IsValid, asked};
+ghost use Rattle.sb_words.specs.Words.{Asked, IsCommand, IsNoCommand, IsValid, asked_of};
 
 use crate::clapped::read_by_clap;
 use crate::options::{Options, read_options, read_sizes};
@@ -48,9 +48,9 @@ pub enum Request<'a> {
 /// [`NoMemory`] if `clap` runs out of memory, which it is asked for only where the words are a command.
 pub fn read_words(alloc: Global, words: &[String]) -> Result<Option<Request<'_>>, NoMemory>
     ensures exact { IfOk result (λ answer. (wanted : Asked)
-        → (option_map asked answer ≡ Some wanted) ↔ IsCommand wanted (texts words.now)) }
+        → (option_map asked_of answer ≡ Some wanted) ↔ IsCommand wanted (texts words.now)) }
     ensures refused { IfOk result (λ answer. (answer ≡ None) ↔ IsNoCommand (texts words.now)) }
-    ensures valid { IfOk result (λ answer. IfSome answer (λ request. IsValid (asked request))) }
+    ensures valid { IfOk result (λ answer. IfSome answer (λ request. IsValid (asked_of request))) }
     ensures outside { IsNoCommand (texts words.now) → result ≡ Ok None }
 {
     match command_of(words) {
@@ -64,8 +64,8 @@ pub fn read_words(alloc: Global, words: &[String]) -> Result<Option<Request<'_>>
 
 /// The command that the words are, if they are one.
 fn command_of(words: &[String]) -> Option<Request<'_>>
-    ensures exact { (wanted : Asked) → (option_map asked result ≡ Some wanted) ↔ IsCommand wanted (texts words.now) }
-    ensures valid { IfSome result (λ request. IsValid (asked request)) }
+    ensures exact { (wanted : Asked) → (option_map asked_of result ≡ Some wanted) ↔ IsCommand wanted (texts words.now) }
+    ensures valid { IfSome result (λ request. IsValid (asked_of request)) }
 {
     match words {
         [command] => read_word(command.as_str()),
@@ -76,8 +76,9 @@ fn command_of(words: &[String]) -> Option<Request<'_>>
 
 /// What a command without an argument asks for.
 fn read_word(command: &str) -> Option<Request<'_>>
-    ensures exact { (wanted : Asked) → (option_map asked result ≡ Some wanted) ↔ IsCommand wanted (command.now ∷ []) }
-    ensures valid { IfSome result (λ request. IsValid (asked request)) }
+    ensures exact { (wanted : Asked) → (option_map asked_of result ≡ Some wanted)
+        ↔ IsCommand wanted (command.now ∷ []) }
+    ensures valid { IfSome result (λ request. IsValid (asked_of request)) }
 {
     if command == "audit" {
         Some(Request::Audit)
@@ -88,9 +89,9 @@ fn read_word(command: &str) -> Option<Request<'_>>
 
 /// What a command, its argument and the words behind them ask for.
 fn read_command<'a>(command: &str, argument: &'a str, rest: &'a [String]) -> Option<Request<'a>>
-    ensures exact { (wanted : Asked) → (option_map asked result ≡ Some wanted)
+    ensures exact { (wanted : Asked) → (option_map asked_of result ≡ Some wanted)
         ↔ IsCommand wanted (command.now ∷ argument.now ∷ texts rest.now) }
-    ensures valid { IfSome result (λ request. IsValid (asked request)) }
+    ensures valid { IfSome result (λ request. IsValid (asked_of request)) }
 {
     if command == "sum" {
         return read_sum(argument, rest);
@@ -103,9 +104,9 @@ fn read_command<'a>(command: &str, argument: &'a str, rest: &'a [String]) -> Opt
 
 /// What the argument of `sum` and the words behind it ask for.
 fn read_sum<'a>(argument: &str, rest: &[String]) -> Option<Request<'a>>
-    ensures exact { (wanted : Asked) → (option_map asked result ≡ Some wanted)
+    ensures exact { (wanted : Asked) → (option_map asked_of result ≡ Some wanted)
         ↔ IsCommand wanted (codes "sum" ∷ argument.now ∷ texts rest.now) }
-    ensures valid { IfSome result (λ request. IsValid (asked request)) }
+    ensures valid { IfSome result (λ request. IsValid (asked_of request)) }
 {
     let size = read_amount(MAX_SIZE, argument.as_bytes())?;
     let options = read_options(rest)?;
@@ -114,9 +115,9 @@ fn read_sum<'a>(argument: &str, rest: &[String]) -> Option<Request<'a>>
 
 /// What the argument of `work` and the words behind it ask for.
 fn read_work<'a>(argument: &str, rest: &[String]) -> Option<Request<'a>>
-    ensures exact { (wanted : Asked) → (option_map asked result ≡ Some wanted)
+    ensures exact { (wanted : Asked) → (option_map asked_of result ≡ Some wanted)
         ↔ IsCommand wanted (codes "work" ∷ argument.now ∷ texts rest.now) }
-    ensures valid { IfSome result (λ request. IsValid (asked request)) }
+    ensures valid { IfSome result (λ request. IsValid (asked_of request)) }
 {
     let records = read_amount(MAX_RECORDS, argument.as_bytes())?;
     let options = read_sizes(rest)?;

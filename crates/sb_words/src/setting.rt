@@ -1,7 +1,7 @@
 //! One option, as it stands among the words.
 
 ghost use Rattle.std.specs.Prelude.{◌≡◌, ◌≢◌, ◌≤◌, ◌<◌, ◌↔◌, ◌∷◌, ◌++◌, [], ℕ, List, Some, None, IfSome, decimal, length};
-ghost use Rattle.sb_words.specs.Options.{IsSetting, name_of, spelled};
+ghost use Rattle.sb_words.specs.Options.{IsSetting, name_of, words_of_option};
 ghost use Rattle.sb_words.specs.Texts.{texts};
 
 use crate::options::{MAX_PENDING, MAX_WORKERS};
@@ -52,8 +52,8 @@ pub(crate) fn read_count(most: u32, word: &str) -> Option<u32>
 
 /// The option of this name that has no value.
 fn flag_of(name: &str) -> Option<Setting>
-    ensures some { IfSome result (λ flag. IsSetting flag × (name.now ∷ [] ≡ spelled flag)) }
-    ensures none { result ≡ None → (setting : Setting) → name.now ∷ [] ≢ spelled setting }
+    ensures some { IfSome result (λ flag. IsSetting flag × (name.now ∷ [] ≡ words_of_option flag)) }
+    ensures none { result ≡ None → (setting : Setting) → name.now ∷ [] ≢ words_of_option setting }
 {
     if name == "--diary" {
         return Some(Setting::Diary);
@@ -66,9 +66,10 @@ fn flag_of(name: &str) -> Option<Setting>
 
 /// The option of this name that has this value.
 fn valued(name: &str, value: &str) -> Option<Setting>
-    ensures some { IfSome result (λ setting. IsSetting setting × (name.now ∷ value.now ∷ [] ≡ spelled setting)) }
+    ensures some { IfSome result
+        (λ setting. IsSetting setting × (name.now ∷ value.now ∷ [] ≡ words_of_option setting)) }
     ensures none { result ≡ None → (setting : Setting) → IsSetting setting
-        → name.now ∷ value.now ∷ [] ≢ spelled setting }
+        → name.now ∷ value.now ∷ [] ≢ words_of_option setting }
 {
     if name == "--workers" {
         let workers = read_count(MAX_WORKERS, value)?;
@@ -88,9 +89,9 @@ fn valued(name: &str, value: &str) -> Option<Setting>
 /// The option at the front of the words, and the words behind it.
 pub(crate) fn first_setting(words: &[String]) -> Option<(Setting, &[String])>
     ensures some { IfSome result (λ x. IsSetting x.0
-        × (texts words.now ≡ spelled x.0 ++ texts x.1.now) × (length x.1.now < length words.now)) }
+        × (texts words.now ≡ words_of_option x.0 ++ texts x.1.now) × (length x.1.now < length words.now)) }
     ensures none { result ≡ None → (setting : Setting) (rest : List (List ℕ)) → IsSetting setting
-        → texts words.now ≢ spelled setting ++ rest }
+        → texts words.now ≢ words_of_option setting ++ rest }
 {
     let (name, rest) = words.split_first()?;
     match flag_of(name.as_str()) {
@@ -102,10 +103,10 @@ pub(crate) fn first_setting(words: &[String]) -> Option<(Setting, &[String])>
 /// The option of this name whose value is the first of the words, and the words behind it.
 fn first_valued<'a>(name: &str, words: &'a [String]) -> Option<(Setting, &'a [String])>
     ensures some { IfSome result (λ x. IsSetting x.0
-        × (name.now ∷ texts words.now ≡ spelled x.0 ++ texts x.1.now) × (length x.1.now < length words.now)) }
-    ensures none { result ≡ None → ((setting : Setting) → name.now ∷ [] ≢ spelled setting)
+        × (name.now ∷ texts words.now ≡ words_of_option x.0 ++ texts x.1.now) × (length x.1.now < length words.now)) }
+    ensures none { result ≡ None → ((setting : Setting) → name.now ∷ [] ≢ words_of_option setting)
         → (setting : Setting) (rest : List (List ℕ)) → IsSetting setting
-        → name.now ∷ texts words.now ≢ spelled setting ++ rest }
+        → name.now ∷ texts words.now ≢ words_of_option setting ++ rest }
 {
     let (value, rest) = words.split_first()?;
     let setting = valued(name, value.as_str())?;

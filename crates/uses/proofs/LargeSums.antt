@@ -9,12 +9,12 @@ use Rattle.sb_record.specs.declared.item.Stream.TheVariants.{A}
 use Rattle.sb_record.specs.declared.item.TheConstants.{END_MARK, MAX_TIME}
 use Rattle.sb_record.specs.declared.key.Keys.TheVariants.{Numbers}
 use Rattle.sb_record.specs.Lines.{IsItemInRange}
-use Rattle.sb_record.specs.Records.{before, sorted}
+use Rattle.sb_record.specs.Records.{before, sorted_records}
 use Rattle.sb_record.specs.Streams.{records_of}
 use Rattle.sb_record.proofs.InputLemmas.{records-in_range}
 use Rattle.sb_window.specs.Aggregations.{sum_rows}
 use Rattle.sb_window.specs.declared.windows.TheConstants.{MAX_SIZE}
-use Rattle.sb_window.specs.Spacing.{AreWindows, fixed}
+use Rattle.sb_window.specs.Spacing.{AreWindows, fixed_windows}
 use Rattle.sb_pardo.specs.declared.operation.Field.TheVariants.{Value}
 use Rattle.sb_pardo.specs.declared.operation.Test.TheVariants.{AtLeast}
 use Rattle.sb_pardo.specs.declared.operation.Op.TheVariants.{Filter}
@@ -44,7 +44,7 @@ fed_once least size (suc zero) (suc lane) is = absurd (omega (arith, is.1))
 fed_once least size (suc (suc zero)) (suc lane) is = absurd (omega (arith, is.1))
 
 -- no rule of plans is broken
-is_plan : (least : ℤ) (size : ℕ) → AreWindows (fixed size) → IsPlan (large_sums_plan least size)
+is_plan : (least : ℤ) (size : ℕ) → AreWindows (fixed_windows size) → IsPlan (large_sums_plan least size)
 is_plan least size valid =
     let steps = large_sums_steps least size in
     record {
@@ -61,7 +61,7 @@ is_plan least size valid =
     }
 
 -- the sizes that there are windows of
-are_windows : (size : ℕ) → 1 ≤ size → size ≤ MAX_SIZE → AreWindows (fixed size)
+are_windows : (size : ℕ) → 1 ≤ size → size ≤ MAX_SIZE → AreWindows (fixed_windows size)
 are_windows size some most = search rules
 
 pub steps_are_plan : (least : ℤ) (size : ℕ) (steps : List Step) → 1 ≤ size → size ≤ MAX_SIZE → steps ≡ large_sums_steps least size
@@ -80,8 +80,8 @@ passed test (x ∷ xs) =
 pub rows_are_sums : (least : ℤ) (size : ℕ) (items : List Item) → all_rows (large_sums_plan least size) (λ s. records_of s items) ≡ large_sums least size items
 rows_are_sums least size items =
     let kept = flat_map (outputs_of (Filter Value AtLeast least)) in
-    ap (λ l. sorted (before END_MARK l)) (all_records-on_lane 0 _
-    ∙ ap (sum_rows (fixed size)) (all_records-on_lane 0 _ ∙ ap kept (all_records-on_lane 0 (records_of A items)) ∙ passed _ (records_of A items)))
+    ap (λ l. sorted_records (before END_MARK l)) (all_records-on_lane 0 _
+    ∙ ap (sum_rows (fixed_windows size)) (all_records-on_lane 0 _ ∙ ap kept (all_records-on_lane 0 (records_of A items)) ∙ passed _ (records_of A items)))
 
 -- records of items in range are in time
 pub in_time : (s : Stream) (items : List Item) → All (IsItemInRange Numbers) items → All (λ r. r.time ≤ MAX_TIME) (records_of s items)

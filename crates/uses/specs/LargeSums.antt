@@ -5,10 +5,10 @@ use Rattle.sb_record.specs.declared.item.Item.{Item}
 use Rattle.sb_record.specs.declared.item.Record.{Record}
 use Rattle.sb_record.specs.declared.item.Stream.TheVariants.{A}
 use Rattle.sb_record.specs.declared.item.TheConstants.{END_MARK}
-use Rattle.sb_record.specs.Records.{before, sorted}
+use Rattle.sb_record.specs.Records.{before, sorted_records}
 use Rattle.sb_record.specs.Streams.{records_of}
 use Rattle.sb_window.specs.Aggregations.{sum_rows}
-use Rattle.sb_window.specs.Spacing.{fixed}
+use Rattle.sb_window.specs.Spacing.{fixed_windows}
 use Rattle.sb_pardo.specs.declared.operation.Field.TheVariants.{Value}
 use Rattle.sb_pardo.specs.declared.operation.Test.TheVariants.{AtLeast}
 use Rattle.sb_pardo.specs.declared.operation.Op.TheVariants.{Filter}
@@ -21,7 +21,7 @@ use Rattle.sb_pipeline.specs.Shapes.{Shape, shape_of}
 abbrev pub large_sums_steps : ℤ → ℕ → List Step
 large_sums_steps least size =
     record { kind = Do (Filter Value AtLeast least); down = record { node = 1; lane = 0 } }
-    ∷ record { kind = Group Sum (fixed size); down = record { node = 2; lane = 0 } } ∷ []
+    ∷ record { kind = Group Sum (fixed_windows size); down = record { node = 2; lane = 0 } } ∷ []
 
 -- stream a goes to the filter, and stream b is not used; keys are numbers, and late records are refused
 abbrev pub large_sums_plan : ℤ → ℕ → Shape
@@ -34,4 +34,5 @@ large_values least records = filter (λ r. is_ge (int_cmp r.value least)) record
 
 -- the sums of the large values of stream a, by window and key
 abbrev pub large_sums : ℤ → ℕ → List Item → List Record
-large_sums least size items = sorted (before END_MARK (sum_rows (fixed size) (large_values least (records_of A items))))
+large_sums least size items =
+    sorted_records (before END_MARK (sum_rows (fixed_windows size) (large_values least (records_of A items))))

@@ -15,14 +15,14 @@ use Rattle.sb_lane.specs.LaneView.{LaneView}
 use Rattle.sb_lane.specs.Looks.{look_of, look_closing}
 use Rattle.sb_lane.specs.Placed.{conts_of}
 use Rattle.sb_lane.specs.Taking.{first_taken, take_first, finish_first, with_finished}
-use Rattle.sb_cascade.specs.SharedNodes.{IsOut, owed, owed_in}
+use Rattle.sb_cascade.specs.SharedNodes.{IsOut, owed_lines, owed_in}
 
 -- those of the containers of a lane
 abbrev pub owed_of : List Cont → ℕ
 owed_of cs = sum_by owed_in cs
 
 -- one lane is another
-pub owed-set : (lanes : List LaneView) (l : ℕ) (was is : LaneView) → slice_get lanes l ≡ Some was → owed (slice_set lanes l is) + owed_of (conts_of was.containers) ≡ owed lanes + owed_of (conts_of is.containers)
+pub owed-set : (lanes : List LaneView) (l : ℕ) (was is : LaneView) → slice_get lanes l ≡ Some was → owed_lines (slice_set lanes l is) + owed_of (conts_of was.containers) ≡ owed_lines lanes + owed_of (conts_of is.containers)
 owed-set [] l was is h = cc
 owed-set (x ∷ xs) zero was is h =
     let e = ap (λ (lane : LaneView). owed_of (conts_of lane.containers)) (same_Some x was h) in
@@ -31,7 +31,7 @@ owed-set (x ∷ xs) (suc l) was is h =
     omega (arith, owed-set xs l was is h, sum_by-cons (λ (lane : LaneView). owed_of (conts_of lane.containers)) x xs, sum_by-cons (λ (lane : LaneView). owed_of (conts_of lane.containers)) x (slice_set xs l is))
 
 -- what a lane owes, its node owes
-pub owed-in : (lanes : List LaneView) (l : ℕ) (was : LaneView) → slice_get lanes l ≡ Some was → owed_of (conts_of was.containers) ≤ owed lanes
+pub owed-in : (lanes : List LaneView) (l : ℕ) (was : LaneView) → slice_get lanes l ≡ Some was → owed_of (conts_of was.containers) ≤ owed_lines lanes
 owed-in [] l was h = cc
 owed-in (x ∷ xs) zero was h =
     let e = ap (λ (lane : LaneView). owed_of (conts_of lane.containers)) (same_Some x was h) in

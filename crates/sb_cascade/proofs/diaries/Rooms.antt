@@ -13,13 +13,13 @@ use Rattle.sb_node.specs.Changes.{SetsLane, Stays}
 use Rattle.sb_node.specs.declared.state.NodeState.{NodeState}
 use Rattle.sb_hand.proofs.Single.{get-map}
 use Rattle.sb_hand.proofs.SettingsStay.{set_same}
-use Rattle.sb_cascade.specs.SharedNodes.{SharedView, ShowsSame, face, owed}
+use Rattle.sb_cascade.specs.SharedNodes.{SharedView, ShowsSame, face, owed_lines}
 use Rattle.sb_cascade.proofs.diaries.Promises.{owed_of, owed-set}
 
 -- so many lines are promised, and there is room for them
 abbrev pub HasRoom : ℕ → NodeState → Type 0
 HasRoom promised n =
-    (owed n.lanes.items ≤ promised) × (promised ≤ n.diary.spare)
+    (owed_lines n.lanes.items ≤ promised) × (promised ≤ n.diary.spare)
     × (length n.diary.events + n.diary.spare ≤ MAX_DIARY_LINES)
 
 -- a lane is another, and a line was written
@@ -27,7 +27,7 @@ pub room-set : (p q l : ℕ) (was is : LaneView) (line : DiaryEvent) (old new : 
     → owed_of (conts_of is.containers) + p ≤ owed_of (conts_of was.containers) + q → q + 1 ≤ old.diary.spare → HasRoom q new
 room-set p q l was is line old new s room more spare =
     let n = owed-set old.lanes.items l was is s.in_it in
-    let e = ap owed s.lanes in
+    let e = ap owed_lines s.lanes in
     let d : new.diary.spare ≡ old.diary.spare - 1 = ap (λ (d : Written). d.spare) s.diary in
     let m : length new.diary.events ≡ length old.diary.events + 1 = ap (λ (d : Written). length d.events) s.diary ∙ length-append old.diary.events (line ∷ []) in
     (omega (arith, n, e, room.0, more), omega (arith, d, spare), omega (arith, d, m, room.2, spare))
@@ -36,7 +36,7 @@ room-set p q l was is line old new s room more spare =
 pub room-same : (p l : ℕ) (was is : LaneView) (old new : NodeState) → slice_get old.lanes.items l ≡ Some was → new.lanes.items ≡ slice_set old.lanes.items l is → new.diary ≡ old.diary → lane_of is ≡ lane_of was → HasRoom p old → HasRoom p new
 room-same p l was is old new at lanes diary same room =
     let n = owed-set old.lanes.items l was is at in
-    let e = ap owed lanes in
+    let e = ap owed_lines lanes in
     let k = ap (λ (lane : CoreLane). owed_of lane.conts) same in
     let d = ap (λ (d : Written). d.spare) diary in
     let m = ap (λ (d : Written). length d.events) diary in

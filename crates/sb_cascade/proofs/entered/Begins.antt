@@ -10,7 +10,7 @@ use Rattle.sb_node.specs.Looking.{NoneClosing}
 use Rattle.sb_node.specs.Marking.{mark_for}
 use Rattle.sb_node.specs.declared.closing.Closing.{Closing}
 use Rattle.sb_node.specs.declared.state.NodeState.{NodeState}
-use Rattle.sb_cascade.specs.SharedNodes.{SharedView, BeginsAt, owed}
+use Rattle.sb_cascade.specs.SharedNodes.{SharedView, BeginsAt, owed_lines}
 use Rattle.sb_cascade.proofs.diaries.Promises.{owed_of, owed-set, owed-begun}
 use Rattle.sb_cascade.proofs.diaries.Rooms.{HasRoom}
 
@@ -20,8 +20,8 @@ pub room-begun : (p : ℕ) (sink : Bool) (c : Closing) (old new : SharedView) �
 room-begun p sink c old new b spare events room enough =
     let s = b.starts in
     let n = owed-set b.mid.lanes.items c.lane b.lane s.now s.sets.in_it in
-    let m = ap (λ (x : NodeState). owed x.lanes.items) b.closes.set in
-    let e = ap owed s.sets.lanes in
+    let m = ap (λ (x : NodeState). owed_lines x.lanes.items) b.closes.set in
+    let e = ap owed_lines s.sets.lanes in
     let k = ap (λ (lane : CoreLane). owed_of lane.conts) s.is in
     (omega (arith, n, m, e, k, owed-begun (conts_of b.lane.containers) b.close b.looks, room.0), omega (arith, spare, enough), omega (arith, spare, events, room.2))
 

@@ -7,7 +7,7 @@ use Rattle.sb_core.specs.declared.event.Event.TheVariants.{Begin}
 use Rattle.sb_core.specs.declared.moment.CoreLane.{CoreLane}
 use Rattle.sb_core.specs.Bounds.{bound_at}
 use Rattle.sb_core.specs.Lanes.{closable, with_first_closing}
-use Rattle.sb_core.specs.Marks.{before_closing, first_is_closing, closed}
+use Rattle.sb_core.specs.Marks.{before_closing, first_is_closing, least_begun_mark}
 use Rattle.sb_core.specs.Parts.{Part, part_after}
 use Rattle.sb_core.proofs.parts.PartsLaw.{chain, parts-keep_sound, passing}
 use Rattle.sb_lane.specs.declared.answers.LaneClose.{LaneClose}
@@ -56,7 +56,7 @@ module _ (a : Setting) (w : Hands) (k : ℕ) (x : SharedView) (f : IsFound a w k
   begun_is = chain (slice_get f.part.lanes l) _ (lane_of lane) _ (lane_in_part a w k x f l lane has) (chain (closable lane.ended (conts_of lane.containers)) _ may.first _ may.may (passing _ _ _ (ap not none_any) refl))
 
   -- its mark, and that of the closing before
-  pub mark_is : closed (slice_set f.part.lanes l begun_lane) ≡ mark_for l (map lane_of x.own.lanes.items)
+  pub mark_is : least_begun_mark (slice_set f.part.lanes l begun_lane) ≡ mark_for l (map lane_of x.own.lanes.items)
   mark_is =
       mark_for-is l f.part.lanes (lane_of lane) may.first may.rest two (lane_in_part a w k x f l lane has) may.conts none ∙ ap (mark_for l) f.shown.lanes
     where
@@ -66,11 +66,11 @@ module _ (a : Setting) (w : Hands) (k : ℕ) (x : SharedView) (f : IsFound a w k
           length_map : length f.part.lanes ≡ length x.own.lanes.items
           length_map = ap length f.shown.lanes ∙ length-map x.own.lanes.items lane_of
 
-  pub floor_is : before_closing (map lane_of x.own.lanes.items) ≡ closed f.part.lanes
+  pub floor_is : before_closing (map lane_of x.own.lanes.items) ≡ least_begun_mark f.part.lanes
   floor_is = ap before_closing (sym f.shown.lanes) ∙ calm_before f.part.lanes none
 
   -- the mark does not fall
-  pub climbs : closed f.part.lanes ≤ closed (slice_set f.part.lanes l begun_lane)
+  pub climbs : least_begun_mark f.part.lanes ≤ least_begun_mark (slice_set f.part.lanes l begun_lane)
   climbs =
       (parts-keep_sound a.plan f.plan f.moment (Begin k l) k f.part begun f.sound refl f.there
       (ap (λ b. part_after a.plan b (Begin k l) f.part) f.bundle ∙ begun_is)).0.holds.0.rises

@@ -15,7 +15,7 @@ use Rattle.sb_core.specs.Bounds.{bound_at}
 use Rattle.sb_core.specs.Closings.{is_pardo}
 use Rattle.sb_core.specs.Holdings.{IsClosing, IsHeld, IsWork}
 use Rattle.sb_core.specs.LaneOrder.{IsWithin, cont_at}
-use Rattle.sb_core.specs.Marks.{begun, closed, first_is_closing}
+use Rattle.sb_core.specs.Marks.{begun_count, least_begun_mark, first_is_closing}
 use Rattle.sb_core.proofs.times.InTime.{begun_within, closed_least, work_floor}
 use Rattle.sb_core.proofs.exact.Nodes.{begun_mark}
 use Rattle.sb_lane.specs.LaneView.{LaneView}
@@ -59,16 +59,16 @@ module _ (a : Setting) (w : Hands) (k : ℕ) (x : SharedView) (f : IsFound a w k
         (at.0, at.1, (v.cont, ap (λ (z : CoreLane). cont_at c.bundle.epoch z.conts) at.2 ∙ v.of_epoch, v.is_out))
 
     -- its records are from the mark of its node on
-    pub records_from : c.node ≡ k → IsFrom (closed f.part.lanes) (on_lane c.lane c.bundle.records)
+    pub records_from : c.node ≡ k → IsFrom (least_begun_mark f.part.lanes) (on_lane c.lane c.bundle.records)
     records_from here =
         let v = work_here in
         let in_it : slice_get f.part.lanes c.lane ≡ Some v.lane =
         ap (λ (o : Option Node). o >>= λ y. slice_get y.lanes c.lane) (sym f.there) ∙ ap (λ j. slice_get f.moment.nodes j >>= λ y. slice_get y.lanes c.lane) (sym here) ∙ v.there in
-        let low : closed f.part.lanes ≤ begun_mark v.lane = closed_least f.part.lanes c.lane v.lane in_it in
+        let low : least_begun_mark f.part.lanes ≤ begun_mark v.lane = closed_least f.part.lanes c.lane v.lane in_it in
         let late = work_floor (bound_at a.plan c.node) v.lane (f.sound.lanes (record { node = c.node; lane = c.lane }) v.lane v.there) c.bundle.epoch c.bundle.number v.cont v.of_epoch v.is_out in
         go c.bundle.records v.times (omega (arith, low, late, v.floor_is))
       where
-        go : (rs : List Record) → IsWithin c.bundle.floor (bound_at a.plan c.node) rs → closed f.part.lanes ≤ c.bundle.floor → IsFrom (closed f.part.lanes) (on_lane c.lane rs)
+        go : (rs : List Record) → IsWithin c.bundle.floor (bound_at a.plan c.node) rs → least_begun_mark f.part.lanes ≤ c.bundle.floor → IsFrom (least_begun_mark f.part.lanes) (on_lane c.lane rs)
         go [] all h = tt
         go (r ∷ rs) all h = (omega (arith, all.0.0, h), go rs all.1 h)
 
@@ -82,7 +82,7 @@ module _ (a : Setting) (w : Hands) (k : ℕ) (x : SharedView) (f : IsFound a w k
         let v = close_here in
         let at = lane_found a w k x f (record { node = c.node; lane = c.lane }) v.lane here v.there in
         let low = begun_within (bound_at a.plan c.node) v.lane (f.sound.lanes (record { node = c.node; lane = c.lane }) v.lane v.there) in
-        let one_more : begun v.lane ≡ v.lane.ended + 1 = ap (λ b. cond b (v.lane.ended + 1) v.lane.ended) v.closing in
+        let one_more : begun_count v.lane ≡ v.lane.ended + 1 = ap (λ b. cond b (v.lane.ended + 1) v.lane.ended) v.closing in
         let ended_is = ap (λ (z : CoreLane). z.ended) at.2 in
         let marks_are = ap (λ (z : CoreLane). length z.marks) at.2 in (
           at.0,

@@ -6,7 +6,7 @@ use Rattle.std.proofs.lemmas.Bool.{ne_eqb}
 use Rattle.std.proofs.lemmas.Option.{get_or_from_slice_get}
 use Rattle.sb_record.specs.declared.item.Record.{Record}
 use Rattle.sb_record.specs.declared.element.KeptRec.{KeptRec}
-use Rattle.sb_record.specs.Records.{sorted, before}
+use Rattle.sb_record.specs.Records.{sorted_records, before}
 use Rattle.sb_window.specs.Groupings.{Closes}
 use Rattle.sb_pipeline.specs.Operators.{Operator}
 use Rattle.sb_pipeline.specs.Operators.Operator.{ParDo, Windowed, Sink}
@@ -14,9 +14,9 @@ use Rattle.sb_core.specs.declared.event.Event.TheVariants as event
 use Rattle.sb_core.specs.declared.held.Held.TheVariants.{Close}
 use Rattle.sb_core.specs.declared.moment.CoreLane.{CoreLane}
 use Rattle.sb_core.specs.declared.moment.Node.{Node}
-use Rattle.sb_core.specs.Closings.{kept_at, rows_at, collected, is_sink}
+use Rattle.sb_core.specs.Closings.{kept_at, rows_at, rows_at_sink, is_sink}
 use Rattle.sb_core.specs.Lanes.{with_first_closing}
-use Rattle.sb_core.specs.Marks.{before_closing, closed}
+use Rattle.sb_core.specs.Marks.{before_closing, least_begun_mark}
 use Rattle.sb_core.specs.Moments.{empty_lane, set_lane}
 use Rattle.sb_core.specs.Parts.{Part}
 use Rattle.sb_diary.specs.declared.event.DiaryEvent.{DiaryEvent}
@@ -45,12 +45,12 @@ use Rattle.sb_cascade.proofs.entered.FoundLanes.{lane_in_part, sink_here}
 use Rattle.sb_cascade.proofs.links.SetLanes.{lanes_set, limits_set}
 
 -- the rows that a closing has, and those that go to the sink
-rows_at-if : (op : Operator) (floor mark : ℕ) (kept : List KeptRec) → rows_at op floor mark kept ≡ cond (is_sink op) [] (sorted (before mark (given_by op floor kept)))
+rows_at-if : (op : Operator) (floor mark : ℕ) (kept : List KeptRec) → rows_at op floor mark kept ≡ cond (is_sink op) [] (sorted_records (before mark (given_by op floor kept)))
 rows_at-if (ParDo op) floor mark kept = refl
 rows_at-if (Windowed g) floor mark kept = refl
 rows_at-if Sink floor mark kept = refl
 
-collected-if : (op : Operator) (floor mark : ℕ) (kept : List KeptRec) → collected op mark kept ≡ cond (is_sink op) (sorted (before mark (given_by op floor kept))) []
+collected-if : (op : Operator) (floor mark : ℕ) (kept : List KeptRec) → rows_at_sink op mark kept ≡ cond (is_sink op) (sorted_records (before mark (given_by op floor kept))) []
 collected-if (ParDo op) floor mark kept = refl
 collected-if (Windowed g) floor mark kept = refl
 collected-if Sink floor mark kept = refl
@@ -83,7 +83,7 @@ module _ (a : Setting) (w : Hands) (seen : ℕ) (x y : SharedView) (t : Snapshot
   abbrev begun : Part
   begun = at.begun a w c.node x f c.lane b.lane has b.close b.looks b.none
 
-  floor_path : closed n.lanes ≡ c.floor
+  floor_path : least_begun_mark n.lanes ≡ c.floor
   floor_path =
       sym (at.floor_is a w c.node x f c.lane b.lane has b.close b.looks b.none)
       ∙ ap (λ (ls : List LaneView). before_closing (map lane_of ls)) (sym mid_lanes) ∙ sym b.starts.floor_is
@@ -91,7 +91,7 @@ module _ (a : Setting) (w : Hands) (seen : ℕ) (x y : SharedView) (t : Snapshot
   mark_same : mark_for c.lane (map lane_of x.own.lanes.items) ≡ c.mark
   mark_same = ap (λ (ls : List LaneView). mark_for c.lane (map lane_of ls)) (sym mid_lanes) ∙ sym b.starts.mark_is
 
-  mark_path : closed (slice_set n.lanes c.lane begun_lane) ≡ c.mark
+  mark_path : least_begun_mark (slice_set n.lanes c.lane begun_lane) ≡ c.mark
   mark_path = at.mark_is a w c.node x f c.lane b.lane has b.close b.looks b.none ∙ mark_same
 
   serial_path : n.closings ≡ c.serial
@@ -110,14 +110,14 @@ module _ (a : Setting) (w : Hands) (seen : ℕ) (x y : SharedView) (t : Snapshot
   closes : Closes c.mark (gives x.own.kept) b.rows (gives b.mid.kept)
   closes = subst (λ z. Closes z (gives x.own.kept) b.rows (gives b.mid.kept)) mark_same b.closes.closes
 
-  rows_are : sorted (before c.mark (given_by op c.floor n.kept)) ≡ b.rows
+  rows_are : sorted_records (before c.mark (given_by op c.floor n.kept)) ≡ b.rows
   rows_are = sym (rows-closes op c.floor c.mark (gives x.own.kept) (gives b.mid.kept) n.kept b.rows stood closes)
 
-  due : rows_at op (closed n.lanes) (closed (slice_set n.lanes c.lane begun_lane)) n.kept ≡ cond (is_sink op) [] b.rows
+  due : rows_at op (least_begun_mark n.lanes) (least_begun_mark (slice_set n.lanes c.lane begun_lane)) n.kept ≡ cond (is_sink op) [] b.rows
   due = (λ i. rows_at op (floor_path i) (mark_path i) n.kept) ∙ rows_at-if op c.floor c.mark n.kept ∙ ap (cond (is_sink op) []) rows_are
 
-  to_tray : collected op (closed (slice_set n.lanes c.lane begun_lane)) n.kept ≡ cond (is_sink op) b.rows []
-  to_tray = ap (λ m. collected op m n.kept) mark_path ∙ collected-if op c.floor c.mark n.kept ∙ ap (λ r. cond (is_sink op) r []) rows_are
+  to_tray : rows_at_sink op (least_begun_mark (slice_set n.lanes c.lane begun_lane)) n.kept ≡ cond (is_sink op) b.rows []
+  to_tray = ap (λ m. rows_at_sink op m n.kept) mark_path ∙ collected-if op c.floor c.mark n.kept ∙ ap (λ r. cond (is_sink op) r []) rows_are
 
   -- what stays
   climbs : c.floor ≤ c.mark
@@ -151,8 +151,8 @@ module _ (a : Setting) (w : Hands) (seen : ℕ) (x y : SharedView) (t : Snapshot
     where
       told : CoreLane → DiaryEvent
       told z =
-          line.Begin c.lane z.ended (closed (set_lane c.lane (record z { conts = with_first_closing z.conts }) n).lanes)
-          (length (rows_at op (closed n.lanes) (closed (set_lane c.lane (record z { conts = with_first_closing z.conts }) n).lanes) n.kept) + length (collected op (closed (set_lane c.lane (record z { conts = with_first_closing z.conts }) n).lanes) n.kept))
+          line.Begin c.lane z.ended (least_begun_mark (set_lane c.lane (record z { conts = with_first_closing z.conts }) n).lanes)
+          (length (rows_at op (least_begun_mark n.lanes) (least_begun_mark (set_lane c.lane (record z { conts = with_first_closing z.conts }) n).lanes) n.kept) + length (rows_at_sink op (least_begun_mark (set_lane c.lane (record z { conts = with_first_closing z.conts }) n).lanes) n.kept))
 
       oldest_path : b.lane.ended ≡ c.epoch
       oldest_path = sym (at.may a w c.node x f c.lane b.lane has b.close b.looks b.none).oldest ∙ epoch_path

@@ -16,10 +16,10 @@ use Rattle.sb_core.specs.declared.moment.CoreLane.{CoreLane}
 use Rattle.sb_core.specs.declared.moment.Node.{Node}
 use Rattle.sb_core.specs.Bounds.{bound_at}
 use Rattle.sb_core.specs.Choices.{is_empty}
-use Rattle.sb_core.specs.Closings.{absorbed, delivery, is_pardo}
+use Rattle.sb_core.specs.Closings.{kept_elements, delivery, is_pardo}
 use Rattle.sb_core.specs.Lanes.{finish_in}
 use Rattle.sb_core.specs.Laws.{concerns}
-use Rattle.sb_core.specs.Marks.{closed}
+use Rattle.sb_core.specs.Marks.{least_begun_mark}
 use Rattle.sb_core.specs.Moments.{set_lane, with_held}
 use Rattle.sb_core.specs.Parts.{Part, held_after, only_node, with_part_first}
 use Rattle.sb_core.specs.Soundness.{IsSound}
@@ -54,7 +54,7 @@ use Rattle.sb_cascade.proofs.links.SetLanes.{lanes_set, limits_set}
 -- a node that gathers gives nothing for a bundle, and keeps it all
 record Gathers (op : Operator) (records : List Record) (es : List KeptRec) : Type 0 where
   pub gives : delivery op records ≡ []
-  pub keeps : absorbed op es ≡ es
+  pub keeps : kept_elements op es ≡ es
 
 gathers : (op : Operator) (records : List Record) (es : List KeptRec) → is_pardo op ≡ false → Gathers op records es
 gathers (ParDo op) records es h = cc
@@ -89,7 +89,7 @@ module _ (a : Setting) (w : Hands) (seen : ℕ) (x y : SharedView) (t : Snapshot
 
   -- the part after it
   abbrev p : Part
-  p = only_node [] (record (set_lane c.lane done_lane n) { kept = n.kept ++ absorbed op es })
+  p = only_node [] (record (set_lane c.lane done_lane n) { kept = n.kept ++ kept_elements op es })
 
   is : lane_of ch.own.now ≡ done_lane
   is = ch.own.is ∙ ap (λ cs. record (lane_of lane) { conts = cs }) (finish-first (bound_at a.plan c.node) c.bundle.epoch c.bundle.number (lane_of lane) (lane_ok a w c.node x f c.lane lane has))
@@ -107,7 +107,7 @@ module _ (a : Setting) (w : Hands) (seen : ℕ) (x y : SharedView) (t : Snapshot
       (subst (λ (hs : List Held). IsSound a.plan (with_held hs f.moment)) (in-hand a w c.node x (work_of c false) f out) f.sound) found refl f.there
       (ap (λ b. held_after a.plan b (event.Finish c.node c.lane c.bundle.number) (work_of c false) n) f.bundle ∙ gone)).0
 
-  same : closed p.node.lanes ≡ closed n.lanes
+  same : least_begun_mark p.node.lanes ≡ least_begun_mark n.lanes
   same = calm a.plan f.moment (with_part_first c.node f.rest f.moment p) f.sound still c.node c.lane n p.node (lane_of lane) done_lane f.there (slice_get-set_same f.moment.nodes c.node n p.node f.there) in_it refl refl (inl refl)
 
   -- what is kept stands for the elements of the bundle too

@@ -16,7 +16,7 @@ use Rattle.sb_core.specs.declared.held.Held.{Held}
 use Rattle.sb_core.specs.declared.event.Event.TheVariants as event
 use Rattle.sb_core.specs.Bounds.{bound_at}
 use Rattle.sb_core.specs.Choices.{is_empty}
-use Rattle.sb_core.specs.Closings.{absorbed, delivery, is_pardo}
+use Rattle.sb_core.specs.Closings.{kept_elements, delivery, is_pardo}
 use Rattle.sb_core.specs.Events.{below}
 use Rattle.sb_core.specs.Lanes.{finish_in, next_epoch, with_arrival, with_seal}
 use Rattle.sb_core.specs.Moments.{set_lane}
@@ -51,7 +51,7 @@ pub in-hand : (a : Setting) (w : Hands) (k : ℕ) (x : SharedView) (h : Held) (f
 in-hand a w k x h f one = f.held ∙ ap (λ (hs : List Held). hs ++ f.rest) one
 
 -- a transform of single records takes nothing in
-takes_none_in : (op : Operator) (es : List KeptRec) → is_pardo op ≡ true → absorbed op es ≡ []
+takes_none_in : (op : Operator) (es : List KeptRec) → is_pardo op ≡ true → kept_elements op es ≡ []
 takes_none_in (ParDo op) es h = refl
 takes_none_in (Windowed g) es h = cc
 takes_none_in Sink es h = cc
@@ -157,7 +157,7 @@ module _ (a : Setting) (w : Hands) (seen k : ℕ) (x y : SharedView) where
       (λ f. let in_it = lane-in a w seen k x y l lane later told turns f in
       let ok = f.sound.lanes (record { node = k; lane = l }) (lane_of lane) (chain (slice_get f.moment.nodes k) (λ (z : Node). slice_get z.lanes l) f.part (lane_of lane) f.there in_it) in
       let is : finish_in b.epoch b.number (conts_of lane.containers) ≡ finish_first b.epoch b.number (conts_of lane.containers) = sym (finish-first (bound_at a.plan k) b.epoch b.number (lane_of lane) ok) in
-      let none : f.part.kept ++ absorbed op (on_lane l b.records) ≡ f.part.kept = ap (λ es. f.part.kept ++ es) (takes_none_in op (on_lane l b.records) pardo) ∙ append-nil f.part.kept in
+      let none : f.part.kept ++ kept_elements op (on_lane l b.records) ≡ f.part.kept = ap (λ es. f.part.kept ++ es) (takes_none_in op (on_lane l b.records) pardo) ∙ append-nil f.part.kept in
       chain (slice_get f.part.lanes l) _ (lane_of lane) _ in_it
       (passing _ _ _ done (λ i. Some (only_node [] (record (set_lane l (record (lane_of lane) { conts = is i }) f.part) { kept = none i })))))
       (λ f. ap (λ z. line.Finish l b.number z) (sym counts))

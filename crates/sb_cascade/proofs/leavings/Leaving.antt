@@ -9,7 +9,7 @@ use lib.ListN.{get_elem?}
 use Rattle.atomic_table.proofs.Lists.{at_set}
 use Rattle.sb_turn.specs.Held.{flat, on_place}
 use Rattle.sb_turn.specs.Owed.{Leaves}
-use Rattle.sb_turn.specs.Turning.{log_of, logged}
+use Rattle.sb_turn.specs.Turning.{log_of, logs_after}
 use Rattle.sb_turn.proofs.Held.{in_front}
 use Rattle.sb_turn.proofs.Logs.{grown_else}
 use Rattle.sb_turn.proofs.Totals.{within}
@@ -143,7 +143,7 @@ module _ (a : Setting) where
       states' = slice_set states k y
 
       abbrev logs' : List (List Change)
-      logs' = logged is_event k c logs
+      logs' = logs_after is_event k c logs
 
       abbrev views' : List Hands
       views' = slice_set views id w'
@@ -269,7 +269,7 @@ module _ (a : Setting) where
       → (shelf : List (Option Piece)) (status : ℕ) (states : List SharedView) (logs : List (List Change)) (views : List Hands)
       → (r : ShowsMoment a shelf status states logs views) → seen ≤ status → length logs ≡ length states
       → get_elem? states k ≡ some x → get_elem? views id ≡ some w
-      → (later : ShowsMoment a shelf status (slice_set states k y) (logged is_event k c logs) (slice_set views id (after w k c)))
+      → (later : ShowsMoment a shelf status (slice_set states k y) (logs_after is_event k c logs) (slice_set views id (after w k c)))
       × IsLeaving a.plan (doing k c) (shown_by r) (shown_by later)
   unfolding kept
   leaves_to id k seen w x y c does shelf status states logs views r known as_long here at = (

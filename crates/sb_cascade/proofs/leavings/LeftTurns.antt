@@ -4,7 +4,7 @@ use Rattle.atomic_table.specs.Table.{Me}
 use Rattle.sb_turn.specs.declared.turns.Entry.TheVariants as entry
 use Rattle.sb_turn.specs.declared.turns.Slot.{Slot}
 use Rattle.sb_turn.specs.declared.turns.View.{View}
-use Rattle.sb_turn.specs.Turning.{left, tried, won}
+use Rattle.sb_turn.specs.Turning.{left_view, tried_view, won_view}
 use Rattle.sb_cascade.specs.declared.pass.CascadePass.{CascadePass}
 use Rattle.sb_cascade.specs.declared.telling.Change.{Change}
 use Rattle.sb_cascade.specs.declared.telling.Hands.{Hands}
@@ -20,7 +20,7 @@ abbrev pub Seated : Type 0
 Seated = Me (Slot SharedView Piece) (View SharedView Change Hands)
 
 -- what a pass knows once it has a turn is what it knew before
-pub knew : (m m' : Seated) (k tries : ℕ) (x : SharedView) (out : List (ℕ × Slot SharedView Piece)) → m' ≡ (won k x (tried k tries m.0), out) → m'.0.client ≡ m.0.client
+pub knew : (m m' : Seated) (k tries : ℕ) (x : SharedView) (out : List (ℕ × Slot SharedView Piece)) → m' ≡ (won_view k x (tried_view k tries m.0), out) → m'.0.client ≡ m.0.client
 knew m m' k tries x out e = ap (λ (z : Seated). z.0.client) e
 
 -- what was found under the turn, by the setting itself
@@ -33,7 +33,7 @@ does_at a v w seen j k z x y c node knows found = subst (λ X. X) (λ i. Does a 
 
 -- the pass entered the turn of a node and left it
 pub left_by : (node : ℕ) (so : Change → Type 0) (p q : CascadePass) (m : Seated) (j tries lines : ℕ) (x : SharedView) (c : Change) (w : Hands) (out in_hand : List (ℕ × Slot SharedView Piece))
-    → j ≡ node → m ≡ (won node x (tried node tries p.seat.me.0), out) → q.seat.me ≡ (left j lines c w m.0, in_hand) → so c → LeftBy node so p q
+    → j ≡ node → m ≡ (won_view node x (tried_view node tries p.seat.me.0), out) → q.seat.me ≡ (left_view j lines c w m.0, in_hand) → so c → LeftBy node so p q
 left_by node so p q m j tries lines x c w out in_hand here entered leaves is = record {
   tries = tries;
   lines = lines;

@@ -9,7 +9,7 @@ use Rattle.sb_core.specs.declared.moment.Moment.{Moment}
 use Rattle.sb_core.specs.declared.held.Held.{Held}
 use Rattle.sb_core.specs.declared.event.Event.{Event}
 use Rattle.sb_core.specs.Laws.{concerns, place_of}
-use Rattle.sb_core.specs.Marks.{closed}
+use Rattle.sb_core.specs.Marks.{least_begun_mark}
 use Rattle.sb_core.specs.Moments.{empty_lane, set_lane, with_held}
 use Rattle.sb_core.specs.Parts.{Part, only_node, part_after, held_after, with_part_first}
 use Rattle.sb_core.specs.Soundness.{IsSound}
@@ -92,7 +92,7 @@ module _ (a : Setting) (w : Hands) (seen k : ℕ) (x y : SharedView) (l : ℕ) (
     shows : (f : IsFound a w k x) (rest held' : List Held) → IsSound a.plan (with_part_first k rest f.moment (only_node held' (set_lane l later f.part))) → ShowsPart (operator_of a k) y (set_lane l later f.part)
     shows f rest held' still =
         let p : Part = only_node held' (set_lane l later f.part) in
-        let same : closed p.node.lanes ≡ closed f.part.lanes = calm a.plan f.moment (with_part_first k rest f.moment p) f.sound still k l f.part p.node (lane_of lane) later f.there (slice_get-set_same f.moment.nodes k f.part p.node f.there) (lane-in f) refl refl marks in
+        let same : least_begun_mark p.node.lanes ≡ least_begun_mark f.part.lanes = calm a.plan f.moment (with_part_first k rest f.moment p) f.sound still k l f.part p.node (lane_of lane) later f.there (slice_get-set_same f.moment.nodes k f.part p.node f.there) (lane-in f) refl refl marks in
         record {
           lanes = ap (λ (ls : List CoreLane). slice_set ls l later) f.shown.lanes ∙ sym t.lanes;
           closings = f.shown.closings ∙ sym t.closings;

@@ -5,7 +5,7 @@ use Rattle.std.specs.Option.{option_map}
 use Rattle.std.proofs.lemmas.Bool.{cases_eq}
 use Rattle.sb_core.specs.declared.moment.Cont.{Cont}
 use Rattle.sb_lane.specs.LaneView.{LaneView, lane_of}
-use Rattle.sb_lane.specs.Links.{Link, down_of, link_in, linked, links_of, with_place}
+use Rattle.sb_lane.specs.Links.{Link, down_of, link_in, with_link, links_of, with_place}
 use Rattle.sb_lane.specs.Placed.{Placed, conts_of}
 use Rattle.sb_hand.specs.Linking.{place_in}
 use Rattle.sb_hand.proofs.LinkLists.{AreRising, down-in, ended-in, ended-other, linked-here, linked-other, linked-place, placed-in, placed-other, placed-there}
@@ -104,7 +104,7 @@ module _ (a : Setting) (old : List SharedView) (before later : List Hands) (k j 
     }
 
     -- it is linked now
-    linked-moved : (place : ℕ) → links_of is.containers ≡ linked p place (links_of was.containers) → (is_pardo_at a j ≡ true → StandsUnder a old before later j p place)
+    linked-moved : (place : ℕ) → links_of is.containers ≡ with_link p place (links_of was.containers) → (is_pardo_at a j ≡ true → StandsUnder a old before later j p place)
         → ((e : ℕ) → e ≢ p → KeepsDelivered e) → IsMoved
     linked-moved place links stands keeps = record {
       marks = omega (arith, marks);
@@ -113,7 +113,7 @@ module _ (a : Setting) (old : List SharedView) (before later : List Hands) (k j 
       links = λ e link pardo first at. ⊎_elim
           (λ f. inr (inl (record {
             place = place;
-            down = linked-here p place (links_of was.containers) link (ap (λ z. link_in z (linked p place (links_of was.containers))) (sym f) ∙ ap (link_in e) (sym links) ∙ at);
+            down = linked-here p place (links_of was.containers) link (ap (λ z. link_in z (with_link p place (links_of was.containers))) (sym f) ∙ ap (link_in e) (sym links) ∙ at);
             stands = subst (λ z. StandsUnder a old before later j z place) (sym f) (stands pardo);
           })))
           (λ ne. inl (record {
@@ -131,7 +131,7 @@ module _ (a : Setting) (old : List SharedView) (before later : List Hands) (k j 
     finish-moved None links stands other keeps = stay-moved links marks (keeps refl)
     finish-moved (Some place) links stands other keeps = by_known (is_some (down_of p (links_of was.containers))) refl links
       where
-        by_known : (known : Bool) → is_some (down_of p (links_of was.containers)) ≡ known → links_of is.containers ≡ cond known (links_of was.containers) (linked p place (links_of was.containers)) → IsMoved
+        by_known : (known : Bool) → is_some (down_of p (links_of was.containers)) ≡ known → links_of is.containers ≡ cond known (links_of was.containers) (with_link p place (links_of was.containers)) → IsMoved
         by_known true f links = known-moved links f other
         by_known false f links = linked-moved place links (stands place refl) other
 

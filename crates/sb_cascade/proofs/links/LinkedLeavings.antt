@@ -36,7 +36,7 @@ use Rattle.sb_cascade.specs.Doings.{close_of, work_of}
 use Rattle.sb_cascade.specs.Linked.{AreLinked, HasLaneIn, IsDelivered, KnowsLink, LanesStay, LeadsRight, PlacesNext, SetsLinks, SetsLinksAt, epoch_below, giver, is_pardo_at, link_left}
 use Rattle.sb_cascade.specs.SharedNodes.{FinishesLinked, PutsAt, SharedView}
 use Rattle.sb_cascade.specs.Shown.{ShowsMoment, moment_of}
-use Rattle.sb_cascade.specs.Views.{all_in_hand, empty_handed, having, held_by}
+use Rattle.sb_cascade.specs.Views.{all_in_hand, empty_handed, hands_with, held_by}
 use Rattle.sb_cascade.proofs.links.LeftLanes.{delivered-kept, one-lane, one-lane-in, same-moved, set-moved}
 use Rattle.sb_cascade.proofs.links.LinkMoves.{KeepsDelivered, end-moved, finish-moved, placed-moved, stay-moved}
 use Rattle.sb_cascade.proofs.links.LinkedAfter.{has-now, keeps-closing, keeps-empty, keeps-same, keeps-working, only-listed, linked-closing, linked-empty, linked-same, linked-work, stands-place, under-here}
@@ -140,14 +140,14 @@ module _ (a : Setting) (shelf : List (Option Piece)) (status : ℕ) (states : Li
 
     -- ---- a bundle
     -- a bundle is taken
-    pub taken-linked : (c : Claim) (link : Option ℕ) → c.node ≡ k → held_by w ≡ [] → SetsLinks c.lane 0 LinksStay x y → KnowsLink a k c.bundle.epoch link x → AreLinkedNow (having (work_of c false) link w)
+    pub taken-linked : (c : Claim) (link : Option ℕ) → c.node ≡ k → held_by w ≡ [] → SetsLinks c.lane 0 LinksStay x y → KnowsLink a k c.bundle.epoch link x → AreLinkedNow (hands_with (work_of c false) link w)
     taken-linked c link node empty s knows =
         linked-work a shelf states views linked id w w' at k new r.plan all c.node c.lane c.bundle.epoch c.bundle.floor c.bundle.number c.bundle.records false refl
         (λ place under is gives u from. stands-kept a states views (so w') k new r.plan all c.node c.bundle.epoch place under (stands place is gives) u from)
         (λ no. cc)
       where
         w' : Hands
-        w' = having (work_of c false) link w
+        w' = hands_with (work_of c false) link w
 
         all : AllMoved w'
         all = stays-moved w' c.lane s (keeps-empty a shelf states views linked id w w' at empty)
@@ -161,14 +161,14 @@ module _ (a : Setting) (shelf : List (Option Piece)) (status : ℕ) (states : Li
             (linked.own c.node s.lane under pardo (subst (λ n. HasLaneIn n 0 s.lane states) (sym node) (lane-here a shelf status states logs views r k x here 0 s.lane in_first)) u c.bundle.epoch d.0 d.1 from)
 
     -- what it gives is delivered
-    pub delivered-linked : (c : Claim) (place : ℕ) → held_by w ≡ work_of c false ∷ [] → SetsLinksAt (below a.plan c.node) k 0 (PutsAt c.bundle.epoch place) x y → AreLinkedNow (having (work_of c true) (Some place) w)
+    pub delivered-linked : (c : Claim) (place : ℕ) → held_by w ≡ work_of c false ∷ [] → SetsLinksAt (below a.plan c.node) k 0 (PutsAt c.bundle.epoch place) x y → AreLinkedNow (hands_with (work_of c true) (Some place) w)
     delivered-linked c place has s =
         linked-work a shelf states views linked id w w' at k new r.plan
         (put-moved w' c.node c.bundle.epoch place s given (keeps-working a shelf states views linked id w w' at c.node c.lane c.bundle.epoch c.bundle.floor c.bundle.number c.bundle.records has))
         c.node c.lane c.bundle.epoch c.bundle.floor c.bundle.number c.bundle.records true refl (puts-right (work_of c true) place s) (λ yes. (place, refl))
       where
         w' : Hands
-        w' = having (work_of c true) (Some place) w
+        w' = hands_with (work_of c true) (Some place) w
 
         given : IsGivenInto a states views (so w') k s.lane c.bundle.epoch
         given j st is pardo to = subst (λ n. IsDelivered n c.bundle.epoch (so w')) (sym (one-above c.node s.lane j st s.place_is is to)) (record {
@@ -223,26 +223,26 @@ module _ (a : Setting) (shelf : List (Option Piece)) (status : ℕ) (states : Li
 
     -- ---- a closing
     -- a closing begins
-    pub begun-linked : (c : Closing) (passed : Bool) → held_by w ≡ [] → SetsLinks c.lane 0 LinksStay x y → AreLinkedNow (having (close_of c c.rows.items passed) None w)
+    pub begun-linked : (c : Closing) (passed : Bool) → held_by w ≡ [] → SetsLinks c.lane 0 LinksStay x y → AreLinkedNow (hands_with (close_of c c.rows.items passed) None w)
     begun-linked c passed empty s =
-        let w' : Hands = having (close_of c c.rows.items passed) None w in
+        let w' : Hands = hands_with (close_of c c.rows.items passed) None w in
         linked-closing a shelf states views linked id w w' at k new r.plan (stays-moved w' c.lane s (keeps-empty a shelf states views linked id w w' at empty))
         c.node c.lane c.epoch c.serial c.floor c.mark c.rows.items passed refl (λ place under is gives u from. absurd (none-some place is))
 
     -- rows of it are put below
     pub rows-linked : (c : Closing) (rows left : List Record) (place : ℕ) → held_by w ≡ close_of c rows false ∷ [] → (is_pardo_at a c.node ≡ true → ⊥) → SetsLinksAt (below a.plan c.node) k 0 (PutsAt c.serial place) x y
-        → AreLinkedNow (having (close_of c left false) (Some place) w)
+        → AreLinkedNow (hands_with (close_of c left false) (Some place) w)
     rows-linked c rows left place has no_pardo s =
-        let w' : Hands = having (close_of c left false) (Some place) w in
+        let w' : Hands = hands_with (close_of c left false) (Some place) w in
         linked-closing a shelf states views linked id w w' at k new r.plan
         (put-moved w' c.node c.serial place s (λ j st is pardo to. absurd (no_pardo (subst (λ n. is_pardo_at a n ≡ true) (one-above c.node s.lane j st s.place_is is to) pardo)))
         (keeps-closing a shelf states views linked id w w' at c.node c.lane c.epoch c.serial c.floor c.mark rows false has))
         c.node c.lane c.epoch c.serial c.floor c.mark left false refl (puts-right (close_of c left false) place s)
 
     -- its mark is passed below
-    pub passed-linked : (c : Closing) (rows : List Record) → held_by w ≡ close_of c rows false ∷ [] → SetsLinksAt (below a.plan c.node) k 1 PlacesNext x y → AreLinkedNow (having (close_of c rows true) None w)
+    pub passed-linked : (c : Closing) (rows : List Record) → held_by w ≡ close_of c rows false ∷ [] → SetsLinksAt (below a.plan c.node) k 1 PlacesNext x y → AreLinkedNow (hands_with (close_of c rows true) None w)
     passed-linked c rows has s =
-        let w' : Hands = having (close_of c rows true) None w in
+        let w' : Hands = hands_with (close_of c rows true) None w in
         linked-closing a shelf states views linked id w w' at k new r.plan
         (places-moved w' s.lane 1 (length s.sets.lane.marks) s.sets.linked.place PlacesNext s.sets s.sets.linked.links (λ from. absurd (omega (arith, from, s.sets.marks)))
         (keeps-closing a shelf states views linked id w w' at c.node c.lane c.epoch c.serial c.floor c.mark rows false has))

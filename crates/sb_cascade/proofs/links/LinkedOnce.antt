@@ -5,7 +5,7 @@ use Rattle.std.proofs.lemmas.List.{set-set}
 use Rattle.sb_core.specs.declared.moment.CoreLane.{CoreLane}
 use Rattle.sb_diary.specs.declared.event.DiaryEvent.{DiaryEvent}
 use Rattle.sb_lane.specs.LaneView.{LaneView}
-use Rattle.sb_lane.specs.Links.{down_of, linked, links_of}
+use Rattle.sb_lane.specs.Links.{down_of, with_link, links_of}
 use Rattle.sb_node.specs.Changes.{GetsDown, Turns}
 use Rattle.sb_node.specs.LinkChanges.{LinksStay}
 use Rattle.sb_node.specs.declared.state.NodeState.{NodeState}
@@ -33,6 +33,6 @@ module _ (l epoch : ℕ) (at : LaneView) (later : CoreLane) (line : DiaryEvent) 
     rest = record { kept = g.rest.kept ∙ t.rest.kept; closings = g.rest.closings ∙ t.rest.closings };
     is = g.is ∙ t.is;
     linked =
-        g.linked.links ∙ ap (linked epoch place) t.linked.links
-        ∙ sym (ap (λ o. cond (is_some o) (links_of at.containers) (linked epoch place (links_of at.containers))) none);
+        g.linked.links ∙ ap (with_link epoch place) t.linked.links
+        ∙ sym (ap (λ o. cond (is_some o) (links_of at.containers) (with_link epoch place (links_of at.containers))) none);
   }

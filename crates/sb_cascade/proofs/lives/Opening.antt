@@ -40,7 +40,7 @@ use Rattle.sb_cascade.specs.declared.telling.Piece.{Piece}
 use Rattle.sb_cascade.specs.declared.telling.Setting.{Setting}
 use Rattle.sb_cascade.specs.Doings.{replay}
 use Rattle.sb_cascade.specs.Ends.{fresh_state}
-use Rattle.sb_cascade.specs.SharedNodes.{SharedView, lines_of, owed, owed_in}
+use Rattle.sb_cascade.specs.SharedNodes.{SharedView, lines_of, owed_lines, owed_in}
 use Rattle.sb_cascade.specs.Shown.{ShowsMoment, ShowsPart, beginning_of, diaries_in, moment_of, settings_in}
 use Rattle.sb_cascade.specs.Shown as shown
 use Rattle.sb_cascade.specs.Views.{all_in_hand, as_fed, fed_on, feed_of, first_hands, work_on}
@@ -198,7 +198,7 @@ module _ (a : Setting) (h : HandView) (ok : IsPlan a.plan) (new : IsNewHand a.pl
           go (own ∷ owns) none = (let few : length own.diary.events ≡ 0 = ap length (none 0 own refl) in omega arith, go owns (λ k x e. none (suc k) x e))
 
   -- no fresh node has a line to write
-  pub fresh_owes_none : (k : ℕ) (own : NodeState) → slice_get h.nodes k ≡ Some own → owed own.lanes.items ≡ 0
+  pub fresh_owes_none : (k : ℕ) (own : NodeState) → slice_get h.nodes k ≡ Some own → owed_lines own.lanes.items ≡ 0
   fresh_owes_none k own there =
       owed_as own.lanes.items
       ∙ ap (sum_by owed_on) (sym (fresh_at k own there).shows.lanes)
@@ -207,7 +207,7 @@ module _ (a : Setting) (h : HandView) (ok : IsPlan a.plan) (new : IsNewHand a.pl
       owed_on : CoreLane → ℕ
       owed_on lane = sum_by owed_in lane.conts
 
-      owed_as : (lanes : List LaneView) → owed lanes ≡ sum_by owed_on (map lane_of lanes)
+      owed_as : (lanes : List LaneView) → owed_lines lanes ≡ sum_by owed_on (map lane_of lanes)
       owed_as [] = refl
       owed_as (l ∷ lanes) = omega (arith, sum_by-cons (λ lane. sum_by owed_in (conts_of lane.containers)) l lanes, sum_by-cons owed_on (lane_of l) (map lane_of lanes), owed_as lanes)
 

@@ -7,14 +7,14 @@ use Rattle.std.proofs.Math.Numerals.{sub-one}
 use Rattle.sb_core.specs.declared.moment.Cont.{Cont}
 use Rattle.sb_core.specs.declared.moment.CoreLane.{CoreLane}
 use Rattle.sb_core.specs.Lanes.{with_first_closing}
-use Rattle.sb_core.specs.Marks.{closed}
+use Rattle.sb_core.specs.Marks.{least_begun_mark}
 use Rattle.sb_core.proofs.exact.Nodes.{begun_mark}
 
 -- the mark, once the first container of a lane is closing
 abbrev pub IsClosedWith : List CoreLane → ℕ → ℕ → Type 0
-IsClosedWith lanes i mark = (lane : CoreLane) (cont : Cont) (conts : List Cont) → slice_get lanes i ≡ Some lane → lane.conts ≡ cont ∷ conts → mark ≡ closed (slice_set lanes i (record lane { conts = with_first_closing lane.conts }))
+IsClosedWith lanes i mark = (lane : CoreLane) (cont : Cont) (conts : List Cont) → slice_get lanes i ≡ Some lane → lane.conts ≡ cont ∷ conts → mark ≡ least_begun_mark (slice_set lanes i (record lane { conts = with_first_closing lane.conts }))
 
-closed-later : (x y : CoreLane) (lanes : List CoreLane) (i : ℕ) (with : CoreLane) → closed (slice_set (x ∷ y ∷ lanes) (suc i) with) ≡ min (begun_mark x) (closed (slice_set (y ∷ lanes) i with))
+closed-later : (x y : CoreLane) (lanes : List CoreLane) (i : ℕ) (with : CoreLane) → least_begun_mark (slice_set (x ∷ y ∷ lanes) (suc i) with) ≡ min (begun_mark x) (least_begun_mark (slice_set (y ∷ lanes) i with))
 closed-later x y lanes zero with = refl
 closed-later x y lanes (suc i) with = refl
 

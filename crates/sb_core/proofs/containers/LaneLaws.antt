@@ -11,7 +11,7 @@ use Rattle.sb_core.specs.declared.moment.Cont.{Cont}
 use Rattle.sb_record.specs.Reading.{◌>>=◌}
 use Rattle.sb_record.proofs.Elements.{every}
 use Rattle.sb_core.specs.Lanes.{fresh, in_epoch, with_bundle, take_from, finish_in, next_floor}
-use Rattle.sb_core.specs.Choices.{pulled}
+use Rattle.sb_core.specs.Choices.{first_and_rest}
 use Rattle.sb_core.specs.LaneOrder.{NeverFalls, IsWithin, IsBundleOf, IsSealed, IsOpen, AreOpen, AreContainers}
 use Rattle.sb_core.proofs.containers.Fitting.{Fits}
 use Rattle.sb_core.proofs.sound.HeldLists.{All-last}
@@ -151,14 +151,14 @@ module _ (bound mark : ℕ) where
       (are.0, containers-seal (e + 1) m next g ms cs are.1 (omega arith) k fits.1)
 
 -- ---- a bundle is taken, finished
-pub All-pulled : {X : Type 0} (P : X → Type 0) (p : X → Bool) (xs : List X) (q : X × List X) → pulled p xs ≡ Some q → AllByRecursion P xs → P q.0 × AllByRecursion P q.1
+pub All-pulled : {X : Type 0} (P : X → Type 0) (p : X → Bool) (xs : List X) (q : X × List X) → first_and_rest p xs ≡ Some q → AllByRecursion P xs → P q.0 × AllByRecursion P q.1
 All-pulled P p [] q h all = cc
 All-pulled {X} P p (y ∷ xs) q h all = by_case (p y) h (λ r e. All-pulled P p xs r e all.1)
   where
-    by_case : (b : Bool) → cond {A = Option (X × List X)} b (Some (y, xs)) (pulled p xs >>= λ q. Some (q.0, y ∷ q.1)) ≡ Some q → ((r : X × List X) → pulled p xs ≡ Some r → P r.0 × AllByRecursion P r.1) → P q.0 × AllByRecursion P q.1
+    by_case : (b : Bool) → cond {A = Option (X × List X)} b (Some (y, xs)) (first_and_rest p xs >>= λ q. Some (q.0, y ∷ q.1)) ≡ Some q → ((r : X × List X) → first_and_rest p xs ≡ Some r → P r.0 × AllByRecursion P r.1) → P q.0 × AllByRecursion P q.1
     by_case true h ih = subst (λ (r : X × List X). P r.0 × AllByRecursion P r.1) (same_Some _ _ h) all
     by_case false h ih =
-        let b = bind_some (pulled p xs) (λ (q : X × List X). Some (q.0, y ∷ q.1)) q h in
+        let b = bind_some (first_and_rest p xs) (λ (q : X × List X). Some (q.0, y ∷ q.1)) q h in
         let same : ◌≡◌ {A = X × List X} (b.0.0, y ∷ b.0.1) q = same_Some _ _ b.2 in
         let k = ih b.0 b.1 in
         subst (λ (r : X × List X). P r.0 × AllByRecursion P r.1) same (k.0, (all.0, k.1))
@@ -202,10 +202,10 @@ take_from-differ bound number [] q h = cc
 take_from-differ bound number (c ∷ cs) q h = by_case (list_any (λ b. eqb b.number number) c.waiting) h (λ r e. take_from-differ bound number cs r e)
   where
     by_case : (a : Bool)
-        → cond {A = Option (Bundle × List Cont)} a (pulled (λ b. eqb b.number number) c.waiting >>= λ q. Some (q.0, record c { waiting = q.1; out = c.out ++ number ∷ [] } ∷ cs)) (take_from number cs >>= λ q. Some (q.0, c ∷ q.1)) ≡ Some q
+        → cond {A = Option (Bundle × List Cont)} a (first_and_rest (λ b. eqb b.number number) c.waiting >>= λ q. Some (q.0, record c { waiting = q.1; out = c.out ++ number ∷ [] } ∷ cs)) (take_from number cs >>= λ q. Some (q.0, c ∷ q.1)) ≡ Some q
         → ((r : Bundle × List Cont) → take_from number cs ≡ Some r → DifferInBundles bound cs r.1) → DifferInBundles bound (c ∷ cs) q.1
     by_case true h ih =
-        let b = bind_some (pulled (λ b. eqb b.number number) c.waiting) _ q h in
+        let b = bind_some (first_and_rest (λ b. eqb b.number number) c.waiting) _ q h in
         let same : ◌≡◌ {A = Bundle × List Cont} (b.0.0, record c { waiting = b.0.1; out = c.out ++ number ∷ [] } ∷ cs) q = same_Some _ _ b.2 in
         subst (λ (r : Bundle × List Cont). DifferInBundles bound (c ∷ cs) r.1) same (refl, λ all. (All-pulled (IsBundleOf bound c) (λ b. eqb b.number number) c.waiting b.0 b.1 all).1, differ-refl bound cs)
     by_case false h ih =

@@ -11,7 +11,7 @@ use Rattle.sb_record.specs.declared.item.Record.{Record}
 use Rattle.sb_bundle.specs.declared.bundle.Bundle.{Bundle}
 use Rattle.sb_core.specs.declared.moment.Cont.{Cont}
 use Rattle.sb_record.specs.Reading.{◌>>=◌}
-use Rattle.sb_core.specs.Choices.{pulled, is_empty}
+use Rattle.sb_core.specs.Choices.{first_and_rest, is_empty}
 use Rattle.sb_core.specs.Lanes.{fresh, in_epoch, with_bundle, take_from}
 use Rattle.sb_record.proofs.Sums.{IsReordered, sum_by-flat_map}
 
@@ -36,15 +36,15 @@ filter_swap {X} p q (x ∷ xs) = by_case (p x) (q x) refl refl (filter_swap p q 
     by_case false false e f h = h
 
 -- what was pulled out, and the rest
-pub IsReordered-pulled : {X : Type 0} (p : X → Bool) (xs : List X) (q : X × List X) → pulled p xs ≡ Some q → IsReordered xs (q.0 ∷ q.1)
+pub IsReordered-pulled : {X : Type 0} (p : X → Bool) (xs : List X) (q : X × List X) → first_and_rest p xs ≡ Some q → IsReordered xs (q.0 ∷ q.1)
 IsReordered-pulled p [] q h f = cc
 IsReordered-pulled {X} p (y ∷ xs) q h f = by_case (p y) h (λ r e. IsReordered-pulled p xs r e f)
   where
-    by_case : (b : Bool) → cond {A = Option (X × List X)} b (Some (y, xs)) (pulled p xs >>= λ q. Some (q.0, y ∷ q.1)) ≡ Some q
-        → ((r : X × List X) → pulled p xs ≡ Some r → sum_by f xs ≡ sum_by f (r.0 ∷ r.1)) → sum_by f (y ∷ xs) ≡ sum_by f (q.0 ∷ q.1)
+    by_case : (b : Bool) → cond {A = Option (X × List X)} b (Some (y, xs)) (first_and_rest p xs >>= λ q. Some (q.0, y ∷ q.1)) ≡ Some q
+        → ((r : X × List X) → first_and_rest p xs ≡ Some r → sum_by f xs ≡ sum_by f (r.0 ∷ r.1)) → sum_by f (y ∷ xs) ≡ sum_by f (q.0 ∷ q.1)
     by_case true h ih = ap (λ (r : X × List X). sum_by f (r.0 ∷ r.1)) (same_Some _ _ h)
     by_case false h ih =
-        let b = bind_some (pulled p xs) (λ (q : X × List X). Some (q.0, y ∷ q.1)) q h in
+        let b = bind_some (first_and_rest p xs) (λ (q : X × List X). Some (q.0, y ∷ q.1)) q h in
         let same : ◌≡◌ {A = X × List X} (b.0.0, y ∷ b.0.1) q = same_Some _ _ b.2 in
         sum_by-cons f y xs ∙ ap (λ n. f y + n) (ih b.0 b.1 ∙ sum_by-cons f b.0.0 b.0.1)
         ∙ add_left_comm (f y) (f b.0.0) (sum_by f b.0.1) ∙ sym (ap (λ n. f b.0.0 + n) (sum_by-cons f y b.0.1)) ∙ sym (sum_by-cons f b.0.0 (y ∷ b.0.1))
@@ -55,13 +55,13 @@ is_some-then : {A B : Type 0} (o : Option A) (f : A → B) → is_some (o >>= λ
 is_some-then None f = refl
 is_some-then (Some x) f = refl
 
-pub any-pulled : {X : Type 0} (p : X → Bool) (xs : List X) → list_any p xs ≡ is_some (pulled p xs)
+pub any-pulled : {X : Type 0} (p : X → Bool) (xs : List X) → list_any p xs ≡ is_some (first_and_rest p xs)
 any-pulled p [] = refl
 any-pulled {X} p (x ∷ xs) = by_case (p x) (any-pulled p xs)
   where
-    by_case : (b : Bool) → list_any p xs ≡ is_some (pulled p xs) → (b || list_any p xs) ≡ is_some (cond {A = Option (X × List X)} b (Some (x, xs)) (pulled p xs >>= λ q. Some (q.0, x ∷ q.1)))
+    by_case : (b : Bool) → list_any p xs ≡ is_some (first_and_rest p xs) → (b || list_any p xs) ≡ is_some (cond {A = Option (X × List X)} b (Some (x, xs)) (first_and_rest p xs >>= λ q. Some (q.0, x ∷ q.1)))
     by_case true h = refl
-    by_case false h = h ∙ sym (is_some-then (pulled p xs) (λ q. (q.0, x ∷ q.1)))
+    by_case false h = h ∙ sym (is_some-then (first_and_rest p xs) (λ q. (q.0, x ∷ q.1)))
 
 -- the records that wait in containers
 abbrev pub waiting_of : List Cont → List Record
@@ -116,11 +116,11 @@ waiting-take_from number [] q h f = cc
 waiting-take_from number (c ∷ cs) q h f = by_case (list_any (λ b. eqb b.number number) c.waiting) h (λ r e. waiting-take_from number cs r e f)
   where
     by_case : (a : Bool)
-        → cond {A = Option (Bundle × List Cont)} a (pulled (λ b. eqb b.number number) c.waiting >>= λ q. Some (q.0, record c { waiting = q.1; out = c.out ++ number ∷ [] } ∷ cs)) (take_from number cs >>= λ q. Some (q.0, c ∷ q.1)) ≡ Some q
+        → cond {A = Option (Bundle × List Cont)} a (first_and_rest (λ b. eqb b.number number) c.waiting >>= λ q. Some (q.0, record c { waiting = q.1; out = c.out ++ number ∷ [] } ∷ cs)) (take_from number cs >>= λ q. Some (q.0, c ∷ q.1)) ≡ Some q
         → ((r : Bundle × List Cont) → take_from number cs ≡ Some r → sum_by f (waiting_of cs) ≡ sum_by f (r.0.records ++ waiting_of r.1))
         → sum_by f (waiting_of (c ∷ cs)) ≡ sum_by f (q.0.records ++ waiting_of q.1)
     by_case true h ih =
-        let b = bind_some (pulled (λ b. eqb b.number number) c.waiting) _ q h in
+        let b = bind_some (first_and_rest (λ b. eqb b.number number) c.waiting) _ q h in
         let same : ◌≡◌ {A = Bundle × List Cont} (b.0.0, record c { waiting = b.0.1; out = c.out ++ number ∷ [] } ∷ cs) q = same_Some _ _ b.2 in
         let got = IsReordered-pulled (λ b. eqb b.number number) c.waiting b.0 b.1 (λ b. sum_by f b.records) in
         let one : sum_by f (of_cont c) ≡ sum_by f b.0.0.records + sum_by f (flat_map (λ b. b.records) b.0.1) =

@@ -6,7 +6,7 @@ use Rattle.std.proofs.lemmas.Bool.{eqb-true, eq-eqb, ne_eqb, and_parts}
 use Rattle.std.proofs.lemmas.Option.{same_Some}
 use Rattle.sb_core.specs.declared.moment.Cont.{Cont}
 use Rattle.sb_core.specs.declared.moment.CoreLane.{CoreLane}
-use Rattle.sb_core.specs.Marks.{begun, first_is_closing, last_of_first}
+use Rattle.sb_core.specs.Marks.{begun_count, first_is_closing, last_of_first}
 use Rattle.sb_core.specs.LaneOrder.{NeverFalls, AreOpen, AreContainers, IsLane, cont_at}
 use Rattle.sb_core.proofs.containers.Fitting.{Fits}
 use Rattle.sb_core.proofs.times.InTime.{ups, next_mark}
@@ -100,7 +100,7 @@ first_floors bound e f (m ∷ ms) (x ∷ cs) are up = (λ _. are.0.floor_is, eve
 
 module _ (bound : ℕ) (lane : CoreLane) (ok : IsLane bound lane) where
   -- a container of the epoch that is next to begin has the floor where the lane has begun
-  pub begun_floor : (c : Cont) → cont_at (begun lane) lane.conts ≡ Some c → c.floor ≡ begun_mark lane
+  pub begun_floor : (c : Cont) → cont_at (begun_count lane) lane.conts ≡ Some c → c.floor ≡ begun_mark lane
   begun_floor c h = go lane.conts refl (drop lane.ended lane.marks) refl ok.containers h
     where
       go : (cs : List Cont) → lane.conts ≡ cs → (ms : List ℕ) → drop lane.ended lane.marks ≡ ms → AreContainers bound lane.ended (last_of_first lane.ended lane.marks) ms cs

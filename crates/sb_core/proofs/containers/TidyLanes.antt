@@ -14,7 +14,7 @@ use Rattle.sb_core.specs.declared.moment.CoreLane.{CoreLane}
 use Rattle.sb_record.specs.Reading.{◌>>=◌}
 use Rattle.sb_record.proofs.Sums.{any_by_count}
 use Rattle.sb_core.specs.Lanes.{fresh, in_epoch, take_from, finish_in, with_first_closing, with_bundle, with_arrival, with_seal}
-use Rattle.sb_core.specs.Choices.{pulled}
+use Rattle.sb_core.specs.Choices.{first_and_rest}
 use Rattle.sb_core.specs.LaneOrder.{cont_at}
 use Rattle.sb_core.specs.Soundness.{out_of, numbers_of, AreNumbered}
 use Rattle.sb_core.proofs.containers.Lists.{IsReordered-pulled}
@@ -110,14 +110,14 @@ outs-seal mark n lane = sum-in_epoch (out_of n) 0 _ _ (λ c. record c { mark = S
 
 -- ---- a bundle is taken
 -- the number pulled is the one that was asked for
-pub pulled-passes : {X : Type 0} (p : X → Bool) (xs : List X) (q : X × List X) → pulled p xs ≡ Some q → p q.0 ≡ true
+pub pulled-passes : {X : Type 0} (p : X → Bool) (xs : List X) (q : X × List X) → first_and_rest p xs ≡ Some q → p q.0 ≡ true
 pulled-passes p [] q h = cc
 pulled-passes {X} p (x ∷ xs) q h = by_case (p x) refl h (λ r e. pulled-passes p xs r e)
   where
-    by_case : (b : Bool) → p x ≡ b → cond {A = Option (X × List X)} b (Some (x, xs)) (pulled p xs >>= λ q. Some (q.0, x ∷ q.1)) ≡ Some q → ((r : X × List X) → pulled p xs ≡ Some r → p r.0 ≡ true) → p q.0 ≡ true
+    by_case : (b : Bool) → p x ≡ b → cond {A = Option (X × List X)} b (Some (x, xs)) (first_and_rest p xs >>= λ q. Some (q.0, x ∷ q.1)) ≡ Some q → ((r : X × List X) → first_and_rest p xs ≡ Some r → p r.0 ≡ true) → p q.0 ≡ true
     by_case true e h ih = subst (λ (r : X × List X). p r.0 ≡ true) (same_Some _ _ h) e
     by_case false e h ih =
-        let b = bind_some (pulled p xs) (λ (q : X × List X). Some (q.0, x ∷ q.1)) q h in
+        let b = bind_some (first_and_rest p xs) (λ (q : X × List X). Some (q.0, x ∷ q.1)) q h in
         subst (λ (r : X × List X). p r.0 ≡ true) (same_Some _ _ b.2) (ih b.0 b.1)
 
 pub taken-sums : (number n : ℕ) (cs : List Cont) (q : Bundle × List Cont) → take_from number cs ≡ Some q
@@ -126,11 +126,11 @@ taken-sums number n [] q h = cc
 taken-sums number n (c ∷ cs) q h = by_case (list_any (λ b. eqb b.number number) c.waiting) h (λ r e. taken-sums number n cs r e)
   where
     by_case : (a : Bool)
-        → cond {A = Option (Bundle × List Cont)} a (pulled (λ b. eqb b.number number) c.waiting >>= λ q. Some (q.0, record c { waiting = q.1; out = c.out ++ number ∷ [] } ∷ cs)) (take_from number cs >>= λ q. Some (q.0, c ∷ q.1)) ≡ Some q
+        → cond {A = Option (Bundle × List Cont)} a (first_and_rest (λ b. eqb b.number number) c.waiting >>= λ q. Some (q.0, record c { waiting = q.1; out = c.out ++ number ∷ [] } ∷ cs)) (take_from number cs >>= λ q. Some (q.0, c ∷ q.1)) ≡ Some q
         → ((r : Bundle × List Cont) → take_from number cs ≡ Some r → (sum_by (numbers_of n) r.1 ≡ sum_by (numbers_of n) cs) × (sum_by (out_of n) r.1 ≡ sum_by (out_of n) cs + cond (eqb number n) 1 0))
         → (sum_by (numbers_of n) q.1 ≡ sum_by (numbers_of n) (c ∷ cs)) × (sum_by (out_of n) q.1 ≡ sum_by (out_of n) (c ∷ cs) + cond (eqb number n) 1 0)
     by_case true h ih =
-        let b = bind_some (pulled (λ b. eqb b.number number) c.waiting) _ q h in
+        let b = bind_some (first_and_rest (λ b. eqb b.number number) c.waiting) _ q h in
         let same : ◌≡◌ {A = Bundle × List Cont} (b.0.0, record c { waiting = b.0.1; out = c.out ++ number ∷ [] } ∷ cs) q = same_Some _ _ b.2 in
         let is : b.0.0.number ≡ number = eqb-true b.0.0.number number (pulled-passes (λ b. eqb b.number number) c.waiting b.0 b.1) in
         let w : count_by (λ (b : Bundle). eqb b.number n) c.waiting ≡ cond (eqb number n) 1 0 + count_by (λ (b : Bundle). eqb b.number n) b.0.1 =

@@ -23,7 +23,7 @@ use Rattle.sb_core.specs.Bounds.{bound_at}
 use Rattle.sb_core.specs.Choices.{is_empty}
 use Rattle.sb_core.specs.Lanes.{next_floor, closable}
 use Rattle.sb_core.specs.LaneOrder.{IsLane, IsSealed, AreOpen, AreContainers}
-use Rattle.sb_core.specs.Marks.{closed, first_is_closing, last_of_first}
+use Rattle.sb_core.specs.Marks.{least_begun_mark, first_is_closing, last_of_first}
 use Rattle.sb_core.specs.Moments.{is_work, lane_at, node_at, floor_of, floor_at}
 use Rattle.sb_core.specs.Holdings.{is_unpassed}
 use Rattle.sb_core.specs.Soundness.{out_of, IsSound}
@@ -81,15 +81,15 @@ none_out (c ∷ cs) none = (of_cont c.out (λ n. omega (arith, sum_by-cons (out_
 
 -- ---- the lanes of a node
 -- the least is one of them
-closed_one : (lanes : List CoreLane) → 1 ≤ length lanes → (l : ℕ) × (lane : CoreLane) × (slice_get lanes l ≡ Some lane) × (begun_mark lane ≡ closed lanes)
+closed_one : (lanes : List CoreLane) → 1 ≤ length lanes → (l : ℕ) × (lane : CoreLane) × (slice_get lanes l ≡ Some lane) × (begun_mark lane ≡ least_begun_mark lanes)
 closed_one [] some = absurd (omega (arith, some))
 closed_one (x ∷ []) some = (zero, x, refl, refl)
 closed_one (x ∷ y ∷ lanes) some =
-    let r : (l : ℕ) × (lane : CoreLane) × (slice_get (y ∷ lanes) l ≡ Some lane) × (begun_mark lane ≡ closed (y ∷ lanes)) = closed_one (y ∷ lanes) (omega arith) in
+    let r : (l : ℕ) × (lane : CoreLane) × (slice_get (y ∷ lanes) l ≡ Some lane) × (begun_mark lane ≡ least_begun_mark (y ∷ lanes)) = closed_one (y ∷ lanes) (omega arith) in
     ⊎_elim
     (λ h. (zero, x, refl, omega (arith, h)))
     (λ h. (suc r.0, r.1, r.2, omega (arith, h, r.3)))
-    (cases_lt (begun_mark x) (closed (y ∷ lanes)))
+    (cases_lt (begun_mark x) (least_begun_mark (y ∷ lanes)))
 
 some_lane : (o : Operator) → 1 ≤ lanes_of o
 some_lane (ParDo op) = omega arith
@@ -111,22 +111,22 @@ module _ (plan : Shape) (is_plan : IsPlan plan) (m : Moment) (sound : IsSound pl
   up_to : (d : Down) (lane : CoreLane) → lane_at m d ≡ Some lane → begun_mark lane ≡ floor_at m d
   up_to d lane at = begun_all (bound_at plan d.node) lane (sound.lanes d lane at) (rest.none_closes d lane at) (free d lane at) ∙ sym (ap floor_of at)
 
-  passed_on : (k : ℕ) (s : Step) → slice_get plan.steps k ≡ Some s → floor_at m s.down ≡ closed (node_at m k).lanes
+  passed_on : (k : ℕ) (s : Step) → slice_get plan.steps k ≡ Some s → floor_at m s.down ≡ least_begun_mark (node_at m k).lanes
   passed_on k s is = (sound.below k s is).as_passed (ap (list_any (is_unpassed k)) rest.none_held)
 
   -- each node has closed up to the floor of a stream's lane
-  pub from_one : (k : ℕ) → k ≤ length plan.steps → (s : Stream) × (d : Down) × (source plan s ≡ Some d) × (floor_at m d ≡ closed (node_at m k).lanes)
+  pub from_one : (k : ℕ) → k ≤ length plan.steps → (s : Stream) × (d : Down) × (source plan s ≡ Some d) × (floor_at m d ≡ least_begun_mark (node_at m k).lanes)
   from_one k b = by_bound k k (omega arith) b
     where
       Leads : ℕ → Type 0
-      Leads k = (s : Stream) × (d : Down) × (source plan s ≡ Some d) × (floor_at m d ≡ closed (node_at m k).lanes)
+      Leads k = (s : Stream) × (d : Down) × (source plan s ≡ Some d) × (floor_at m d ≡ least_begun_mark (node_at m k).lanes)
 
       step : (k : ℕ) → k ≤ length plan.steps → ((j : ℕ) → j < k → Leads j) → Leads k
       step k b before =
           let one = closed_one (node_at m k).lanes (omega (arith, sound.lanes_there k b, some_lane (operator_at (slice_get plan.steps k)))) in
           let place : Down = record { node = k; lane = one.0 } in
           let at : lane_at m place ≡ Some one.1 = of_node plan m (lawful_of sound) k one.0 one.1 one.2 in
-          let floor : floor_at m place ≡ closed (node_at m k).lanes = sym (up_to place one.1 at) ∙ one.3 in
+          let floor : floor_at m place ≡ least_begun_mark (node_at m k).lanes = sym (up_to place one.1 at) ∙ one.3 in
           ⊎_elim
           (λ s. (s.0, place, s.1, floor))
           (λ s. let lower : s.0 < k = subst (λ (d : Down). s.0 < d.node) s.3 (is_plan.further s.0 s.1 s.2) in
@@ -139,24 +139,24 @@ module _ (plan : Shape) (is_plan : IsPlan plan) (m : Moment) (sound : IsSound pl
       by_bound (suc bound) k low b = step k b (λ j h. by_bound bound j (omega arith) (omega arith))
 
   -- a node has closed no further than its lanes' floors
-  no_further : (d : Down) (lane : CoreLane) → lane_at m d ≡ Some lane → closed (node_at m d.node).lanes ≤ floor_at m d
+  no_further : (d : Down) (lane : CoreLane) → lane_at m d ≡ Some lane → least_begun_mark (node_at m d.node).lanes ≤ floor_at m d
   no_further d lane at =
-      subst (λ n. closed (node_at m d.node).lanes ≤ n) (up_to d lane at) (closed_least (node_at m d.node).lanes d.lane lane (lane_of plan m (lawful_of sound) d.node d.lane lane at))
+      subst (λ n. least_begun_mark (node_at m d.node).lanes ≤ n) (up_to d lane at) (closed_least (node_at m d.node).lanes d.lane lane (lane_of plan m (lawful_of sound) d.node d.lane lane at))
 
   -- the sink has closed no further than any node
-  behind : (k : ℕ) → k ≤ length plan.steps → written_to plan m ≤ closed (node_at m k).lanes
+  behind : (k : ℕ) → k ≤ length plan.steps → written_to plan m ≤ least_begun_mark (node_at m k).lanes
   behind k b = go (length plan.steps) k (omega arith) b
     where
-      at_sink : (k : ℕ) → length plan.steps ≡ k → written_to plan m ≤ closed (node_at m k).lanes
-      at_sink k e = subst (λ n. written_to plan m ≤ closed (node_at m n).lanes) e (omega arith)
+      at_sink : (k : ℕ) → length plan.steps ≡ k → written_to plan m ≤ least_begun_mark (node_at m k).lanes
+      at_sink k e = subst (λ n. written_to plan m ≤ least_begun_mark (node_at m n).lanes) e (omega arith)
 
-      go : (left k : ℕ) → length plan.steps ≤ k + left → k ≤ length plan.steps → written_to plan m ≤ closed (node_at m k).lanes
+      go : (left k : ℕ) → length plan.steps ≤ k + left → k ≤ length plan.steps → written_to plan m ≤ least_begun_mark (node_at m k).lanes
       go zero k far b = at_sink k (omega (arith, far, b))
       go (suc left) k far b = ⊎_elim
           (λ s. let under = sound.below k s.0 s.2 in
           let place : IsPlace plan.steps s.0.down = place-at plan is_plan k s.0 s.2 in
-          let next : written_to plan m ≤ closed (node_at m s.0.down.node).lanes = go left s.0.down.node (omega (arith, far, under.further)) place.0 in
-          let low : closed (node_at m s.0.down.node).lanes ≤ floor_at m s.0.down = no_further s.0.down under.lane under.there in
+          let next : written_to plan m ≤ least_begun_mark (node_at m s.0.down.node).lanes = go left s.0.down.node (omega (arith, far, under.further)) place.0 in
+          let low : least_begun_mark (node_at m s.0.down.node).lanes ≤ floor_at m s.0.down = no_further s.0.down under.lane under.there in
           omega (arith, next, low, passed_on k s.0 s.2))
           (λ h. at_sink k (omega (arith, h.0, b)))
           (slice_get_cases plan.steps k).1

@@ -15,9 +15,9 @@ use Rattle.sb_record.specs.Records.{record_cmp, before}
 use Rattle.sb_record.specs.Orders.{IsAscending}
 use Rattle.sb_pipeline.specs.Operators.{operator_at}
 use Rattle.sb_record.specs.Elements.{all_records}
-use Rattle.sb_pipeline.specs.Flow.{arriving, from_streams, sent_from}
+use Rattle.sb_pipeline.specs.Flow.{arrivals_at, from_streams, sent_from}
 use Rattle.sb_pipeline.specs.Results.{output_of, rows_below}
-use Rattle.sb_core.specs.Marks.{closed}
+use Rattle.sb_core.specs.Marks.{least_begun_mark}
 use Rattle.sb_core.specs.Exactness.{gives, gives_by, final, rest, IsAdmissible, IsExact}
 use Rattle.sb_core.specs.Moments.{node_at}
 use Rattle.sb_record.proofs.Sums.{sum_by-map}
@@ -34,9 +34,9 @@ before-all w (r ∷ l) all = (λ i. cond (lt-ltb r.time w all.0 i) (r ∷ before
 -- Where the sink's rows are sorted and below its mark, and what it keeps is not, the rows are those of the plan below
 -- the mark, whatever comes.
 pub rows-are : (plan : Shape) (m : Moment) (fed coming : Stream → List Record) → IsTimely plan m → IsExact plan m fed → IsAdmissible plan m coming
-    → IsAscending record_cmp m.rows → AllByRecursion (λ r. r.time < closed (node_at m (length plan.steps)).lanes) m.rows
-    → sum_by (early_one (closed (node_at m (length plan.steps)).lanes)) (node_at m (length plan.steps)).kept ≡ 0
-    → m.rows ≡ rows_below (closed (node_at m (length plan.steps)).lanes) plan (λ s. fed s ++ coming s)
+    → IsAscending record_cmp m.rows → AllByRecursion (λ r. r.time < least_begun_mark (node_at m (length plan.steps)).lanes) m.rows
+    → sum_by (early_one (least_begun_mark (node_at m (length plan.steps)).lanes)) (node_at m (length plan.steps)).kept ≡ 0
+    → m.rows ≡ rows_below (least_begun_mark (node_at m (length plan.steps)).lanes) plan (λ s. fed s ++ coming s)
 rows-are plan m fed coming timely exact ok up low kept =
     sorted-unique m.rows (before w (output_of plan (λ s. fed s ++ coming s))) up (λ f.
     ap (sum_by f) (sym written) ∙ IsReordered-filter (λ r. nat_lt r.time w) (final plan m coming) (output_of plan (λ s. fed s ++ coming s)) (exact coming ok) f)
@@ -45,28 +45,28 @@ rows-are plan m fed coming timely exact ok up low kept =
     n = length plan.steps
 
     w : ℕ
-    w = closed (node_at m (length plan.steps)).lanes
+    w = least_begun_mark (node_at m (length plan.steps)).lanes
 
     es : List KeptRec
-    es = arriving (length plan.steps) (sent_from (gives plan m) 0 plan.steps (from_streams plan coming))
+    es = arrivals_at (length plan.steps) (sent_from (gives plan m) 0 plan.steps (from_streams plan coming))
 
-    in_time : sum_by (late m (length plan.steps)) (arriving (length plan.steps) (sent_from (gives plan m) 0 plan.steps (from_streams plan coming))) ≡ 0
+    in_time : sum_by (late m (length plan.steps)) (arrivals_at (length plan.steps) (sent_from (gives plan m) 0 plan.steps (from_streams plan coming))) ≡ 0
     in_time = flow_in_time plan (gives plan m) (gives plan m) (λ _ _. []) (λ _. []) (late m) (gives_in_time plan m timely) 0 plan.steps (λ j. ap (slice_get plan.steps) (zero-add j)) (from_streams plan coming) (streams_in_time plan m timely coming ok) (length plan.steps)
 
     left : List KeptRec
-    left = (node_at m (length plan.steps)).kept ++ rest (length plan.steps) (node_at m (length plan.steps)) m.held (arriving (length plan.steps) (sent_from (gives plan m) 0 plan.steps (from_streams plan coming)))
+    left = (node_at m (length plan.steps)).kept ++ rest (length plan.steps) (node_at m (length plan.steps)) m.held (arrivals_at (length plan.steps) (sent_from (gives plan m) 0 plan.steps (from_streams plan coming)))
 
-    late_left : sum_by (early_one (closed (node_at m (length plan.steps)).lanes)) ((node_at m (length plan.steps)).kept ++ rest (length plan.steps) (node_at m (length plan.steps)) m.held (arriving (length plan.steps) (sent_from (gives plan m) 0 plan.steps (from_streams plan coming)))) ≡ 0
+    late_left : sum_by (early_one (least_begun_mark (node_at m (length plan.steps)).lanes)) ((node_at m (length plan.steps)).kept ++ rest (length plan.steps) (node_at m (length plan.steps)) m.held (arrivals_at (length plan.steps) (sent_from (gives plan m) 0 plan.steps (from_streams plan coming)))) ≡ 0
     late_left =
-        sum_by-append (early_one (closed (node_at m (length plan.steps)).lanes)) (node_at m (length plan.steps)).kept (rest (length plan.steps) (node_at m (length plan.steps)) m.held (arriving (length plan.steps) (sent_from (gives plan m) 0 plan.steps (from_streams plan coming))))
-        ∙ (λ i. kept i + rest_in_time plan m timely (length plan.steps) (arriving (length plan.steps) (sent_from (gives plan m) 0 plan.steps (from_streams plan coming))) in_time i)
+        sum_by-append (early_one (least_begun_mark (node_at m (length plan.steps)).lanes)) (node_at m (length plan.steps)).kept (rest (length plan.steps) (node_at m (length plan.steps)) m.held (arrivals_at (length plan.steps) (sent_from (gives plan m) 0 plan.steps (from_streams plan coming))))
+        ∙ (λ i. kept i + rest_in_time plan m timely (length plan.steps) (arrivals_at (length plan.steps) (sent_from (gives plan m) 0 plan.steps (from_streams plan coming))) in_time i)
 
-    sink : final plan m coming ≡ m.rows ++ all_records ((node_at m (length plan.steps)).kept ++ rest (length plan.steps) (node_at m (length plan.steps)) m.held (arriving (length plan.steps) (sent_from (gives plan m) 0 plan.steps (from_streams plan coming))))
-    sink = ap (λ o. gives_by (operator_at o) (length plan.steps) (node_at m (length plan.steps)) m.held m.rows (arriving (length plan.steps) (sent_from (gives plan m) 0 plan.steps (from_streams plan coming)))) (slice_get_past plan.steps (length plan.steps) (omega arith))
+    sink : final plan m coming ≡ m.rows ++ all_records ((node_at m (length plan.steps)).kept ++ rest (length plan.steps) (node_at m (length plan.steps)) m.held (arrivals_at (length plan.steps) (sent_from (gives plan m) 0 plan.steps (from_streams plan coming))))
+    sink = ap (λ o. gives_by (operator_at o) (length plan.steps) (node_at m (length plan.steps)) m.held m.rows (arrivals_at (length plan.steps) (sent_from (gives plan m) 0 plan.steps (from_streams plan coming)))) (slice_get_past plan.steps (length plan.steps) (omega arith))
 
-    written : before (closed (node_at m (length plan.steps)).lanes) (final plan m coming) ≡ m.rows
+    written : before (least_begun_mark (node_at m (length plan.steps)).lanes) (final plan m coming) ≡ m.rows
     written =
-        ap (before (closed (node_at m (length plan.steps)).lanes)) sink
-        ∙ filter-append (λ r. nat_lt r.time (closed (node_at m (length plan.steps)).lanes)) m.rows _
-        ∙ (λ i. before-all (closed (node_at m (length plan.steps)).lanes) m.rows low i ++ none_before (closed (node_at m (length plan.steps)).lanes) (all_records ((node_at m (length plan.steps)).kept ++ rest (length plan.steps) (node_at m (length plan.steps)) m.held (arriving (length plan.steps) (sent_from (gives plan m) 0 plan.steps (from_streams plan coming))))) (sum_by-map (early (closed (node_at m (length plan.steps)).lanes)) (λ (e : KeptRec). e.rec) ((node_at m (length plan.steps)).kept ++ rest (length plan.steps) (node_at m (length plan.steps)) m.held (arriving (length plan.steps) (sent_from (gives plan m) 0 plan.steps (from_streams plan coming)))) ∙ late_left) i)
+        ap (before (least_begun_mark (node_at m (length plan.steps)).lanes)) sink
+        ∙ filter-append (λ r. nat_lt r.time (least_begun_mark (node_at m (length plan.steps)).lanes)) m.rows _
+        ∙ (λ i. before-all (least_begun_mark (node_at m (length plan.steps)).lanes) m.rows low i ++ none_before (least_begun_mark (node_at m (length plan.steps)).lanes) (all_records ((node_at m (length plan.steps)).kept ++ rest (length plan.steps) (node_at m (length plan.steps)) m.held (arrivals_at (length plan.steps) (sent_from (gives plan m) 0 plan.steps (from_streams plan coming))))) (sum_by-map (early (least_begun_mark (node_at m (length plan.steps)).lanes)) (λ (e : KeptRec). e.rec) ((node_at m (length plan.steps)).kept ++ rest (length plan.steps) (node_at m (length plan.steps)) m.held (arrivals_at (length plan.steps) (sent_from (gives plan m) 0 plan.steps (from_streams plan coming)))) ∙ late_left) i)
         ∙ append-nil m.rows

@@ -15,7 +15,7 @@ use Rattle.sb_pipeline.specs.Plans.{IsPlan}
 use Rattle.sb_pipeline.specs.Results.{rows_below}
 use Rattle.sb_pipeline.specs.Operators.{operator_at}
 use Rattle.sb_pipeline.specs.Operators.Operator.{Sink}
-use Rattle.sb_core.specs.Marks.{closed, first_is_closing}
+use Rattle.sb_core.specs.Marks.{least_begun_mark, first_is_closing}
 use Rattle.sb_core.specs.Moments.{node_at, floor_at}
 use Rattle.sb_core.specs.Lanes.{closable}
 use Rattle.sb_record.specs.declared.item.TheConstants.{END_MARK, MAX_TIME}
@@ -36,11 +36,11 @@ use Rattle.sb_core.proofs.sound.FirstMoment.{runs-are_sound}
 pub rows-are_the_plans : RowsAreThePlans
 rows-are_the_plans plan m fed coming sound exact ok =
     rows-are plan m fed coming (lawful-timely plan m (lawful_of sound)) exact ok (tidy_of sound).sorted (tidy_of sound).written
-    (late (node_at m (length plan.steps)).kept (subst (λ o. AreKeptAt (operator_at o) (closed (node_at m (length plan.steps)).lanes) (bound_at plan (length plan.steps)) (node_at m (length plan.steps)).kept) (slice_get_past plan.steps (length plan.steps) (omega arith)) ((tidy_of sound).kept (length plan.steps))))
+    (late (node_at m (length plan.steps)).kept (subst (λ o. AreKeptAt (operator_at o) (least_begun_mark (node_at m (length plan.steps)).lanes) (bound_at plan (length plan.steps)) (node_at m (length plan.steps)).kept) (slice_get_past plan.steps (length plan.steps) (omega arith)) ((tidy_of sound).kept (length plan.steps))))
   where
-    late : (es : List KeptRec) → AreKeptAt Sink (closed (node_at m (length plan.steps)).lanes) (bound_at plan (length plan.steps)) es → sum_by (early_one (closed (node_at m (length plan.steps)).lanes)) es ≡ 0
+    late : (es : List KeptRec) → AreKeptAt Sink (least_begun_mark (node_at m (length plan.steps)).lanes) (bound_at plan (length plan.steps)) es → sum_by (early_one (least_begun_mark (node_at m (length plan.steps)).lanes)) es ≡ 0
     late [] all = refl
-    late (e ∷ es) all = sum_by-cons (early_one (closed (node_at m (length plan.steps)).lanes)) e es ∙ (λ i. zero_early (closed (node_at m (length plan.steps)).lanes) e.rec.time all.0.0 i + late es all.1 i)
+    late (e ∷ es) all = sum_by-cons (early_one (least_begun_mark (node_at m (length plan.steps)).lanes)) e es ∙ (λ i. zero_early (least_begun_mark (node_at m (length plan.steps)).lanes) e.rec.time all.0.0 i + late es all.1 i)
 
 -- ---- where nothing is left
 module _ (plan : Shape) (is_plan : IsPlan plan) (m : Moment) (sound : IsSound plan m) (done : IsDone plan m) where
@@ -60,7 +60,7 @@ module _ (plan : Shape) (is_plan : IsPlan plan) (m : Moment) (sound : IsSound pl
           let k : false ≡ true = ap first_is_closing (sym (done.none_left (record { node = n; lane = l }) all.0.lane all.0.there)) ∙ all.0.closing in cc
 
   -- each node has closed up to the last mark
-  pub all_closed : (k : ℕ) → k ≤ length plan.steps → closed (node_at m k).lanes ≡ END_MARK
+  pub all_closed : (k : ℕ) → k ≤ length plan.steps → least_begun_mark (node_at m k).lanes ≡ END_MARK
   all_closed k b = let one = from_one plan is_plan m sound at_rest k b in sym one.3 ∙ done.sealed one.0 one.1 one.2
 
 pub rows-are_all : RowsAreAll

@@ -26,7 +26,7 @@ use Rattle.sb_core.specs.declared.event.Event.{Event}
 use Rattle.sb_core.specs.declared.event.Event.TheVariants.{Arrive, Seal, Take, Deliver, Finish, Begin, Pass, End}
 use Rattle.sb_pipeline.specs.Operators.{operator_at}
 use Rattle.sb_record.specs.Reading.{◌>>=◌}
-use Rattle.sb_core.specs.Marks.{begun}
+use Rattle.sb_core.specs.Marks.{begun_count}
 use Rattle.sb_core.specs.Moments.{node_at, epoch_at}
 use Rattle.sb_core.specs.Exactness.{IsExact}
 use Rattle.sb_core.specs.Bounds.{bound_at}
@@ -50,9 +50,9 @@ use Rattle.sb_core.proofs.lawful.BeginLawful.{closable-is, rises}
 use Rattle.sb_core.proofs.parts.MadeSteps.{after-made}
 
 -- ---- a Work of a ParDo is of an epoch that is not sealed below
-pub lone : (lanes : List CoreLane) (l : ℕ) (lane : CoreLane) → length lanes ≡ 1 → slice_get lanes l ≡ Some lane → sum_by begun lanes ≡ begun lane
+pub lone : (lanes : List CoreLane) (l : ℕ) (lane : CoreLane) → length lanes ≡ 1 → slice_get lanes l ≡ Some lane → sum_by begun_count lanes ≡ begun_count lane
 lone [] l lane one h = cc
-lone (x ∷ []) zero lane one h = let k : x ≡ lane = cc in sum_by-cons begun x [] ∙ ap (λ n. n + 0) (ap begun k) ∙ omega arith
+lone (x ∷ []) zero lane one h = let k : x ≡ lane = cc in sum_by-cons begun_count x [] ∙ ap (λ n. n + 0) (ap begun_count k) ∙ omega arith
 lone (x ∷ []) (suc l) lane one h = cc
 lone (x ∷ y ∷ lanes) l lane one h = absurd (omega arith)
 
@@ -73,8 +73,8 @@ module _ (plan : Shape) (m : Moment) (lawful : IsLawful plan m) where
 
   pub not_sealed : (y l epoch floor number : ℕ) (records : List Record) (delivered : Bool) (s : Step) → IsWork plan m y l epoch floor number records delivered → is_pardo (operator_at (slice_get plan.steps y)) ≡ true → slice_get plan.steps y ≡ Some s → epoch_at m s.down ≤ epoch
   not_sealed y l epoch floor number records delivered s w pardo is =
-      let a : begun w.lane ≤ epoch = work_epoch (bound_at plan y) w.lane (lawful.lanes (record { node = y; lane = l }) w.lane w.there) epoch number w.cont w.of_epoch w.is_out in
-      let b : (node_at m y).closings ≡ begun w.lane = lawful.closings y ∙ lone (node_at m y).lanes l w.lane (lawful.one_lane y pardo) (lane_of plan m lawful y l w.lane w.there) in
+      let a : begun_count w.lane ≤ epoch = work_epoch (bound_at plan y) w.lane (lawful.lanes (record { node = y; lane = l }) w.lane w.there) epoch number w.cont w.of_epoch w.is_out in
+      let b : (node_at m y).closings ≡ begun_count w.lane = lawful.closings y ∙ lone (node_at m y).lanes l w.lane (lawful.one_lane y pardo) (lane_of plan m lawful y l w.lane w.there) in
       let c : epoch_at m s.down ≤ (node_at m y).closings = by_case (list_any (is_unpassed y) m.held) refl in
       omega arith
     where
@@ -88,7 +88,7 @@ abbrev pub EventCarries : Shape → Moment → Moment → Event → Type 0
 EventCarries plan m later (Arrive stream records) = (d : Down) × (source plan stream ≡ Some d) × Carries plan m later (Fed stream d records)
 EventCarries plan m later (Seal stream mark) = Carries plan m later Nothing
 EventCarries plan m later (Take node lane number) = Carries plan m later Nothing
-EventCarries plan m later (Deliver node lane number) = (q : Held × List Held) × (Choices.pulled (concerns (Deliver node lane number)) m.held ≡ Some q) × CarriesFrom plan m later q.0
+EventCarries plan m later (Deliver node lane number) = (q : Held × List Held) × (Choices.first_and_rest (concerns (Deliver node lane number)) m.held ≡ Some q) × CarriesFrom plan m later q.0
 EventCarries plan m later (Finish node lane number) = Carries plan m later Nothing
 EventCarries plan m later (Begin node lane) = Carries plan m later Nothing
 EventCarries plan m later (Pass node) = Carries plan m later Nothing
@@ -100,14 +100,14 @@ made-carries plan is_plan m later (Seal stream mark) h lawful after = seal-carri
 made-carries plan is_plan m later (Take node lane number) h lawful after = take-carries plan m later (record { node = node; lane = lane }) number h
 made-carries plan is_plan m later (Deliver node lane number) h lawful after = by_case (eqb number 0) h
   where
-    rows : (Choices.pulled (Moments.is_close_of node lane) m.held >>= λ q. MomentSteps.deliver_rows plan m q.0 q.1) ≡ Some later → (q : Held × List Held) × (Choices.pulled (Moments.is_close_of node lane) m.held ≡ Some q) × CarriesFrom plan m later q.0
+    rows : (Choices.first_and_rest (Moments.is_close_of node lane) m.held >>= λ q. MomentSteps.deliver_rows plan m q.0 q.1) ≡ Some later → (q : Held × List Held) × (Choices.first_and_rest (Moments.is_close_of node lane) m.held ≡ Some q) × CarriesFrom plan m later q.0
     rows h =
-        let a = bind_some (Choices.pulled (Moments.is_close_of node lane) m.held) (λ q. MomentSteps.deliver_rows plan m q.0 q.1) later h in
+        let a = bind_some (Choices.first_and_rest (Moments.is_close_of node lane) m.held) (λ q. MomentSteps.deliver_rows plan m q.0 q.1) later h in
         (a.0, a.1, rows-carries plan m later lawful a.0 (IsReordered-pulled (Moments.is_close_of node lane) m.held a.0 a.1) (All-pulled (IsHeld plan m) (Moments.is_close_of node lane) m.held a.0 a.1 lawful.holds).0 a.2)
 
-    work : (Choices.pulled (Moments.is_work node lane number) m.held >>= λ q. MomentSteps.deliver_work plan m q.0 q.1) ≡ Some later → (q : Held × List Held) × (Choices.pulled (Moments.is_work node lane number) m.held ≡ Some q) × CarriesFrom plan m later q.0
+    work : (Choices.first_and_rest (Moments.is_work node lane number) m.held >>= λ q. MomentSteps.deliver_work plan m q.0 q.1) ≡ Some later → (q : Held × List Held) × (Choices.first_and_rest (Moments.is_work node lane number) m.held ≡ Some q) × CarriesFrom plan m later q.0
     work h =
-        let a = bind_some (Choices.pulled (Moments.is_work node lane number) m.held) (λ q. MomentSteps.deliver_work plan m q.0 q.1) later h in
+        let a = bind_some (Choices.first_and_rest (Moments.is_work node lane number) m.held) (λ q. MomentSteps.deliver_work plan m q.0 q.1) later h in
         let held = (All-pulled (IsHeld plan m) (Moments.is_work node lane number) m.held a.0 a.1 lawful.holds).0 in (
           a.0,
           a.1,
@@ -115,8 +115,8 @@ made-carries plan is_plan m later (Deliver node lane number) h lawful after = by
               (λ y l epoch floor n records s e is pardo. not_sealed plan m lawful y l epoch floor n records false s (subst (IsHeld plan m) e held) pardo is),
         )
 
-    by_case : (b : Bool) → cond b (Choices.pulled (Moments.is_close_of node lane) m.held >>= λ q. MomentSteps.deliver_rows plan m q.0 q.1) (Choices.pulled (Moments.is_work node lane number) m.held >>= λ q. MomentSteps.deliver_work plan m q.0 q.1) ≡ Some later
-        → (q : Held × List Held) × (Choices.pulled (λ h. cond b (Moments.is_close_of node lane h) (Moments.is_work node lane number h)) m.held ≡ Some q) × CarriesFrom plan m later q.0
+    by_case : (b : Bool) → cond b (Choices.first_and_rest (Moments.is_close_of node lane) m.held >>= λ q. MomentSteps.deliver_rows plan m q.0 q.1) (Choices.first_and_rest (Moments.is_work node lane number) m.held >>= λ q. MomentSteps.deliver_work plan m q.0 q.1) ≡ Some later
+        → (q : Held × List Held) × (Choices.first_and_rest (λ h. cond b (Moments.is_close_of node lane h) (Moments.is_work node lane number h)) m.held ≡ Some q) × CarriesFrom plan m later q.0
     by_case true h = rows h
     by_case false h = work h
 made-carries plan is_plan m later (Finish node lane number) h lawful after = finish-carries plan m later node lane number h lawful
@@ -130,14 +130,14 @@ made-carries plan is_plan m later (Begin node lane) h lawful after = begin-carri
         let d = cond_is_some (not (list_any (Moments.is_close node) m.held)) _ later c.2 in
         let is = same_Some _ _ d.1 in
         let up = rises plan m node lane a.0 b.0 c.0 a.1 b.1 (closable-is b.0.ended b.0.conts c.0 c.1) (not-true (list_any (Moments.is_close node) m.held) d.0) lawful in
-        let before = ap (λ (x : Node). Marks.closed x.lanes) (node_at-same m node a.0 a.0 a.1) in
-        let then = ap (λ (x : Moment). Marks.closed (node_at x node).lanes) (sym is) ∙ ap (λ (x : Node). Marks.closed x.lanes) (node_at-set_same m node a.0 _ a.1) in
-        subst (λ x. x ≤ Marks.closed (node_at later node).lanes) (sym before) (subst (λ x. Marks.closed a.0.lanes ≤ x) (sym then) up)
+        let before = ap (λ (x : Node). Marks.least_begun_mark x.lanes) (node_at-same m node a.0 a.0 a.1) in
+        let then = ap (λ (x : Moment). Marks.least_begun_mark (node_at x node).lanes) (sym is) ∙ ap (λ (x : Node). Marks.least_begun_mark x.lanes) (node_at-set_same m node a.0 _ a.1) in
+        subst (λ x. x ≤ Marks.least_begun_mark (node_at later node).lanes) (sym before) (subst (λ x. Marks.least_begun_mark a.0.lanes ≤ x) (sym then) up)
 made-carries plan is_plan m later (Pass node) h lawful after =
-    let a = bind_some (Choices.pulled (Moments.is_close node) m.held) (λ q. MomentSteps.after_pass plan m q.0 q.1) later h in
+    let a = bind_some (Choices.first_and_rest (Moments.is_close node) m.held) (λ q. MomentSteps.after_pass plan m q.0 q.1) later h in
     pass-carries plan m later lawful a.0 (IsReordered-pulled (Moments.is_close node) m.held a.0 a.1) (All-pulled (IsHeld plan m) (Moments.is_close node) m.held a.0 a.1 lawful.holds).0 a.2
 made-carries plan is_plan m later (End node) h lawful after =
-    let a = bind_some (Choices.pulled (Moments.is_close node) m.held) (λ q. MomentSteps.after_end m q.0 q.1) later h in
+    let a = bind_some (Choices.first_and_rest (Moments.is_close node) m.held) (λ q. MomentSteps.after_end m q.0 q.1) later h in
     end-carries plan m later lawful a.0 (IsReordered-pulled (Moments.is_close node) m.held a.0 a.1) (All-pulled (IsHeld plan m) (Moments.is_close node) m.held a.0 a.1 lawful.holds).0 a.2
 
 pub events-carry : (plan : Shape) → IsPlan plan → (m later : Moment) (event : Event) → Events.after plan m event ≡ Some later → IsLawful plan m → IsLawful plan later → EventCarries plan m later event

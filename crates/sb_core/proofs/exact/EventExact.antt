@@ -32,7 +32,7 @@ use Rattle.sb_core.specs.declared.held.Held.{Held}
 use Rattle.sb_core.specs.declared.held.Held.TheVariants.{Work, Close}
 use Rattle.sb_core.specs.declared.event.Event.TheVariants.{Finish, Begin}
 use Rattle.sb_record.specs.Reading.{◌>>=◌}
-use Rattle.sb_core.specs.Exactness.{gives, working, undelivered, IsAdmissible}
+use Rattle.sb_core.specs.Exactness.{gives, work_in, rows_left_in, IsAdmissible}
 use Rattle.sb_core.specs.Moments.{node_at, floor_of, floor_at, epoch_of, epoch_at}
 use Rattle.sb_core.specs.LaneOrder.{AreContainers, IsLane, IsReady}
 use Rattle.sb_core.specs.Bounds.{bound_at}
@@ -160,7 +160,7 @@ arrive-carries plan m m' s records h lawful =
 -- ---- a bundle is finished
 pub finish-carries : (plan : Shape) (m m' : Moment) (n l number : ℕ) → MomentSteps.made plan m (Finish n l number) ≡ Some m' → IsLawful plan m → Carries plan m m' Nothing
 finish-carries plan m m' n l number h lawful =
-    let a = bind_some (Choices.pulled (Moments.is_work n l number) m.held) _ m' h in
+    let a = bind_some (Choices.first_and_rest (Moments.is_work n l number) m.held) _ m' h in
     go a.0 (IsReordered-pulled (Moments.is_work n l number) m.held a.0 a.1) (All-pulled (IsHeld plan m) (Moments.is_work n l number) m.held a.0 a.1 lawful.holds).0 a.2
   where
     go : (q : Held × List Held) → IsReordered m.held (q.0 ∷ q.1) → IsHeld plan m q.0 → MomentSteps.after_finish plan m q.0 q.1 ≡ Some m' → Carries plan m m' Nothing
@@ -178,7 +178,7 @@ finish-carries plan m m' n l number h lawful =
 
 -- ---- a closing begins
 abbrev pub closed_rises : Shape → Moment → Moment → ℕ → Type 0
-closed_rises plan m m' n = Marks.closed (node_at m n).lanes ≤ Marks.closed (node_at m' n).lanes
+closed_rises plan m m' n = Marks.least_begun_mark (node_at m n).lanes ≤ Marks.least_begun_mark (node_at m' n).lanes
 
 pub begin-carries : (plan : Shape) → IsPlan plan → (m m' : Moment) (n l : ℕ) → MomentSteps.made plan m (Begin n l) ≡ Some m' → IsLawful plan m → IsLawful plan m' → closed_rises plan m m' n → Carries plan m m' Nothing
 begin-carries plan is_plan m m' n l h lawful later rises =
@@ -190,11 +190,11 @@ begin-carries plan is_plan m m' n l h lawful later rises =
     let within : n < length m.nodes = slice_get_within m.nodes n a.0 a.1 in
     let begun : CoreLane = record b.0 { conts = Lanes.with_first_closing b.0.conts } in
     let floors : (e : Down) → floor_at m' e ≡ floor_at m e = λ e. ap (λ x. floor_at x e) (sym is) ∙ floor-set m n l a.0 _ b.0 begun a.1 b.1 refl refl e in
-    let before = ap (λ (x : Node). Marks.closed x.lanes) (node_at-same m n a.0 a.0 a.1) in
-    let after = ap (λ (x : Moment). Marks.closed (node_at x n).lanes) (sym is) ∙ ap (λ (x : Node). Marks.closed x.lanes) (node_at-set_same m n a.0 _ a.1) in
+    let before = ap (λ (x : Node). Marks.least_begun_mark x.lanes) (node_at-same m n a.0 a.0 a.1) in
+    let after = ap (λ (x : Moment). Marks.least_begun_mark (node_at x n).lanes) (sym is) ∙ ap (λ (x : Node). Marks.least_begun_mark x.lanes) (node_at-set_same m n a.0 _ a.1) in
     carries-same plan m m'
     (λ k es fs in_plan in_time same. subst (λ z. IsReordered (gives plan m k es) (gives plan z k fs)) is
-    (begun-gives plan m n l a.0 b.0 c.0.epoch (windows-at plan is_plan n) a.1 b.1 (subst (λ x. x ≤ Marks.closed (slice_set a.0.lanes l begun)) before (subst (λ x. Marks.closed (node_at m n).lanes ≤ x) after rises))
+    (begun-gives plan m n l a.0 b.0 c.0.epoch (windows-at plan is_plan n) a.1 b.1 (subst (λ x. x ≤ Marks.least_begun_mark (slice_set a.0.lanes l begun)) before (subst (λ x. Marks.least_begun_mark (node_at m n).lanes ≤ x) after rises))
     (subst (IsTimely plan) (sym is) (lawful-timely plan m' later)) (within_n n within) k es fs in_plan in_time same))
     (admits plan m m' floors)
   where
@@ -206,7 +206,7 @@ pub seal_calm : (bound mark : ℕ) (lane : CoreLane) → IsLane bound lane → b
 seal_calm bound mark lane ok =
     ap (λ b. Marks.last_of_first (cond b (lane.ended + 1) lane.ended) (lane.marks ++ mark ∷ []))
     (calm bound (Lanes.next_epoch lane) (Lanes.next_floor lane) (λ c. record c { mark = Some mark }) (λ c. refl) lane.ended (Marks.last_of_first lane.ended lane.marks) (drop lane.ended lane.marks) lane.conts ok.containers (omega (arith, length-drop lane.ended lane.marks, ok.ended_in)))
-    ∙ longer (Marks.begun lane) (begun_within bound lane ok)
+    ∙ longer (Marks.begun_count lane) (begun_within bound lane ok)
   where
     longer : (n : ℕ) → n ≤ length lane.marks → Marks.last_of_first n (lane.marks ++ mark ∷ []) ≡ Marks.last_of_first n lane.marks
     longer n h = ⊎_elim
@@ -309,11 +309,11 @@ module _ (plan : Shape) (m m' : Moment) (lawful : IsLawful plan m) where
       done : List Held
       done = others ++ Close y l epoch serial floor mark rows true ∷ []
 
-      und : (k : ℕ) → IsReordered (flat_map (undelivered k) m.held) (flat_map (undelivered k) done)
-      und k f = IsReordered-flat_map (undelivered k) m.held (Close y l epoch serial floor mark rows passed ∷ others) pulled f ∙ sum_by-append f (cond (eqb y k) rows []) (flat_map (undelivered k) others) ∙ add_comm _ _ ∙ sym (sum_by-held_push f (undelivered k) others (Close y l epoch serial floor mark rows true))
+      und : (k : ℕ) → IsReordered (flat_map (rows_left_in k) m.held) (flat_map (rows_left_in k) done)
+      und k f = IsReordered-flat_map (rows_left_in k) m.held (Close y l epoch serial floor mark rows passed ∷ others) pulled f ∙ sum_by-append f (cond (eqb y k) rows []) (flat_map (rows_left_in k) others) ∙ add_comm _ _ ∙ sym (sum_by-held_push f (rows_left_in k) others (Close y l epoch serial floor mark rows true))
 
-      work : (k : ℕ) → IsReordered (flat_map (working k) m.held) (flat_map (working k) done)
-      work k f = IsReordered-flat_map (working k) m.held (Close y l epoch serial floor mark rows passed ∷ others) pulled f ∙ sym (sum_by-held_push f (working k) others (Close y l epoch serial floor mark rows true) ∙ omega arith)
+      work : (k : ℕ) → IsReordered (flat_map (work_in k) m.held) (flat_map (work_in k) done)
+      work k f = IsReordered-flat_map (work_in k) m.held (Close y l epoch serial floor mark rows passed ∷ others) pulled f ∙ sym (sum_by-held_push f (work_in k) others (Close y l epoch serial floor mark rows true) ∙ omega arith)
 
       go : (d : Down) (lane : CoreLane) (s : Step) → slice_get plan.steps y ≡ Some s → s.down ≡ d → Moments.lane_at m d ≡ Some lane → passed ≡ false → Moments.with_lane d (Lanes.with_seal mark lane) (Moments.with_held done m) ≡ Some m' → Carries plan m m' Nothing
       go d lane s is down at unpassed h =
@@ -338,15 +338,15 @@ module _ (plan : Shape) (m m' : Moment) (lawful : IsLawful plan m) where
       place_of : Down
       place_of = record { node = y; lane = l }
 
-      und : rows ≡ [] → (k : ℕ) → IsReordered (flat_map (undelivered k) m.held) (flat_map (undelivered k) others)
-      und e k f = IsReordered-flat_map (undelivered k) m.held (Close y l epoch serial floor mark rows passed ∷ others) pulled f ∙ ap (λ r. sum_by f (r ++ flat_map (undelivered k) others)) (none (eqb y k) e)
+      und : rows ≡ [] → (k : ℕ) → IsReordered (flat_map (rows_left_in k) m.held) (flat_map (rows_left_in k) others)
+      und e k f = IsReordered-flat_map (rows_left_in k) m.held (Close y l epoch serial floor mark rows passed ∷ others) pulled f ∙ ap (λ r. sum_by f (r ++ flat_map (rows_left_in k) others)) (none (eqb y k) e)
         where
           none : (b : Bool) → rows ≡ [] → cond b rows [] ≡ []
           none true e = e
           none false e = refl
 
-      work : (k : ℕ) → IsReordered (flat_map (working k) m.held) (flat_map (working k) others)
-      work k f = IsReordered-flat_map (working k) m.held (Close y l epoch serial floor mark rows passed ∷ others) pulled f
+      work : (k : ℕ) → IsReordered (flat_map (work_in k) m.held) (flat_map (work_in k) others)
+      work k f = IsReordered-flat_map (work_in k) m.held (Close y l epoch serial floor mark rows passed ∷ others) pulled f
 
       shorter : CoreLane → CoreLane
       shorter lane = record lane { conts = drop 1 lane.conts; ended = lane.ended + 1 }

@@ -13,7 +13,7 @@ use Rattle.sb_pipeline.specs.declared.transform.Step.{Step}
 use Rattle.sb_pipeline.specs.Shapes.{Shape, source}
 use Rattle.sb_core.specs.declared.moment.Moment.{Moment}
 use Rattle.sb_record.specs.Elements.{on_lane}
-use Rattle.sb_pipeline.specs.Flow.{Sent, arriving, from_stream, from_streams, sent_from}
+use Rattle.sb_pipeline.specs.Flow.{Sent, arrivals_at, from_stream, from_streams, sent_from}
 use Rattle.sb_pipeline.specs.Results.{output_of}
 use Rattle.sb_core.specs.Exactness.{gives, final, IsAdmissible, IsExact}
 use Rattle.sb_record.proofs.Sums.{IsReordered}
@@ -77,7 +77,7 @@ pub record Carries (plan : Shape) (m m' : Moment) (c : Moved) : Type 0 where
 
 -- what node k has yet to give, where this comes of the streams
 abbrev pub given_where : Shape → Moment → ℕ → (Stream → List Record) → List Record
-given_where plan m k coming = gives plan m k (arriving k (sent_from (gives plan m) 0 plan.steps (from_streams plan coming)))
+given_where plan m k coming = gives plan m k (arrivals_at k (sent_from (gives plan m) 0 plan.steps (from_streams plan coming)))
 
 -- ---- what moves is on its way from the step on that gives it, and has come to its node before that gives
 on_its_way : (plan : Shape) (m m' : Moment) (c : Moved) → Leads plan c → IsOnItsWay plan (gives plan m) (gives plan m') (flight_of c) (more_of c) (late m)
@@ -111,34 +111,34 @@ none_at_sink plan (Fed s d records) leads = refl
 none_at_sink plan (Given y d records) leads = ap (λ b. cond b records []) (ne_eqb (length plan.steps) y (λ e. omega (arith, leads.0, e)))
 
 -- what the streams bring before
-streams_bring : (plan : Shape) (c : Moved) → Leads plan c → (coming : Stream → List Record) (n : ℕ) → IsReordered (arriving n (from_streams plan (coming_before c coming))) (flight_of c 0 n ++ arriving n (from_streams plan coming))
+streams_bring : (plan : Shape) (c : Moved) → Leads plan c → (coming : Stream → List Record) (n : ℕ) → IsReordered (arrivals_at n (from_streams plan (coming_before c coming))) (flight_of c 0 n ++ arrivals_at n (from_streams plan coming))
 streams_bring plan Nothing leads coming n f = refl
-streams_bring plan (Given y d records) leads coming n f = ap (λ b. sum_by f (cond b (brought n (record { down = d; records = records })) [] ++ arriving n (from_streams plan coming))) (sym (le-ltb y 0 (omega arith)))
+streams_bring plan (Given y d records) leads coming n f = ap (λ b. sum_by f (cond b (brought n (record { down = d; records = records })) [] ++ arrivals_at n (from_streams plan coming))) (sym (le-ltb y 0 (omega arith)))
 streams_bring plan (Fed s d records) leads coming n f = come s leads
   where
     cut : (l : List Record) → sum_by f (brought n (record { down = d; records = records ++ l })) ≡ sum_by f (brought n (record { down = d; records = records })) + sum_by f (brought n (record { down = d; records = l }))
     cut l = sum_by-brought f n d (records ++ l) records l (λ f. refl)
 
-    two : (a b : List Sent) → sum_by f (arriving n (a ++ b)) ≡ sum_by f (arriving n a) + sum_by f (arriving n b)
-    two a b = ap (sum_by f) (flat_map-append (brought n) a b) ∙ sum_by-append f (arriving n a) (arriving n b)
+    two : (a b : List Sent) → sum_by f (arrivals_at n (a ++ b)) ≡ sum_by f (arrivals_at n a) + sum_by f (arrivals_at n b)
+    two a b = ap (sum_by f) (flat_map-append (brought n) a b) ∙ sum_by-append f (arrivals_at n a) (arrivals_at n b)
 
-    one : (l : List Record) → sum_by f (arriving n (from_stream (Some d) l)) ≡ sum_by f (brought n (record { down = d; records = l }))
+    one : (l : List Record) → sum_by f (arrivals_at n (from_stream (Some d) l)) ≡ sum_by f (brought n (record { down = d; records = l }))
     one l = sum_by-append f (brought n (record { down = d; records = l })) [] ∙ omega arith
 
-    come : (s : Stream) → source plan s ≡ Some d → sum_by f (arriving n (from_streams plan (with_more s records coming))) ≡ sum_by f (brought n (record { down = d; records = records }) ++ arriving n (from_streams plan coming))
+    come : (s : Stream) → source plan s ≡ Some d → sum_by f (arrivals_at n (from_streams plan (with_more s records coming))) ≡ sum_by f (brought n (record { down = d; records = records }) ++ arrivals_at n (from_streams plan coming))
     come A is =
-        let a : sum_by f (arriving n (from_streams plan (with_more A records coming))) ≡ sum_by f (arriving n (from_stream plan.source_a (records ++ coming A))) + sum_by f (arriving n (from_stream plan.source_b (coming B))) = two (from_stream plan.source_a (records ++ coming A)) (from_stream plan.source_b (coming B)) in
-        let b : sum_by f (arriving n (from_streams plan coming)) ≡ sum_by f (arriving n (from_stream plan.source_a (coming A))) + sum_by f (arriving n (from_stream plan.source_b (coming B))) = two (from_stream plan.source_a (coming A)) (from_stream plan.source_b (coming B)) in
-        let c : sum_by f (arriving n (from_stream plan.source_a (records ++ coming A))) ≡ sum_by f (brought n (record { down = d; records = records ++ coming A })) = ap (λ o. sum_by f (arriving n (from_stream o (records ++ coming A)))) is ∙ one (records ++ coming A) in
-        let e : sum_by f (arriving n (from_stream plan.source_a (coming A))) ≡ sum_by f (brought n (record { down = d; records = coming A })) = ap (λ o. sum_by f (arriving n (from_stream o (coming A)))) is ∙ one (coming A) in
-        let g : sum_by f (brought n (record { down = d; records = records }) ++ arriving n (from_streams plan coming)) ≡ sum_by f (brought n (record { down = d; records = records })) + sum_by f (arriving n (from_streams plan coming)) = sum_by-append f (brought n (record { down = d; records = records })) (arriving n (from_streams plan coming)) in
+        let a : sum_by f (arrivals_at n (from_streams plan (with_more A records coming))) ≡ sum_by f (arrivals_at n (from_stream plan.source_a (records ++ coming A))) + sum_by f (arrivals_at n (from_stream plan.source_b (coming B))) = two (from_stream plan.source_a (records ++ coming A)) (from_stream plan.source_b (coming B)) in
+        let b : sum_by f (arrivals_at n (from_streams plan coming)) ≡ sum_by f (arrivals_at n (from_stream plan.source_a (coming A))) + sum_by f (arrivals_at n (from_stream plan.source_b (coming B))) = two (from_stream plan.source_a (coming A)) (from_stream plan.source_b (coming B)) in
+        let c : sum_by f (arrivals_at n (from_stream plan.source_a (records ++ coming A))) ≡ sum_by f (brought n (record { down = d; records = records ++ coming A })) = ap (λ o. sum_by f (arrivals_at n (from_stream o (records ++ coming A)))) is ∙ one (records ++ coming A) in
+        let e : sum_by f (arrivals_at n (from_stream plan.source_a (coming A))) ≡ sum_by f (brought n (record { down = d; records = coming A })) = ap (λ o. sum_by f (arrivals_at n (from_stream o (coming A)))) is ∙ one (coming A) in
+        let g : sum_by f (brought n (record { down = d; records = records }) ++ arrivals_at n (from_streams plan coming)) ≡ sum_by f (brought n (record { down = d; records = records })) + sum_by f (arrivals_at n (from_streams plan coming)) = sum_by-append f (brought n (record { down = d; records = records })) (arrivals_at n (from_streams plan coming)) in
         omega (arith, cut (coming A))
     come B is =
-        let a : sum_by f (arriving n (from_streams plan (with_more B records coming))) ≡ sum_by f (arriving n (from_stream plan.source_a (coming A))) + sum_by f (arriving n (from_stream plan.source_b (records ++ coming B))) = two (from_stream plan.source_a (coming A)) (from_stream plan.source_b (records ++ coming B)) in
-        let b : sum_by f (arriving n (from_streams plan coming)) ≡ sum_by f (arriving n (from_stream plan.source_a (coming A))) + sum_by f (arriving n (from_stream plan.source_b (coming B))) = two (from_stream plan.source_a (coming A)) (from_stream plan.source_b (coming B)) in
-        let c : sum_by f (arriving n (from_stream plan.source_b (records ++ coming B))) ≡ sum_by f (brought n (record { down = d; records = records ++ coming B })) = ap (λ o. sum_by f (arriving n (from_stream o (records ++ coming B)))) is ∙ one (records ++ coming B) in
-        let e : sum_by f (arriving n (from_stream plan.source_b (coming B))) ≡ sum_by f (brought n (record { down = d; records = coming B })) = ap (λ o. sum_by f (arriving n (from_stream o (coming B)))) is ∙ one (coming B) in
-        let g : sum_by f (brought n (record { down = d; records = records }) ++ arriving n (from_streams plan coming)) ≡ sum_by f (brought n (record { down = d; records = records })) + sum_by f (arriving n (from_streams plan coming)) = sum_by-append f (brought n (record { down = d; records = records })) (arriving n (from_streams plan coming)) in
+        let a : sum_by f (arrivals_at n (from_streams plan (with_more B records coming))) ≡ sum_by f (arrivals_at n (from_stream plan.source_a (coming A))) + sum_by f (arrivals_at n (from_stream plan.source_b (records ++ coming B))) = two (from_stream plan.source_a (coming A)) (from_stream plan.source_b (records ++ coming B)) in
+        let b : sum_by f (arrivals_at n (from_streams plan coming)) ≡ sum_by f (arrivals_at n (from_stream plan.source_a (coming A))) + sum_by f (arrivals_at n (from_stream plan.source_b (coming B))) = two (from_stream plan.source_a (coming A)) (from_stream plan.source_b (coming B)) in
+        let c : sum_by f (arrivals_at n (from_stream plan.source_b (records ++ coming B))) ≡ sum_by f (brought n (record { down = d; records = records ++ coming B })) = ap (λ o. sum_by f (arrivals_at n (from_stream o (records ++ coming B)))) is ∙ one (records ++ coming B) in
+        let e : sum_by f (arrivals_at n (from_stream plan.source_b (coming B))) ≡ sum_by f (brought n (record { down = d; records = coming B })) = ap (λ o. sum_by f (arrivals_at n (from_stream o (coming B)))) is ∙ one (coming B) in
+        let g : sum_by f (brought n (record { down = d; records = records }) ++ arrivals_at n (from_streams plan coming)) ≡ sum_by f (brought n (record { down = d; records = records })) + sum_by f (arrivals_at n (from_streams plan coming)) = sum_by-append f (brought n (record { down = d; records = records })) (arrivals_at n (from_streams plan coming)) in
         omega (arith, cut (coming B))
 
 -- ---- at each node: what it had yet to give is what moved of it, and what it has yet to give
@@ -153,13 +153,13 @@ carried-given plan m m' c timely carries k within coming ok =
     let before = coming_before c coming in
     let p = sent_from give 0 plan.steps (from_streams plan before) in
     let q = sent_from also 0 plan.steps (from_streams plan coming) in
-    let in_time : (n : ℕ) → sum_by (late m n) (arriving n (from_streams plan before)) ≡ 0 = streams_in_time plan m timely before (carries.less coming ok) in
-    let moved : IsReordered (arriving k p) (flight_of c (length plan.steps) k ++ arriving k q) =
-    subst (λ z. IsReordered (arriving k p) (flight_of c z k ++ arriving k q)) (zero-add (length plan.steps))
+    let in_time : (n : ℕ) → sum_by (late m n) (arrivals_at n (from_streams plan before)) ≡ 0 = streams_in_time plan m timely before (carries.less coming ok) in
+    let moved : IsReordered (arrivals_at k p) (flight_of c (length plan.steps) k ++ arrivals_at k q) =
+    subst (λ z. IsReordered (arrivals_at k p) (flight_of c z k ++ arrivals_at k q)) (zero-add (length plan.steps))
     (flow_moves plan give also (flight_of c) (more_of c) (late m) move time (on_its_way plan m m' c carries.leads) 0 plan.steps left (from_streams plan before) (from_streams plan coming) in_time (streams_bring plan c carries.leads coming) k) in
-    let late_end : sum_by (late m k) (arriving k p) ≡ 0 = flow_in_time plan give also (flight_of c) (more_of c) (late m) time 0 plan.steps left (from_streams plan before) in_time k in
-    carries.moves k (arriving k p) (arriving k q) within late_end
-    (λ f. moved f ∙ sum_by-append f (flight_of c (length plan.steps) k) (arriving k q) ∙ ap (λ n. n + sum_by f (arriving k q)) (landed plan c carries.leads k f) ∙ sym (sum_by-append f (flight_of c k k) (arriving k q)))
+    let late_end : sum_by (late m k) (arrivals_at k p) ≡ 0 = flow_in_time plan give also (flight_of c) (more_of c) (late m) time 0 plan.steps left (from_streams plan before) in_time k in
+    carries.moves k (arrivals_at k p) (arrivals_at k q) within late_end
+    (λ f. moved f ∙ sum_by-append f (flight_of c (length plan.steps) k) (arrivals_at k q) ∙ ap (λ n. n + sum_by f (arrivals_at k q)) (landed plan c carries.leads k f) ∙ sym (sum_by-append f (flight_of c k k) (arrivals_at k q)))
 
 -- what was fed and what comes are together the same
 pub fed_joined : (c : Moved) (fed coming : Stream → List Record) (t : Stream) → fed t ++ coming_before c coming t ≡ fed_with c fed t ++ coming t

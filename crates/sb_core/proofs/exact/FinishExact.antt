@@ -16,16 +16,16 @@ use Rattle.sb_core.specs.declared.moment.Moment.{Moment}
 use Rattle.sb_core.specs.declared.moment.Cont.{Cont}
 use Rattle.sb_core.specs.declared.moment.CoreLane.{CoreLane}
 use Rattle.sb_record.specs.Records.{at_least}
-use Rattle.sb_pipeline.specs.Operators.{Operator, operator_at, grouped}
+use Rattle.sb_pipeline.specs.Operators.{Operator, operator_at, operator_rows}
 use Rattle.sb_pardo.specs.Outputs.{outputs_of}
 use Rattle.sb_record.specs.Elements.{on_lane, all_records}
 use Rattle.sb_pipeline.specs.Operators.Operator.{ParDo, Windowed, Sink}
-use Rattle.sb_core.specs.Marks.{closed, first_is_closing, last_of_first}
+use Rattle.sb_core.specs.Marks.{least_begun_mark, first_is_closing, last_of_first}
 use Rattle.sb_core.specs.Choices.{is_empty}
-use Rattle.sb_core.specs.Closings.{delivery, absorbed}
+use Rattle.sb_core.specs.Closings.{delivery, kept_elements}
 use Rattle.sb_core.specs.Moments.{set_lane, set_node, with_held, node_at}
 use Rattle.sb_core.specs.Lanes.{finish_in}
-use Rattle.sb_core.specs.Exactness.{waiting_in, waiting_from, working, undelivered, rest, gives, gives_by}
+use Rattle.sb_core.specs.Exactness.{waiting_in, waiting_from, work_in, rows_left_in, rest, gives, gives_by}
 use Rattle.sb_record.proofs.Sums.{IsReordered, IsReordered-map, IsReordered-flat_map, IsReordered-filter}
 use Rattle.sb_core.proofs.containers.Lists.{waiting_of, of_cont, empty_is}
 use Rattle.sb_core.proofs.exact.Nodes.{closed-set, sum_by-waiting_set, node_at-same, node_at-set_same, node_at-set_other}
@@ -59,8 +59,8 @@ is_pardo Sink = false
 finishing-gives : (o : Operator) (k l epoch floor number : ℕ) (node after : Node) (held others : List Held) (records : List Record) (delivered : Bool) (rows : List Record) (es fs : List KeptRec)
     → IsReordered held (Work k l epoch floor number records delivered ∷ others)
     → ((f : KeptRec → ℕ) → sum_by f (waiting_from 0 after.lanes) ≡ sum_by f (waiting_from 0 node.lanes))
-    → closed after.lanes ≡ closed node.lanes
-    → after.kept ≡ node.kept ++ absorbed o (on_lane l records)
+    → least_begun_mark after.lanes ≡ least_begun_mark node.lanes
+    → after.kept ≡ node.kept ++ kept_elements o (on_lane l records)
     → (delivered || is_empty (delivery o records)) ≡ true → (delivered ≡ true → is_pardo o ≡ true)
     → IsReordered es fs
     → IsReordered (gives_by o k node held rows es) (gives_by o k after others rows fs)
@@ -69,32 +69,32 @@ finishing-gives o k l epoch floor number node after held others records delivere
     work : Held
     work = Work k l epoch floor number records delivered
 
-    und : IsReordered (flat_map (undelivered k) held) (flat_map (undelivered k) others)
-    und = IsReordered-flat_map (undelivered k) held (work ∷ others) pulled
+    und : IsReordered (flat_map (rows_left_in k) held) (flat_map (rows_left_in k) others)
+    und = IsReordered-flat_map (rows_left_in k) held (work ∷ others) pulled
 
     -- the records of the Work go
-    rest_less : IsReordered (rest k node held es) (working k work ++ rest k after others fs)
+    rest_less : IsReordered (rest k node held es) (work_in k work ++ rest k after others fs)
     rest_less f =
-        let a : sum_by f (rest k node held es) ≡ (sum_by f (waiting_from 0 node.lanes) + sum_by f (flat_map (working k) held)) + sum_by f es = sum_by-rest f k node held es in
-        let b : sum_by f (rest k after others fs) ≡ (sum_by f (waiting_from 0 after.lanes) + sum_by f (flat_map (working k) others)) + sum_by f fs = sum_by-rest f k after others fs in
-        let c : sum_by f (flat_map (working k) held) ≡ sum_by f (working k work) + sum_by f (flat_map (working k) others) =
-        IsReordered-flat_map (working k) held (work ∷ others) pulled f ∙ sum_by-append f (working k work) (flat_map (working k) others) in
-        let d : sum_by f (working k work ++ rest k after others fs) ≡ sum_by f (working k work) + sum_by f (rest k after others fs) = sum_by-append f (working k work) (rest k after others fs) in
+        let a : sum_by f (rest k node held es) ≡ (sum_by f (waiting_from 0 node.lanes) + sum_by f (flat_map (work_in k) held)) + sum_by f es = sum_by-rest f k node held es in
+        let b : sum_by f (rest k after others fs) ≡ (sum_by f (waiting_from 0 after.lanes) + sum_by f (flat_map (work_in k) others)) + sum_by f fs = sum_by-rest f k after others fs in
+        let c : sum_by f (flat_map (work_in k) held) ≡ sum_by f (work_in k work) + sum_by f (flat_map (work_in k) others) =
+        IsReordered-flat_map (work_in k) held (work ∷ others) pulled f ∙ sum_by-append f (work_in k work) (flat_map (work_in k) others) in
+        let d : sum_by f (work_in k work ++ rest k after others fs) ≡ sum_by f (work_in k work) + sum_by f (rest k after others fs) = sum_by-append f (work_in k work) (rest k after others fs) in
         omega (arith, same f, waits f)
 
-    undone : delivered ≡ false → working k work ≡ on_lane l records
+    undone : delivered ≡ false → work_in k work ≡ on_lane l records
     undone e = λ i. cond (eq-eqb k k refl i && not (e i)) (on_lane l records) []
 
     taken_in : after.kept ≡ node.kept ++ on_lane l records → delivered ≡ false → IsReordered (node.kept ++ rest k node held es) (after.kept ++ rest k after others fs)
     taken_in kept e f =
         let a : sum_by f (node.kept ++ rest k node held es) ≡ sum_by f node.kept + sum_by f (rest k node held es) = sum_by-append f node.kept (rest k node held es) in
-        let b : sum_by f (working k work ++ rest k after others fs) ≡ sum_by f (on_lane l records) + sum_by f (rest k after others fs) = ap (λ w. sum_by f (w ++ rest k after others fs)) (undone e) ∙ sum_by-append f (on_lane l records) (rest k after others fs) in
+        let b : sum_by f (work_in k work ++ rest k after others fs) ≡ sum_by f (on_lane l records) + sum_by f (rest k after others fs) = ap (λ w. sum_by f (w ++ rest k after others fs)) (undone e) ∙ sum_by-append f (on_lane l records) (rest k after others fs) in
         let c : sum_by f (after.kept ++ rest k after others fs) ≡ sum_by f after.kept + sum_by f (rest k after others fs) = sum_by-append f after.kept (rest k after others fs) in
         let d : sum_by f after.kept ≡ sum_by f node.kept + sum_by f (on_lane l records) = ap (sum_by f) kept ∙ sum_by-append f node.kept (on_lane l records) in
         omega (arith, rest_less f)
 
     -- a delivered Work, or one whose images are none, gives nothing more
-    none_left : (op : Op) → (delivered || is_empty (flat_map (outputs_of op) records)) ≡ true → flat_map (outputs_of op) (all_records (working k work)) ≡ []
+    none_left : (op : Op) → (delivered || is_empty (flat_map (outputs_of op) records)) ≡ true → flat_map (outputs_of op) (all_records (work_in k work)) ≡ []
     none_left op done = by_case delivered done
       where
         by_case : (d : Bool) → (d || is_empty (flat_map (outputs_of op) records)) ≡ true → flat_map (outputs_of op) (all_records (cond (eqb k k && not d) (on_lane l records) [])) ≡ []
@@ -108,22 +108,22 @@ finishing-gives o k l epoch floor number node after held others records delivere
         by_case true h = sym (h refl) ∙ never
         by_case false h = refl
 
-    by_operator : (o : Operator) → after.kept ≡ node.kept ++ absorbed o (on_lane l records) → (delivered || is_empty (delivery o records)) ≡ true → (delivered ≡ true → is_pardo o ≡ true)
+    by_operator : (o : Operator) → after.kept ≡ node.kept ++ kept_elements o (on_lane l records) → (delivered || is_empty (delivery o records)) ≡ true → (delivered ≡ true → is_pardo o ≡ true)
         → IsReordered (gives_by o k node held rows es) (gives_by o k after others rows fs)
     by_operator (ParDo op) kept done honest f =
-        let a : sum_by f (flat_map (outputs_of op) (all_records (rest k node held es))) ≡ sum_by f (flat_map (outputs_of op) (all_records (working k work ++ rest k after others fs))) =
-        IsReordered-flat_map (outputs_of op) (all_records (rest k node held es)) (all_records (working k work ++ rest k after others fs)) (IsReordered-map (λ e. e.rec) (rest k node held es) (working k work ++ rest k after others fs) rest_less) f in
-        let b : sum_by f (flat_map (outputs_of op) (all_records (working k work ++ rest k after others fs))) ≡ sum_by f (flat_map (outputs_of op) (all_records (rest k after others fs))) =
-        ap (λ l. sum_by f (flat_map (outputs_of op) l)) (all_records-append (working k work) (rest k after others fs)) ∙ ap (sum_by f) (flat_map-append (outputs_of op) (all_records (working k work)) (all_records (rest k after others fs)))
+        let a : sum_by f (flat_map (outputs_of op) (all_records (rest k node held es))) ≡ sum_by f (flat_map (outputs_of op) (all_records (work_in k work ++ rest k after others fs))) =
+        IsReordered-flat_map (outputs_of op) (all_records (rest k node held es)) (all_records (work_in k work ++ rest k after others fs)) (IsReordered-map (λ e. e.rec) (rest k node held es) (work_in k work ++ rest k after others fs) rest_less) f in
+        let b : sum_by f (flat_map (outputs_of op) (all_records (work_in k work ++ rest k after others fs))) ≡ sum_by f (flat_map (outputs_of op) (all_records (rest k after others fs))) =
+        ap (λ l. sum_by f (flat_map (outputs_of op) l)) (all_records-append (work_in k work) (rest k after others fs)) ∙ ap (sum_by f) (flat_map-append (outputs_of op) (all_records (work_in k work)) (all_records (rest k after others fs)))
         ∙ ap (λ l. sum_by f (l ++ flat_map (outputs_of op) (all_records (rest k after others fs)))) (none_left op done) in
-        sum_by-append f (flat_map (undelivered k) held) (flat_map (outputs_of op) (all_records (rest k node held es)))
-        ∙ (λ i. und f i + (a ∙ b) i) ∙ sym (sum_by-append f (flat_map (undelivered k) others) (flat_map (outputs_of op) (all_records (rest k after others fs))))
+        sum_by-append f (flat_map (rows_left_in k) held) (flat_map (outputs_of op) (all_records (rest k node held es)))
+        ∙ (λ i. und f i + (a ∙ b) i) ∙ sym (sum_by-append f (flat_map (rows_left_in k) others) (flat_map (outputs_of op) (all_records (rest k after others fs))))
     by_operator (Windowed g) kept done honest f =
-        sum_by-append f (flat_map (undelivered k) held) (at_least (closed node.lanes) (grouped g (node.kept ++ rest k node held es)))
-        ∙ (λ i. und f i + IsReordered-filter (λ r. not (nat_lt r.time (closed node.lanes))) (grouped g (node.kept ++ rest k node held es)) (grouped g (after.kept ++ rest k after others fs))
+        sum_by-append f (flat_map (rows_left_in k) held) (at_least (least_begun_mark node.lanes) (operator_rows g (node.kept ++ rest k node held es)))
+        ∙ (λ i. und f i + IsReordered-filter (λ r. not (nat_lt r.time (least_begun_mark node.lanes))) (operator_rows g (node.kept ++ rest k node held es)) (operator_rows g (after.kept ++ rest k after others fs))
         (grouped-order g (node.kept ++ rest k node held es) (after.kept ++ rest k after others fs) (taken_in kept (unfinished (Windowed g) refl honest))) f i)
-        ∙ ap (λ n. sum_by f (flat_map (undelivered k) others) + sum_by f (at_least n (grouped g (after.kept ++ rest k after others fs)))) (sym mark)
-        ∙ sym (sum_by-append f (flat_map (undelivered k) others) (at_least (closed after.lanes) (grouped g (after.kept ++ rest k after others fs))))
+        ∙ ap (λ n. sum_by f (flat_map (rows_left_in k) others) + sum_by f (at_least n (operator_rows g (after.kept ++ rest k after others fs)))) (sym mark)
+        ∙ sym (sum_by-append f (flat_map (rows_left_in k) others) (at_least (least_begun_mark after.lanes) (operator_rows g (after.kept ++ rest k after others fs))))
     by_operator Sink kept done honest f =
         sum_by-append f rows (all_records (node.kept ++ rest k node held es))
         ∙ ap (λ n. sum_by f rows + n) (IsReordered-map (λ e. e.rec) (node.kept ++ rest k node held es) (after.kept ++ rest k after others fs) (taken_in kept (unfinished Sink refl honest)) f)
@@ -135,7 +135,7 @@ module _ (plan : Shape) (m : Moment) (k l epoch floor number : ℕ) (records : L
   finished_lane = record lane { conts = finish_in epoch number lane.conts }
 
   abbrev pub finished_node : Node
-  finished_node = record (set_lane l finished_lane node) { kept = node.kept ++ absorbed (operator_at (slice_get plan.steps k)) (on_lane l records) }
+  finished_node = record (set_lane l finished_lane node) { kept = node.kept ++ kept_elements (operator_at (slice_get plan.steps k)) (on_lane l records) }
 
   abbrev pub after_finishing : Moment
   after_finishing = with_held others (set_node k finished_node m)
@@ -154,7 +154,7 @@ module _ (plan : Shape) (m : Moment) (k l epoch floor number : ℕ) (records : L
           let b : sum_by f (on_lane (0 + l) (waiting_in finished_lane)) ≡ sum_by f (on_lane (0 + l) (waiting_in lane)) = ap (λ r. sum_by f (on_lane (0 + l) r)) (waiting-finish_in epoch number lane.conts) in
           omega arith
 
-      mark : closed finished_node.lanes ≡ closed node.lanes
+      mark : least_begun_mark finished_node.lanes ≡ least_begun_mark node.lanes
       mark = closed-set node.lanes l lane finished_lane in_it (ap (λ b. last_of_first (cond b (lane.ended + 1) lane.ended) lane.marks) (closing-finish_in epoch number lane.conts))
 
       here : IsReordered (gives plan m k es) (gives plan after_finishing k fs)
@@ -167,13 +167,13 @@ module _ (plan : Shape) (m : Moment) (k l epoch floor number : ℕ) (records : L
       elsewhere ne =
           let other : node_at (set_node k finished_node m) n ≡ node_at m n = node_at-set_other m k node finished_node at n ne in
           gives-less (operator_at (slice_get plan.steps n)) n (node_at m n) (node_at (set_node k finished_node m) n) m.held others m.rows m.rows [] es fs
-          (IsReordered-flat_map (undelivered n) m.held (Work k l epoch floor number records delivered ∷ others) pulled)
+          (IsReordered-flat_map (rows_left_in n) m.held (Work k l epoch floor number records delivered ∷ others) pulled)
           (λ f.
-          let c : sum_by f (rest n (node_at (set_node k finished_node m) n) others fs) ≡ (sum_by f (waiting_from 0 (node_at m n).lanes) + sum_by f (flat_map (working n) others)) + sum_by f fs =
-          sum_by-rest f n (node_at (set_node k finished_node m) n) others fs ∙ ap (λ (x : Node). (sum_by f (waiting_from 0 x.lanes) + sum_by f (flat_map (working n) others)) + sum_by f fs) other in
-          let d : sum_by f (rest n (node_at m n) m.held es) ≡ (sum_by f (waiting_from 0 (node_at m n).lanes) + sum_by f (flat_map (working n) m.held)) + sum_by f es = sum_by-rest f n (node_at m n) m.held es in
-          let e : sum_by f (flat_map (working n) m.held) ≡ sum_by f (flat_map (working n) others) =
-          IsReordered-flat_map (working n) m.held (Work k l epoch floor number records delivered ∷ others) pulled f
-          ∙ ap (λ b. sum_by f (cond (b && not delivered) (on_lane l records) [] ++ flat_map (working n) others)) (ne_eqb k n (λ e. ne (sym e))) in
+          let c : sum_by f (rest n (node_at (set_node k finished_node m) n) others fs) ≡ (sum_by f (waiting_from 0 (node_at m n).lanes) + sum_by f (flat_map (work_in n) others)) + sum_by f fs =
+          sum_by-rest f n (node_at (set_node k finished_node m) n) others fs ∙ ap (λ (x : Node). (sum_by f (waiting_from 0 x.lanes) + sum_by f (flat_map (work_in n) others)) + sum_by f fs) other in
+          let d : sum_by f (rest n (node_at m n) m.held es) ≡ (sum_by f (waiting_from 0 (node_at m n).lanes) + sum_by f (flat_map (work_in n) m.held)) + sum_by f es = sum_by-rest f n (node_at m n) m.held es in
+          let e : sum_by f (flat_map (work_in n) m.held) ≡ sum_by f (flat_map (work_in n) others) =
+          IsReordered-flat_map (work_in n) m.held (Work k l epoch floor number records delivered ∷ others) pulled f
+          ∙ ap (λ b. sum_by f (cond (b && not delivered) (on_lane l records) [] ++ flat_map (work_in n) others)) (ne_eqb k n (λ e. ne (sym e))) in
           omega (arith, same f))
-          (ap (λ (x : Node). x.kept) other) (ap (λ (x : Node). closed x.lanes) other) (λ _. refl) (λ _. refl)
+          (ap (λ (x : Node). x.kept) other) (ap (λ (x : Node). least_begun_mark x.lanes) other) (λ _. refl) (λ _. refl)

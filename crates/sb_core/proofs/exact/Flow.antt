@@ -12,7 +12,7 @@ use Rattle.sb_record.specs.declared.item.Stream.{Stream}
 use Rattle.sb_pipeline.specs.declared.transform.Down.{Down}
 use Rattle.sb_pipeline.specs.declared.transform.Step.{Step}
 use Rattle.sb_pipeline.specs.Shapes.{Shape}
-use Rattle.sb_pipeline.specs.Flow.{Sent, arriving, sent_from, from_streams, flow}
+use Rattle.sb_pipeline.specs.Flow.{Sent, arrivals_at, sent_from, from_streams, flow}
 use Rattle.sb_record.specs.Elements.{on_lane}
 use Rattle.sb_record.proofs.Sums.{IsReordered, sum_by-map}
 
@@ -20,11 +20,11 @@ use Rattle.sb_record.proofs.Sums.{IsReordered, sum_by-map}
 abbrev pub brought : ℕ → Sent → List KeptRec
 brought k s = cond (eqb s.down.node k) (on_lane s.down.lane s.records) []
 
-pub sum_by-arriving_push : (f : KeptRec → ℕ) (k : ℕ) (sent : List Sent) (s : Sent) → sum_by f (arriving k (sent ++ s ∷ [])) ≡ sum_by f (arriving k sent) + sum_by f (brought k s)
+pub sum_by-arriving_push : (f : KeptRec → ℕ) (k : ℕ) (sent : List Sent) (s : Sent) → sum_by f (arrivals_at k (sent ++ s ∷ [])) ≡ sum_by f (arrivals_at k sent) + sum_by f (brought k s)
 sum_by-arriving_push f k sent s =
     ap (sum_by f) (flat_map-append (brought k) sent (s ∷ []))
-    ∙ sum_by-append f (arriving k sent) (brought k s ++ [])
-    ∙ ap (λ n. sum_by f (arriving k sent) + n) (sum_by-append f (brought k s) [] ∙ omega arith)
+    ∙ sum_by-append f (arrivals_at k sent) (brought k s ++ [])
+    ∙ ap (λ n. sum_by f (arrivals_at k sent) + n) (sum_by-append f (brought k s) [] ∙ omega arith)
 
 -- lists that add up alike bring what adds up alike
 pub sum_by-brought : (f : KeptRec → ℕ) (k : ℕ) (d : Down) (l m o : List Record) → IsReordered l (m ++ o)
@@ -114,53 +114,53 @@ module _ (plan : Shape) (give also : ℕ → List KeptRec → List Record) (flig
       past_it : d.node ≢ n → sum_by (late n) (brought n (record { down = d; records = l })) ≡ 0
       past_it ne = ap (λ b. sum_by (late n) (cond b (on_lane d.lane l) [])) (ne_eqb d.node n ne)
 
-  pub flow_in_time : IsInTime → (i : ℕ) (ss : List Step) → ((j : ℕ) → slice_get plan.steps (i + j) ≡ slice_get ss j) → (p : List Sent) → ((n : ℕ) → sum_by (late n) (arriving n p) ≡ 0)
-      → (n : ℕ) → sum_by (late n) (arriving n (sent_from give i ss p)) ≡ 0
+  pub flow_in_time : IsInTime → (i : ℕ) (ss : List Step) → ((j : ℕ) → slice_get plan.steps (i + j) ≡ slice_get ss j) → (p : List Sent) → ((n : ℕ) → sum_by (late n) (arrivals_at n p) ≡ 0)
+      → (n : ℕ) → sum_by (late n) (arrivals_at n (sent_from give i ss p)) ≡ 0
   flow_in_time time i [] left p ok = ok
   flow_in_time time i (s ∷ ss) left p ok =
       flow_in_time time (i + 1) ss (λ j. ap (slice_get plan.steps) (omega arith) ∙ left (suc j)) _ (λ n.
       sum_by-arriving_push (late n) n p _
-      ∙ (λ z. ok n z + late_brought n s.down (give i (arriving i p)) (time i _ s (ap (slice_get plan.steps) (omega arith) ∙ left 0) (ok i)) z))
+      ∙ (λ z. ok n z + late_brought n s.down (give i (arrivals_at i p)) (time i _ s (ap (slice_get plan.steps) (omega arith) ∙ left 0) (ok i)) z))
 
   pub flow_moves : Moves → IsInTime → IsOnItsWay
       → (i : ℕ) (ss : List Step) → ((j : ℕ) → slice_get plan.steps (i + j) ≡ slice_get ss j)
-      → (p q : List Sent) → ((n : ℕ) → sum_by (late n) (arriving n p) ≡ 0)
-      → ((n : ℕ) → IsReordered (arriving n p) (flight i n ++ arriving n q))
-      → (n : ℕ) → IsReordered (arriving n (sent_from give i ss p)) (flight (i + length ss) n ++ arriving n (sent_from also i ss q))
-  flow_moves move time leads i [] left p q ok same n f = same n f ∙ ap (λ z. sum_by f (flight z n ++ arriving n q)) (omega arith)
+      → (p q : List Sent) → ((n : ℕ) → sum_by (late n) (arrivals_at n p) ≡ 0)
+      → ((n : ℕ) → IsReordered (arrivals_at n p) (flight i n ++ arrivals_at n q))
+      → (n : ℕ) → IsReordered (arrivals_at n (sent_from give i ss p)) (flight (i + length ss) n ++ arrivals_at n (sent_from also i ss q))
+  flow_moves move time leads i [] left p q ok same n f = same n f ∙ ap (λ z. sum_by f (flight z n ++ arrivals_at n q)) (omega arith)
   flow_moves move time leads i (s ∷ ss) left p q ok same n f =
       flow_moves move time leads (i + 1) ss (λ j. ap (slice_get plan.steps) (omega arith) ∙ left (suc j)) _ _ later again n f
-      ∙ ap (λ z. sum_by f (flight z n ++ arriving n (sent_from also i (s ∷ ss) q))) (omega arith)
+      ∙ ap (λ z. sum_by f (flight z n ++ arrivals_at n (sent_from also i (s ∷ ss) q))) (omega arith)
     where
       it : slice_get plan.steps i ≡ Some s
       it = ap (slice_get plan.steps) (omega arith) ∙ left 0
 
-      later : (n : ℕ) → sum_by (late n) (arriving n (p ++ record { down = s.down; records = give i (arriving i p) } ∷ [])) ≡ 0
-      later n = sum_by-arriving_push (late n) n p _ ∙ (λ z. ok n z + late_brought n s.down (give i (arriving i p)) (time i _ s it (ok i)) z)
+      later : (n : ℕ) → sum_by (late n) (arrivals_at n (p ++ record { down = s.down; records = give i (arrivals_at i p) } ∷ [])) ≡ 0
+      later n = sum_by-arriving_push (late n) n p _ ∙ (λ z. ok n z + late_brought n s.down (give i (arrivals_at i p)) (time i _ s it (ok i)) z)
 
-      again : (n : ℕ) → IsReordered (arriving n (p ++ record { down = s.down; records = give i (arriving i p) } ∷ [])) (flight (i + 1) n ++ arriving n (q ++ record { down = s.down; records = also i (arriving i q) } ∷ []))
+      again : (n : ℕ) → IsReordered (arrivals_at n (p ++ record { down = s.down; records = give i (arrivals_at i p) } ∷ [])) (flight (i + 1) n ++ arrivals_at n (q ++ record { down = s.down; records = also i (arrivals_at i q) } ∷ []))
       again n f =
-          let gave : IsReordered (give i (arriving i p)) (more i ++ also i (arriving i q)) = move i _ _ (within i s it) (ok i) (same i) in
-          let a : sum_by f (arriving n (p ++ record { down = s.down; records = give i (arriving i p) } ∷ [])) ≡ sum_by f (arriving n p) + sum_by f (brought n (record { down = s.down; records = give i (arriving i p) })) = sum_by-arriving_push f n p _ in
-          let b : sum_by f (arriving n (q ++ record { down = s.down; records = also i (arriving i q) } ∷ [])) ≡ sum_by f (arriving n q) + sum_by f (brought n (record { down = s.down; records = also i (arriving i q) })) = sum_by-arriving_push f n q _ in
-          let c : sum_by f (brought n (record { down = s.down; records = give i (arriving i p) })) ≡ sum_by f (brought n (record { down = s.down; records = more i })) + sum_by f (brought n (record { down = s.down; records = also i (arriving i q) })) = sum_by-brought f n s.down _ _ _ gave in
-          let d : sum_by f (arriving n p) ≡ sum_by f (flight i n) + sum_by f (arriving n q) = same n f ∙ sum_by-append f (flight i n) (arriving n q) in
+          let gave : IsReordered (give i (arrivals_at i p)) (more i ++ also i (arrivals_at i q)) = move i _ _ (within i s it) (ok i) (same i) in
+          let a : sum_by f (arrivals_at n (p ++ record { down = s.down; records = give i (arrivals_at i p) } ∷ [])) ≡ sum_by f (arrivals_at n p) + sum_by f (brought n (record { down = s.down; records = give i (arrivals_at i p) })) = sum_by-arriving_push f n p _ in
+          let b : sum_by f (arrivals_at n (q ++ record { down = s.down; records = also i (arrivals_at i q) } ∷ [])) ≡ sum_by f (arrivals_at n q) + sum_by f (brought n (record { down = s.down; records = also i (arrivals_at i q) })) = sum_by-arriving_push f n q _ in
+          let c : sum_by f (brought n (record { down = s.down; records = give i (arrivals_at i p) })) ≡ sum_by f (brought n (record { down = s.down; records = more i })) + sum_by f (brought n (record { down = s.down; records = also i (arrivals_at i q) })) = sum_by-brought f n s.down _ _ _ gave in
+          let d : sum_by f (arrivals_at n p) ≡ sum_by f (flight i n) + sum_by f (arrivals_at n q) = same n f ∙ sum_by-append f (flight i n) (arrivals_at n q) in
           let e : sum_by f (flight i n) + sum_by f (brought n (record { down = s.down; records = more i })) ≡ sum_by f (flight (i + 1) n) = leads f i n s it in
-          omega arith ∙ sym (sum_by-append f (flight (i + 1) n) (arriving n (q ++ record { down = s.down; records = also i (arriving i q) } ∷ [])))
+          omega arith ∙ sym (sum_by-append f (flight (i + 1) n) (arrivals_at n (q ++ record { down = s.down; records = also i (arrivals_at i q) } ∷ [])))
 
   -- the two flows give the same
   pub flow_same : Moves → IsInTime → IsOnItsWay → more (length plan.steps) ≡ []
       → (streams others : Stream → List Record)
-      → ((n : ℕ) → sum_by (late n) (arriving n (from_streams plan streams)) ≡ 0)
-      → ((n : ℕ) → IsReordered (arriving n (from_streams plan streams)) (flight 0 n ++ arriving n (from_streams plan others)))
+      → ((n : ℕ) → sum_by (late n) (arrivals_at n (from_streams plan streams)) ≡ 0)
+      → ((n : ℕ) → IsReordered (arrivals_at n (from_streams plan streams)) (flight 0 n ++ arrivals_at n (from_streams plan others)))
       → IsReordered (flow plan give streams) (flow plan also others)
   flow_same move time leads none streams others ok same f =
       let n = length plan.steps in
       let left : (j : ℕ) → slice_get plan.steps (0 + j) ≡ slice_get plan.steps j = λ j. ap (slice_get plan.steps) (zero-add j) in
       let p = sent_from give 0 plan.steps (from_streams plan streams) in
       let q = sent_from also 0 plan.steps (from_streams plan others) in
-      let at_end : IsReordered (arriving n p) (flight n n ++ arriving n q) =
-      subst (λ z. IsReordered (arriving n p) (flight z n ++ arriving n q)) (zero-add n) (flow_moves move time leads 0 plan.steps left (from_streams plan streams) (from_streams plan others) ok same n) in
-      let late_end : sum_by (late n) (arriving n p) ≡ 0 = flow_in_time time 0 plan.steps left (from_streams plan streams) ok n in
-      move n (arriving n p) (arriving n q) (omega arith) late_end at_end f
-      ∙ ap (λ l. sum_by f (l ++ also n (arriving n q))) none
+      let at_end : IsReordered (arrivals_at n p) (flight n n ++ arrivals_at n q) =
+      subst (λ z. IsReordered (arrivals_at n p) (flight z n ++ arrivals_at n q)) (zero-add n) (flow_moves move time leads 0 plan.steps left (from_streams plan streams) (from_streams plan others) ok same n) in
+      let late_end : sum_by (late n) (arrivals_at n p) ≡ 0 = flow_in_time time 0 plan.steps left (from_streams plan streams) ok n in
+      move n (arrivals_at n p) (arrivals_at n q) (omega arith) late_end at_end f
+      ∙ ap (λ l. sum_by f (l ++ also n (arrivals_at n q))) none

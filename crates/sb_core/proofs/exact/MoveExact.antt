@@ -22,7 +22,7 @@ use Rattle.sb_pipeline.specs.Operators.Operator.{ParDo}
 use Rattle.sb_core.specs.Closings.{is_sink}
 use Rattle.sb_core.specs.Moments.{set_lane, set_node, with_held, node_at}
 use Rattle.sb_core.specs.Lanes.{with_arrival, with_seal, with_bundle, next_epoch, next_floor}
-use Rattle.sb_core.specs.Exactness.{waiting_in, waiting_from, working, undelivered, rest, gives, gives_by}
+use Rattle.sb_core.specs.Exactness.{waiting_in, waiting_from, work_in, rows_left_in, rest, gives, gives_by}
 use Rattle.sb_record.proofs.Sums.{IsReordered, IsReordered-map, IsReordered-flat_map}
 use Rattle.sb_core.proofs.exact.Flow.{brought, sum_by-brought, in_flight, extra}
 use Rattle.sb_core.proofs.containers.Lists.{waiting-in_epoch, waiting-with_bundle}
@@ -42,8 +42,8 @@ module _ (plan : Shape) (m : Moment) (d : Down) (node : Node) (lane : CoreLane) 
   -- a bundle comes, and what is held changes: a node that gives u less and works off the same
   pub arrival-gives : (epoch floor : ℕ) (records : List Record) (held : List Held) → begun_mark (with_arrival epoch floor records lane) ≡ begun_mark lane
       → (k : ℕ) (es fs : List KeptRec) (u : List Record)
-      → IsReordered (flat_map (undelivered k) m.held) (u ++ flat_map (undelivered k) held)
-      → IsReordered (flat_map (working k) m.held) (flat_map (working k) held)
+      → IsReordered (flat_map (rows_left_in k) m.held) (u ++ flat_map (rows_left_in k) held)
+      → IsReordered (flat_map (work_in k) m.held) (flat_map (work_in k) held)
       → (is_sink (operator_at (slice_get plan.steps k)) ≡ true → u ≡ [])
       → IsReordered es (brought k (record { down = d; records = records }) ++ fs)
       → IsReordered (gives plan m k es) (u ++ gives plan (set_node d.node (set_lane d.lane (with_arrival epoch floor records lane) node) (with_held held m)) k fs)
@@ -58,8 +58,8 @@ module _ (plan : Shape) (m : Moment) (d : Down) (node : Node) (lane : CoreLane) 
 
   -- a lane in which the same waits
   pub calm-gives : (with : CoreLane) (held : List Held) → begun_mark with ≡ begun_mark lane → IsReordered (waiting_in with) (waiting_in lane)
-      → ((k : ℕ) → IsReordered (flat_map (undelivered k) m.held) (flat_map (undelivered k) held))
-      → ((k : ℕ) → IsReordered (flat_map (working k) m.held) (flat_map (working k) held))
+      → ((k : ℕ) → IsReordered (flat_map (rows_left_in k) m.held) (flat_map (rows_left_in k) held))
+      → ((k : ℕ) → IsReordered (flat_map (work_in k) m.held) (flat_map (work_in k) held))
       → (k : ℕ) (es fs : List KeptRec) → IsReordered es fs
       → IsReordered (gives plan m k es) (gives plan (set_node d.node (set_lane d.lane with node) (with_held held m)) k fs)
   calm-gives with held mark waits und work k es fs same =
@@ -95,16 +95,16 @@ module _ (plan : Shape) (m : Moment) (op : Op) (y l epoch floor number : ℕ) (r
   abbrev pub after_delivery : Moment
   after_delivery = set_node d.node (set_lane d.lane (with_arrival epoch floor images lane) node) (with_held held_after m)
 
-  und_same : (k : ℕ) → IsReordered (flat_map (undelivered k) m.held) (flat_map (undelivered k) held_after)
-  und_same k f = IsReordered-flat_map (undelivered k) m.held (Work y l epoch floor number records false ∷ others) pulled f ∙ sym (sum_by-held_push f (undelivered k) others (Work y l epoch floor number records true) ∙ omega arith)
+  und_same : (k : ℕ) → IsReordered (flat_map (rows_left_in k) m.held) (flat_map (rows_left_in k) held_after)
+  und_same k f = IsReordered-flat_map (rows_left_in k) m.held (Work y l epoch floor number records false ∷ others) pulled f ∙ sym (sum_by-held_push f (rows_left_in k) others (Work y l epoch floor number records true) ∙ omega arith)
 
-  work_less : (k : ℕ) → IsReordered (flat_map (working k) m.held) (cond (eqb y k) (on_lane l records) [] ++ flat_map (working k) held_after)
+  work_less : (k : ℕ) → IsReordered (flat_map (work_in k) m.held) (cond (eqb y k) (on_lane l records) [] ++ flat_map (work_in k) held_after)
   work_less k f =
-      IsReordered-flat_map (working k) m.held (Work y l epoch floor number records false ∷ others) pulled f
-      ∙ ap (λ z. sum_by f (z ++ flat_map (working k) others)) (open_work (eqb y k))
-      ∙ sum_by-append f (cond (eqb y k) (on_lane l records) []) (flat_map (working k) others)
-      ∙ ap (λ n. sum_by f (cond (eqb y k) (on_lane l records) []) + n) (sym (sum_by-held_push f (working k) others (Work y l epoch floor number records true) ∙ ap (λ z. sum_by f (flat_map (working k) others) + sum_by f z) (done_work (eqb y k)) ∙ omega arith))
-      ∙ sym (sum_by-append f (cond (eqb y k) (on_lane l records) []) (flat_map (working k) held_after))
+      IsReordered-flat_map (work_in k) m.held (Work y l epoch floor number records false ∷ others) pulled f
+      ∙ ap (λ z. sum_by f (z ++ flat_map (work_in k) others)) (open_work (eqb y k))
+      ∙ sum_by-append f (cond (eqb y k) (on_lane l records) []) (flat_map (work_in k) others)
+      ∙ ap (λ n. sum_by f (cond (eqb y k) (on_lane l records) []) + n) (sym (sum_by-held_push f (work_in k) others (Work y l epoch floor number records true) ∙ ap (λ z. sum_by f (flat_map (work_in k) others) + sum_by f z) (done_work (eqb y k)) ∙ omega arith))
+      ∙ sym (sum_by-append f (cond (eqb y k) (on_lane l records) []) (flat_map (work_in k) held_after))
     where
       open_work : (b : Bool) → cond {A = List KeptRec} (b && true) (on_lane l records) [] ≡ cond b (on_lane l records) []
       open_work true = refl
@@ -127,10 +127,10 @@ module _ (plan : Shape) (m : Moment) (op : Op) (y l epoch floor number : ℕ) (r
 
       rest_less : IsReordered (rest y (node_at m y) m.held es) (on_lane l records ++ rest y (node_at m y) held_after fs)
       rest_less g =
-          let a : sum_by g (rest y (node_at m y) m.held es) ≡ (sum_by g (waiting_from 0 (node_at m y).lanes) + sum_by g (flat_map (working y) m.held)) + sum_by g es = sum_by-rest g y (node_at m y) m.held es in
-          let b : sum_by g (rest y (node_at m y) held_after fs) ≡ (sum_by g (waiting_from 0 (node_at m y).lanes) + sum_by g (flat_map (working y) held_after)) + sum_by g fs = sum_by-rest g y (node_at m y) held_after fs in
-          let c : sum_by g (flat_map (working y) m.held) ≡ sum_by g (on_lane l records) + sum_by g (flat_map (working y) held_after) =
-          work_less y g ∙ ap (λ b. sum_by g (cond b (on_lane l records) [] ++ flat_map (working y) held_after)) (eq-eqb y y refl) ∙ sum_by-append g (on_lane l records) (flat_map (working y) held_after) in
+          let a : sum_by g (rest y (node_at m y) m.held es) ≡ (sum_by g (waiting_from 0 (node_at m y).lanes) + sum_by g (flat_map (work_in y) m.held)) + sum_by g es = sum_by-rest g y (node_at m y) m.held es in
+          let b : sum_by g (rest y (node_at m y) held_after fs) ≡ (sum_by g (waiting_from 0 (node_at m y).lanes) + sum_by g (flat_map (work_in y) held_after)) + sum_by g fs = sum_by-rest g y (node_at m y) held_after fs in
+          let c : sum_by g (flat_map (work_in y) m.held) ≡ sum_by g (on_lane l records) + sum_by g (flat_map (work_in y) held_after) =
+          work_less y g ∙ ap (λ b. sum_by g (cond b (on_lane l records) [] ++ flat_map (work_in y) held_after)) (eq-eqb y y refl) ∙ sum_by-append g (on_lane l records) (flat_map (work_in y) held_after) in
           let e : sum_by g (on_lane l records ++ rest y (node_at m y) held_after fs) ≡ sum_by g (on_lane l records) + sum_by g (rest y (node_at m y) held_after fs) = sum_by-append g (on_lane l records) (rest y (node_at m y) held_after fs) in
           omega (arith, same g)
 
@@ -138,13 +138,13 @@ module _ (plan : Shape) (m : Moment) (op : Op) (y l epoch floor number : ℕ) (r
       by_pardo =
           let some = rest y (node_at m y) m.held es in
           let left = rest y (node_at m y) held_after fs in
-          let a : sum_by f (gives_by (ParDo op) y (node_at m y) m.held m.rows es) ≡ sum_by f (flat_map (undelivered y) m.held) + sum_by f (flat_map (outputs_of op) (all_records some)) = sum_by-append f (flat_map (undelivered y) m.held) (flat_map (outputs_of op) (all_records some)) in
+          let a : sum_by f (gives_by (ParDo op) y (node_at m y) m.held m.rows es) ≡ sum_by f (flat_map (rows_left_in y) m.held) + sum_by f (flat_map (outputs_of op) (all_records some)) = sum_by-append f (flat_map (rows_left_in y) m.held) (flat_map (outputs_of op) (all_records some)) in
           let b : sum_by f (flat_map (outputs_of op) (all_records some)) ≡ sum_by f images + sum_by f (flat_map (outputs_of op) (all_records left)) =
           IsReordered-flat_map (outputs_of op) (all_records some) (all_records (on_lane l records ++ left)) (IsReordered-map (λ e. e.rec) some (on_lane l records ++ left) rest_less) f
           ∙ ap (λ r. sum_by f (flat_map (outputs_of op) r)) (all_records-append (on_lane l records) left ∙ ap (λ r. r ++ all_records left) (all_records-on_lane l records))
           ∙ ap (sum_by f) (flat_map-append (outputs_of op) records (all_records left)) ∙ sum_by-append f images (flat_map (outputs_of op) (all_records left)) in
           let c : sum_by f (images ++ gives_by (ParDo op) y (node_at m y) held_after m.rows fs) ≡ sum_by f images + sum_by f (gives_by (ParDo op) y (node_at m y) held_after m.rows fs) = sum_by-append f images (gives_by (ParDo op) y (node_at m y) held_after m.rows fs) in
-          let e : sum_by f (gives_by (ParDo op) y (node_at m y) held_after m.rows fs) ≡ sum_by f (flat_map (undelivered y) held_after) + sum_by f (flat_map (outputs_of op) (all_records left)) = sum_by-append f (flat_map (undelivered y) held_after) (flat_map (outputs_of op) (all_records left)) in
+          let e : sum_by f (gives_by (ParDo op) y (node_at m y) held_after m.rows fs) ≡ sum_by f (flat_map (rows_left_in y) held_after) + sum_by f (flat_map (outputs_of op) (all_records left)) = sum_by-append f (flat_map (rows_left_in y) held_after) (flat_map (outputs_of op) (all_records left)) in
           omega (arith, und_same y f)
 
   pub delivery-gives : begun_mark (with_arrival epoch floor images lane) ≡ begun_mark lane → (k : ℕ) (es fs : List KeptRec) → IsReordered es (in_flight y d images k k ++ fs)
@@ -160,7 +160,7 @@ module _ (plan : Shape) (m : Moment) (op : Op) (y l epoch floor number : ℕ) (r
       elsewhere : k ≢ y → IsReordered (gives plan m k es) (extra y images k ++ gives plan after_delivery k fs)
       elsewhere ne f =
           arrival-gives plan m d node lane at in_it epoch floor images held_after mark k es fs [] (und_same k)
-          (λ g. work_less k g ∙ ap (λ b. sum_by g (cond b (on_lane l records) [] ++ flat_map (working k) held_after)) (ne_eqb y k (λ e. ne (sym e))))
+          (λ g. work_less k g ∙ ap (λ b. sum_by g (cond b (on_lane l records) [] ++ flat_map (work_in k) held_after)) (ne_eqb y k (λ e. ne (sym e))))
           (λ _. refl) (λ g. same g ∙ ap (λ z. sum_by g (z ++ fs)) (in_flight_is y d images k down)) f
           ∙ ap (λ b. sum_by f (cond b images [] ++ gives plan after_delivery k fs)) (sym (ne_eqb k y ne))
 
@@ -176,14 +176,14 @@ module _ (plan : Shape) (m : Moment) (y l epoch serial floor mark : ℕ) (rows :
   rows-gives calm k es fs same =
       arrival-gives plan m d node lane at in_it serial floor (take count rows) held_less calm k es fs (extra y (take count rows) k)
       (λ f.
-      let a : sum_by f (flat_map (undelivered k) m.held) ≡ sum_by f (cond (eqb y k) rows []) + sum_by f (flat_map (undelivered k) others) =
-      IsReordered-flat_map (undelivered k) m.held (Close y l epoch serial floor mark rows passed ∷ others) pulled f ∙ sum_by-append f (cond (eqb y k) rows []) (flat_map (undelivered k) others) in
-      let b : sum_by f (flat_map (undelivered k) held_less) ≡ sum_by f (flat_map (undelivered k) others) + sum_by f (cond (eqb y k) (drop count rows) []) = sum_by-held_push f (undelivered k) others (Close y l epoch serial floor mark (drop count rows) passed) in
+      let a : sum_by f (flat_map (rows_left_in k) m.held) ≡ sum_by f (cond (eqb y k) rows []) + sum_by f (flat_map (rows_left_in k) others) =
+      IsReordered-flat_map (rows_left_in k) m.held (Close y l epoch serial floor mark rows passed ∷ others) pulled f ∙ sum_by-append f (cond (eqb y k) rows []) (flat_map (rows_left_in k) others) in
+      let b : sum_by f (flat_map (rows_left_in k) held_less) ≡ sum_by f (flat_map (rows_left_in k) others) + sum_by f (cond (eqb y k) (drop count rows) []) = sum_by-held_push f (rows_left_in k) others (Close y l epoch serial floor mark (drop count rows) passed) in
       let c : sum_by f (cond (eqb y k) rows []) ≡ sum_by f (extra y (take count rows) k) + sum_by f (cond (eqb y k) (drop count rows) []) =
       cut f (eqb y k) ∙ ap (λ b. sum_by f (cond b (take count rows) []) + sum_by f (cond (eqb y k) (drop count rows) [])) (flip y k) in
-      let e : sum_by f (extra y (take count rows) k ++ flat_map (undelivered k) held_less) ≡ sum_by f (extra y (take count rows) k) + sum_by f (flat_map (undelivered k) held_less) = sum_by-append f (extra y (take count rows) k) (flat_map (undelivered k) held_less) in
+      let e : sum_by f (extra y (take count rows) k ++ flat_map (rows_left_in k) held_less) ≡ sum_by f (extra y (take count rows) k) + sum_by f (flat_map (rows_left_in k) held_less) = sum_by-append f (extra y (take count rows) k) (flat_map (rows_left_in k) held_less) in
       omega arith)
-      (λ f. IsReordered-flat_map (working k) m.held (Close y l epoch serial floor mark rows passed ∷ others) pulled f ∙ sym (sum_by-held_push f (working k) others (Close y l epoch serial floor mark (drop count rows) passed) ∙ omega arith))
+      (λ f. IsReordered-flat_map (work_in k) m.held (Close y l epoch serial floor mark rows passed ∷ others) pulled f ∙ sym (sum_by-held_push f (work_in k) others (Close y l epoch serial floor mark (drop count rows) passed) ∙ omega arith))
       (λ sink. ⊎_elim (λ e. let x : true ≡ false = sym sink ∙ ap (λ k. is_sink (operator_at (slice_get plan.steps k))) e ∙ no_sink in cc) (λ ne. ap (λ b. cond b (take count rows) []) (ne_eqb k y ne)) (cases_eq k y))
       (λ g. same g ∙ ap (λ z. sum_by g (z ++ fs)) (in_flight_is y d (take count rows) k down))
     where

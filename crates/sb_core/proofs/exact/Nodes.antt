@@ -13,14 +13,14 @@ use Rattle.sb_core.specs.declared.moment.Node.{Node}
 use Rattle.sb_core.specs.declared.moment.Moment.{Moment}
 use Rattle.sb_record.specs.Elements.{on_lane}
 use Rattle.sb_record.specs.Reading.{◌>>=◌}
-use Rattle.sb_core.specs.Marks.{begun, last_of_first, closed}
+use Rattle.sb_core.specs.Marks.{begun_count, last_of_first, least_begun_mark}
 use Rattle.sb_core.specs.Moments.{set_lane, set_node, lane_at, no_node, node_at}
 use Rattle.sb_core.specs.Exactness.{waiting_in, waiting_from}
 use Rattle.sb_core.proofs.exact.Flow.{brought}
 
 -- the mark of the last epoch that has begun to close, or 0
 abbrev pub begun_mark : CoreLane → ℕ
-begun_mark lane = last_of_first (begun lane) lane.marks
+begun_mark lane = last_of_first (begun_count lane) lane.marks
 
 -- one lane of many is another
 pub sum_by-waiting_set : (f : KeptRec → ℕ) (i : ℕ) (lanes : List CoreLane) (l : ℕ) (lane with : CoreLane) → slice_get lanes l ≡ Some lane
@@ -44,11 +44,11 @@ sum_by-waiting_set f i (first ∷ lanes) (suc l) lane with h =
     step i l = omega arith
 
 -- a lane that began the same marks
-pub closed-set : (lanes : List CoreLane) (l : ℕ) (lane with : CoreLane) → slice_get lanes l ≡ Some lane → begun_mark with ≡ begun_mark lane → closed (slice_set lanes l with) ≡ closed lanes
+pub closed-set : (lanes : List CoreLane) (l : ℕ) (lane with : CoreLane) → slice_get lanes l ≡ Some lane → begun_mark with ≡ begun_mark lane → least_begun_mark (slice_set lanes l with) ≡ least_begun_mark lanes
 closed-set [] l lane with h e = cc
 closed-set (first ∷ []) zero lane with h e = let k : first ≡ lane = cc in e ∙ ap begun_mark (sym k)
 closed-set (first ∷ []) (suc l) lane with h e = cc
-closed-set (first ∷ second ∷ lanes) zero lane with h e = let k : first ≡ lane = cc in ap (λ n. min n (closed (second ∷ lanes))) (e ∙ ap begun_mark (sym k))
+closed-set (first ∷ second ∷ lanes) zero lane with h e = let k : first ≡ lane = cc in ap (λ n. min n (least_begun_mark (second ∷ lanes))) (e ∙ ap begun_mark (sym k))
 closed-set (first ∷ second ∷ lanes) (suc zero) lane with h e = ap (min (begun_mark first)) (closed-set (second ∷ lanes) zero lane with h e)
 closed-set (first ∷ second ∷ lanes) (suc (suc l)) lane with h e = ap (min (begun_mark first)) (closed-set (second ∷ lanes) (suc l) lane with h e)
 
@@ -105,14 +105,14 @@ module _ (m : Moment) (d : Down) (node : Node) (lane with : CoreLane) (at : slic
           ap (λ (n : Node). n.kept) (ap (node_at changed) e ∙ node_at-set_same m d.node node (set_lane d.lane with node) at)
           ∙ ap (λ (n : Node). n.kept) (sym (ap (node_at m) e ∙ node_at-same m d.node node (set_lane d.lane with node) at))
 
-  pub closed-changed : begun_mark with ≡ begun_mark lane → (k : ℕ) → closed (node_at changed k).lanes ≡ closed (node_at m k).lanes
-  closed-changed same k = ⊎_elim here (λ ne. ap (λ (n : Node). closed n.lanes) (node_at-set_other m d.node node (set_lane d.lane with node) at k ne)) (cases_eq k d.node)
+  pub closed-changed : begun_mark with ≡ begun_mark lane → (k : ℕ) → least_begun_mark (node_at changed k).lanes ≡ least_begun_mark (node_at m k).lanes
+  closed-changed same k = ⊎_elim here (λ ne. ap (λ (n : Node). least_begun_mark n.lanes) (node_at-set_other m d.node node (set_lane d.lane with node) at k ne)) (cases_eq k d.node)
     where
-      here : k ≡ d.node → closed (node_at changed k).lanes ≡ closed (node_at m k).lanes
+      here : k ≡ d.node → least_begun_mark (node_at changed k).lanes ≡ least_begun_mark (node_at m k).lanes
       here e =
-          ap (λ (n : Node). closed n.lanes) (ap (node_at changed) e ∙ node_at-set_same m d.node node (set_lane d.lane with node) at)
+          ap (λ (n : Node). least_begun_mark n.lanes) (ap (node_at changed) e ∙ node_at-set_same m d.node node (set_lane d.lane with node) at)
           ∙ closed-set node.lanes d.lane lane with in_it same
-          ∙ ap (λ (n : Node). closed n.lanes) (sym (ap (node_at m) e ∙ node_at-same m d.node node (set_lane d.lane with node) at))
+          ∙ ap (λ (n : Node). least_begun_mark n.lanes) (sym (ap (node_at m) e ∙ node_at-same m d.node node (set_lane d.lane with node) at))
 
 -- ---- what is at an index after a write
 pub sum_by-set_get : {X : Type 0} (f : X → ℕ) (xs : List X) (i : ℕ) (x y : X) → slice_get xs i ≡ Some x → sum_by f (slice_set xs i y) + f x ≡ sum_by f xs + f y

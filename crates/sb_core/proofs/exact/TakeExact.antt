@@ -17,8 +17,8 @@ use Rattle.sb_core.specs.Moments.{lane_at, with_held}
 use Rattle.sb_core.specs.Lanes.{take_from}
 use Rattle.sb_core.specs.MomentSteps.{after_take}
 use Rattle.sb_core.specs.Marks.{last_of_first, first_is_closing}
-use Rattle.sb_core.specs.Choices.{pulled}
-use Rattle.sb_core.specs.Exactness.{waiting_in, working, undelivered, gives}
+use Rattle.sb_core.specs.Choices.{first_and_rest}
+use Rattle.sb_core.specs.Exactness.{waiting_in, work_in, rows_left_in, gives}
 use Rattle.sb_record.proofs.Sums.{IsReordered}
 use Rattle.sb_core.proofs.exact.Flow.{brought, sum_by-brought}
 use Rattle.sb_core.proofs.containers.Lists.{waiting-take_from}
@@ -30,10 +30,10 @@ take_from-closing number [] q h = cc
 take_from-closing number (c ∷ cs) q h = by_case (list_any (λ b. eqb b.number number) c.waiting) h
   where
     by_case : (a : Bool)
-        → cond {A = Option (Bundle × List Cont)} a (pulled (λ b. eqb b.number number) c.waiting >>= λ q. Some (q.0, record c { waiting = q.1; out = c.out ++ number ∷ [] } ∷ cs)) (take_from number cs >>= λ q. Some (q.0, c ∷ q.1)) ≡ Some q
+        → cond {A = Option (Bundle × List Cont)} a (first_and_rest (λ b. eqb b.number number) c.waiting >>= λ q. Some (q.0, record c { waiting = q.1; out = c.out ++ number ∷ [] } ∷ cs)) (take_from number cs >>= λ q. Some (q.0, c ∷ q.1)) ≡ Some q
         → first_is_closing q.1 ≡ c.closing
     by_case true h =
-        let b = bind_some (pulled (λ b. eqb b.number number) c.waiting) _ q h in
+        let b = bind_some (first_and_rest (λ b. eqb b.number number) c.waiting) _ q h in
         let same : ◌≡◌ {A = Bundle × List Cont} (b.0.0, record c { waiting = b.0.1; out = c.out ++ number ∷ [] } ∷ cs) q = same_Some _ _ b.2 in
         ap (λ (r : Bundle × List Cont). first_is_closing r.1) (sym same)
     by_case false h =
@@ -50,7 +50,7 @@ take-gives plan m m' d number h k es fs same =
     let is = with_lane-is (with_held (m.held ++ work b.0 ∷ []) m) d at.0 (record lane { conts = b.0.1 }) m' at.1 b.2 in
     subst (λ x. IsReordered (gives plan m k es) (gives plan x k fs)) is (
     lane-gives plan m d at.0 lane (record lane { conts = b.0.1 }) (m.held ++ work b.0 ∷ []) at.1 at.2 (mark lane b.0 b.1) k es fs []
-    (λ f. sym (sum_by-held_push f (undelivered k) m.held (work b.0) ∙ omega arith))
+    (λ f. sym (sum_by-held_push f (rows_left_in k) m.held (work b.0) ∙ omega arith))
     (moved lane b.0 b.1)
     (λ _. refl))
   where
@@ -61,11 +61,11 @@ take-gives plan m m' d number h k es fs same =
     mark lane q took = ap (λ b. last_of_first (cond b (lane.ended + 1) lane.ended) lane.marks) (take_from-closing number lane.conts q took)
 
     moved : (lane : CoreLane) (q : Bundle × List Cont) → take_from number lane.conts ≡ Some q → (f : KeptRec → ℕ)
-        → sum_by f (brought k (record { down = d; records = waiting_in lane })) + (sum_by f (flat_map (working k) m.held) + sum_by f es)
-        ≡ sum_by f (brought k (record { down = d; records = waiting_in (record lane { conts = q.1 }) })) + (sum_by f (flat_map (working k) (m.held ++ work q ∷ [])) + sum_by f fs)
+        → sum_by f (brought k (record { down = d; records = waiting_in lane })) + (sum_by f (flat_map (work_in k) m.held) + sum_by f es)
+        ≡ sum_by f (brought k (record { down = d; records = waiting_in (record lane { conts = q.1 }) })) + (sum_by f (flat_map (work_in k) (m.held ++ work q ∷ [])) + sum_by f fs)
     moved lane q took f =
         let a : sum_by f (brought k (record { down = d; records = waiting_in lane })) ≡ sum_by f (brought k (record { down = d; records = q.0.records })) + sum_by f (brought k (record { down = d; records = waiting_in (record lane { conts = q.1 }) })) =
         sum_by-brought f k d (waiting_in lane) q.0.records (waiting_in (record lane { conts = q.1 })) (waiting-take_from number lane.conts q took) in
-        let b : sum_by f (flat_map (working k) (m.held ++ work q ∷ [])) ≡ sum_by f (flat_map (working k) m.held) + sum_by f (working k (work q)) = sum_by-held_push f (working k) m.held (work q) in
-        let c : sum_by f (working k (work q)) ≡ sum_by f (brought k (record { down = d; records = q.0.records })) = working_is f k d q.0.epoch q.0.floor number q.0.records in
+        let b : sum_by f (flat_map (work_in k) (m.held ++ work q ∷ [])) ≡ sum_by f (flat_map (work_in k) m.held) + sum_by f (work_in k (work q)) = sum_by-held_push f (work_in k) m.held (work q) in
+        let c : sum_by f (work_in k (work q)) ≡ sum_by f (brought k (record { down = d; records = q.0.records })) = working_is f k d q.0.epoch q.0.floor number q.0.records in
         omega (arith, same f)

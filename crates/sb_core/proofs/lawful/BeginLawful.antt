@@ -22,12 +22,12 @@ use Rattle.sb_core.specs.declared.held.Held.{Held}
 use Rattle.sb_core.specs.declared.held.Held.TheVariants.{Work, Close}
 use Rattle.sb_record.specs.declared.element.KeptRec.{KeptRec}
 use Rattle.sb_record.specs.Records.{record_cmp, before, at_least}
-use Rattle.sb_pipeline.specs.Operators.{Operator, operator_at, grouped}
+use Rattle.sb_pipeline.specs.Operators.{Operator, operator_at, operator_rows}
 use Rattle.sb_pipeline.specs.Operators.Operator.{ParDo, Windowed, Sink}
 use Rattle.sb_record.specs.Reading.{◌>>=◌}
 use Rattle.sb_record.proofs.Sums.{any_by_count}
 use Rattle.sb_window.specs.declared.windows.TheConstants.{MAX_SIZE}
-use Rattle.sb_core.specs.Marks.{begun, closed, last_of_first, first_is_closing}
+use Rattle.sb_core.specs.Marks.{begun_count, least_begun_mark, last_of_first, first_is_closing}
 use Rattle.sb_core.specs.Lanes.{closable, with_first_closing}
 use Rattle.sb_core.specs.Choices.{is_empty}
 use Rattle.sb_core.specs.Closings.{is_sink, rows_at}
@@ -65,13 +65,13 @@ closable-is epoch (x ∷ cs) c h =
     subst (IsClosable epoch (x ∷ cs)) same (record { rest = cs; is = refl; of_epoch = eqb-true x.epoch epoch b.0; marked = d.0; none_waits = empty_is x.waiting e.0; none_out = empty_is x.out e.1 })
 
 -- the least over the lanes rises with one of them
-closed-set_rises : (lanes : List CoreLane) (l : ℕ) (lane with : CoreLane) → slice_get lanes l ≡ Some lane → begun_mark lane ≤ begun_mark with → closed lanes ≤ closed (slice_set lanes l with)
+closed-set_rises : (lanes : List CoreLane) (l : ℕ) (lane with : CoreLane) → slice_get lanes l ≡ Some lane → begun_mark lane ≤ begun_mark with → least_begun_mark lanes ≤ least_begun_mark (slice_set lanes l with)
 closed-set_rises [] l lane with h e = cc
 closed-set_rises (first ∷ []) zero lane with h e = let k : begun_mark first ≡ begun_mark lane = cc in omega arith
 closed-set_rises (first ∷ []) (suc l) lane with h e = cc
 closed-set_rises (first ∷ second ∷ lanes) zero lane with h e = let k : begun_mark first ≡ begun_mark lane = cc in omega arith
-closed-set_rises (first ∷ second ∷ lanes) (suc zero) lane with h e = let k : closed (second ∷ lanes) ≤ closed (with ∷ lanes) = closed-set_rises (second ∷ lanes) zero lane with h e in omega arith
-closed-set_rises (first ∷ second ∷ lanes) (suc (suc l)) lane with h e = let k : closed (second ∷ lanes) ≤ closed (second ∷ slice_set lanes l with) = closed-set_rises (second ∷ lanes) (suc l) lane with h e in omega arith
+closed-set_rises (first ∷ second ∷ lanes) (suc zero) lane with h e = let k : least_begun_mark (second ∷ lanes) ≤ least_begun_mark (with ∷ lanes) = closed-set_rises (second ∷ lanes) zero lane with h e in omega arith
+closed-set_rises (first ∷ second ∷ lanes) (suc (suc l)) lane with h e = let k : least_begun_mark (second ∷ lanes) ≤ least_begun_mark (second ∷ slice_set lanes l with) = closed-set_rises (second ∷ lanes) (suc l) lane with h e in omega arith
 
 -- the lane with its first container closing
 begun-lane : (bound : ℕ) (lane : CoreLane) (c : Cont) → IsLane bound lane → IsClosable lane.ended lane.conts c → IsLane bound (record lane { conts = with_first_closing lane.conts }) × (lane.ended + 1 ≤ length lane.marks)
@@ -118,9 +118,9 @@ IsBetween floor mark r = (floor ≤ r.time) × (r.time < mark)
 rows-between : (o : Operator) (floor mark : ℕ) (kept : List KeptRec) → AllByRecursion (IsBetween floor mark) (rows_at o floor mark kept)
 rows-between (ParDo op) floor mark kept = tt
 rows-between (Windowed g) floor mark kept =
-    All-in_order (IsBetween floor mark) record_cmp (before mark (at_least floor (grouped g kept)))
-    (All-passed (λ r. floor ≤ r.time) (IsBetween floor mark) (λ r. nat_lt r.time mark) (λ r a b. (a, ltb-true r.time mark b)) (at_least floor (grouped g kept))
-    (at_least-high floor (grouped g kept)))
+    All-in_order (IsBetween floor mark) record_cmp (before mark (at_least floor (operator_rows g kept)))
+    (All-passed (λ r. floor ≤ r.time) (IsBetween floor mark) (λ r. nat_lt r.time mark) (λ r a b. (a, ltb-true r.time mark b)) (at_least floor (operator_rows g kept))
+    (at_least-high floor (operator_rows g kept)))
 rows-between Sink floor mark kept = tt
 
 both_within : (floor mark bound : ℕ) (l : List Record) → AllByRecursion (IsBetween floor mark) l → AllByRecursion (λ r. r.time ≤ bound) l → IsWithin floor bound l × AllByRecursion (λ r. r.time < mark) l
@@ -178,13 +178,13 @@ module _ (plan : Shape) (m : Moment) (n l : ℕ) (node : Node) (lane : CoreLane)
   begun_closing : first_is_closing begun_l.conts ≡ true
   begun_closing = ap (λ cs. first_is_closing (with_first_closing cs)) closes.is
 
-  begun_before : begun lane ≡ lane.ended
+  begun_before : begun_count lane ≡ lane.ended
   begun_before = ap (λ b. cond b (lane.ended + 1) lane.ended) idle_lane
 
-  begun_after : begun begun_l ≡ lane.ended + 1
+  begun_after : begun_count begun_l ≡ lane.ended + 1
   begun_after = ap (λ b. cond b (lane.ended + 1) lane.ended) begun_closing
 
-  pub rises : closed node.lanes ≤ closing_mark plan m n l node lane c.epoch
+  pub rises : least_begun_mark node.lanes ≤ closing_mark plan m n l node lane c.epoch
   rises = closed-set_rises node.lanes l lane begun_l in_it (subst (λ a. last_of_first a lane.marks ≤ begun_mark begun_l) (sym begun_before) (subst (λ a. last_of_first lane.ended lane.marks ≤ last_of_first a lane.marks) (sym begun_after) (last_of_first-rises lane.marks lane.ended (lane.ended + 1) (lawful.lanes (record { node = n; lane = l }) lane was).rising (omega arith) ok.1)))
 
   floor_same : (e : Down) → floor_at after e ≡ floor_at m e
@@ -221,7 +221,7 @@ module _ (plan : Shape) (m : Moment) (n l : ℕ) (node : Node) (lane : CoreLane)
         there = ⊎_elim (λ x. absurd (eqb-false k n no_close (ap (λ (d : Down). d.node) x.0))) (λ e. e ∙ h.there) (cases (record { node = k; lane = i }));
         closing = h.closing;
         epoch_is = h.epoch_is;
-        mark_is = h.mark_is ∙ ap (λ (x : Node). closed x.lanes) (sym other);
+        mark_is = h.mark_is ∙ ap (λ (x : Node). least_begun_mark x.lanes) (sym other);
         rises = h.rises;
         serial_is = h.serial_is ∙ ap (λ (x : Node). x.closings) (sym other);
         times = h.times;
@@ -244,26 +244,26 @@ module _ (plan : Shape) (m : Moment) (n l : ℕ) (node : Node) (lane : CoreLane)
       one true h ih = cc
       one false h ih = ih h
 
-  module _ (bounded : AllByRecursion (λ r. r.time ≤ bound_at plan n + MAX_SIZE) (rows_at (operator_at (slice_get plan.steps n)) (closed node.lanes) (closing_mark plan m n l node lane c.epoch) node.kept)) where
+  module _ (bounded : AllByRecursion (λ r. r.time ≤ bound_at plan n + MAX_SIZE) (rows_at (operator_at (slice_get plan.steps n)) (least_begun_mark node.lanes) (closing_mark plan m n l node lane c.epoch) node.kept)) where
     new_is : IsHeld plan after close
     new_is =
-        let w = both_within (closed node.lanes) (closing_mark plan m n l node lane c.epoch) (bound_at plan n + MAX_SIZE) (rows_at (operator_at (slice_get plan.steps n)) (closed node.lanes) (closing_mark plan m n l node lane c.epoch) node.kept) (rows-between (operator_at (slice_get plan.steps n)) (closed node.lanes) (closing_mark plan m n l node lane c.epoch) node.kept) bounded in
+        let w = both_within (least_begun_mark node.lanes) (closing_mark plan m n l node lane c.epoch) (bound_at plan n + MAX_SIZE) (rows_at (operator_at (slice_get plan.steps n)) (least_begun_mark node.lanes) (closing_mark plan m n l node lane c.epoch) node.kept) (rows-between (operator_at (slice_get plan.steps n)) (least_begun_mark node.lanes) (closing_mark plan m n l node lane c.epoch) node.kept) bounded in
         record {
           lane = begun_l;
           there = is_now;
           closing = begun_closing;
           epoch_is = closes.of_epoch;
-          mark_is = ap (λ (x : Node). closed x.lanes) (sym this_node);
+          mark_is = ap (λ (x : Node). least_begun_mark x.lanes) (sym this_node);
           rises = rises;
           serial_is = ap (λ (x : Node). x.closings) (sym this_node);
           times = w.0;
           before_mark = w.1;
           no_rows = no_rows (operator_at (slice_get plan.steps n));
-          under = λ p s is. floor_same s.down ∙ (lawful.below n s is).as_passed (unpassed_is n m.held idle) ∙ ap (λ (x : Node). closed x.lanes) (node_at-same m n node node at);
+          under = λ p s is. floor_same s.down ∙ (lawful.below n s is).as_passed (unpassed_is n m.held idle) ∙ ap (λ (x : Node). least_begun_mark x.lanes) (node_at-same m n node node at);
           next_under = λ p s is. epoch_same s.down ∙ (lawful.below n s is).as_many (unpassed_is n m.held idle) ∙ ap (λ (x : Node). x.closings) (node_at-same m n node node at);
         }
       where
-        no_rows : (o : Operator) → is_sink o ≡ true → rows_at o (closed node.lanes) (closing_mark plan m n l node lane c.epoch) node.kept ≡ []
+        no_rows : (o : Operator) → is_sink o ≡ true → rows_at o (least_begun_mark node.lanes) (closing_mark plan m n l node lane c.epoch) node.kept ≡ []
         no_rows (ParDo op) h = cc
         no_rows (Windowed g) h = cc
         no_rows Sink h = refl
@@ -307,7 +307,7 @@ module _ (plan : Shape) (m : Moment) (n l : ℕ) (node : Node) (lane : CoreLane)
               lane = x.0;
               there = x.1;
               as_many = λ h. epoch_same s.down ∙ ⊎_elim (λ e. absurd (never k s is e h)) (λ ne. b.as_many (old k h) ∙ ap (λ (x : Node). x.closings) (sym (other_node k ne))) (cases_eq k n);
-              as_passed = λ h. floor_same s.down ∙ ⊎_elim (λ e. absurd (never k s is e h)) (λ ne. b.as_passed (old k h) ∙ ap (λ (x : Node). closed x.lanes) (sym (other_node k ne))) (cases_eq k n);
+              as_passed = λ h. floor_same s.down ∙ ⊎_elim (λ e. absurd (never k s is e h)) (λ ne. b.as_passed (old k h) ∙ ap (λ (x : Node). least_begun_mark x.lanes) (sym (other_node k ne))) (cases_eq k n);
             }
           where
             old : (k : ℕ) → list_any (is_unpassed k) (m.held ++ close ∷ []) ≡ false → list_any (is_unpassed k) m.held ≡ false
@@ -320,12 +320,12 @@ module _ (plan : Shape) (m : Moment) (n l : ℕ) (node : Node) (lane : CoreLane)
                 let b : (list_any (is_unpassed k) m.held || ((true && not false) || false)) ≡ false = (λ i. list_any (is_unpassed k) m.held || ((sym (eq-eqb n k (sym e)) i && not (sym t i)) || false)) ∙ a in
                 let c : true ≡ false = sym (or-true (list_any (is_unpassed k) m.held)) ∙ b in cc
 
-        closings : (k : ℕ) → (node_at after k).closings ≡ sum_by begun (node_at after k).lanes
-        closings k = ⊎_elim here (λ ne. ap (λ (x : Node). x.closings) (other_node k ne) ∙ lawful.closings k ∙ ap (λ (x : Node). sum_by begun x.lanes) (sym (other_node k ne))) (cases_eq k n)
+        closings : (k : ℕ) → (node_at after k).closings ≡ sum_by begun_count (node_at after k).lanes
+        closings k = ⊎_elim here (λ ne. ap (λ (x : Node). x.closings) (other_node k ne) ∙ lawful.closings k ∙ ap (λ (x : Node). sum_by begun_count x.lanes) (sym (other_node k ne))) (cases_eq k n)
           where
-            here : k ≡ n → (node_at after k).closings ≡ sum_by begun (node_at after k).lanes
+            here : k ≡ n → (node_at after k).closings ≡ sum_by begun_count (node_at after k).lanes
             here e =
-                let a : sum_by begun (slice_set node.lanes l begun_l) + begun lane ≡ sum_by begun node.lanes + begun begun_l = sum_by-set_get begun node.lanes l lane begun_l in_it in
-                let b : node.closings ≡ sum_by begun node.lanes = ap (λ (x : Node). x.closings) (sym (node_at-same m n node node at)) ∙ lawful.closings n ∙ ap (λ (x : Node). sum_by begun x.lanes) (node_at-same m n node node at) in
-                let d : node.closings + 1 ≡ sum_by begun (slice_set node.lanes l begun_l) = omega (arith, begun_before, begun_after) in
-                ap (λ k. (node_at after k).closings) e ∙ ap (λ (x : Node). x.closings) this_node ∙ d ∙ sym (ap (λ k. sum_by begun (node_at after k).lanes) e ∙ ap (λ (x : Node). sum_by begun x.lanes) this_node)
+                let a : sum_by begun_count (slice_set node.lanes l begun_l) + begun_count lane ≡ sum_by begun_count node.lanes + begun_count begun_l = sum_by-set_get begun_count node.lanes l lane begun_l in_it in
+                let b : node.closings ≡ sum_by begun_count node.lanes = ap (λ (x : Node). x.closings) (sym (node_at-same m n node node at)) ∙ lawful.closings n ∙ ap (λ (x : Node). sum_by begun_count x.lanes) (node_at-same m n node node at) in
+                let d : node.closings + 1 ≡ sum_by begun_count (slice_set node.lanes l begun_l) = omega (arith, begun_before, begun_after) in
+                ap (λ k. (node_at after k).closings) e ∙ ap (λ (x : Node). x.closings) this_node ∙ d ∙ sym (ap (λ k. sum_by begun_count (node_at after k).lanes) e ∙ ap (λ (x : Node). sum_by begun_count x.lanes) this_node)

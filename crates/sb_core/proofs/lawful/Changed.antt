@@ -14,7 +14,7 @@ use Rattle.sb_pipeline.specs.Shapes.{Shape}
 use Rattle.sb_core.specs.declared.moment.Moment.{Moment}
 use Rattle.sb_core.specs.declared.held.Held.{Held}
 use Rattle.sb_record.specs.Reading.{◌>>=◌}
-use Rattle.sb_core.specs.Marks.{begun, closed, first_is_closing}
+use Rattle.sb_core.specs.Marks.{begun_count, least_begun_mark, first_is_closing}
 use Rattle.sb_core.specs.Moments.{is_close, is_close_of, lane_at, set_node, with_held, node_at, floor_at, epoch_at}
 use Rattle.sb_core.specs.LaneOrder.{IsLane, cont_at}
 use Rattle.sb_core.specs.Bounds.{bound_at}
@@ -29,7 +29,7 @@ abbrev pub IsOutAt : ℕ → ℕ → ℕ → CoreLane → Type 0
 IsOutAt epoch floor number lane = (c : Cont) × (cont_at epoch lane.conts ≡ Some c) × (c.floor ≡ floor) × (list_any (λ n. eqb n number) c.out ≡ true)
 
 module _ (plan : Shape) (m : Moment) (n l : ℕ) (node new : Node) (lane with : CoreLane) (at : slice_get m.nodes n ≡ Some node) (in_it : slice_get node.lanes l ≡ Some lane)
-    (lanes : new.lanes ≡ slice_set node.lanes l with) (closings_same : new.closings ≡ node.closings) (begun_same : begun with ≡ begun lane) (mark_same : begun_mark with ≡ begun_mark lane) (held : List Held) where
+    (lanes : new.lanes ≡ slice_set node.lanes l with) (closings_same : new.closings ≡ node.closings) (begun_same : begun_count with ≡ begun_count lane) (mark_same : begun_mark with ≡ begun_mark lane) (held : List Held) where
   abbrev pub now : Moment
   now = set_node n new (with_held held m)
 
@@ -44,8 +44,8 @@ module _ (plan : Shape) (m : Moment) (n l : ℕ) (node new : Node) (lane with : 
       (λ e. ap (λ k. g (node_at now k)) e ∙ ap g (node_at-set_same m n node new at) ∙ same ∙ sym (ap (λ k. g (node_at m k)) e ∙ ap g (node_at-same m n node new at)))
       (λ ne. ap g (node_at-set_other m n node new at k ne)) (cases_eq k n)
 
-  pub closed_same : (k : ℕ) → closed (node_at now k).lanes ≡ closed (node_at m k).lanes
-  closed_same k = of_node (λ x. closed x.lanes) (ap closed lanes ∙ closed-set node.lanes l lane with in_it mark_same) k
+  pub closed_same : (k : ℕ) → least_begun_mark (node_at now k).lanes ≡ least_begun_mark (node_at m k).lanes
+  closed_same k = of_node (λ x. least_begun_mark x.lanes) (ap least_begun_mark lanes ∙ closed-set node.lanes l lane with in_it mark_same) k
 
   pub other : (e : Down) → e ≢ record { node = n; lane = l } → lane_at now e ≡ lane_at m e
   other e ne = ⊎_elim (λ c. absurd (ne c.0)) (λ c. c) (cases e)
@@ -116,6 +116,6 @@ module _ (plan : Shape) (m : Moment) (n l : ℕ) (node new : Node) (lane with : 
         one_close = one;
         closing_held = closing;
         below = below;
-        closings = λ k. of_node (λ x. x.closings) closings_same k ∙ lawful.closings k ∙ sym (of_node (λ x. sum_by begun x.lanes) (ap (sum_by begun) lanes ∙ sum_by-set_at begun node.lanes l lane with in_it begun_same) k);
+        closings = λ k. of_node (λ x. x.closings) closings_same k ∙ lawful.closings k ∙ sym (of_node (λ x. sum_by begun_count x.lanes) (ap (sum_by begun_count) lanes ∙ sum_by-set_at begun_count node.lanes l lane with in_it begun_same) k);
         sources = λ s e is. let x = lawful.sources s e is in ⊎_elim (λ c. (with, c.1)) (λ c. (x.0, c ∙ x.1)) (cases e);
       }

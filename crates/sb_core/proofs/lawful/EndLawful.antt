@@ -15,7 +15,7 @@ use Rattle.sb_core.specs.declared.moment.Moment.{Moment}
 use Rattle.sb_core.specs.declared.held.Held.{Held}
 use Rattle.sb_core.specs.declared.held.Held.TheVariants.{Work, Close}
 use Rattle.sb_record.specs.Reading.{◌>>=◌}
-use Rattle.sb_core.specs.Marks.{begun, first_is_closing, last_of_first}
+use Rattle.sb_core.specs.Marks.{begun_count, first_is_closing, last_of_first}
 use Rattle.sb_core.specs.Lanes.{finish_in}
 use Rattle.sb_core.specs.Moments.{is_work, is_close, is_close_of, lane_at, set_lane, set_node, with_held, floor_of, floor_at, epoch_of, epoch_at}
 use Rattle.sb_core.specs.LaneOrder.{AreContainers, IsLane, IsReady, cont_at}
@@ -43,7 +43,7 @@ module _ (bound : ℕ) (lane : CoreLane) (ok : IsLane bound lane) (closing : fir
   pub end-calm : first_is_closing (shorter lane).conts ≡ false
   end-calm = calm_first (drop 1 lane.conts) ok.others
 
-  pub end-begun : begun (shorter lane) ≡ begun lane
+  pub end-begun : begun_count (shorter lane) ≡ begun_count lane
   end-begun = ap (λ b. cond b (lane.ended + 1 + 1) (lane.ended + 1)) end-calm ∙ sym (ap (λ b. cond b (lane.ended + 1) lane.ended) closing)
 
   pub end-mark : begun_mark (shorter lane) ≡ begun_mark lane
@@ -103,7 +103,7 @@ end-lawful plan m node lane y l epoch serial floor mark rows others at in_it law
     ok : IsLane (bound_at plan y) lane
     ok = lawful.lanes (record { node = y; lane = l }) lane was
 
-    begins : begun (shorter lane) ≡ begun lane
+    begins : begun_count (shorter lane) ≡ begun_count lane
     begins = end-begun (bound_at plan y) lane ok closing
 
     marks : begun_mark (shorter lane) ≡ begun_mark lane
@@ -223,7 +223,7 @@ finish-lawful plan m node new lane k l epoch floor number records delivered othe
     closing : first_is_closing (finish_in epoch number lane.conts) ≡ first_is_closing lane.conts
     closing = differ-closing (bound_at plan k) lane.conts (finish_in epoch number lane.conts) differ
 
-    begins : begun (record lane { conts = finish_in epoch number lane.conts }) ≡ begun lane
+    begins : begun_count (record lane { conts = finish_in epoch number lane.conts }) ≡ begun_count lane
     begins = ap (λ b. cond b (lane.ended + 1) lane.ended) closing
 
     marks : begun_mark (record lane { conts = finish_in epoch number lane.conts }) ≡ begun_mark lane

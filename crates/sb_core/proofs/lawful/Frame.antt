@@ -13,7 +13,7 @@ use Rattle.sb_pipeline.specs.Shapes.{Shape}
 use Rattle.sb_core.specs.declared.moment.Moment.{Moment}
 use Rattle.sb_core.specs.declared.held.Held.{Held}
 use Rattle.sb_core.specs.declared.held.Held.TheVariants.{Work, Close}
-use Rattle.sb_core.specs.Marks.{begun, closed, last_of_first, first_is_closing}
+use Rattle.sb_core.specs.Marks.{begun_count, least_begun_mark, last_of_first, first_is_closing}
 use Rattle.sb_core.specs.Moments.{is_close, is_close_of, lane_at, set_lane, set_node, with_held, node_at, floor_of, floor_at, epoch_of, epoch_at}
 use Rattle.sb_core.specs.LaneOrder.{IsLane, cont_at}
 use Rattle.sb_core.specs.Bounds.{bound_at}
@@ -37,13 +37,13 @@ module _ (plan : Shape) (m : Moment) (d : Down) (node : Node) (lane with : CoreL
   abbrev now : Moment
   now = set_node d.node (set_lane d.lane with node) (with_held held m)
 
-  begun_same : begun with ≡ begun lane
+  begun_same : begun_count with ≡ begun_count lane
   begun_same = λ i. cond (kept.closing i) (kept.ended i + 1) (kept.ended i)
 
   mark_same : begun_mark with ≡ begun_mark lane
   mark_same = λ i. last_of_first (begun_same i) (kept.marks i)
 
-  pub closed_same : (k : ℕ) → closed (node_at now k).lanes ≡ closed (node_at m k).lanes
+  pub closed_same : (k : ℕ) → least_begun_mark (node_at now k).lanes ≡ least_begun_mark (node_at m k).lanes
   closed_same k = closed-changed m d node lane with at in_it mark_same k
 
   floor_with : floor_of (Some with) ≡ floor_of (Some lane)
@@ -118,7 +118,7 @@ module _ (plan : Shape) (m : Moment) (d : Down) (node : Node) (lane with : CoreL
             (λ y. lawful.closing_held e lane y.2 (sym kept.closing ∙ ap (λ (x : CoreLane). first_is_closing x.conts) (same_Some with x (sym y.1 ∙ h)) ∙ c))
             (λ y. lawful.closing_held e x (sym y ∙ h) c) (cases e);
         below = λ k s is. below_still k s (lawful.below k s is);
-        closings = λ k. of_node (λ n. n.closings) refl k ∙ lawful.closings k ∙ sym (of_node (λ n. sum_by begun n.lanes) (sum_by-set_at begun node.lanes d.lane lane with in_it begun_same) k);
+        closings = λ k. of_node (λ n. n.closings) refl k ∙ lawful.closings k ∙ sym (of_node (λ n. sum_by begun_count n.lanes) (sum_by-set_at begun_count node.lanes d.lane lane with in_it begun_same) k);
         sources = λ s e is. let x = lawful.sources s e is in ⊎_elim (λ c. (with, c.1)) (λ c. (x.0, c ∙ x.1)) (cases e);
       }
     where

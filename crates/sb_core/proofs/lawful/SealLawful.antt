@@ -19,7 +19,7 @@ use Rattle.sb_core.specs.declared.held.Held.{Held}
 use Rattle.sb_core.specs.declared.held.Held.TheVariants.{Work, Close}
 use Rattle.sb_pipeline.specs.Plans.{IsPlan}
 use Rattle.sb_record.specs.Reading.{◌>>=◌}
-use Rattle.sb_core.specs.Marks.{begun, closed, first_is_closing, last_of_first}
+use Rattle.sb_core.specs.Marks.{begun_count, least_begun_mark, first_is_closing, last_of_first}
 use Rattle.sb_core.specs.Lanes.{in_epoch, next_epoch, next_floor, with_seal}
 use Rattle.sb_core.specs.Moments.{is_close, is_close_of, lane_at, set_lane, set_node, with_held, node_at, floor_of, floor_at, epoch_of, epoch_at}
 use Rattle.sb_core.specs.LaneOrder.{NeverFalls, AreContainers, IsLane}
@@ -77,7 +77,7 @@ module _ (bound mark : ℕ) (lane : CoreLane) (ok : IsLane bound lane) (up : nex
   pub seal-closing : first_is_closing (with_seal mark lane).conts ≡ first_is_closing lane.conts
   seal-closing = calm bound (next_epoch lane) (next_floor lane) (λ c. record c { mark = Some mark }) (λ c. refl) lane.ended (last_of_first lane.ended lane.marks) (drop lane.ended lane.marks) lane.conts ok.containers (omega (arith, sealed_all))
 
-  pub seal-begun : begun (with_seal mark lane) ≡ begun lane
+  pub seal-begun : begun_count (with_seal mark lane) ≡ begun_count lane
   seal-begun = ap (λ b. cond b (lane.ended + 1) lane.ended) seal-closing
 
   pub seal-out : (epoch floor number : ℕ) → IsOutAt epoch floor number lane → IsOutAt epoch floor number (with_seal mark lane)
@@ -100,7 +100,7 @@ module _ (plan : Shape) (m : Moment) (d : Down) (node : Node) (lane : CoreLane) 
   abbrev pub now : Moment
   now = set_node d.node (set_lane d.lane (with_seal mark lane) node) (with_held held m)
 
-  sealed_begun : begun (with_seal mark lane) ≡ begun lane
+  sealed_begun : begun_count (with_seal mark lane) ≡ begun_count lane
   sealed_begun = seal-begun (bound_at plan d.node) mark lane ok up fits
 
   sealed_mark : begun_mark (with_seal mark lane) ≡ begun_mark lane
@@ -211,7 +211,7 @@ pass-lawful plan is_plan m d node lane y l epoch serial floor mark rows others s
               lane = with_seal mark lane;
               there = ap (lane_at after) to ∙ now;
               as_many = λ _. ap (epoch_at after) to ∙ ap epoch_of now ∙ many ∙ ap (λ n. n + 1) epoch_under ∙ passed_now.serial_is ∙ ap (λ k. (node_at after k).closings) (sym e);
-              as_passed = λ _. ap (floor_at after) to ∙ ap floor_of now ∙ sealed_floor mark lane ∙ passed_now.mark_is ∙ ap (λ k. closed (node_at after k).lanes) (sym e);
+              as_passed = λ _. ap (floor_at after) to ∙ ap floor_of now ∙ sealed_floor mark lane ∙ passed_now.mark_is ∙ ap (λ k. least_begun_mark (node_at after k).lanes) (sym e);
             }
 
         there : k ≢ y → IsSealedBelow after k t.down

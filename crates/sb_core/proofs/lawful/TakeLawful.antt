@@ -21,7 +21,7 @@ use Rattle.sb_core.specs.declared.held.Held.{Held}
 use Rattle.sb_core.specs.declared.held.Held.TheVariants.{Work}
 use Rattle.sb_record.specs.Reading.{◌>>=◌}
 use Rattle.sb_core.specs.Marks.{first_is_closing}
-use Rattle.sb_core.specs.Choices.{pulled}
+use Rattle.sb_core.specs.Choices.{first_and_rest}
 use Rattle.sb_core.specs.Lanes.{take_from}
 use Rattle.sb_core.specs.MomentSteps.{after_take}
 use Rattle.sb_core.specs.Moments.{is_close, is_close_of, lane_at, set_lane, set_node, with_held}
@@ -68,10 +68,10 @@ take_step : (bound number : ℕ) (c : Cont) (cs : List Cont) (q : Bundle × List
 take_step bound number c cs q h all ih = by_case (list_any (λ b. eqb b.number number) c.waiting) h
   where
     by_case : (a : Bool)
-        → cond {A = Option (Bundle × List Cont)} a (pulled (λ b. eqb b.number number) c.waiting >>= λ q. Some (q.0, record c { waiting = q.1; out = c.out ++ number ∷ [] } ∷ cs)) (take_from number cs >>= λ q. Some (q.0, c ∷ q.1)) ≡ Some q
+        → cond {A = Option (Bundle × List Cont)} a (first_and_rest (λ b. eqb b.number number) c.waiting >>= λ q. Some (q.0, record c { waiting = q.1; out = c.out ++ number ∷ [] } ∷ cs)) (take_from number cs >>= λ q. Some (q.0, c ∷ q.1)) ≡ Some q
         → IsTakenFrom bound number c.epoch q.0 q.1
     by_case true h =
-        let b = bind_some (pulled (λ b. eqb b.number number) c.waiting) _ q h in
+        let b = bind_some (first_and_rest (λ b. eqb b.number number) c.waiting) _ q h in
         let same : ◌≡◌ {A = Bundle × List Cont} (b.0.0, record c { waiting = b.0.1; out = c.out ++ number ∷ [] } ∷ cs) q = same_Some _ _ b.2 in
         let is = (All-pulled (IsBundleOf bound c) (λ b. eqb b.number number) c.waiting b.0 b.1 all).0 in
         subst (λ (r : Bundle × List Cont). IsTakenFrom bound number c.epoch r.0 r.1) same (record { taken = taken_here bound number b.0.0 c b.0.1 cs is; epoch_from = omega (arith, is.epoch) })
@@ -110,10 +110,10 @@ take_from-grows number [] q h = cc
 take_from-grows number (c ∷ cs) q h = by_case (list_any (λ b. eqb b.number number) c.waiting) h (λ r e. take_from-grows number cs r e)
   where
     by_case : (a : Bool)
-        → cond {A = Option (Bundle × List Cont)} a (pulled (λ b. eqb b.number number) c.waiting >>= λ q. Some (q.0, record c { waiting = q.1; out = c.out ++ number ∷ [] } ∷ cs)) (take_from number cs >>= λ q. Some (q.0, c ∷ q.1)) ≡ Some q
+        → cond {A = Option (Bundle × List Cont)} a (first_and_rest (λ b. eqb b.number number) c.waiting >>= λ q. Some (q.0, record c { waiting = q.1; out = c.out ++ number ∷ [] } ∷ cs)) (take_from number cs >>= λ q. Some (q.0, c ∷ q.1)) ≡ Some q
         → ((r : Bundle × List Cont) → take_from number cs ≡ Some r → OutGrows cs r.1) → OutGrows (c ∷ cs) q.1
     by_case true h ih =
-        let b = bind_some (pulled (λ b. eqb b.number number) c.waiting) _ q h in
+        let b = bind_some (first_and_rest (λ b. eqb b.number number) c.waiting) _ q h in
         let same : ◌≡◌ {A = Bundle × List Cont} (b.0.0, record c { waiting = b.0.1; out = c.out ++ number ∷ [] } ∷ cs) q = same_Some _ _ b.2 in
         subst (λ (r : Bundle × List Cont). OutGrows (c ∷ cs) r.1) same (λ n k. list_any-append (λ x. eqb x n) c.out (number ∷ []) ∙ ap (λ a. a || list_any (λ x. eqb x n) (number ∷ [])) k, grows-refl cs)
     by_case false h ih =
@@ -164,7 +164,7 @@ take-ready number [] q h ready = cc
 take-ready number (c ∷ cs) q h ready = by_case c.closing refl
   where
     as_it_is : c.waiting ≡ [] → take_from number (c ∷ cs) ≡ (take_from number cs >>= λ q. Some (q.0, c ∷ q.1))
-    as_it_is e = ap (λ w. cond {A = Option (Bundle × List Cont)} (list_any (λ b. eqb b.number number) w) (pulled (λ b. eqb b.number number) c.waiting >>= λ q. Some (q.0, record c { waiting = q.1; out = c.out ++ number ∷ [] } ∷ cs)) (take_from number cs >>= λ q. Some (q.0, c ∷ q.1))) e
+    as_it_is e = ap (λ w. cond {A = Option (Bundle × List Cont)} (list_any (λ b. eqb b.number number) w) (first_and_rest (λ b. eqb b.number number) c.waiting >>= λ q. Some (q.0, record c { waiting = q.1; out = c.out ++ number ∷ [] } ∷ cs)) (take_from number cs >>= λ q. Some (q.0, c ∷ q.1))) e
 
     by_case : (b : Bool) → c.closing ≡ b → IsReady q.1
     by_case true e =

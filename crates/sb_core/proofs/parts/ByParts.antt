@@ -12,10 +12,10 @@ use Rattle.sb_core.specs.declared.held.Held.{Held}
 use Rattle.sb_core.specs.declared.held.Held.TheVariants.{Work, Close}
 use Rattle.sb_core.specs.declared.event.Event.{Event}
 use Rattle.sb_core.specs.declared.event.Event.TheVariants.{Arrive, Seal, Take, Deliver, Finish, Begin, Pass, End}
-use Rattle.sb_core.specs.Choices.{only_if, pulled}
+use Rattle.sb_core.specs.Choices.{only_if, first_and_rest}
 use Rattle.sb_core.specs.Events.{below, place_of, concerns, is_of_held, Part, only_node, put_in, part_after, held_after, with_part, moment_after, held_moment_after, after}
 use Rattle.sb_core.specs.Lanes.{take_from, closable}
-use Rattle.sb_core.specs.Laws.{OneNodeChanges, changed, takes_up}
+use Rattle.sb_core.specs.Laws.{OneNodeChanges, remains_of, takes_up}
 use Rattle.sb_core.specs.Moments.{with_held}
 use Rattle.sb_core.specs.Parts.{IsPart, IsHeldPart, HeldPartsAreEvents}
 use Rattle.sb_core.proofs.containers.Lists.{cond_is_some}
@@ -28,13 +28,13 @@ pub passing : {X : Type 0} (b : Bool) (o : Option X) (x : X) → b ≡ true → 
 passing b o x h k = ap (λ b. cond b o None) h ∙ k
 
 -- where no element passes, none is pulled out
-pulled-none : {X : Type 0} (p : X → Bool) (xs : List X) → ((x : X) → p x ≡ false) → pulled p xs ≡ None
+pulled-none : {X : Type 0} (p : X → Bool) (xs : List X) → ((x : X) → p x ≡ false) → first_and_rest p xs ≡ None
 pulled-none p [] none = refl
-pulled-none {X} p (x ∷ xs) none = (λ i. cond {A = Option (X × List X)} (none x i) (Some (x, xs)) (pulled p xs >>= λ q. Some (q.0, x ∷ q.1))) ∙ ap (λ o. o >>= λ q. Some (q.0, x ∷ q.1)) (pulled-none p xs none)
+pulled-none {X} p (x ∷ xs) none = (λ i. cond {A = Option (X × List X)} (none x i) (Some (x, xs)) (first_and_rest p xs >>= λ q. Some (q.0, x ∷ q.1))) ∙ ap (λ o. o >>= λ q. Some (q.0, x ∷ q.1)) (pulled-none p xs none)
 
 -- and where the first passes, it is
-pulled-head : {X : Type 0} (p : X → Bool) (x : X) (xs : List X) → p x ≡ true → pulled p (x ∷ xs) ≡ Some (x, xs)
-pulled-head {X} p x xs e = ap (λ b. cond {A = Option (X × List X)} b (Some (x, xs)) (pulled p xs >>= λ q. Some (q.0, x ∷ q.1))) e
+pulled-head : {X : Type 0} (p : X → Bool) (x : X) (xs : List X) → p x ≡ true → first_and_rest p (x ∷ xs) ≡ Some (x, xs)
+pulled-head {X} p x xs e = ap (λ b. cond {A = Option (X × List X)} b (Some (x, xs)) (first_and_rest p xs >>= λ q. Some (q.0, x ∷ q.1))) e
 
 -- an event of nothing held concerns nothing
 concerns-none : (event : Event) (h : Held) → is_of_held event ≡ false → concerns event h ≡ false
@@ -75,7 +75,7 @@ apart plan m later event h =
     by_case : (t : Bool) → is_of_held event ≡ t → (k : ℕ) (node : Node) → place_of plan event ≡ Some k → slice_get m.nodes k ≡ Some node
         → cond t (held_moment_after plan m event k node) (moment_after plan m event k node) ≡ Some later → IsPart plan m event later ⊎ IsHeldPart plan m event later
     by_case true e k node place there h =
-        let q = bind_some (pulled (concerns event) m.held) _ later h in
+        let q = bind_some (first_and_rest (concerns event) m.held) _ later h in
         let d = bind_some (held_after plan m.bundle event q.0.0 node) _ later q.2 in
         inr (record { h = q.0.0; others = q.0.1; found = q.1; k = k; node = node; part = d.0; place = place; there = there; does = d.1; gives = sym (same_Some _ _ d.2) })
     by_case false e k node place there h =
@@ -96,7 +96,7 @@ held-parts_are_events plan m event h rest k node p c place there does =
     chain (place_of plan event) _ k _ place
     (chain (slice_get m.nodes k) _ node _ there
     (ap (λ t. cond t (held_moment_after plan (with_held (h ∷ rest) m) event k node) (moment_after plan (with_held (h ∷ rest) m) event k node)) (of_held event h c)
-    ∙ chain (pulled (concerns event) (h ∷ rest)) _ (h, rest) _ (pulled-head (concerns event) h rest c)
+    ∙ chain (first_and_rest (concerns event) (h ∷ rest)) _ (h, rest) _ (pulled-head (concerns event) h rest c)
     (chain (held_after plan m.bundle event h node) _ p _ does refl)))
 
 -- an event changes the node of its place alone
@@ -114,7 +114,7 @@ put_leaves node l epoch floor records held p h =
     let b = bind_some (slice_get node.lanes l) _ p h in
     leaves held _ p (cond_is_some _ _ p b.2).1
 
-pub held-leaves : (plan : Shape) (bundle : ℕ) (event : Event) (h : Held) (node : Node) (p : Part) → held_after plan bundle event h node ≡ Some p → (p.held ≡ changed bundle event h) × (p.rows ≡ [])
+pub held-leaves : (plan : Shape) (bundle : ℕ) (event : Event) (h : Held) (node : Node) (p : Part) → held_after plan bundle event h node ≡ Some p → (p.held ≡ remains_of bundle event h) × (p.rows ≡ [])
 held-leaves plan bundle (Arrive stream records) held node p h = cc
 held-leaves plan bundle (Seal stream mark) held node p h = cc
 held-leaves plan bundle (Take k l number) held node p h = cc
@@ -141,11 +141,11 @@ held-leaves plan bundle (End k) (Close y l epoch serial floor mark rows passed) 
 
 -- an event of the Work or Close at the head leaves the others
 pub head-left : (plan : Shape) (m later : Moment) (event : Event) (h : Held) (rest : List Held) → concerns event h ≡ true → after plan (with_held (h ∷ rest) m) event ≡ Some later
-    → later.held ≡ rest ++ changed m.bundle event h
+    → later.held ≡ rest ++ remains_of m.bundle event h
 head-left plan m later event h rest c e = ⊎_elim
     (λ (p : IsPart plan (with_held (h ∷ rest) m) event later). absurd (none (sym p.alone ∙ pulled-head (concerns event) h rest c)))
     (λ (p : IsHeldPart plan (with_held (h ∷ rest) m) event later). let same : ◌≡◌ {A = Held × List Held} (p.h, p.others) (h, rest) = same_Some _ _ (sym p.found ∙ pulled-head (concerns event) h rest c) in
-    ap (λ (x : Moment). x.held) p.gives ∙ (λ i. (same i).1 ++ ((held-leaves plan m.bundle event p.h p.node p.part p.does).0 ∙ ap (λ (q : Held × List Held). changed m.bundle event q.0) same) i))
+    ap (λ (x : Moment). x.held) p.gives ∙ (λ i. (same i).1 ++ ((held-leaves plan m.bundle event p.h p.node p.part p.does).0 ∙ ap (λ (q : Held × List Held). remains_of m.bundle event q.0) same) i))
     (apart plan (with_held (h ∷ rest) m) later event e)
   where
     none : ◌≡◌ {A = Option (Held × List Held)} None (Some (h, rest)) → ⊥

@@ -17,7 +17,7 @@ use Rattle.sb_core.specs.declared.held.Held.{Held}
 use Rattle.sb_core.specs.declared.held.Held.TheVariants.{Work, Close}
 use Rattle.sb_core.specs.declared.event.Event.{Event}
 use Rattle.sb_core.specs.declared.event.Event.TheVariants.{Arrive, Seal, Take, Deliver, Finish, Begin, Pass, End}
-use Rattle.sb_core.specs.Choices.{only_if, is_empty, pulled}
+use Rattle.sb_core.specs.Choices.{only_if, is_empty, first_and_rest}
 use Rattle.sb_core.specs.Closings.{delivery}
 use Rattle.sb_core.specs.Events.{below, place_of, concerns, Part, only_node, put_in, held_after, with_part, held_moment_after, after}
 use Rattle.sb_core.specs.Holdings.{IsHeld}
@@ -211,10 +211,10 @@ module _ (plan : Shape) (m : Moment) where
   -- an event of the first Work or Close that it concerns
   first_found : (event : Event) (G : Held × List Held → Option Moment)
       → ((q : Held × List Held) → concerns event q.0 ≡ true → (place_of plan event >>= λ k. slice_get m.nodes k >>= λ node. held_after plan m.bundle event q.0 node >>= λ p. Some (with_part k q.1 m p)) ≡ G q)
-      → (place_of plan event >>= λ k. slice_get m.nodes k >>= λ node. held_moment_after plan m event k node) ≡ (pulled (concerns event) m.held >>= G)
-  first_found event G same = go (pulled (concerns event) m.held) refl
+      → (place_of plan event >>= λ k. slice_get m.nodes k >>= λ node. held_moment_after plan m event k node) ≡ (first_and_rest (concerns event) m.held >>= G)
+  first_found event G same = go (first_and_rest (concerns event) m.held) refl
     where
-      go : (o : Option (Held × List Held)) → pulled (concerns event) m.held ≡ o
+      go : (o : Option (Held × List Held)) → first_and_rest (concerns event) m.held ≡ o
           → (place_of plan event >>= λ k. slice_get m.nodes k >>= λ node. o >>= λ q. held_after plan m.bundle event q.0 node >>= λ p. Some (with_part k q.1 m p)) ≡ (o >>= G)
       go None e = then_never (place_of plan event) _ (λ k. then_never (slice_get m.nodes k) _ (λ node. refl))
       go (Some q) e = same q (pulled-passes (concerns event) m.held q e)
@@ -261,8 +261,8 @@ module _ (plan : Shape) (m : Moment) where
   deliver-made : (n l number : ℕ) → after plan m (Deliver n l number) ≡ made plan m (Deliver n l number)
   deliver-made n l number = first_found (Deliver n l number) (λ q. cond (eqb number 0) (deliver_rows plan m q.0 q.1) (deliver_work plan m q.0 q.1)) each ∙ by_number (eqb number 0)
     where
-      by_number : (b : Bool) → (pulled (λ h. cond b (is_close_of n l h) (is_work n l number h)) m.held >>= λ q. cond b (deliver_rows plan m q.0 q.1) (deliver_work plan m q.0 q.1))
-          ≡ cond b (pulled (is_close_of n l) m.held >>= λ q. deliver_rows plan m q.0 q.1) (pulled (is_work n l number) m.held >>= λ q. deliver_work plan m q.0 q.1)
+      by_number : (b : Bool) → (first_and_rest (λ h. cond b (is_close_of n l h) (is_work n l number h)) m.held >>= λ q. cond b (deliver_rows plan m q.0 q.1) (deliver_work plan m q.0 q.1))
+          ≡ cond b (first_and_rest (is_close_of n l) m.held >>= λ q. deliver_rows plan m q.0 q.1) (first_and_rest (is_work n l number) m.held >>= λ q. deliver_work plan m q.0 q.1)
       by_number true = refl
       by_number false = refl
 

@@ -18,10 +18,10 @@ use Rattle.sb_core.specs.declared.moment.Moment.{Moment}
 use Rattle.sb_core.specs.declared.moment.Node.{Node}
 use Rattle.sb_core.specs.declared.event.Event.TheVariants.{Arrive, Seal, Take, Deliver, Finish, Begin, Pass, End}
 use Rattle.sb_core.specs.Bounds.{bound_at}
-use Rattle.sb_core.specs.Closings.{collected, is_sink}
+use Rattle.sb_core.specs.Closings.{rows_at_sink, is_sink}
 use Rattle.sb_core.specs.Lanes.{take_from, closable, with_first_closing}
 use Rattle.sb_core.specs.Laws.{written_to}
-use Rattle.sb_core.specs.Marks.{closed}
+use Rattle.sb_core.specs.Marks.{least_begun_mark}
 use Rattle.sb_core.specs.Moments.{node_at, no_node, set_lane}
 use Rattle.sb_core.specs.NewRows.{AreUnwritten, NewRowsAreLater, HeldAddNoRows}
 use Rattle.sb_core.specs.Parts.{Part}
@@ -34,7 +34,7 @@ pub held-add_no_rows : HeldAddNoRows
 held-add_no_rows plan bundle event held node p h = (held-leaves plan bundle event held node p h).1
 
 -- what the sink collects of what it keeps
-collected-from : (low mark : ℕ) (es : List KeptRec) → AllByRecursion (λ e. low ≤ e.rec.time) es → AllByRecursion (λ r. low ≤ r.time) (collected Sink mark es)
+collected-from : (low mark : ℕ) (es : List KeptRec) → AllByRecursion (λ e. low ≤ e.rec.time) es → AllByRecursion (λ r. low ≤ r.time) (rows_at_sink Sink mark es)
 collected-from low mark es all =
     All-in_order (λ r. low ≤ r.time) record_cmp (before mark (all_records es)) (All-passed (λ r. low ≤ r.time) (λ r. low ≤ r.time) (λ r. nat_lt r.time mark) (λ r x y. x) (all_records es) (records_from es all))
   where
@@ -54,10 +54,10 @@ module _ (plan : Shape) (m : Moment) (sound : IsSound plan m) where
       (sound.kept (length plan.steps)))
 
   -- only the sink collects, and it is the last node
-  closing-later : (k mark : ℕ) (node : Node) → slice_get m.nodes k ≡ Some node → AreUnwritten plan m (collected (operator_at (slice_get plan.steps k)) mark node.kept)
+  closing-later : (k mark : ℕ) (node : Node) → slice_get m.nodes k ≡ Some node → AreUnwritten plan m (rows_at_sink (operator_at (slice_get plan.steps k)) mark node.kept)
   closing-later k mark node there = by_operator (operator_at (slice_get plan.steps k)) refl
     where
-      by_operator : (o : Operator) → operator_at (slice_get plan.steps k) ≡ o → AreUnwritten plan m (collected o mark node.kept)
+      by_operator : (o : Operator) → operator_at (slice_get plan.steps k) ≡ o → AreUnwritten plan m (rows_at_sink o mark node.kept)
       by_operator (ParDo op) e = tt
       by_operator (Windowed grouping) e = tt
       by_operator Sink e =
@@ -88,6 +88,6 @@ new-rows_are_later plan m (Begin n l) k node p sound named there h =
     let b = bind_some (slice_get node.lanes l) _ p h in
     let c = bind_some (closable b.0.ended b.0.conts) _ p b.2 in
     let d = cond_is_some _ _ p c.2 in
-    let mark : ℕ = closed (set_lane l (record b.0 { conts = with_first_closing b.0.conts }) node).lanes in
-    let added : p.rows ≡ collected (operator_at (slice_get plan.steps n)) mark node.kept = ap (λ (p : Part). p.rows) (sym (same_Some _ p d.1)) in
-    subst (AreUnwritten plan m) (sym (added ∙ ap (λ n. collected (operator_at (slice_get plan.steps n)) mark node.kept) (same_Some n k named))) (closing-later plan m sound k mark node there)
+    let mark : ℕ = least_begun_mark (set_lane l (record b.0 { conts = with_first_closing b.0.conts }) node).lanes in
+    let added : p.rows ≡ rows_at_sink (operator_at (slice_get plan.steps n)) mark node.kept = ap (λ (p : Part). p.rows) (sym (same_Some _ p d.1)) in
+    subst (AreUnwritten plan m) (sym (added ∙ ap (λ n. rows_at_sink (operator_at (slice_get plan.steps n)) mark node.kept) (same_Some n k named))) (closing-later plan m sound k mark node there)

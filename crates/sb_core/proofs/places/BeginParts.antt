@@ -24,11 +24,11 @@ use Rattle.sb_core.specs.declared.moment.Node.{Node}
 use Rattle.sb_core.specs.Bounds.{bound_at}
 use Rattle.sb_core.specs.Choices.{is_empty, only_if}
 use Rattle.sb_core.specs.Beginnings.{IsBeginningOf}
-use Rattle.sb_core.specs.Closings.{collected, is_sink, kept_at, rows_at}
+use Rattle.sb_core.specs.Closings.{rows_at_sink, is_sink, kept_at, rows_at}
 use Rattle.sb_core.specs.MomentSteps.{after_begin}
 use Rattle.sb_core.specs.Finding.{IsFirst}
 use Rattle.sb_core.specs.Lanes.{closable, with_first_closing}
-use Rattle.sb_core.specs.Marks.{begun, closed}
+use Rattle.sb_core.specs.Marks.{begun_count, least_begun_mark}
 use Rattle.sb_core.specs.Moments.{is_close, no_node, node_at}
 use Rattle.sb_core.specs.Soundness.{IsSound, AreKeptAt}
 use Rattle.sb_core.proofs.times.TimeBounds.{bound-before_end}
@@ -76,17 +76,17 @@ module _ (plan : Shape) (is_plan : IsPlan plan) (m : Moment) (sound : IsSound pl
   kept-times =
       All-from_recursion (λ (e : KeptRec). e.rec.time < END_MARK) node.kept
       (every (λ e h. omega (arith, h, bound-before_end plan is_plan k)) node.kept
-      (subst (λ (n : Node). AllByRecursion (λ e. e.rec.time ≤ bound_at plan k) n.kept) node-is (kept-bounded (operator_at (slice_get plan.steps k)) (closed (node_at m k).lanes) (bound_at plan k) (node_at m k).kept (sound.kept k))))
+      (subst (λ (n : Node). AllByRecursion (λ e. e.rec.time ≤ bound_at plan k) n.kept) node-is (kept-bounded (operator_at (slice_get plan.steps k)) (least_begun_mark (node_at m k).lanes) (bound_at plan k) (node_at m k).kept (sound.kept k))))
 
   pub lanes-few : length node.lanes ≤ 2
   lanes-few = omega (arith, ap (λ (n : Node). length n.lanes) (sym node-is), sound.lanes_there k node-within, lanes_of-most (operator_at (slice_get plan.steps k)))
 
-  pub lanes-begun : All (λ lane. begun lane ≤ length lane.marks) node.lanes
+  pub lanes-begun : All (λ lane. begun_count lane ≤ length lane.marks) node.lanes
   lanes-begun i d within =
       begun_within (bound_at plan k) (get_or node.lanes i d) (sound.lanes (record { node = k; lane = i }) (get_or node.lanes i d) (lane-there m k node at i (get_or node.lanes i d) (slice_get-get_or node.lanes i d within)))
 
-  pub begun-is : node.closings ≡ sum_by begun node.lanes
-  begun-is = subst (λ (n : Node). n.closings ≡ sum_by begun n.lanes) node-is (sound.closings k)
+  pub begun-is : node.closings ≡ sum_by begun_count node.lanes
+  begun-is = subst (λ (n : Node). n.closings ≡ sum_by begun_count n.lanes) node-is (sound.closings k)
 
 -- a node with a Close begins no other
 pub begin-refused : (plan : Shape) (m : Moment) (k l : ℕ) (node : Node) (lane : CoreLane) (c : Cont) → slice_get m.nodes k ≡ Some node → slice_get node.lanes l ≡ Some lane → closable lane.ended lane.conts ≡ Some c
@@ -117,14 +117,14 @@ module _ (plan : Shape) (m : Moment) (k l : ℕ) (closing : Closing) (found : Is
   abbrev o : Operator
   o = operator_at (slice_get plan.steps k)
 
-  rows_is : closing.rows ≡ rows_at o (closed found.node.lanes) (closed lanes) found.node.kept
+  rows_is : closing.rows ≡ rows_at o (least_begun_mark found.node.lanes) (least_begun_mark lanes) found.node.kept
   rows_is = found.rows ∙ (λ i. rows_at o (found.floor i) (found.mark i) found.node.kept)
 
-  kept_is : closing.kept ≡ kept_at o (closed lanes) found.node.kept
+  kept_is : closing.kept ≡ kept_at o (least_begun_mark lanes) found.node.kept
   kept_is = found.kept ∙ ap (λ w. kept_at o w found.node.kept) found.mark
 
-  collected_is : closing.collected ≡ collected o (closed lanes) found.node.kept
-  collected_is = found.collected ∙ ap (λ w. collected o w found.node.kept) found.mark
+  collected_is : closing.collected ≡ rows_at_sink o (least_begun_mark lanes) found.node.kept
+  collected_is = found.collected ∙ ap (λ w. rows_at_sink o w found.node.kept) found.mark
 
   -- the moment after a closing that begins, by what was found for it
   pub begin-done : after_begin plan m k l

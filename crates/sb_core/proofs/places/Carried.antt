@@ -16,7 +16,7 @@ use Rattle.sb_core.specs.declared.moment.Node.{Node}
 use Rattle.sb_core.specs.declared.moment.Moment.{Moment}
 use Rattle.sb_core.specs.declared.held.Held.{Held}
 use Rattle.sb_core.specs.declared.held.Held.TheVariants.{Work, Close}
-use Rattle.sb_core.specs.Choices.{pulled, is_empty}
+use Rattle.sb_core.specs.Choices.{first_and_rest, is_empty}
 use Rattle.sb_core.specs.Closings.{delivery}
 use Rattle.sb_core.specs.Events.{below}
 use Rattle.sb_core.specs.MomentSteps.{arrived_at, bundle_delivered, rows_delivered, mark_passed}
@@ -76,33 +76,33 @@ held-after m after o same is = ap (λ (x : Moment). x.held) (same_Some after (wi
 
 -- the watermark of a Close that is found is passed
 module _ (plan : Shape) (m : Moment) (k l epoch serial floor mark : ℕ) (rows : List Record) (passed : Bool) (others : List Held)
-    (found : pulled (is_close k) m.held ≡ Some (Close k l epoch serial floor mark rows passed, others)) where
+    (found : first_and_rest (is_close k) m.held ≡ Some (Close k l epoch serial floor mark rows passed, others)) where
   abbrev pub held-passed : List Held
   held-passed = others ++ Close k l epoch serial floor mark rows true ∷ []
 
   pub pass-is : (d : Down) → below plan k ≡ Some d → passed ≡ false → is_empty rows ≡ true → mark_passed plan m k ≡ option_map (with_held held-passed) (sealed_at d mark m)
   pass-is d at not_yet none =
-      then_some (pulled (is_close k) m.held) (Close k l epoch serial floor mark rows passed, others) _ found
+      then_some (first_and_rest (is_close k) m.held) (Close k l epoch serial floor mark rows passed, others) _ found
       ∙ then_some (below plan k) d _ at
       ∙ (λ i. lane_at m d >>= λ under. cond (not (not_yet i) && none i) (with_lane d (with_seal mark under) (with_held held-passed m)) None)
       ∙ sealed-held m held-passed d mark
 
 -- the next rows of a Close that is found are delivered
 module _ (plan : Shape) (m : Moment) (k l epoch serial floor mark : ℕ) (rows : List Record) (passed : Bool) (others : List Held)
-    (found : pulled (is_close_of k l) m.held ≡ Some (Close k l epoch serial floor mark rows passed, others)) where
+    (found : first_and_rest (is_close_of k l) m.held ≡ Some (Close k l epoch serial floor mark rows passed, others)) where
   abbrev pub held-fewer : List Held
   held-fewer = others ++ Close k l epoch serial floor mark (drop m.bundle rows) passed ∷ []
 
   pub rows-is : (d : Down) → below plan k ≡ Some d → is_empty rows ≡ false → rows_delivered plan m k l ≡ option_map (with_held held-fewer) (arrived_at d serial floor (take m.bundle rows) m)
   rows-is d at some =
-      then_some (pulled (is_close_of k l) m.held) (Close k l epoch serial floor mark rows passed, others) _ found
+      then_some (first_and_rest (is_close_of k l) m.held) (Close k l epoch serial floor mark rows passed, others) _ found
       ∙ then_some (below plan k) d _ at
       ∙ (λ i. cond (not (some i)) (arrived_at d serial floor (take m.bundle rows) (with_held held-fewer m)) None)
       ∙ arrived-held m held-fewer d serial floor (take m.bundle rows)
 
 -- what a Work that is found gives is delivered
 module _ (plan : Shape) (m : Moment) (k l number epoch floor : ℕ) (records : List Record) (delivered : Bool) (others : List Held)
-    (found : pulled (is_work k l number) m.held ≡ Some (Work k l epoch floor number records delivered, others)) where
+    (found : first_and_rest (is_work k l number) m.held ≡ Some (Work k l epoch floor number records delivered, others)) where
   abbrev pub held-delivered : List Held
   held-delivered = others ++ Work k l epoch floor number records true ∷ []
 
@@ -111,7 +111,7 @@ module _ (plan : Shape) (m : Moment) (k l number epoch floor : ℕ) (records : L
 
   pub work-is : (d : Down) → below plan k ≡ Some d → delivered ≡ false → is_empty images ≡ false → bundle_delivered plan m k l number ≡ option_map (with_held held-delivered) (arrived_at d epoch floor images m)
   work-is d at not_yet some =
-      then_some (pulled (is_work k l number) m.held) (Work k l epoch floor number records delivered, others) _ found
+      then_some (first_and_rest (is_work k l number) m.held) (Work k l epoch floor number records delivered, others) _ found
       ∙ then_some (below plan k) d _ at
       ∙ (λ i. cond (not (not_yet i) && not (some i)) (arrived_at d epoch floor images (with_held held-delivered m)) None)
       ∙ arrived-held m held-delivered d epoch floor images

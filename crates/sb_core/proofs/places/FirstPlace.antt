@@ -3,24 +3,24 @@ use Rattle.std.proofs.Common.{◌≡◌, ℕ, suc, ◌+◌, Bool, true, false, n
 use Rattle.std.specs.List.{position_or_len}
 use Rattle.std.proofs.lemmas.Bool.{lt-ltb, le-ltb, cases_lt}
 use Rattle.sb_record.specs.Reading.{◌>>=◌}
-use Rattle.sb_core.specs.Choices.{pulled}
+use Rattle.sb_core.specs.Choices.{first_and_rest}
 use Rattle.sb_core.specs.Finding.{IsFirst}
 
 first-here : {X : Type 0} (p : X → Bool) (x : X) (xs : List X) → p x ≡ true → IsFirst p (x ∷ xs) (Some 0)
-first-here {X} p x xs e = (x, omega arith, refl, ap (λ b. cond {A = Option (X × List X)} b (Some (x, xs)) (pulled p xs >>= λ q. Some (q.0, x ∷ q.1))) e)
+first-here {X} p x xs e = (x, omega arith, refl, ap (λ b. cond {A = Option (X × List X)} b (Some (x, xs)) (first_and_rest p xs >>= λ q. Some (q.0, x ∷ q.1))) e)
 
 first-later : {X : Type 0} (p : X → Bool) (x : X) (xs : List X) (i : ℕ) → p x ≡ false → IsFirst p xs (Some i) → IsFirst p (x ∷ xs) (Some (suc i))
 first-later {X} p x xs i e h = (
   h.0,
   omega (arith, h.1),
   h.2,
-  ap (λ b. cond {A = Option (X × List X)} b (Some (x, xs)) (pulled p xs >>= λ q. Some (q.0, x ∷ q.1))) e
+  ap (λ b. cond {A = Option (X × List X)} b (Some (x, xs)) (first_and_rest p xs >>= λ q. Some (q.0, x ∷ q.1))) e
       ∙ ap (λ (o : Option (X × List X)). o >>= λ q. Some (q.0, x ∷ q.1)) h.3,
 )
 
 first-none : {X : Type 0} (p : X → Bool) (x : X) (xs : List X) → p x ≡ false → IsFirst p xs None → IsFirst p (x ∷ xs) None
 first-none {X} p x xs e h =
-    ap (λ b. cond {A = Option (X × List X)} b (Some (x, xs)) (pulled p xs >>= λ q. Some (q.0, x ∷ q.1))) e
+    ap (λ b. cond {A = Option (X × List X)} b (Some (x, xs)) (first_and_rest p xs >>= λ q. Some (q.0, x ∷ q.1))) e
     ∙ ap (λ (o : Option (X × List X)). o >>= λ q. Some (q.0, x ∷ q.1)) h
 
 -- the first place that passes, where it is in the list

@@ -6,7 +6,7 @@ use Rattle.std.proofs.lemmas.Option.{same_Some}
 use Rattle.sb_bundle.specs.declared.bundle.Bundle.{Bundle}
 use Rattle.sb_record.specs.Reading.{◌>>=◌}
 use Rattle.sb_core.specs.declared.moment.Cont.{Cont}
-use Rattle.sb_core.specs.Choices.{pulled}
+use Rattle.sb_core.specs.Choices.{first_and_rest}
 use Rattle.sb_core.specs.Lanes.{fresh, in_epoch, take_from}
 use Rattle.sb_core.proofs.containers.Lists.{any-pulled}
 
@@ -57,14 +57,14 @@ module _ (number : ℕ) where
   -- what taking does, where it is known whether the number is in the first container
   abbrev taking : Bool → Cont → List Cont → Option (Bundle × List Cont)
   taking here c cs =
-      cond here (pulled (of_number number) c.waiting >>= λ q. Some (q.0, record c { waiting = q.1; out = c.out ++ number ∷ [] } ∷ cs))
+      cond here (first_and_rest (of_number number) c.waiting >>= λ q. Some (q.0, record c { waiting = q.1; out = c.out ++ number ∷ [] } ∷ cs))
       (take_from number cs >>= λ q. Some (q.0, c ∷ q.1))
 
-  take_from-past : (x : Cont) (cs : List Cont) → pulled (of_number number) x.waiting ≡ None → take_from number (x ∷ cs) ≡ (take_from number cs >>= λ q. Some (q.0, x ∷ q.1))
+  take_from-past : (x : Cont) (cs : List Cont) → first_and_rest (of_number number) x.waiting ≡ None → take_from number (x ∷ cs) ≡ (take_from number cs >>= λ q. Some (q.0, x ∷ q.1))
   take_from-past x cs none = ap (λ b. taking b x cs) (any-pulled (of_number number) x.waiting ∙ ap is_some none)
 
-  pub take_from-at : (cs : List Cont) (i : ℕ) (c : Cont) (q : Bundle × List Bundle) → ((k : ℕ) (d : Cont) → k < i → pulled (of_number number) (get_or cs k d).waiting ≡ None)
-      → slice_get cs i ≡ Some c → pulled (of_number number) c.waiting ≡ Some q
+  pub take_from-at : (cs : List Cont) (i : ℕ) (c : Cont) (q : Bundle × List Bundle) → ((k : ℕ) (d : Cont) → k < i → first_and_rest (of_number number) (get_or cs k d).waiting ≡ None)
+      → slice_get cs i ≡ Some c → first_and_rest (of_number number) c.waiting ≡ Some q
       → take_from number cs ≡ Some (q.0, slice_set cs i (record c { waiting = q.1; out = c.out ++ number ∷ [] }))
   take_from-at [] i c q none there took = cc
   take_from-at (x ∷ cs) zero c q none there took =
@@ -76,7 +76,7 @@ module _ (number : ℕ) where
       take_from-past x cs (none 0 x (omega arith))
       ∙ ap (λ (o : Option (Bundle × List Cont)). o >>= λ q. Some (q.0, x ∷ q.1)) (take_from-at cs i c q (λ k d h. none (suc k) d (omega arith)) there took)
 
-  pub take_from-none : (cs : List Cont) → ((k : ℕ) (d : Cont) → k < length cs → pulled (of_number number) (get_or cs k d).waiting ≡ None) → take_from number cs ≡ None
+  pub take_from-none : (cs : List Cont) → ((k : ℕ) (d : Cont) → k < length cs → first_and_rest (of_number number) (get_or cs k d).waiting ≡ None) → take_from number cs ≡ None
   take_from-none [] none = refl
   take_from-none (x ∷ cs) none =
       take_from-past x cs (none 0 x (omega arith))

@@ -34,28 +34,28 @@ made-sound plan is_plan m later (Seal stream mark) h sound = seal-sound plan is_
 made-sound plan is_plan m later (Take node lane number) h sound = take-sound plan is_plan m later (record { node = node; lane = lane }) number h sound
 made-sound plan is_plan m later (Deliver node lane number) h sound = by_case (eqb number 0) h
   where
-    rows : Choices.pulled (Moments.is_close_of node lane) m.held >>= (λ q. MomentSteps.deliver_rows plan m q.0 q.1) ≡ Some later → IsSound plan later
+    rows : Choices.first_and_rest (Moments.is_close_of node lane) m.held >>= (λ q. MomentSteps.deliver_rows plan m q.0 q.1) ≡ Some later → IsSound plan later
     rows h =
-        let a = bind_some (Choices.pulled (Moments.is_close_of node lane) m.held) (λ q. MomentSteps.deliver_rows plan m q.0 q.1) later h in
+        let a = bind_some (Choices.first_and_rest (Moments.is_close_of node lane) m.held) (λ q. MomentSteps.deliver_rows plan m q.0 q.1) later h in
         rows-sound plan is_plan m later sound a.0 (IsReordered-pulled (Moments.is_close_of node lane) m.held a.0 a.1) (All-pulled (IsHeld plan m) (Moments.is_close_of node lane) m.held a.0 a.1 (lawful_of sound).holds) (All-pulled (IsCloseOf plan m) (Moments.is_close_of node lane) m.held a.0 a.1 (tidy_of sound).closes) a.2
 
-    work : Choices.pulled (Moments.is_work node lane number) m.held >>= (λ q. MomentSteps.deliver_work plan m q.0 q.1) ≡ Some later → IsSound plan later
+    work : Choices.first_and_rest (Moments.is_work node lane number) m.held >>= (λ q. MomentSteps.deliver_work plan m q.0 q.1) ≡ Some later → IsSound plan later
     work h =
-        let a = bind_some (Choices.pulled (Moments.is_work node lane number) m.held) (λ q. MomentSteps.deliver_work plan m q.0 q.1) later h in
+        let a = bind_some (Choices.first_and_rest (Moments.is_work node lane number) m.held) (λ q. MomentSteps.deliver_work plan m q.0 q.1) later h in
         work-sound plan is_plan m later sound a.0 (IsReordered-pulled (Moments.is_work node lane number) m.held a.0 a.1) (All-pulled (IsHeld plan m) (Moments.is_work node lane number) m.held a.0 a.1 (lawful_of sound).holds) (All-pulled (IsCloseOf plan m) (Moments.is_work node lane number) m.held a.0 a.1 (tidy_of sound).closes) a.2
 
-    by_case : (b : Bool) → cond {A = Option Moment} b (Choices.pulled (Moments.is_close_of node lane) m.held >>= λ q. MomentSteps.deliver_rows plan m q.0 q.1) (Choices.pulled (Moments.is_work node lane number) m.held >>= λ q. MomentSteps.deliver_work plan m q.0 q.1) ≡ Some later → IsSound plan later
+    by_case : (b : Bool) → cond {A = Option Moment} b (Choices.first_and_rest (Moments.is_close_of node lane) m.held >>= λ q. MomentSteps.deliver_rows plan m q.0 q.1) (Choices.first_and_rest (Moments.is_work node lane number) m.held >>= λ q. MomentSteps.deliver_work plan m q.0 q.1) ≡ Some later → IsSound plan later
     by_case true h = rows h
     by_case false h = work h
 made-sound plan is_plan m later (Finish node lane number) h sound =
-    let a = bind_some (Choices.pulled (Moments.is_work node lane number) m.held) (λ q. MomentSteps.after_finish plan m q.0 q.1) later h in
+    let a = bind_some (Choices.first_and_rest (Moments.is_work node lane number) m.held) (λ q. MomentSteps.after_finish plan m q.0 q.1) later h in
     finish-sound plan is_plan m later sound a.0 (IsReordered-pulled (Moments.is_work node lane number) m.held a.0 a.1) (All-pulled (IsHeld plan m) (Moments.is_work node lane number) m.held a.0 a.1 (lawful_of sound).holds) (All-pulled (IsCloseOf plan m) (Moments.is_work node lane number) m.held a.0 a.1 (tidy_of sound).closes) a.2
 made-sound plan is_plan m later (Begin node lane) h sound = begins-sound plan is_plan m later node lane h sound
 made-sound plan is_plan m later (Pass node) h sound =
-    let a = bind_some (Choices.pulled (Moments.is_close node) m.held) (λ q. MomentSteps.after_pass plan m q.0 q.1) later h in
+    let a = bind_some (Choices.first_and_rest (Moments.is_close node) m.held) (λ q. MomentSteps.after_pass plan m q.0 q.1) later h in
     pass-sound plan is_plan m later sound a.0 (IsReordered-pulled (Moments.is_close node) m.held a.0 a.1) (All-pulled (IsHeld plan m) (Moments.is_close node) m.held a.0 a.1 (lawful_of sound).holds) (All-pulled (IsCloseOf plan m) (Moments.is_close node) m.held a.0 a.1 (tidy_of sound).closes) a.2
 made-sound plan is_plan m later (End node) h sound =
-    let a = bind_some (Choices.pulled (Moments.is_close node) m.held) (λ q. MomentSteps.after_end m q.0 q.1) later h in
+    let a = bind_some (Choices.first_and_rest (Moments.is_close node) m.held) (λ q. MomentSteps.after_end m q.0 q.1) later h in
     end-sound plan is_plan m later sound a.0 (IsReordered-pulled (Moments.is_close node) m.held a.0 a.1) (All-pulled (IsHeld plan m) (Moments.is_close node) m.held a.0 a.1 (lawful_of sound).holds) (All-pulled (IsCloseOf plan m) (Moments.is_close node) m.held a.0 a.1 (tidy_of sound).closes) a.2
 
 pub events-keep_sound : EventsKeepSound

@@ -19,11 +19,11 @@ use Rattle.sb_core.specs.declared.held.Held.{Held}
 use Rattle.sb_core.specs.declared.held.Held.TheVariants.{Work, Close}
 use Rattle.sb_pipeline.specs.Operators.{operator_at}
 use Rattle.sb_core.specs.Moments.{with_held, node_at}
-use Rattle.sb_core.specs.Exactness.{waiting_from, working, undelivered, rest, gives, IsExact}
+use Rattle.sb_core.specs.Exactness.{waiting_from, work_in, rows_left_in, rest, gives, IsExact}
 use Rattle.sb_record.specs.declared.element.KeptRec.{KeptRec}
 use Rattle.sb_core.specs.Holdings.{IsHeld, is_unpassed, IsCloseOf}
 use Rattle.sb_core.specs.Soundness.{IsOpenBelow, IsSound}
-use Rattle.sb_core.specs.Laws.{NewAtTheHead, IdleByItsLanes, takes_up, HeldInAnyOrder, EventsAtTheHead, concerns, changed, fed_after}
+use Rattle.sb_core.specs.Laws.{NewAtTheHead, IdleByItsLanes, takes_up, HeldInAnyOrder, EventsAtTheHead, concerns, remains_of, fed_after}
 use Rattle.sb_record.proofs.Sums.{IsReordered, IsReordered-flat_map}
 use Rattle.sb_core.proofs.exact.Gives.{gives-less, sum_by-rest}
 use Rattle.sb_core.proofs.exact.Exactly.{Carries, carries-same, carried-exact}
@@ -115,11 +115,11 @@ module _ (plan : Shape) (m : Moment) (held : List Held) (same : IsPermutation m.
   pub permuted-gives : (k : ℕ) (es fs : List KeptRec) → IsReordered es fs → IsReordered (gives plan m k es) (gives plan (with_held held m) k fs)
   permuted-gives k es fs h =
       gives-less (operator_at (slice_get plan.steps k)) k (node_at m k) (node_at m k) m.held held m.rows m.rows [] es fs
-      (IsReordered-flat_map (undelivered k) m.held held sums)
+      (IsReordered-flat_map (rows_left_in k) m.held held sums)
       (λ f.
       let a : sum_by f (rest k (node_at m k) m.held es) ≡ _ = sum_by-rest f k (node_at m k) m.held es in
       let b : sum_by f (rest k (node_at m k) held fs) ≡ _ = sum_by-rest f k (node_at m k) held fs in
-      let c : sum_by f (flat_map (working k) m.held) ≡ sum_by f (flat_map (working k) held) = IsReordered-flat_map (working k) m.held held sums f in
+      let c : sum_by f (flat_map (work_in k) m.held) ≡ sum_by f (flat_map (work_in k) held) = IsReordered-flat_map (work_in k) m.held held sums f in
       a ∙ (λ i. (sum_by f (waiting_from 0 (node_at m k).lanes) + c i) + h f i) ∙ sym b)
       refl refl (λ _. refl) (λ _. refl)
 
@@ -136,8 +136,8 @@ held-in_any_order plan m held same sound = (sound-permuted plan m held same soun
 pub events-at_the_head : EventsAtTheHead
 events-at_the_head plan is_plan m later event h rest c e sound =
     let k = events-keep_sound plan is_plan (with_held (h ∷ rest) m) later event e sound in
-    let same : IsPermutation later.held (changed m.bundle event h ++ rest) = subst (λ l. IsPermutation l (changed m.bundle event h ++ rest)) (sym (head-left plan m later event h rest c e)) (IsPermutation-append_comm rest (changed m.bundle event h)) in
-    let p = held-in_any_order plan later (changed m.bundle event h ++ rest) same k.0 in
+    let same : IsPermutation later.held (remains_of m.bundle event h ++ rest) = subst (λ l. IsPermutation l (remains_of m.bundle event h ++ rest)) (sym (head-left plan m later event h rest c e)) (IsPermutation-append_comm rest (remains_of m.bundle event h)) in
+    let p = held-in_any_order plan later (remains_of m.bundle event h ++ rest) same k.0 in
     (p.0, λ fed exact. p.1 fed (subst (IsExact plan later) (fed_none event fed c) (k.1 fed exact)))
   where
     fed_none : (event : Event) (fed : Stream → List Record) → concerns event h ≡ true → fed_after event fed ≡ fed

@@ -25,16 +25,16 @@ use Rattle.sb_core.specs.declared.held.Held.{Held}
 use Rattle.sb_core.specs.declared.held.Held.TheVariants.{Work, Close}
 use Rattle.sb_record.specs.Orders.{IsAscending}
 use Rattle.sb_record.specs.Records.{record_cmp, before, at_least}
-use Rattle.sb_pipeline.specs.Operators.{Operator, grouped, operator_at, WindowOperator}
+use Rattle.sb_pipeline.specs.Operators.{Operator, operator_rows, operator_at, WindowOperator}
 use Rattle.sb_record.specs.Elements.{all_records}
 use Rattle.sb_pipeline.specs.Plans.{IsPlan}
 use Rattle.sb_pipeline.specs.Operators.Operator.{ParDo, Windowed, Sink}
 use Rattle.sb_record.proofs.OnLanes.{All-all_records}
 use Rattle.sb_record.specs.Reading.{◌>>=◌}
-use Rattle.sb_core.specs.Marks.{before_closing, first_is_closing, last_of_first, closed}
+use Rattle.sb_core.specs.Marks.{before_closing, first_is_closing, last_of_first, least_begun_mark}
 use Rattle.sb_core.specs.Moments.{is_close, is_work, lane_at, node_at}
 use Rattle.sb_core.specs.Lanes.{closable, next_epoch, with_first_closing}
-use Rattle.sb_core.specs.Closings.{is_sink, kept_at, rows_at, collected, is_pardo}
+use Rattle.sb_core.specs.Closings.{is_sink, kept_at, rows_at, rows_at_sink, is_pardo}
 use Rattle.sb_core.specs.MomentSteps.{after_begin}
 use Rattle.sb_core.specs.Bounds.{bound_at}
 use Rattle.sb_core.specs.Holdings.{is_unpassed, IsCloseOf}
@@ -84,14 +84,14 @@ module _ (plan : Shape) (is_plan : IsPlan plan) (m : Moment) (n l : ℕ) (node :
   was : lane_at m (record { node = n; lane = l }) ≡ Some lane
   was = ap (λ (o : Option Node). o >>= λ x. slice_get x.lanes l) at ∙ in_it
 
-  up : closed node.lanes ≤ mark
+  up : least_begun_mark node.lanes ≤ mark
   up = rises plan m n l node lane c at in_it closes idle lawful
 
   by_place : (d : Down) → ((d ≡ record { node = n; lane = l }) × (lane_at after d ≡ Some with) × (lane_at m d ≡ Some lane)) ⊎ (lane_at after d ≡ lane_at m d)
   by_place d = lane_at-cases m n l node new lane with at in_it refl d
 
-  kept_before : AreKeptAt o (closed node.lanes) (bound_at plan n) node.kept
-  kept_before = subst (λ (x : Node). AreKeptAt (operator_at (slice_get plan.steps n)) (closed x.lanes) (bound_at plan n) x.kept) (node_at-same m n node new at) (tidy.kept n)
+  kept_before : AreKeptAt o (least_begun_mark node.lanes) (bound_at plan n) node.kept
+  kept_before = subst (λ (x : Node). AreKeptAt (operator_at (slice_get plan.steps n)) (least_begun_mark x.lanes) (bound_at plan n) x.kept) (node_at-same m n node new at) (tidy.kept n)
 
   -- a place where the lane began to close, or a lane as it was
   lane_was : (P : CoreLane → CoreLane → Type 0) → P lane with → ((x : CoreLane) → P x x) → (d : Down) (x : CoreLane) → lane_at after d ≡ Some x → (y : CoreLane) × (lane_at m d ≡ Some y) × P y x
@@ -125,29 +125,29 @@ module _ (plan : Shape) (is_plan : IsPlan plan) (m : Moment) (n l : ℕ) (node :
       All-passed (λ e. (w ≤ e.rec.time) × (e.rec.time ≤ bound)) (λ e. (mark ≤ e.rec.time) × (e.rec.time ≤ bound)) _ (λ e h p. (ltb-false e.rec.time mark (not-true (ltb e.rec.time mark) p), h.1)) kept all
 
   -- ---- the rows of the sink
-  collected_between : (o : Operator) → AreKeptAt o (closed node.lanes) (bound_at plan n) node.kept → AllByRecursion (λ r. (closed node.lanes ≤ r.time) × (r.time < mark)) (collected o mark node.kept)
+  collected_between : (o : Operator) → AreKeptAt o (least_begun_mark node.lanes) (bound_at plan n) node.kept → AllByRecursion (λ r. (least_begun_mark node.lanes ≤ r.time) × (r.time < mark)) (rows_at_sink o mark node.kept)
   collected_between (ParDo op) all = tt
   collected_between (Windowed g) all = tt
   collected_between Sink all =
-      All-in_order (λ r. (closed node.lanes ≤ r.time) × (r.time < mark)) record_cmp (before mark (all_records node.kept))
-      (All-passed (λ r. closed node.lanes ≤ r.time) (λ r. (closed node.lanes ≤ r.time) × (r.time < mark)) (λ r. nat_lt r.time mark) (λ r a b. (a, ltb-true r.time mark b)) (all_records node.kept) (All-all_records (λ r. closed node.lanes ≤ r.time) node.kept (every (λ e h. h.0) node.kept all)))
+      All-in_order (λ r. (least_begun_mark node.lanes ≤ r.time) × (r.time < mark)) record_cmp (before mark (all_records node.kept))
+      (All-passed (λ r. least_begun_mark node.lanes ≤ r.time) (λ r. (least_begun_mark node.lanes ≤ r.time) × (r.time < mark)) (λ r. nat_lt r.time mark) (λ r a b. (a, ltb-true r.time mark b)) (all_records node.kept) (All-all_records (λ r. least_begun_mark node.lanes ≤ r.time) node.kept (every (λ e h. h.0) node.kept all)))
 
-  collected_sorted : (o : Operator) → IsAscending record_cmp (collected o mark node.kept)
+  collected_sorted : (o : Operator) → IsAscending record_cmp (rows_at_sink o mark node.kept)
   collected_sorted (ParDo op) = tt
   collected_sorted (Windowed g) = tt
   collected_sorted Sink = in_order-ascending records_total (before mark (all_records node.kept))
 
-  rows_sorted : (o : Operator) → IsAscending record_cmp (rows_at o (closed node.lanes) mark node.kept)
+  rows_sorted : (o : Operator) → IsAscending record_cmp (rows_at o (least_begun_mark node.lanes) mark node.kept)
   rows_sorted (ParDo op) = tt
-  rows_sorted (Windowed g) = in_order-ascending records_total (before mark (at_least (closed node.lanes) (grouped g node.kept)))
+  rows_sorted (Windowed g) = in_order-ascending records_total (before mark (at_least (least_begun_mark node.lanes) (operator_rows g node.kept)))
   rows_sorted Sink = tt
 
-  none_of_pardo : (o : Operator) → is_pardo o ≡ true → rows_at o (closed node.lanes) mark node.kept ≡ []
+  none_of_pardo : (o : Operator) → is_pardo o ≡ true → rows_at o (least_begun_mark node.lanes) mark node.kept ≡ []
   none_of_pardo (ParDo op) h = refl
   none_of_pardo (Windowed g) h = cc
   none_of_pardo Sink h = cc
 
-  collects_none : (o : Operator) → is_sink o ≡ false → collected o mark node.kept ≡ []
+  collects_none : (o : Operator) → is_sink o ≡ false → rows_at_sink o mark node.kept ≡ []
   collects_none (ParDo op) h = refl
   collects_none (Windowed g) h = refl
   collects_none Sink h = cc
@@ -156,31 +156,31 @@ module _ (plan : Shape) (is_plan : IsPlan plan) (m : Moment) (n l : ℕ) (node :
   within = subst (λ z. n < z) lawful.nodes (slice_get_within m.nodes n node at)
 
   -- of a transform nothing is collected
-  none_collected : n ≢ length plan.steps → collected o mark node.kept ≡ []
+  none_collected : n ≢ length plan.steps → rows_at_sink o mark node.kept ≡ []
   none_collected ne = collects_none o (by_step (slice_get plan.steps n) refl)
     where
       by_step : (s : Option Step) → slice_get plan.steps n ≡ s → is_sink (operator_at (slice_get plan.steps n)) ≡ false
       by_step (Some s) e = transform_is plan n s e
       by_step None e = absurd (ne (omega (arith, within, none_past plan.steps n e)))
 
-  sink_was : n ≡ length plan.steps → closed (node_at m (length plan.steps)).lanes ≡ closed node.lanes
-  sink_was e = ap (λ k. closed (node_at m k).lanes) (sym e) ∙ ap (λ (x : Node). closed x.lanes) (node_at-same m n node new at)
+  sink_was : n ≡ length plan.steps → least_begun_mark (node_at m (length plan.steps)).lanes ≡ least_begun_mark node.lanes
+  sink_was e = ap (λ k. least_begun_mark (node_at m k).lanes) (sym e) ∙ ap (λ (x : Node). least_begun_mark x.lanes) (node_at-same m n node new at)
 
-  sorted_after : IsAscending record_cmp (m.rows ++ collected o mark node.kept)
+  sorted_after : IsAscending record_cmp (m.rows ++ rows_at_sink o mark node.kept)
   sorted_after = ⊎_elim
-      (λ e. ascending-join (closed node.lanes) m.rows (collected o mark node.kept) tidy.sorted (collected_sorted o) (subst (λ z. AllByRecursion (λ r. r.time < z) m.rows) (sink_was e) tidy.written) (every (λ r h. h.0) (collected o mark node.kept) (collected_between o kept_before)))
+      (λ e. ascending-join (least_begun_mark node.lanes) m.rows (rows_at_sink o mark node.kept) tidy.sorted (collected_sorted o) (subst (λ z. AllByRecursion (λ r. r.time < z) m.rows) (sink_was e) tidy.written) (every (λ r h. h.0) (rows_at_sink o mark node.kept) (collected_between o kept_before)))
       (λ ne. subst (λ l. IsAscending record_cmp (m.rows ++ l)) (sym (none_collected ne)) (subst (IsAscending record_cmp) (sym (append-nil m.rows)) tidy.sorted))
       (cases_eq n (length plan.steps))
 
-  written_after : AllByRecursion (λ r. r.time < closed (node_at after (length plan.steps)).lanes) (m.rows ++ collected o mark node.kept)
+  written_after : AllByRecursion (λ r. r.time < least_begun_mark (node_at after (length plan.steps)).lanes) (m.rows ++ rows_at_sink o mark node.kept)
   written_after = ⊎_elim
-      (λ e. subst (λ z. AllByRecursion (λ r. r.time < z) (m.rows ++ collected o mark node.kept)) (sym (ap (λ k. closed (node_at after k).lanes) (sym e) ∙ ap (λ (x : Node). closed x.lanes) (node_at-set_same m n node new at)))
-      (All-join (λ r. r.time < mark) m.rows (collected o mark node.kept)
+      (λ e. subst (λ z. AllByRecursion (λ r. r.time < z) (m.rows ++ rows_at_sink o mark node.kept)) (sym (ap (λ k. least_begun_mark (node_at after k).lanes) (sym e) ∙ ap (λ (x : Node). least_begun_mark x.lanes) (node_at-set_same m n node new at)))
+      (All-join (λ r. r.time < mark) m.rows (rows_at_sink o mark node.kept)
       (every (λ r h. omega (arith, h, up)) m.rows (subst (λ z. AllByRecursion (λ r. r.time < z) m.rows) (sink_was e) tidy.written))
-      (every (λ r h. h.1) (collected o mark node.kept) (collected_between o kept_before))))
-      (λ ne. subst (λ l. AllByRecursion (λ r. r.time < closed (node_at after (length plan.steps)).lanes) (m.rows ++ l)) (sym (none_collected ne))
-      (subst (λ l. AllByRecursion (λ r. r.time < closed (node_at after (length plan.steps)).lanes) l) (sym (append-nil m.rows))
-      (subst (λ (x : Node). AllByRecursion (λ r. r.time < closed x.lanes) m.rows) (sym (node_at-set_other m n node new at (length plan.steps) (λ e. ne (sym e)))) tidy.written)))
+      (every (λ r h. h.1) (rows_at_sink o mark node.kept) (collected_between o kept_before))))
+      (λ ne. subst (λ l. AllByRecursion (λ r. r.time < least_begun_mark (node_at after (length plan.steps)).lanes) (m.rows ++ l)) (sym (none_collected ne))
+      (subst (λ l. AllByRecursion (λ r. r.time < least_begun_mark (node_at after (length plan.steps)).lanes) l) (sym (append-nil m.rows))
+      (subst (λ (x : Node). AllByRecursion (λ r. r.time < least_begun_mark x.lanes) m.rows) (sym (node_at-set_other m n node new at (length plan.steps) (λ e. ne (sym e)))) tidy.written)))
       (cases_eq n (length plan.steps))
 
   -- ---- where the node had closed before
@@ -196,18 +196,18 @@ module _ (plan : Shape) (is_plan : IsPlan plan) (m : Moment) (n l : ℕ) (node :
         (λ ne. ap (λ (x : Node). before_closing x.lanes) (sym (node_at-set_other m n node new at k ne))) (cases_eq k n),
   )
 
-  calm_closed : (lanes : List CoreLane) → ((i : ℕ) (x : CoreLane) → slice_get lanes i ≡ Some x → first_is_closing x.conts ≡ false) → closed lanes ≡ before_closing lanes
+  calm_closed : (lanes : List CoreLane) → ((i : ℕ) (x : CoreLane) → slice_get lanes i ≡ Some x → first_is_closing x.conts ≡ false) → least_begun_mark lanes ≡ before_closing lanes
   calm_closed [] each = refl
   calm_closed (x ∷ []) each = ap (λ b. last_of_first (cond b (x.ended + 1) x.ended) x.marks) (each 0 x refl)
   calm_closed (x ∷ y ∷ lanes) each = λ i. min (last_of_first (cond (each 0 x refl i) (x.ended + 1) x.ended) x.marks) (calm_closed (y ∷ lanes) (λ j z h. each (suc j) z h) i)
 
-  floor_is : closed node.lanes ≡ before_closing (node_at after n).lanes
+  floor_is : least_begun_mark node.lanes ≡ before_closing (node_at after n).lanes
   floor_is = calm_closed node.lanes (idle-calm plan m n node at idle lawful) ∙ sym before_node ∙ ap (λ (x : Node). before_closing x.lanes) (sym (node_at-set_same m n node new at))
 
   pub begin-sound : IsSound plan after
   begin-sound =
       (sound_of (record {
-        lawful = begin-lawful plan m n l node lane c at in_it closes idle lawful (rows-bounded plan o n (closed node.lanes) (closed node.lanes) mark node.kept (windows-at plan is_plan n) kept_before);
+        lawful = begin-lawful plan m n l node lane c at in_it closes idle lawful (rows-bounded plan o n (least_begun_mark node.lanes) (least_begun_mark node.lanes) mark node.kept (windows-at plan is_plan n) kept_before);
         tidy = record {
           bundle = tidy.bundle;
           lanes = λ k b. ⊎_elim
@@ -222,9 +222,9 @@ module _ (plan : Shape) (is_plan : IsPlan plan) (m : Moment) (n l : ℕ) (node :
               (every (λ c z w. moves k (next_epoch b.0) c.epoch c.floor (z w)) b.0.conts (tidy.open_below k s b.0 is b.1)));
           own_marks = own_marks;
           kept = λ k. ⊎_elim
-              (λ e. subst (λ k. AreKeptAt (operator_at (slice_get plan.steps k)) (closed (node_at after k).lanes) (bound_at plan k) (node_at after k).kept) (sym e)
-              (subst (λ (x : Node). AreKeptAt (operator_at (slice_get plan.steps n)) (closed x.lanes) (bound_at plan n) x.kept) (sym (node_at-set_same m n node new at)) (kept_after o (windows-at plan is_plan n) (closed node.lanes) (bound_at plan n) node.kept kept_before)))
-              (λ ne. subst (λ (x : Node). AreKeptAt (operator_at (slice_get plan.steps k)) (closed x.lanes) (bound_at plan k) x.kept) (sym (node_at-set_other m n node new at k ne)) (tidy.kept k)) (cases_eq k n);
+              (λ e. subst (λ k. AreKeptAt (operator_at (slice_get plan.steps k)) (least_begun_mark (node_at after k).lanes) (bound_at plan k) (node_at after k).kept) (sym e)
+              (subst (λ (x : Node). AreKeptAt (operator_at (slice_get plan.steps n)) (least_begun_mark x.lanes) (bound_at plan n) x.kept) (sym (node_at-set_same m n node new at)) (kept_after o (windows-at plan is_plan n) (least_begun_mark node.lanes) (bound_at plan n) node.kept kept_before)))
+              (λ ne. subst (λ (x : Node). AreKeptAt (operator_at (slice_get plan.steps k)) (least_begun_mark x.lanes) (bound_at plan k) x.kept) (sym (node_at-set_other m n node new at k ne)) (tidy.kept k)) (cases_eq k n);
           closes = All-last (IsCloseOf plan after) m.held close (every close_still m.held tidy.closes) ((rows_sorted o, ((λ h. h), none_of_pardo o)), floor_is);
           sorted = sorted_after;
           written = written_after;

@@ -29,9 +29,9 @@ use Rattle.sb_pipeline.specs.Plans.{IsPlan}
 use Rattle.sb_record.proofs.OnLanes.{All-on_lane}
 use Rattle.sb_pipeline.specs.Operators.Operator.{ParDo, Windowed, Sink}
 use Rattle.sb_record.specs.Reading.{◌>>=◌}
-use Rattle.sb_core.specs.Marks.{before_closing, begun, closed, last_of_first, first_is_closing}
+use Rattle.sb_core.specs.Marks.{before_closing, begun_count, least_begun_mark, last_of_first, first_is_closing}
 use Rattle.sb_core.specs.Moments.{is_work, is_close, lane_at, set_lane, set_node, with_held, node_at, epoch_of}
-use Rattle.sb_core.specs.Closings.{absorbed, is_pardo}
+use Rattle.sb_core.specs.Closings.{kept_elements, is_pardo}
 use Rattle.sb_core.specs.Lanes.{finish_in, next_epoch, take_from}
 use Rattle.sb_core.specs.MomentSteps.{after_take, after_finish, after_end}
 use Rattle.sb_core.specs.LaneOrder.{IsWithin, IsLane, IsReady, AreContainers}
@@ -70,7 +70,7 @@ take-sound plan is_plan m m' d number h sound =
         let made = with_lane-is (with_held (m.held ++ work ∷ []) m) d p.0 (record lane { conts = q.1 }) m' p.1 h in
         let differ = take_from-differ (bound_at plan d.node) number lane.conts q took in
         let same = same-differ (bound_at plan d.node) lane.conts q.1 differ in
-        let begins : begun (record lane { conts = q.1 }) ≡ begun lane = ap (λ b. cond b (lane.ended + 1) lane.ended) (differ-closing (bound_at plan d.node) lane.conts q.1 differ) in
+        let begins : begun_count (record lane { conts = q.1 }) ≡ begun_count lane = ap (λ b. cond b (lane.ended + 1) lane.ended) (differ-closing (bound_at plan d.node) lane.conts q.1 differ) in
         let unpassed : (k : ℕ) → list_any (is_unpassed k) (m.held ++ work ∷ []) ≡ list_any (is_unpassed k) m.held = λ k. any_same (is_unpassed k) (m.held ++ work ∷ []) m.held (count_snoc (is_unpassed k) m.held work ∙ add-zero _) in
         let moves : (k next e f : ℕ) → IsOpenBelow (operator_at (slice_get plan.steps k)) (node_at m k).lanes (list_any (is_unpassed k) m.held) next e f
         → IsOpenBelow (operator_at (slice_get plan.steps k)) (node_at (set_node d.node (set_lane d.lane (record lane { conts = q.1 }) p.0) (with_held (m.held ++ work ∷ []) m)) k).lanes (list_any (is_unpassed k) (m.held ++ work ∷ [])) next e f =
@@ -121,7 +121,7 @@ finish-sound plan is_plan m m' sound (Work k l epoch floor number records delive
     work = Work k l epoch floor number records delivered
 
     go : (node : Node) (lane : CoreLane) → slice_get m.nodes k ≡ Some node → slice_get node.lanes l ≡ Some lane
-        → IsSound plan (with_held others (set_node k (record (set_lane l (record lane { conts = finish_in epoch number lane.conts }) node) { kept = node.kept ++ absorbed (operator_at (slice_get plan.steps k)) (on_lane l records) }) m))
+        → IsSound plan (with_held others (set_node k (record (set_lane l (record lane { conts = finish_in epoch number lane.conts }) node) { kept = node.kept ++ kept_elements (operator_at (slice_get plan.steps k)) (on_lane l records) }) m))
     go node lane at in_it =
         (sound_of (record {
           lawful = finish-lawful plan m node new lane k l epoch floor number records delivered others at in_it refl refl (lawful_of sound) pulled held.1 once;
@@ -140,7 +140,7 @@ finish-sound plan is_plan m m' sound (Work k l epoch floor number records delive
         }))
       where
         new : Node
-        new = record (set_lane l (record lane { conts = finish_in epoch number lane.conts }) node) { kept = node.kept ++ absorbed (operator_at (slice_get plan.steps k)) (on_lane l records) }
+        new = record (set_lane l (record lane { conts = finish_in epoch number lane.conts }) node) { kept = node.kept ++ kept_elements (operator_at (slice_get plan.steps k)) (on_lane l records) }
 
         place : Down
         place = record { node = k; lane = l }
@@ -160,7 +160,7 @@ finish-sound plan is_plan m m' sound (Work k l epoch floor number records delive
         same : SameEpochs lane.conts (finish_in epoch number lane.conts)
         same = same-differ (bound_at plan k) lane.conts (finish_in epoch number lane.conts) (finish_in-differ (bound_at plan k) epoch number lane.conts)
 
-        begins : begun (record lane { conts = finish_in epoch number lane.conts }) ≡ begun lane
+        begins : begun_count (record lane { conts = finish_in epoch number lane.conts }) ≡ begun_count lane
         begins = ap (λ b. cond b (lane.ended + 1) lane.ended) (differ-closing (bound_at plan k) lane.conts (finish_in epoch number lane.conts) (finish_in-differ (bound_at plan k) epoch number lane.conts))
 
         once : count_by (is_work k l number) m.held ≤ 1
@@ -199,19 +199,19 @@ finish-sound plan is_plan m m' sound (Work k l epoch floor number records delive
             (λ u. any_gone (is_unpassed j) m.held others (Work k l epoch floor number records delivered) pulled refl ∙ u)
 
         -- the Work's records are from the closed mark on
-        late : closed node.lanes ≤ floor
+        late : least_begun_mark node.lanes ≤ floor
         late =
-            let a : closed node.lanes ≤ begun_mark lane = closed_least node.lanes l lane in_it in
+            let a : least_begun_mark node.lanes ≤ begun_mark lane = closed_least node.lanes l lane in_it in
             let b : begun_mark lane ≤ held.0.cont.floor = work_floor (bound_at plan k) lane ok epoch number held.0.cont (ap (λ (x : CoreLane). LaneOrder.cont_at epoch x.conts) (sym is_lane) ∙ held.0.of_epoch) held.0.is_out in
             omega (arith, held.0.floor_is)
 
-        in_time : AllByRecursion (λ e. (closed node.lanes ≤ e.rec.time) × (e.rec.time ≤ bound_at plan k)) (on_lane l records)
-        in_time = All-on_lane (λ r. (closed node.lanes ≤ r.time) × (r.time ≤ bound_at plan k)) l records (every (λ r w. (omega (arith, late, w.0), w.1)) records held.0.times)
+        in_time : AllByRecursion (λ e. (least_begun_mark node.lanes ≤ e.rec.time) × (e.rec.time ≤ bound_at plan k)) (on_lane l records)
+        in_time = All-on_lane (λ r. (least_begun_mark node.lanes ≤ r.time) × (r.time ≤ bound_at plan k)) l records (every (λ r w. (omega (arith, late, w.0), w.1)) records held.0.times)
 
-        by_operator : (o : Operator) → operator_at (slice_get plan.steps k) ≡ o → AreKeptAt o (closed node.lanes) (bound_at plan k) node.kept → AreKeptAt o (closed node.lanes) (bound_at plan k) (node.kept ++ absorbed o (on_lane l records))
+        by_operator : (o : Operator) → operator_at (slice_get plan.steps k) ≡ o → AreKeptAt o (least_begun_mark node.lanes) (bound_at plan k) node.kept → AreKeptAt o (least_begun_mark node.lanes) (bound_at plan k) (node.kept ++ kept_elements o (on_lane l records))
         by_operator (ParDo op) e all = All-join (λ e. ⊥) node.kept [] all tt
-        by_operator (Windowed g) e all = kept-more (windows-at plan is_plan k g e) (closed node.lanes) (bound_at plan k) node.kept (on_lane l records) in_time all
-        by_operator Sink e all = All-join (λ e. (closed node.lanes ≤ e.rec.time) × (e.rec.time ≤ bound_at plan k)) node.kept (on_lane l records) all in_time
+        by_operator (Windowed g) e all = kept-more (windows-at plan is_plan k g e) (least_begun_mark node.lanes) (bound_at plan k) node.kept (on_lane l records) in_time all
+        by_operator Sink e all = All-join (λ e. (least_begun_mark node.lanes ≤ e.rec.time) × (e.rec.time ≤ bound_at plan k)) node.kept (on_lane l records) all in_time
 
 -- ---- a closing ends
 -- what has an epoch after the first container's is still there
@@ -315,8 +315,8 @@ end-sound plan is_plan m m' sound (Close y l epoch serial floor mark rows passed
                 later : k ≡ y → lane.ended + 1 ≤ e
                 later i =
                     let one : length (node_at m y).lanes ≡ 1 = ap (λ k. length (node_at m k).lanes) (sym i) ∙ (lawful_of sound).one_lane k (ap is_pardo q) in
-                    let many : (node_at m y).closings ≡ begun lane = (lawful_of sound).closings y ∙ lone (node_at m y).lanes l lane one (lane_of plan m (lawful_of sound) y l lane was) in
-                    let begins : begun lane ≡ lane.ended + 1 = ap (λ b. cond b (lane.ended + 1) lane.ended) closing in
+                    let many : (node_at m y).closings ≡ begun_count lane = (lawful_of sound).closings y ∙ lone (node_at m y).lanes l lane one (lane_of plan m (lawful_of sound) y l lane was) in
+                    let begins : begun_count lane ≡ lane.ended + 1 = ap (λ b. cond b (lane.ended + 1) lane.ended) closing in
                     let next : next_epoch under ≡ (node_at m k).closings = sym (ap epoch_of at_under) ∙ ((lawful_of sound).below k s is).as_many (ap (λ k. list_any (is_unpassed k) m.held) i ∙ none_unpassed) in
                     let same : (node_at m k).closings ≡ (node_at m y).closings = ap (λ k. (node_at m k).closings) i in
                     omega arith

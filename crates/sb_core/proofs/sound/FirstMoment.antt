@@ -20,14 +20,14 @@ use Rattle.sb_core.specs.declared.moment.CoreLane.{CoreLane}
 use Rattle.sb_core.specs.Soundness.{IsOpenAtSource}
 use Rattle.sb_pipeline.specs.Shapes.{Shape}
 use Rattle.sb_record.specs.Records.{at_least}
-use Rattle.sb_pipeline.specs.Operators.{Operator, operator_of, operator_at, lanes_of, grouped, output}
+use Rattle.sb_pipeline.specs.Operators.{Operator, operator_of, operator_at, lanes_of, operator_rows, output}
 use Rattle.sb_pardo.specs.Outputs.{outputs_of}
 use Rattle.sb_record.specs.Elements.{all_records}
-use Rattle.sb_pipeline.specs.Flow.{arriving, from_streams}
+use Rattle.sb_pipeline.specs.Flow.{arrivals_at, from_streams}
 use Rattle.sb_pipeline.specs.Plans.{IsPlace, IsPlan}
 use Rattle.sb_pipeline.specs.Operators.Operator.{ParDo, Windowed, Sink}
 use Rattle.sb_record.specs.Reading.{◌>>=◌}
-use Rattle.sb_core.specs.Marks.{begun, closed, first_is_closing}
+use Rattle.sb_core.specs.Marks.{begun_count, least_begun_mark, first_is_closing}
 use Rattle.sb_core.specs.Moments.{lane_at, empty_lane, empty_node, first, node_at, no_node, floor_of, epoch_of}
 use Rattle.sb_core.specs.Lanes.{next_epoch}
 use Rattle.sb_core.specs.Exactness.{waiting_from, gives, gives_by, IsExact}
@@ -64,14 +64,14 @@ at_lane n l b = slice_get-get_or (replicate n empty_lane) l empty_lane (omega (a
 same_lanes : (n l : ℕ) (lane : CoreLane) → slice_get (replicate n empty_lane) l ≡ Some lane → lane ≡ empty_lane
 same_lanes n l lane h = same_Some lane empty_lane (sym h ∙ at_lane n l (omega (arith, length-replicate n empty_lane, slice_get_within (replicate n empty_lane) l lane h)))
 
-none_closed : (n : ℕ) → closed (replicate n empty_lane) ≡ 0
+none_closed : (n : ℕ) → least_begun_mark (replicate n empty_lane) ≡ 0
 none_closed zero = refl
 none_closed (suc zero) = refl
 none_closed (suc (suc n)) = ap (λ z. min 0 z) (none_closed (suc n))
 
-none_begun : (n : ℕ) → sum_by begun (replicate n empty_lane) ≡ 0
+none_begun : (n : ℕ) → sum_by begun_count (replicate n empty_lane) ≡ 0
 none_begun zero = refl
-none_begun (suc n) = sum_by-cons begun empty_lane (replicate n empty_lane) ∙ ap (λ z. 0 + z) (none_begun n)
+none_begun (suc n) = sum_by-cons begun_count empty_lane (replicate n empty_lane) ∙ ap (λ z. 0 + z) (none_begun n)
 
 none_waits : (i n : ℕ) → waiting_from i (replicate n empty_lane) ≡ []
 none_waits i zero = refl
@@ -116,8 +116,8 @@ module _ (plan : Shape) (is_plan : IsPlan plan) (bundle : ℕ) where
   closings_none : (k : ℕ) → (node_at (first plan bundle) k).closings ≡ 0
   closings_none = by_node (λ x. x.closings ≡ 0) (λ o. refl) refl
 
-  closed_none : (k : ℕ) → closed (node_at (first plan bundle) k).lanes ≡ 0
-  closed_none = by_node (λ x. closed x.lanes ≡ 0) (λ o. none_closed (lanes_of o)) refl
+  closed_none : (k : ℕ) → least_begun_mark (node_at (first plan bundle) k).lanes ≡ 0
+  closed_none = by_node (λ x. least_begun_mark x.lanes ≡ 0) (λ o. none_closed (lanes_of o)) refl
 
   kept_none : (k : ℕ) → (node_at (first plan bundle) k).kept ≡ []
   kept_none = by_node (λ x. x.kept ≡ []) (λ o. refl) refl
@@ -138,7 +138,7 @@ module _ (plan : Shape) (is_plan : IsPlan plan) (bundle : ℕ) where
           as_many = λ _. ap epoch_of (in_place s.down (place-at plan is_plan k s is)) ∙ sym (closings_none k);
           as_passed = λ _. ap floor_of (in_place s.down (place-at plan is_plan k s is)) ∙ sym (closed_none k);
         };
-        closings = λ k. closings_none k ∙ sym (by_node (λ x. sum_by begun x.lanes ≡ 0) (λ o. none_begun (lanes_of o)) refl k);
+        closings = λ k. closings_none k ∙ sym (by_node (λ x. sum_by begun_count x.lanes ≡ 0) (λ o. none_begun (lanes_of o)) refl k);
         sources = λ s d is. (empty_lane, in_place d (Feeding.sources plan is_plan s d is));
       }
 
@@ -157,7 +157,7 @@ module _ (plan : Shape) (is_plan : IsPlan plan) (bundle : ℕ) where
           open_source = λ s d lane is h. subst (λ (x : CoreLane). AllByRecursion (λ c. next_epoch x ≤ c.epoch → IsOpenAtSource (next_epoch x) c.epoch c.floor) x.conts) (sym (only_empty d lane h)) tt;
           open_below = λ k s lane is h. subst (λ (x : CoreLane). AllByRecursion (λ c. next_epoch x ≤ c.epoch → IsOpenBelow (operator_at (slice_get plan.steps k)) (node_at (first plan bundle) k).lanes false (next_epoch x) c.epoch c.floor) x.conts) (sym (only_empty s.down lane h)) tt;
           own_marks = λ k s lane own is h e. subst (λ (x : CoreLane). Begins x.marks own.marks) (sym (only_empty s.down lane h)) tt;
-          kept = λ k. subst (AreKeptAt (operator_at (slice_get plan.steps k)) (closed (node_at (first plan bundle) k).lanes) (bound_at plan k)) (sym (kept_none k)) tt;
+          kept = λ k. subst (AreKeptAt (operator_at (slice_get plan.steps k)) (least_begun_mark (node_at (first plan bundle) k).lanes) (bound_at plan k)) (sym (kept_none k)) tt;
           closes = tt;
           sorted = tt;
           written = tt;
@@ -169,11 +169,11 @@ module _ (plan : Shape) (is_plan : IsPlan plan) (bundle : ℕ) where
   from_zero [] = refl
   from_zero (r ∷ l) = (λ i. cond (not (le-ltb r.time 0 (omega arith) i)) (r ∷ at_least 0 l) (at_least 0 l)) ∙ ap (λ m. r ∷ m) (from_zero l)
 
-  same_by : (o : Operator) (k : ℕ) (node : Node) → waiting_from 0 node.lanes ≡ [] → node.kept ≡ [] → closed node.lanes ≡ 0 → (es fs : List KeptRec) → IsReordered es fs → IsReordered (gives_by o k node [] [] es) (output o fs)
+  same_by : (o : Operator) (k : ℕ) (node : Node) → waiting_from 0 node.lanes ≡ [] → node.kept ≡ [] → least_begun_mark node.lanes ≡ 0 → (es fs : List KeptRec) → IsReordered es fs → IsReordered (gives_by o k node [] [] es) (output o fs)
   same_by (ParDo op) k node waits kept none es fs h f =
       ap (λ w. sum_by f (flat_map (outputs_of op) (all_records ((w ++ []) ++ es)))) waits ∙ IsReordered-flat_map (outputs_of op) (all_records es) (all_records fs) (IsReordered-map (λ e. e.rec) es fs h) f
   same_by (Windowed g) k node waits kept none es fs h f =
-      (λ i. sum_by f (at_least (none i) (grouped g (kept i ++ ((waits i ++ []) ++ es))))) ∙ ap (sum_by f) (from_zero (grouped g es)) ∙ grouped-order g es fs h f
+      (λ i. sum_by f (at_least (none i) (operator_rows g (kept i ++ ((waits i ++ []) ++ es))))) ∙ ap (sum_by f) (from_zero (operator_rows g es)) ∙ grouped-order g es fs h f
   same_by Sink k node waits kept none es fs h f =
       (λ i. sum_by f (all_records (kept i ++ ((waits i ++ []) ++ es)))) ∙ IsReordered-map (λ e. e.rec) es fs h f
 
@@ -185,7 +185,7 @@ module _ (plan : Shape) (is_plan : IsPlan plan) (bundle : ℕ) where
   first-exact coming ok f =
       flow_same plan (gives plan (first plan bundle)) (λ k es. output (operator_at (slice_get plan.steps k)) es) (λ _ _. []) (λ _. []) (λ _ _. 0)
       (λ k es fs within in_time h. same_first k es fs h) (λ k es s is h. none (gives plan (first plan bundle) k es))
-      (λ f i n s is. zero-add _ ∙ brought_none f n s.down) refl coming coming (λ n. none (arriving n (from_streams plan coming))) (λ n f. refl) f
+      (λ f i n s is. zero-add _ ∙ brought_none f n s.down) refl coming coming (λ n. none (arrivals_at n (from_streams plan coming))) (λ n f. refl) f
     where
       none : {X : Type 0} (l : List X) → sum_by (λ x. 0) l ≡ 0
       none [] = refl

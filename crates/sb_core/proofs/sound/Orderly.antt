@@ -16,7 +16,7 @@ use Rattle.sb_core.specs.declared.moment.CoreLane.{CoreLane}
 use Rattle.sb_core.specs.declared.moment.Moment.{Moment}
 use Rattle.sb_core.specs.Bounds.{bound_at}
 use Rattle.sb_core.specs.Lanes.{next_epoch}
-use Rattle.sb_core.specs.Marks.{first_is_closing, begun, closed}
+use Rattle.sb_core.specs.Marks.{first_is_closing, begun_count, least_begun_mark}
 use Rattle.sb_core.specs.Moments.{lane_at, node_at, is_work, is_close, is_close_of}
 use Rattle.sb_core.specs.Closings.{is_pardo}
 use Rattle.sb_core.specs.LaneOrder.{IsLane}
@@ -31,7 +31,7 @@ pub record IsLawful (plan : Shape) (m : Moment) : Type 0 where
   pub one_close : (k : ℕ) → count_by (is_close k) m.held ≤ 1
   pub closing_held : (d : Down) (lane : CoreLane) → lane_at m d ≡ Some lane → first_is_closing lane.conts ≡ true → list_any (is_close_of d.node d.lane) m.held ≡ true
   pub below : (k : ℕ) (s : Step) → slice_get plan.steps k ≡ Some s → IsSealedBelow m k s.down
-  pub closings : (k : ℕ) → (node_at m k).closings ≡ sum_by begun (node_at m k).lanes
+  pub closings : (k : ℕ) → (node_at m k).closings ≡ sum_by begun_count (node_at m k).lanes
   pub sources : (s : Stream) (d : Down) → source plan s ≡ Some d → (lane : CoreLane) × (lane_at m d ≡ Some lane)
 
 pub record IsTidy (plan : Shape) (m : Moment) : Type 0 where
@@ -43,10 +43,10 @@ pub record IsTidy (plan : Shape) (m : Moment) : Type 0 where
   pub open_below : (k : ℕ) (s : Step) (lane : CoreLane) → slice_get plan.steps k ≡ Some s → lane_at m s.down ≡ Some lane
       → AllByRecursion (λ c. next_epoch lane ≤ c.epoch → IsOpenBelow (operator_at (slice_get plan.steps k)) (node_at m k).lanes (list_any (is_unpassed k) m.held) (next_epoch lane) c.epoch c.floor) lane.conts
   pub own_marks : (k : ℕ) (s : Step) (lane own : CoreLane) → slice_get plan.steps k ≡ Some s → lane_at m s.down ≡ Some lane → (node_at m k).lanes ≡ own ∷ [] → Begins lane.marks own.marks
-  pub kept : (k : ℕ) → AreKeptAt (operator_at (slice_get plan.steps k)) (closed (node_at m k).lanes) (bound_at plan k) (node_at m k).kept
+  pub kept : (k : ℕ) → AreKeptAt (operator_at (slice_get plan.steps k)) (least_begun_mark (node_at m k).lanes) (bound_at plan k) (node_at m k).kept
   pub closes : AllByRecursion (IsCloseOf plan m) m.held
   pub sorted : IsAscending record_cmp m.rows
-  pub written : AllByRecursion (λ r. r.time < closed (node_at m (length plan.steps)).lanes) m.rows
+  pub written : AllByRecursion (λ r. r.time < least_begun_mark (node_at m (length plan.steps)).lanes) m.rows
 
 -- a ParDo is no sink, so its node is a transform's
 pardo-is : (steps : List Step) (k : ℕ) → is_pardo (operator_at (slice_get steps k)) ≡ true → (k ≤ length steps) × (lanes_of (operator_at (slice_get steps k)) ≡ 1)

@@ -29,7 +29,7 @@ use Rattle.sb_pardo.specs.Outputs.{outputs_of}
 use Rattle.sb_pipeline.specs.Plans.{IsPlan}
 use Rattle.sb_pipeline.specs.Operators.Operator.{ParDo, Windowed, Sink}
 use Rattle.sb_record.specs.Reading.{◌>>=◌}
-use Rattle.sb_core.specs.Marks.{begun, closed}
+use Rattle.sb_core.specs.Marks.{begun_count, least_begun_mark}
 use Rattle.sb_core.specs.Moments.{is_work, lane_at, set_lane, set_node, with_held, node_at, floor_of, floor_at, epoch_of, epoch_at}
 use Rattle.sb_core.specs.Closings.{is_sink, delivery, is_pardo}
 use Rattle.sb_core.specs.Choices.{is_empty}
@@ -170,7 +170,7 @@ module _ (plan : Shape) (is_plan : IsPlan plan) (m m' : Moment) (sound : IsSound
   lone_has (x ∷ []) (suc l) e f lane one h = cc
   lone_has (x ∷ y ∷ lanes) l e f lane one h = absurd (omega arith)
 
-  pub lone_closed : (lanes : List CoreLane) (l : ℕ) (lane : CoreLane) → length lanes ≡ 1 → slice_get lanes l ≡ Some lane → closed lanes ≡ begun_mark lane
+  pub lone_closed : (lanes : List CoreLane) (l : ℕ) (lane : CoreLane) → length lanes ≡ 1 → slice_get lanes l ≡ Some lane → least_begun_mark lanes ≡ begun_mark lane
   lone_closed [] l lane one h = cc
   lone_closed (x ∷ []) zero lane one h = let k : x ≡ lane = cc in ap begun_mark k
   lone_closed (x ∷ []) (suc l) lane one h = cc
@@ -205,13 +205,13 @@ module _ (plan : Shape) (is_plan : IsPlan plan) (m m' : Moment) (sound : IsSound
           let low : floor_at m s.down ≡ next_floor p.1 = ap (floor_at m) down ∙ ap floor_of at in
           let from : next_epoch p.1 ≤ epoch = omega (arith, not_sealed plan m lawful y l epoch floor number records false s work pardo is) in
           let further : bound_at plan y + MAX_SIZE ≤ bound_at plan d.node = subst (λ (d : Down). bound_at plan y + MAX_SIZE ≤ bound_at plan d.node) down (bound-rises plan is_plan y s is) in
-          let closed_is : closed (node_at m y).lanes ≡ begun_mark work.lane = lone_closed (node_at m y).lanes l work.lane one in_node in
+          let closed_is : least_begun_mark (node_at m y).lanes ≡ begun_mark work.lane = lone_closed (node_at m y).lanes l work.lane one in_node in
           let timely = (lawful-timely plan m lawful).below y s is in
-          let behind : floor_at m s.down ≤ closed (node_at m y).lanes = subst (λ z. z ≤ closed (node_at m y).lanes) (sym (ap floor_of timely.there)) timely.behind in
+          let behind : floor_at m s.down ≤ least_begun_mark (node_at m y).lanes = subst (λ z. z ≤ least_begun_mark (node_at m y).lanes) (sym (ap floor_of timely.there)) timely.behind in
           let begins : begun_mark work.lane ≤ work.cont.floor = work_floor (bound_at plan y) work.lane own epoch number work.cont work.of_epoch work.is_out in
           let above : next_floor p.1 ≤ floor = omega (arith, work.floor_is) in
-          let many : (node_at m y).closings ≡ begun work.lane = lawful.closings y ∙ lone (node_at m y).lanes l work.lane one in_node in
-          let at_least : begun work.lane ≤ epoch = work_epoch (bound_at plan y) work.lane own epoch number work.cont work.of_epoch work.is_out in
+          let many : (node_at m y).closings ≡ begun_count work.lane = lawful.closings y ∙ lone (node_at m y).lanes l work.lane one in_node in
+          let at_least : begun_count work.lane ≤ epoch = work_epoch (bound_at plan y) work.lane own epoch number work.cont work.of_epoch work.is_out in
           let is_next : epoch ≡ next_epoch p.1 → floor ≡ next_floor p.1 = λ q. by_unpassed s is (list_any (is_unpassed y) m.held) refl work own many at_least closed_is next low q in
           let has : (x z : ℕ) → list_any (has_cont x z) (node_at m y).lanes ≡ has_cont x z work.lane = λ x z. lone_has (node_at m y).lanes l x z work.lane one in_node in
           let own_fits : Fits epoch floor work.lane.conts = subst (λ z. Fits epoch z work.lane.conts) work.floor_is (lane-fits (bound_at plan y) work.lane own epoch work.cont work.of_epoch) in
@@ -232,13 +232,13 @@ module _ (plan : Shape) (is_plan : IsPlan plan) (m m' : Moment) (sound : IsSound
           open_of : (lanes : List CoreLane) (unpassed : Bool) (next x z : ℕ) → operator_at (slice_get plan.steps y) ≡ ParDo op → IsOpenBelow (operator_at (slice_get plan.steps y)) lanes unpassed next x z → list_any (has_cont x z) lanes ≡ true
           open_of lanes unpassed next x z e h = subst (λ o. IsOpenBelow o lanes unpassed next x z) e h
 
-          by_unpassed : (s : Step) → slice_get plan.steps y ≡ Some s → (b : Bool) → list_any (is_unpassed y) m.held ≡ b → (work : IsWork plan m y l epoch floor number records false) → IsLane (bound_at plan y) work.lane → (node_at m y).closings ≡ begun work.lane → begun work.lane ≤ epoch
-              → closed (node_at m y).lanes ≡ begun_mark work.lane → {next low : ℕ} → epoch_at m s.down ≡ next → floor_at m s.down ≡ low → epoch ≡ next → floor ≡ low
+          by_unpassed : (s : Step) → slice_get plan.steps y ≡ Some s → (b : Bool) → list_any (is_unpassed y) m.held ≡ b → (work : IsWork plan m y l epoch floor number records false) → IsLane (bound_at plan y) work.lane → (node_at m y).closings ≡ begun_count work.lane → begun_count work.lane ≤ epoch
+              → least_begun_mark (node_at m y).lanes ≡ begun_mark work.lane → {next low : ℕ} → epoch_at m s.down ≡ next → floor_at m s.down ≡ low → epoch ≡ next → floor ≡ low
           by_unpassed s is true u work own many at_least closed_is next low q = absurd (let k : epoch_at m s.down + 1 ≤ (node_at m y).closings = unpassed_under plan m lawful y s is m.held lawful.holds u in omega arith)
           by_unpassed s is false u work own many at_least closed_is next low q =
               let a : epoch_at m s.down ≡ (node_at m y).closings = (lawful.below y s is).as_many u in
-              let b : floor_at m s.down ≡ closed (node_at m y).lanes = (lawful.below y s is).as_passed u in
-              let c : epoch ≡ begun work.lane = omega arith in
+              let b : floor_at m s.down ≡ least_begun_mark (node_at m y).lanes = (lawful.below y s is).as_passed u in
+              let c : epoch ≡ begun_count work.lane = omega arith in
               sym work.floor_is ∙ begun_floor (bound_at plan y) work.lane own work.cont (ap (λ z. LaneOrder.cont_at z work.lane.conts) (sym c) ∙ work.of_epoch) ∙ sym closed_is ∙ sym b ∙ low
 
           -- a container below fits the Work's epoch and floor

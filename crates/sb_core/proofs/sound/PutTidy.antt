@@ -19,7 +19,7 @@ use Rattle.sb_pipeline.specs.Operators.{Operator, operator_at}
 use Rattle.sb_pipeline.specs.Plans.{IsPlan}
 use Rattle.sb_pipeline.specs.Operators.Operator.{ParDo, Windowed, Sink}
 use Rattle.sb_record.specs.Reading.{◌>>=◌}
-use Rattle.sb_core.specs.Marks.{begun, last_of_first}
+use Rattle.sb_core.specs.Marks.{begun_count, last_of_first}
 use Rattle.sb_core.specs.Moments.{is_work, lane_at, set_lane, set_node, with_held, node_at}
 use Rattle.sb_core.specs.Lanes.{next_epoch, with_bundle, with_arrival}
 use Rattle.sb_core.specs.Holdings.{is_unpassed, IsCloseOf}
@@ -89,7 +89,7 @@ put-tidy plan is_plan m d node lane epoch floor records held at in_it kept tidy 
     was : lane_at m d ≡ Some lane
     was = ap (λ (o : Option Node). o >>= λ x. slice_get x.lanes d.lane) at ∙ in_it
 
-    begins : begun (with_arrival epoch floor records lane) ≡ begun lane
+    begins : begun_count (with_arrival epoch floor records lane) ≡ begun_count lane
     begins = ap (λ b. cond b (lane.ended + 1) lane.ended) kept.closing
 
     marks : begun_mark (with_arrival epoch floor records lane) ≡ begun_mark lane

@@ -23,7 +23,7 @@ use Rattle.sb_pipeline.specs.Operators.{Operator, operator_at}
 use Rattle.sb_pipeline.specs.Plans.{IsPlan}
 use Rattle.sb_pipeline.specs.Operators.Operator.{ParDo, Windowed, Sink}
 use Rattle.sb_record.specs.Reading.{◌>>=◌}
-use Rattle.sb_core.specs.Marks.{begun, last_of_first}
+use Rattle.sb_core.specs.Marks.{begun_count, last_of_first}
 use Rattle.sb_core.specs.Moments.{is_work, lane_at, set_lane, set_node, with_held, node_at, floor_of, floor_at, epoch_of, epoch_at}
 use Rattle.sb_core.specs.Choices.{is_empty}
 use Rattle.sb_core.specs.Lanes.{next_epoch, next_floor, with_seal}
@@ -155,8 +155,8 @@ pass-sound plan is_plan m m' sound (Close y l epoch serial floor mark rows passe
         let own : IsLane (bound_at plan y) close.lane = lawful.lanes (record { node = y; lane = l }) close.lane close.there in
         let one : length (node_at m y).lanes ≡ 1 = lawful.one_lane y (ap is_pardo e) in
         let in_node : slice_get (node_at m y).lanes l ≡ Some close.lane = lane_of plan m lawful y l close.lane close.there in
-        let many : (node_at m y).closings ≡ begun close.lane = lawful.closings y ∙ lone (node_at m y).lanes l close.lane one in_node in
-        let begins : begun close.lane ≡ close.lane.ended + 1 = ap (λ b. cond b (close.lane.ended + 1) close.lane.ended) close.closing in
+        let many : (node_at m y).closings ≡ begun_count close.lane = lawful.closings y ∙ lone (node_at m y).lanes l close.lane one in_node in
+        let begins : begun_count close.lane ≡ close.lane.ended + 1 = ap (λ b. cond b (close.lane.ended + 1) close.lane.ended) close.closing in
         let ended : next ≡ close.lane.ended = omega (arith, close.serial_is) in
         let mark_is : mark ≡ begun_mark close.lane = close.mark_is ∙ lone_closed plan is_plan m m sound (node_at m y).lanes l close.lane one in_node in
         every (λ c z b.
@@ -169,11 +169,11 @@ pass-sound plan is_plan m m' sound (Close y l epoch serial floor mark rows passe
     marks close s lane own is at n lone_is =
         let in_node : slice_get (node_at m y).lanes l ≡ Some close.lane = lane_of plan m lawful y l close.lane close.there in
         let one : length (node_at m y).lanes ≡ 1 = ap length lone_is in
-        let many : (node_at m y).closings ≡ begun close.lane = lawful.closings y ∙ lone (node_at m y).lanes l close.lane one in_node in
+        let many : (node_at m y).closings ≡ begun_count close.lane = lawful.closings y ∙ lone (node_at m y).lanes l close.lane one in_node in
         let same : own ≡ close.lane = only own l close.lane (ap (λ ls. slice_get ls l) (sym lone_is) ∙ in_node) in
-        let within : begun close.lane ≤ length close.lane.marks = begun_within (bound_at plan y) close.lane (lawful.lanes (record { node = y; lane = l }) close.lane close.there) in
+        let within : begun_count close.lane ≤ length close.lane.marks = begun_within (bound_at plan y) close.lane (lawful.lanes (record { node = y; lane = l }) close.lane close.there) in
         let old : Begins lane.marks own.marks = (tidy_of sound).own_marks y s lane own is at lone_is in
-        let begins : begun close.lane ≡ length lane.marks + 1 = omega (arith, close.serial_is) in
+        let begins : begun_count close.lane ≡ length lane.marks + 1 = omega (arith, close.serial_is) in
         let mark_is : mark ≡ get_or own.marks (length lane.marks) 0 =
         close.mark_is ∙ lone_closed plan is_plan m m sound (node_at m y).lanes l close.lane one in_node ∙ ap (λ n. last_of_first n close.lane.marks) begins ∙ last_is (length lane.marks) close.lane.marks ∙ ap (λ (x : CoreLane). get_or x.marks (length lane.marks) 0) (sym same) in
         subst (λ z. Begins (lane.marks ++ z ∷ []) own.marks) (sym mark_is) (begins-more lane.marks own.marks old (subst (λ (x : CoreLane). length lane.marks < length x.marks) (sym same) (omega arith)))

@@ -16,7 +16,7 @@ use Rattle.sb_core.specs.declared.moment.Moment.{Moment}
 use Rattle.sb_core.specs.declared.held.Held.{Held}
 use Rattle.sb_core.specs.declared.held.Held.TheVariants.{Work, Close}
 use Rattle.sb_pipeline.specs.Operators.{operator_at}
-use Rattle.sb_core.specs.Marks.{begun, before_closing, last_of_first, closed}
+use Rattle.sb_core.specs.Marks.{begun_count, before_closing, last_of_first, least_begun_mark}
 use Rattle.sb_core.specs.Moments.{is_work, lane_at, set_node, with_held, node_at}
 use Rattle.sb_core.specs.Lanes.{next_epoch}
 use Rattle.sb_core.specs.Bounds.{bound_at}
@@ -55,7 +55,7 @@ before-set (first ∷ second ∷ lanes) (suc zero) lane with h e = ap (min (ende
 before-set (first ∷ second ∷ lanes) (suc (suc l)) lane with h e = ap (min (ended_mark first)) (before-set (second ∷ lanes) (suc l) lane with h e)
 
 module _ (plan : Shape) (m : Moment) (n l : ℕ) (node new : Node) (lane with : CoreLane) (at : slice_get m.nodes n ≡ Some node) (in_it : slice_get node.lanes l ≡ Some lane)
-    (lanes : new.lanes ≡ slice_set node.lanes l with) (closings_same : new.closings ≡ node.closings) (begun_same : begun with ≡ begun lane) (mark_same : begun_mark with ≡ begun_mark lane) (held : List Held) where
+    (lanes : new.lanes ≡ slice_set node.lanes l with) (closings_same : new.closings ≡ node.closings) (begun_same : begun_count with ≡ begun_count lane) (mark_same : begun_mark with ≡ begun_mark lane) (held : List Held) where
   abbrev now : Moment
   now = set_node n new (with_held held m)
 
@@ -80,7 +80,7 @@ module _ (plan : Shape) (m : Moment) (n l : ℕ) (node new : Node) (lane with : 
       → ((xs : List ℕ) → Begins xs lane.marks → Begins xs with.marks)
       → ((k : ℕ) (s : Step) (own : CoreLane) → slice_get plan.steps k ≡ Some s → s.down ≡ record { node = n; lane = l } → (node_at m k).lanes ≡ own ∷ [] → Begins with.marks own.marks)
       → ((k : ℕ) (s : Step) → slice_get plan.steps k ≡ Some s → k < s.down.node)
-      → (AreKeptAt (operator_at (slice_get plan.steps n)) (closed node.lanes) (bound_at plan n) node.kept → AreKeptAt (operator_at (slice_get plan.steps n)) (closed node.lanes) (bound_at plan n) new.kept)
+      → (AreKeptAt (operator_at (slice_get plan.steps n)) (least_begun_mark node.lanes) (bound_at plan n) node.kept → AreKeptAt (operator_at (slice_get plan.steps n)) (least_begun_mark node.lanes) (bound_at plan n) new.kept)
       → AllByRecursion (IsCloseOf plan now) held
       → IsTidy plan now
   tidy_still tidy numbers outs_here outs_other source_here below_here below_other grows marks_here further kept_new closes =
@@ -94,8 +94,8 @@ module _ (plan : Shape) (m : Moment) (n l : ℕ) (node new : Node) (lane with : 
             (λ ne. tidy.open_source s d x is (sym (elsewhere d ne) ∙ h)) (place_or n l d);
         open_below = open_below;
         own_marks = own_marks;
-        kept = λ k. ⊎_elim (λ e. subst (λ k. AreKeptAt (operator_at (slice_get plan.steps k)) (closed (node_at now k).lanes) (bound_at plan k) (node_at now k).kept) (sym e) kept_here)
-            (λ ne. subst (λ (x : Node). AreKeptAt (operator_at (slice_get plan.steps k)) (closed x.lanes) (bound_at plan k) x.kept) (sym (node_at-set_other m n node new at k ne)) (tidy.kept k)) (cases_eq k n);
+        kept = λ k. ⊎_elim (λ e. subst (λ k. AreKeptAt (operator_at (slice_get plan.steps k)) (least_begun_mark (node_at now k).lanes) (bound_at plan k) (node_at now k).kept) (sym e) kept_here)
+            (λ ne. subst (λ (x : Node). AreKeptAt (operator_at (slice_get plan.steps k)) (least_begun_mark x.lanes) (bound_at plan k) x.kept) (sym (node_at-set_other m n node new at k ne)) (tidy.kept k)) (cases_eq k n);
         closes = closes;
         sorted = tidy.sorted;
         written = subst (λ z. AllByRecursion (λ r. r.time < z) m.rows) (sym (closed_same plan m n l node new lane with at in_it lanes closings_same begun_same mark_same held (length plan.steps))) tidy.written;
@@ -138,8 +138,8 @@ module _ (plan : Shape) (m : Moment) (n l : ℕ) (node new : Node) (lane with : 
               let z : (node_at m k).lanes ≡ own ∷ [] = ap (λ (x : Node). x.lanes) (sym (node_at-set_other m n node new at k ne)) ∙ lone in
               ⊎_elim (λ e. subst (λ (x : CoreLane). Begins x.marks own.marks) (same_Some with x (sym (placed s.down e) ∙ h)) (marks_here k s own is e z)) (λ o. tidy.own_marks k s x own is (sym (elsewhere s.down o) ∙ h) z) (place_or n l s.down)
 
-      kept_here : AreKeptAt (operator_at (slice_get plan.steps n)) (closed (node_at now n).lanes) (bound_at plan n) (node_at now n).kept
+      kept_here : AreKeptAt (operator_at (slice_get plan.steps n)) (least_begun_mark (node_at now n).lanes) (bound_at plan n) (node_at now n).kept
       kept_here =
-          subst (λ (x : Node). AreKeptAt (operator_at (slice_get plan.steps n)) (closed x.lanes) (bound_at plan n) x.kept) (sym (node_at-set_same m n node new at))
-          (subst (λ w. AreKeptAt (operator_at (slice_get plan.steps n)) w (bound_at plan n) new.kept) (sym (ap closed lanes ∙ closed-set node.lanes l lane with in_it mark_same))
-          (kept_new (subst (λ (x : Node). AreKeptAt (operator_at (slice_get plan.steps n)) (closed x.lanes) (bound_at plan n) x.kept) (node_at-same m n node new at) (tidy.kept n))))
+          subst (λ (x : Node). AreKeptAt (operator_at (slice_get plan.steps n)) (least_begun_mark x.lanes) (bound_at plan n) x.kept) (sym (node_at-set_same m n node new at))
+          (subst (λ w. AreKeptAt (operator_at (slice_get plan.steps n)) w (bound_at plan n) new.kept) (sym (ap least_begun_mark lanes ∙ closed-set node.lanes l lane with in_it mark_same))
+          (kept_new (subst (λ (x : Node). AreKeptAt (operator_at (slice_get plan.steps n)) (least_begun_mark x.lanes) (bound_at plan n) x.kept) (node_at-same m n node new at) (tidy.kept n))))

@@ -10,7 +10,7 @@ use Rattle.sb_record.specs.declared.item.Record.{Record}
 use Rattle.sb_bundle.specs.declared.bundle.Bundle.{Bundle}
 use Rattle.sb_core.specs.declared.moment.Cont.{Cont}
 use Rattle.sb_core.specs.declared.moment.CoreLane.{CoreLane}
-use Rattle.sb_core.specs.Marks.{begun, closed, first_is_closing, last_of_first}
+use Rattle.sb_core.specs.Marks.{begun_count, least_begun_mark, first_is_closing, last_of_first}
 use Rattle.sb_core.specs.Lanes.{next_floor}
 use Rattle.sb_core.specs.Exactness.{waiting_in}
 use Rattle.sb_core.specs.LaneOrder.{NeverFalls, IsWithin, IsBundleOf, AreOpen, AreContainers, IsLane, IsReady, cont_at}
@@ -158,7 +158,7 @@ module _ (bound : ℕ) (lane : CoreLane) (ok : IsLane bound lane) where
               subst (λ b. last_of_first (cond b (lane.ended + 1) lane.ended) lane.marks ≤ c.floor) (sym h) (container_floor bound lane.ended (last_of_first lane.ended lane.marks) epoch (m ∷ ms) (x ∷ cs) c are up at)
 
   -- what is out is of an epoch that has not begun to close
-  pub work_epoch : (epoch number : ℕ) (c : Cont) → cont_at epoch lane.conts ≡ Some c → list_any (λ n. eqb n number) c.out ≡ true → begun lane ≤ epoch
+  pub work_epoch : (epoch number : ℕ) (c : Cont) → cont_at epoch lane.conts ≡ Some c → list_any (λ n. eqb n number) c.out ≡ true → begun_count lane ≤ epoch
   work_epoch epoch number c = go lane.conts (drop lane.ended lane.marks) ok.containers ok.ready
     where
       of_open : (n g e f : ℕ) (cs : List Cont) → AreOpen bound n g e f cs → cont_at epoch cs ≡ Some c → e ≤ epoch
@@ -188,7 +188,7 @@ module _ (bound : ℕ) (lane : CoreLane) (ok : IsLane bound lane) where
           by_case false e = subst (λ b. cond b (lane.ended + 1) lane.ended ≤ epoch) (sym e) (of_all lane.ended (last_of_first lane.ended lane.marks) (m ∷ ms) (x ∷ cs) are h)
 
   -- a lane has begun no more than is sealed
-  pub begun_within : begun lane ≤ length lane.marks
+  pub begun_within : begun_count lane ≤ length lane.marks
   begun_within = go lane.conts (drop lane.ended lane.marks) refl ok.containers
     where
       go : (cs : List Cont) (ms : List ℕ) → drop lane.ended lane.marks ≡ ms → AreContainers bound lane.ended (last_of_first lane.ended lane.marks) ms cs → cond (first_is_closing cs) (lane.ended + 1) lane.ended ≤ length lane.marks
@@ -201,12 +201,12 @@ module _ (bound : ℕ) (lane : CoreLane) (ok : IsLane bound lane) where
           by_case false = ok.ended_in
 
   pub begun_behind : begun_mark lane ≤ next_floor lane
-  begun_behind = subst (λ n. begun_mark lane ≤ n) (sym (next_floor_is lane)) (last_of_first-rises lane.marks (begun lane) (length lane.marks) ok.rising begun_within (omega arith))
+  begun_behind = subst (λ n. begun_mark lane ≤ n) (sym (next_floor_is lane)) (last_of_first-rises lane.marks (begun_count lane) (length lane.marks) ok.rising begun_within (omega arith))
 
 -- ---- the least over the lanes
-pub closed_least : (lanes : List CoreLane) (l : ℕ) (lane : CoreLane) → slice_get lanes l ≡ Some lane → closed lanes ≤ begun_mark lane
+pub closed_least : (lanes : List CoreLane) (l : ℕ) (lane : CoreLane) → slice_get lanes l ≡ Some lane → least_begun_mark lanes ≤ begun_mark lane
 closed_least [] l lane h = cc
 closed_least (first ∷ []) zero lane h = let k : first ≡ lane = cc in subst (λ (x : CoreLane). begun_mark first ≤ begun_mark x) k (omega arith)
 closed_least (first ∷ []) (suc l) lane h = cc
-closed_least (first ∷ second ∷ lanes) zero lane h = let k : first ≡ lane = cc in subst (λ (x : CoreLane). min (begun_mark first) (closed (second ∷ lanes)) ≤ begun_mark x) k (omega arith)
-closed_least (first ∷ second ∷ lanes) (suc l) lane h = let k : closed (second ∷ lanes) ≤ begun_mark lane = closed_least (second ∷ lanes) l lane h in omega arith
+closed_least (first ∷ second ∷ lanes) zero lane h = let k : first ≡ lane = cc in subst (λ (x : CoreLane). min (begun_mark first) (least_begun_mark (second ∷ lanes)) ≤ begun_mark x) k (omega arith)
+closed_least (first ∷ second ∷ lanes) (suc l) lane h = let k : least_begun_mark (second ∷ lanes) ≤ begun_mark lane = closed_least (second ∷ lanes) l lane h in omega arith

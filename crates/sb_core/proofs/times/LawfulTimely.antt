@@ -17,10 +17,10 @@ use Rattle.sb_core.specs.declared.held.Held.{Held}
 use Rattle.sb_core.specs.declared.held.Held.TheVariants.{Work, Close}
 use Rattle.sb_record.specs.Elements.{on_lane}
 use Rattle.sb_record.specs.Reading.{◌>>=◌}
-use Rattle.sb_core.specs.Marks.{closed}
+use Rattle.sb_core.specs.Marks.{least_begun_mark}
 use Rattle.sb_core.specs.Lanes.{next_floor}
 use Rattle.sb_core.specs.Moments.{lane_at, node_at, no_node, floor_of, floor_at}
-use Rattle.sb_core.specs.Exactness.{waiting_in, waiting_from, working, undelivered}
+use Rattle.sb_core.specs.Exactness.{waiting_in, waiting_from, work_in, rows_left_in}
 use Rattle.sb_core.specs.LaneOrder.{IsWithin}
 use Rattle.sb_core.specs.Bounds.{bound_at}
 use Rattle.sb_core.specs.Holdings.{IsHeld, is_unpassed}
@@ -56,45 +56,45 @@ module _ (plan : Shape) (m : Moment) (lawful : IsLawful plan m) where
       outside : length m.nodes ≤ k → lane_at m (record { node = k; lane = l }) ≡ Some lane
       outside b = let n : slice_get (node_at m k).lanes l ≡ None = ap (λ (n : Node). slice_get n.lanes l) (get_or_past m.nodes k no_node b) in let x : None ≡ Some lane = sym n ∙ h in cc
 
-  closed_before : (k l : ℕ) (lane : CoreLane) → lane_at m (record { node = k; lane = l }) ≡ Some lane → closed (node_at m k).lanes ≤ begun_mark lane
+  closed_before : (k l : ℕ) (lane : CoreLane) → lane_at m (record { node = k; lane = l }) ≡ Some lane → least_begun_mark (node_at m k).lanes ≤ begun_mark lane
   closed_before k l lane h = closed_least (node_at m k).lanes l lane (lane_of k l lane h)
 
-  waiting_late : (k : ℕ) → sum_by (early_one (closed (node_at m k).lanes)) (waiting_from 0 (node_at m k).lanes) ≡ 0
-  waiting_late k = go (node_at m k).lanes 0 (λ l lane h. early_weaker (closed (node_at m k).lanes) (begun_mark lane) (closed_least (node_at m k).lanes l lane h) (waiting_in lane) (lane_late (bound_at plan k) lane (lawful.lanes (record { node = k; lane = l }) lane (of_node k l lane h))))
+  waiting_late : (k : ℕ) → sum_by (early_one (least_begun_mark (node_at m k).lanes)) (waiting_from 0 (node_at m k).lanes) ≡ 0
+  waiting_late k = go (node_at m k).lanes 0 (λ l lane h. early_weaker (least_begun_mark (node_at m k).lanes) (begun_mark lane) (closed_least (node_at m k).lanes l lane h) (waiting_in lane) (lane_late (bound_at plan k) lane (lawful.lanes (record { node = k; lane = l }) lane (of_node k l lane h))))
     where
-      go : (lanes : List CoreLane) (i : ℕ) → ((l : ℕ) (lane : CoreLane) → slice_get lanes l ≡ Some lane → sum_by (early (closed (node_at m k).lanes)) (waiting_in lane) ≡ 0) → sum_by (early_one (closed (node_at m k).lanes)) (waiting_from i lanes) ≡ 0
+      go : (lanes : List CoreLane) (i : ℕ) → ((l : ℕ) (lane : CoreLane) → slice_get lanes l ≡ Some lane → sum_by (early (least_begun_mark (node_at m k).lanes)) (waiting_in lane) ≡ 0) → sum_by (early_one (least_begun_mark (node_at m k).lanes)) (waiting_from i lanes) ≡ 0
       go [] i each = refl
       go (lane ∷ lanes) i each =
-          sum_by-append (early_one (closed (node_at m k).lanes)) (on_lane i (waiting_in lane)) (waiting_from (i + 1) lanes)
-          ∙ (λ z. on_lane_late (closed (node_at m k).lanes) i (waiting_in lane) (each 0 lane refl) z + go lanes (i + 1) (λ l x h. each (suc l) x h) z)
+          sum_by-append (early_one (least_begun_mark (node_at m k).lanes)) (on_lane i (waiting_in lane)) (waiting_from (i + 1) lanes)
+          ∙ (λ z. on_lane_late (least_begun_mark (node_at m k).lanes) i (waiting_in lane) (each 0 lane refl) z + go lanes (i + 1) (λ l x h. each (suc l) x h) z)
 
-  works_late : (k : ℕ) → sum_by (early_one (closed (node_at m k).lanes)) (flat_map (working k) m.held) ≡ 0
-  works_late k = sum_by-flat_map (early_one (closed (node_at m k).lanes)) (working k) m.held ∙ go m.held lawful.holds
+  works_late : (k : ℕ) → sum_by (early_one (least_begun_mark (node_at m k).lanes)) (flat_map (work_in k) m.held) ≡ 0
+  works_late k = sum_by-flat_map (early_one (least_begun_mark (node_at m k).lanes)) (work_in k) m.held ∙ go m.held lawful.holds
     where
-      one : (h : Held) → IsHeld plan m h → sum_by (early_one (closed (node_at m k).lanes)) (working k h) ≡ 0
+      one : (h : Held) → IsHeld plan m h → sum_by (early_one (least_begun_mark (node_at m k).lanes)) (work_in k h) ≡ 0
       one (Close n l epoch serial floor mark rows passed) h = refl
       one (Work n l epoch floor number records delivered) h = ⊎_elim here elsewhere (cases_eq n k)
         where
-          here : n ≡ k → sum_by (early_one (closed (node_at m k).lanes)) (cond (eqb n k && not delivered) (on_lane l records) []) ≡ 0
+          here : n ≡ k → sum_by (early_one (least_begun_mark (node_at m k).lanes)) (cond (eqb n k && not delivered) (on_lane l records) []) ≡ 0
           here e = by_case (eqb n k && not delivered)
             where
-              late : sum_by (early_one (closed (node_at m k).lanes)) (on_lane l records) ≡ 0
+              late : sum_by (early_one (least_begun_mark (node_at m k).lanes)) (on_lane l records) ≡ 0
               late =
-                  let a : closed (node_at m n).lanes ≤ begun_mark h.lane = closed_before n l h.lane h.there in
+                  let a : least_begun_mark (node_at m n).lanes ≤ begun_mark h.lane = closed_before n l h.lane h.there in
                   let b : begun_mark h.lane ≤ h.cont.floor = work_floor (bound_at plan n) h.lane (lawful.lanes (record { node = n; lane = l }) h.lane h.there) epoch number h.cont h.of_epoch h.is_out in
-                  let c : closed (node_at m n).lanes ≡ closed (node_at m k).lanes = ap (λ k. closed (node_at m k).lanes) e in
-                  on_lane_late (closed (node_at m k).lanes) l records (within_late (closed (node_at m k).lanes) floor (bound_at plan n) (omega (arith, h.floor_is)) records h.times)
+                  let c : least_begun_mark (node_at m n).lanes ≡ least_begun_mark (node_at m k).lanes = ap (λ k. least_begun_mark (node_at m k).lanes) e in
+                  on_lane_late (least_begun_mark (node_at m k).lanes) l records (within_late (least_begun_mark (node_at m k).lanes) floor (bound_at plan n) (omega (arith, h.floor_is)) records h.times)
 
-              by_case : (b : Bool) → sum_by (early_one (closed (node_at m k).lanes)) (cond b (on_lane l records) []) ≡ 0
+              by_case : (b : Bool) → sum_by (early_one (least_begun_mark (node_at m k).lanes)) (cond b (on_lane l records) []) ≡ 0
               by_case true = late
               by_case false = refl
 
-          elsewhere : n ≢ k → sum_by (early_one (closed (node_at m k).lanes)) (cond (eqb n k && not delivered) (on_lane l records) []) ≡ 0
-          elsewhere ne = ap (λ b. sum_by (early_one (closed (node_at m k).lanes)) (cond (b && not delivered) (on_lane l records) [])) (ne_eqb n k ne)
+          elsewhere : n ≢ k → sum_by (early_one (least_begun_mark (node_at m k).lanes)) (cond (eqb n k && not delivered) (on_lane l records) []) ≡ 0
+          elsewhere ne = ap (λ b. sum_by (early_one (least_begun_mark (node_at m k).lanes)) (cond (b && not delivered) (on_lane l records) [])) (ne_eqb n k ne)
 
-      go : (hs : List Held) → AllByRecursion (IsHeld plan m) hs → sum_by (λ h. sum_by (early_one (closed (node_at m k).lanes)) (working k h)) hs ≡ 0
+      go : (hs : List Held) → AllByRecursion (IsHeld plan m) hs → sum_by (λ h. sum_by (early_one (least_begun_mark (node_at m k).lanes)) (work_in k h)) hs ≡ 0
       go [] all = refl
-      go (h ∷ hs) all = sum_by-cons (λ h. sum_by (early_one (closed (node_at m k).lanes)) (working k h)) h hs ∙ (λ i. one h all.0 i + go hs all.1 i)
+      go (h ∷ hs) all = sum_by-cons (λ h. sum_by (early_one (least_begun_mark (node_at m k).lanes)) (work_in k h)) h hs ∙ (λ i. one h all.0 i + go hs all.1 i)
 
   -- the lane below a transform
   below : (k : ℕ) (s : Step) → slice_get plan.steps k ≡ Some s → IsTimelyAt m k s.down
@@ -107,28 +107,28 @@ module _ (plan : Shape) (m : Moment) (lawful : IsLawful plan m) where
       floor_is = ap floor_of b.there
 
       -- an unpassed Close is at the floor of the lane below, and its mark is where the node is
-      at_close : (hs : List Held) → AllByRecursion (IsHeld plan m) hs → list_any (is_unpassed k) hs ≡ true → floor_at m s.down ≤ closed (node_at m k).lanes
+      at_close : (hs : List Held) → AllByRecursion (IsHeld plan m) hs → list_any (is_unpassed k) hs ≡ true → floor_at m s.down ≤ least_begun_mark (node_at m k).lanes
       at_close [] all h = cc
       at_close (Work n l epoch floor number records delivered ∷ hs) all h = at_close hs all.1 h
       at_close (Close n l epoch serial floor mark rows passed ∷ hs) all h = by_case (eqb n k) passed refl refl h (λ k. at_close hs all.1 k)
         where
-          by_case : (a p : Bool) → eqb n k ≡ a → passed ≡ p → ((a && not p) || list_any (is_unpassed k) hs) ≡ true → (list_any (is_unpassed k) hs ≡ true → floor_at m s.down ≤ closed (node_at m k).lanes) → floor_at m s.down ≤ closed (node_at m k).lanes
+          by_case : (a p : Bool) → eqb n k ≡ a → passed ≡ p → ((a && not p) || list_any (is_unpassed k) hs) ≡ true → (list_any (is_unpassed k) hs ≡ true → floor_at m s.down ≤ least_begun_mark (node_at m k).lanes) → floor_at m s.down ≤ least_begun_mark (node_at m k).lanes
           by_case true false e f h ih =
               let nk : n ≡ k = eqb-true n k e in
               let x : floor_at m s.down ≡ floor = all.0.under f s (ap (slice_get plan.steps) nk ∙ is) in
-              let y : mark ≡ closed (node_at m k).lanes = all.0.mark_is ∙ ap (λ k. closed (node_at m k).lanes) nk in
+              let y : mark ≡ least_begun_mark (node_at m k).lanes = all.0.mark_is ∙ ap (λ k. least_begun_mark (node_at m k).lanes) nk in
               omega (arith, all.0.rises)
           by_case true true e f h ih = ih h
           by_case false p e f h ih = ih h
 
-      behind : next_floor b.lane ≤ closed (node_at m k).lanes
+      behind : next_floor b.lane ≤ least_begun_mark (node_at m k).lanes
       behind = by_case (list_any (is_unpassed k) m.held) refl
         where
-          by_case : (a : Bool) → list_any (is_unpassed k) m.held ≡ a → next_floor b.lane ≤ closed (node_at m k).lanes
-          by_case true e = let x : floor_at m s.down ≤ closed (node_at m k).lanes = at_close m.held lawful.holds e in omega (arith, floor_is)
+          by_case : (a : Bool) → list_any (is_unpassed k) m.held ≡ a → next_floor b.lane ≤ least_begun_mark (node_at m k).lanes
+          by_case true e = let x : floor_at m s.down ≤ least_begun_mark (node_at m k).lanes = at_close m.held lawful.holds e in omega (arith, floor_is)
           by_case false e = omega (arith, floor_is, b.as_passed e)
 
-      one : (h : Held) → IsHeld plan m h → sum_by (early (next_floor b.lane)) (undelivered k h) ≡ 0
+      one : (h : Held) → IsHeld plan m h → sum_by (early (next_floor b.lane)) (rows_left_in k h) ≡ 0
       one (Work n l epoch floor number records delivered) h = refl
       one (Close n l epoch serial floor mark rows passed) h = by_case (eqb n k) passed refl refl
         where
@@ -139,12 +139,12 @@ module _ (plan : Shape) (m : Moment) (lawful : IsLawful plan m) where
               let x : floor_at m s.down ≡ floor = h.under f s (ap (slice_get plan.steps) (eqb-true n k e) ∙ is) in
               within_late (next_floor b.lane) floor (bound_at plan n + MAX_SIZE) (omega (arith, floor_is)) rows h.times
 
-      rows : sum_by (early (next_floor b.lane)) (flat_map (undelivered k) m.held) ≡ 0
-      rows = sum_by-flat_map (early (next_floor b.lane)) (undelivered k) m.held ∙ go m.held lawful.holds
+      rows : sum_by (early (next_floor b.lane)) (flat_map (rows_left_in k) m.held) ≡ 0
+      rows = sum_by-flat_map (early (next_floor b.lane)) (rows_left_in k) m.held ∙ go m.held lawful.holds
         where
-          go : (hs : List Held) → AllByRecursion (IsHeld plan m) hs → sum_by (λ h. sum_by (early (next_floor b.lane)) (undelivered k h)) hs ≡ 0
+          go : (hs : List Held) → AllByRecursion (IsHeld plan m) hs → sum_by (λ h. sum_by (early (next_floor b.lane)) (rows_left_in k h)) hs ≡ 0
           go [] all = refl
-          go (h ∷ hs) all = sum_by-cons (λ h. sum_by (early (next_floor b.lane)) (undelivered k h)) h hs ∙ (λ i. one h all.0 i + go hs all.1 i)
+          go (h ∷ hs) all = sum_by-cons (λ h. sum_by (early (next_floor b.lane)) (rows_left_in k h)) h hs ∙ (λ i. one h all.0 i + go hs all.1 i)
 
   pub lawful-timely : IsTimely plan m
   lawful-timely =

@@ -17,19 +17,19 @@ use Rattle.sb_pipeline.specs.Shapes.{Shape, source}
 use Rattle.sb_core.specs.declared.moment.Moment.{Moment}
 use Rattle.sb_core.specs.declared.moment.CoreLane.{CoreLane}
 use Rattle.sb_record.specs.Records.{at_least}
-use Rattle.sb_pipeline.specs.Operators.{Operator, operator_of, operator_at, grouped}
+use Rattle.sb_pipeline.specs.Operators.{Operator, operator_of, operator_at, operator_rows}
 use Rattle.sb_pardo.specs.Outputs.{outputs_of}
 use Rattle.sb_record.specs.Elements.{on_lane, all_records}
-use Rattle.sb_pipeline.specs.Flow.{arriving, from_stream, from_streams}
+use Rattle.sb_pipeline.specs.Flow.{arrivals_at, from_stream, from_streams}
 use Rattle.sb_pipeline.specs.Operators.Operator.{ParDo, Windowed, Sink}
 use Rattle.sb_pipeline.specs.declared.transform.Kind.{Kind}
 use Rattle.sb_pipeline.specs.declared.transform.Kind.TheVariants.{Do, Group, Session, Join}
-use Rattle.sb_core.specs.Marks.{closed}
+use Rattle.sb_core.specs.Marks.{least_begun_mark}
 use Rattle.sb_core.specs.Lanes.{next_floor}
 use Rattle.sb_core.specs.Moments.{lane_at, node_at, floor_of, floor_at}
 use Rattle.sb_core.specs.Closings.{is_sink}
 use Rattle.sb_record.specs.declared.item.TheConstants.{MAX_TIME}
-use Rattle.sb_core.specs.Exactness.{waiting_from, working, undelivered, rest, gives, gives_by, IsAdmissible}
+use Rattle.sb_core.specs.Exactness.{waiting_from, work_in, rows_left_in, rest, gives, gives_by, IsAdmissible}
 use Rattle.sb_record.proofs.Sums.{sum_by-flat_map, sum_by-map, sum_by-filter}
 use Rattle.sb_core.proofs.exact.Flow.{brought}
 use Rattle.sb_core.proofs.windows.Groupings.{early, early_one}
@@ -47,14 +47,14 @@ late m k e = late_for (lane_at m (record { node = k; lane = e.lane })) e.rec.tim
 pub record IsTimelyAt (m : Moment) (k : ℕ) (d : Down) : Type 0 where
   pub lane : CoreLane
   pub there : lane_at m d ≡ Some lane
-  pub rows : sum_by (early (next_floor lane)) (flat_map (undelivered k) m.held) ≡ 0
-  pub behind : next_floor lane ≤ closed (node_at m k).lanes
+  pub rows : sum_by (early (next_floor lane)) (flat_map (rows_left_in k) m.held) ≡ 0
+  pub behind : next_floor lane ≤ least_begun_mark (node_at m k).lanes
 
 pub record IsTimely (plan : Shape) (m : Moment) : Type 0 where
   pub below : (k : ℕ) (s : Step) → slice_get plan.steps k ≡ Some s → IsTimelyAt m k s.down
-  pub waiting : (k : ℕ) → sum_by (early_one (closed (node_at m k).lanes)) (waiting_from 0 (node_at m k).lanes) ≡ 0
-  pub works : (k : ℕ) → sum_by (early_one (closed (node_at m k).lanes)) (flat_map (working k) m.held) ≡ 0
-  pub seals : (k l : ℕ) (lane : CoreLane) → lane_at m (record { node = k; lane = l }) ≡ Some lane → closed (node_at m k).lanes ≤ next_floor lane
+  pub waiting : (k : ℕ) → sum_by (early_one (least_begun_mark (node_at m k).lanes)) (waiting_from 0 (node_at m k).lanes) ≡ 0
+  pub works : (k : ℕ) → sum_by (early_one (least_begun_mark (node_at m k).lanes)) (flat_map (work_in k) m.held) ≡ 0
+  pub seals : (k l : ℕ) (lane : CoreLane) → lane_at m (record { node = k; lane = l }) ≡ Some lane → least_begun_mark (node_at m k).lanes ≤ next_floor lane
   pub sources : (s : Stream) (d : Down) → source plan s ≡ Some d → (lane : CoreLane) × (lane_at m d ≡ Some lane)
 
 -- a transform is no sink
@@ -108,19 +108,19 @@ early-at_least mark l = sum_by-filter (early mark) (λ r. not (ltb r.time mark))
 
 -- ---- what a node has to work off, where what comes is in time
 module _ (plan : Shape) (m : Moment) (timely : IsTimely plan m) where
-  coming_in_time : (k : ℕ) (es : List KeptRec) → sum_by (late m k) es ≡ 0 → sum_by (early_one (closed (node_at m k).lanes)) es ≡ 0
-  coming_in_time k es h = zero_by (late m k) (early_one (closed (node_at m k).lanes)) (λ e z. from (lane_at m (record { node = k; lane = e.lane })) e refl z) es h
+  coming_in_time : (k : ℕ) (es : List KeptRec) → sum_by (late m k) es ≡ 0 → sum_by (early_one (least_begun_mark (node_at m k).lanes)) es ≡ 0
+  coming_in_time k es h = zero_by (late m k) (early_one (least_begun_mark (node_at m k).lanes)) (λ e z. from (lane_at m (record { node = k; lane = e.lane })) e refl z) es h
     where
-      from : (o : Option CoreLane) (e : KeptRec) → lane_at m (record { node = k; lane = e.lane }) ≡ o → late_for o e.rec.time ≡ 0 → early_one (closed (node_at m k).lanes) e ≡ 0
+      from : (o : Option CoreLane) (e : KeptRec) → lane_at m (record { node = k; lane = e.lane }) ≡ o → late_for o e.rec.time ≡ 0 → early_one (least_begun_mark (node_at m k).lanes) e ≡ 0
       from None e is z = absurd (omega arith)
       from (Some lane) e is z =
-          let a : closed (node_at m k).lanes ≤ next_floor lane = timely.seals k e.lane lane is in
+          let a : least_begun_mark (node_at m k).lanes ≤ next_floor lane = timely.seals k e.lane lane is in
           let b : next_floor lane ≤ e.rec.time = early_zero (next_floor lane) e.rec.time z in
-          zero_early (closed (node_at m k).lanes) e.rec.time (omega arith)
+          zero_early (least_begun_mark (node_at m k).lanes) e.rec.time (omega arith)
 
-  pub rest_in_time : (k : ℕ) (es : List KeptRec) → sum_by (late m k) es ≡ 0 → sum_by (early_one (closed (node_at m k).lanes)) (rest k (node_at m k) m.held es) ≡ 0
+  pub rest_in_time : (k : ℕ) (es : List KeptRec) → sum_by (late m k) es ≡ 0 → sum_by (early_one (least_begun_mark (node_at m k).lanes)) (rest k (node_at m k) m.held es) ≡ 0
   rest_in_time k es h =
-      sum_by-rest (early_one (closed (node_at m k).lanes)) k (node_at m k) m.held es
+      sum_by-rest (early_one (least_begun_mark (node_at m k).lanes)) k (node_at m k) m.held es
       ∙ (λ i. (timely.waiting k i + timely.works k i) + coming_in_time k es h i)
 
   pub gives_in_time : (k : ℕ) (es : List KeptRec) (s : Step) → slice_get plan.steps k ≡ Some s → sum_by (late m k) es ≡ 0
@@ -131,22 +131,22 @@ module _ (plan : Shape) (m : Moment) (timely : IsTimely plan m) where
       ∙ ap (λ o. sum_by (early (next_floor t.lane)) (gives_by (operator_at o) k (node_at m k) m.held m.rows es)) is
       ∙ by_operator (operator_of s.kind) (no_sink s.kind) t.lane t.rows t.behind
     where
-      by_operator : (o : Operator) → is_sink o ≡ false → (lane : CoreLane) → sum_by (early (next_floor lane)) (flat_map (undelivered k) m.held) ≡ 0 → next_floor lane ≤ closed (node_at m k).lanes
+      by_operator : (o : Operator) → is_sink o ≡ false → (lane : CoreLane) → sum_by (early (next_floor lane)) (flat_map (rows_left_in k) m.held) ≡ 0 → next_floor lane ≤ least_begun_mark (node_at m k).lanes
           → sum_by (early (next_floor lane)) (gives_by o k (node_at m k) m.held m.rows es) ≡ 0
       by_operator (ParDo op) not_sink lane rows behind =
-          sum_by-append (early (next_floor lane)) (flat_map (undelivered k) m.held) (flat_map (outputs_of op) (all_records (rest k (node_at m k) m.held es)))
+          sum_by-append (early (next_floor lane)) (flat_map (rows_left_in k) m.held) (flat_map (outputs_of op) (all_records (rest k (node_at m k) m.held es)))
           ∙ (λ i. rows i + early-images op (next_floor lane) (all_records (rest k (node_at m k) m.held es))
-          (early_weaker (next_floor lane) (closed (node_at m k).lanes) behind (all_records (rest k (node_at m k) m.held es)) (sum_by-map (early (closed (node_at m k).lanes)) (λ e. e.rec) (rest k (node_at m k) m.held es) ∙ rest_in_time k es h)) i)
+          (early_weaker (next_floor lane) (least_begun_mark (node_at m k).lanes) behind (all_records (rest k (node_at m k) m.held es)) (sum_by-map (early (least_begun_mark (node_at m k).lanes)) (λ e. e.rec) (rest k (node_at m k) m.held es) ∙ rest_in_time k es h)) i)
       by_operator (Windowed g) not_sink lane rows behind =
-          sum_by-append (early (next_floor lane)) (flat_map (undelivered k) m.held) (at_least (closed (node_at m k).lanes) (grouped g ((node_at m k).kept ++ rest k (node_at m k) m.held es)))
-          ∙ (λ i. rows i + early_weaker (next_floor lane) (closed (node_at m k).lanes) behind (at_least (closed (node_at m k).lanes) (grouped g ((node_at m k).kept ++ rest k (node_at m k) m.held es))) (early-at_least (closed (node_at m k).lanes) (grouped g ((node_at m k).kept ++ rest k (node_at m k) m.held es))) i)
+          sum_by-append (early (next_floor lane)) (flat_map (rows_left_in k) m.held) (at_least (least_begun_mark (node_at m k).lanes) (operator_rows g ((node_at m k).kept ++ rest k (node_at m k) m.held es)))
+          ∙ (λ i. rows i + early_weaker (next_floor lane) (least_begun_mark (node_at m k).lanes) behind (at_least (least_begun_mark (node_at m k).lanes) (operator_rows g ((node_at m k).kept ++ rest k (node_at m k) m.held es))) (early-at_least (least_begun_mark (node_at m k).lanes) (operator_rows g ((node_at m k).kept ++ rest k (node_at m k) m.held es))) i)
       by_operator Sink not_sink lane rows behind = cc
 
   -- what the streams bring
-  pub streams_in_time : (coming : Stream → List Record) → IsAdmissible plan m coming → (n : ℕ) → sum_by (late m n) (arriving n (from_streams plan coming)) ≡ 0
+  pub streams_in_time : (coming : Stream → List Record) → IsAdmissible plan m coming → (n : ℕ) → sum_by (late m n) (arrivals_at n (from_streams plan coming)) ≡ 0
   streams_in_time coming ok n =
       ap (sum_by (late m n)) (flat_map-append (brought n) (from_stream plan.source_a (coming A)) (from_stream plan.source_b (coming B)))
-      ∙ sum_by-append (late m n) (arriving n (from_stream plan.source_a (coming A))) (arriving n (from_stream plan.source_b (coming B)))
+      ∙ sum_by-append (late m n) (arrivals_at n (from_stream plan.source_a (coming A))) (arrivals_at n (from_stream plan.source_b (coming B)))
       ∙ (λ i. one A plan.source_a refl (ok A) i + one B plan.source_b refl (ok B) i)
     where
       in_it : (d : Down) (l : List Record) → ((lane : CoreLane) × (lane_at m d ≡ Some lane)) → All (λ r. (floor_at m d ≤ r.time) × (r.time ≤ MAX_TIME)) l → sum_by (λ r. late m d.node (record { lane = d.lane; rec = r })) l ≡ 0
@@ -158,7 +158,7 @@ module _ (plan : Shape) (m : Moment) (timely : IsTimely plan m) where
               sum_by-cons (λ r. late m d.node (record { lane = d.lane; rec = r })) r l
               ∙ (λ i. (ap (λ o. late_for o r.time) at.1 ∙ zero_early (next_floor at.0) r.time (subst (λ n. n ≤ r.time) (ap floor_of at.1) all.0.0)) i + zeros l all.1 i)
 
-      one : (s : Stream) (o : Option Down) → source plan s ≡ o → ((d : Down) → source plan s ≡ Some d → All (λ r. (floor_at m d ≤ r.time) × (r.time ≤ MAX_TIME)) (coming s)) → sum_by (late m n) (arriving n (from_stream o (coming s))) ≡ 0
+      one : (s : Stream) (o : Option Down) → source plan s ≡ o → ((d : Down) → source plan s ≡ Some d → All (λ r. (floor_at m d ≤ r.time) × (r.time ≤ MAX_TIME)) (coming s)) → sum_by (late m n) (arrivals_at n (from_stream o (coming s))) ≡ 0
       one s None is all = refl
       one s (Some d) is all =
           sum_by-append (late m n) (brought n (record { down = d; records = coming s })) [] ∙ omega (arith, here d (timely.sources s d is) (all d is))

@@ -9,7 +9,7 @@ use Rattle.sb_record.proofs.Sorting.{All-in_order}
 use Rattle.sb_window.specs.declared.windows.TheConstants.{MAX_SIZE}
 use Rattle.sb_record.specs.declared.element.KeptRec.{KeptRec}
 use Rattle.sb_pipeline.specs.Shapes.{Shape}
-use Rattle.sb_pipeline.specs.Operators.{Operator, WindowOperator, grouped}
+use Rattle.sb_pipeline.specs.Operators.{Operator, WindowOperator, operator_rows}
 use Rattle.sb_pipeline.specs.Operators.Operator.{ParDo, Windowed, Sink}
 use Rattle.sb_core.specs.Closings.{rows_at}
 use Rattle.sb_core.specs.Bounds.{bound_at}
@@ -23,7 +23,7 @@ pub rows-bounded : (plan : Shape) (o : Operator) (n w floor mark : ℕ) (kept : 
 rows-bounded plan (ParDo op) n w floor mark kept groups all = tt
 rows-bounded plan Sink n w floor mark kept groups all = tt
 rows-bounded plan (Windowed g) n w floor mark kept groups all =
-    All-in_order (λ (r : Record). r.time ≤ bound_at plan n + MAX_SIZE) record_cmp (before mark (at_least floor (grouped g kept)))
-    (All-kept (λ (r : Record). r.time ≤ bound_at plan n + MAX_SIZE) (λ r. nat_lt r.time mark) (at_least floor (grouped g kept))
-    (All-kept (λ (r : Record). r.time ≤ bound_at plan n + MAX_SIZE) (λ r. not (nat_lt r.time floor)) (grouped g kept)
-    (every (λ r h. omega (arith, h, (groups g refl).most)) (grouped g kept) ((groups g refl).within (bound_at plan n) kept (every (λ e h. h.1) kept all)))))
+    All-in_order (λ (r : Record). r.time ≤ bound_at plan n + MAX_SIZE) record_cmp (before mark (at_least floor (operator_rows g kept)))
+    (All-kept (λ (r : Record). r.time ≤ bound_at plan n + MAX_SIZE) (λ r. nat_lt r.time mark) (at_least floor (operator_rows g kept))
+    (All-kept (λ (r : Record). r.time ≤ bound_at plan n + MAX_SIZE) (λ r. not (nat_lt r.time floor)) (operator_rows g kept)
+    (every (λ r h. omega (arith, h, (groups g refl).most)) (operator_rows g kept) ((groups g refl).within (bound_at plan n) kept (every (λ e h. h.1) kept all)))))

@@ -24,7 +24,7 @@ use Rattle.sb_join.proofs.Times.{join_rows-times}
 use Rattle.sb_record.specs.declared.element.KeptRec.{KeptRec}
 use Rattle.sb_aggregate.specs.declared.session.TheConstants.{MAX_GAP}
 use Rattle.sb_record.specs.Elements.{on_lane, of_lane, all_records}
-use Rattle.sb_pipeline.specs.Operators.{WindowOperator, grouped}
+use Rattle.sb_pipeline.specs.Operators.{WindowOperator, operator_rows}
 use Rattle.sb_pipeline.specs.Operators.WindowOperator.{Aggregated, Sessions, Joined}
 use Rattle.sb_record.proofs.OnLanes.{All-all_records, All-of_lane}
 use Rattle.sb_core.specs.Closings.{still_open}
@@ -87,7 +87,7 @@ before-later mark l later from = filter-append (λ r. nat_lt r.time mark) l late
     none (r ∷ rs) from = ap (λ b. cond b (r ∷ before mark rs) (before mark rs)) (le-ltb r.time mark from.0) ∙ none rs from.1
 
 -- ---- the law of order, of any grouping
-pub grouped-order : (g : WindowOperator) (es fs : List KeptRec) → IsReordered es fs → IsReordered (grouped g es) (grouped g fs)
+pub grouped-order : (g : WindowOperator) (es fs : List KeptRec) → IsReordered es fs → IsReordered (operator_rows g es) (operator_rows g fs)
 grouped-order (Aggregated agg windows) es fs h f = ap (sum_by f) (aggregate_rows-orderless agg windows (all_records es) (all_records fs) (IsReordered-map (λ e. e.rec) es fs h))
 grouped-order (Sessions agg gap) es fs h f = ap (sum_by f) (session_rows-orderless agg gap (all_records es) (all_records fs) (IsReordered-map (λ e. e.rec) es fs h))
 grouped-order (Joined combine windows) es fs h f = join_rows-reordered combine windows (of_lane 0 es) (of_lane 0 fs) (of_lane 1 es) (of_lane 1 fs) (in_lane 0) (in_lane 1) f

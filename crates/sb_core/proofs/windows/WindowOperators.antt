@@ -6,13 +6,13 @@ use Rattle.std.proofs.lemmas.Bool.{le-ltb, ltb-false, not-true}
 use Rattle.std.proofs.lemmas.List.Sums.{sum_by-append}
 use Rattle.std.proofs.lemmas.List.Filters.{sum_by-filter_both}
 use Rattle.sb_record.specs.declared.item.Record.{Record}
-use Rattle.sb_record.specs.Records.{record_cmp, sorted, before, at_least}
+use Rattle.sb_record.specs.Records.{record_cmp, sorted_records, before, at_least}
 use Rattle.sb_record.proofs.Elements.{every, All-join, All-passed, filter_of_filter}
 use Rattle.sb_record.proofs.Sorting.{IsReordered-in_order}
 use Rattle.sb_window.specs.declared.windows.TheConstants.{MAX_SIZE}
 use Rattle.sb_record.specs.Reorderings.{IsReordered}
 use Rattle.sb_record.specs.declared.element.KeptRec.{KeptRec}
-use Rattle.sb_pipeline.specs.Operators.{WindowOperator, grouped, reach}
+use Rattle.sb_pipeline.specs.Operators.{WindowOperator, operator_rows, reach}
 use Rattle.sb_core.specs.Closings.{is_open}
 use Rattle.sb_core.proofs.containers.Lists.{filter_swap}
 
@@ -51,17 +51,17 @@ pub record IsWindowOperator
 
 -- what the grouping gives, leaves open and reaches to meets these laws
 abbrev pub IsGrouping : WindowOperator → Type 0
-IsGrouping g = IsWindowOperator (grouped g) (is_open g) (reach g)
+IsGrouping g = IsWindowOperator (operator_rows g) (is_open g) (reach g)
 
 module _ {rows : List KeptRec → List Record} {is_open : ℕ → List KeptRec → KeptRec → Bool} {reach : ℕ} (laws : IsWindowOperator rows is_open reach) where
   -- an operator that closes at a mark loses nothing, where what comes is from the mark on
   pub closing : (floor mark : ℕ) (kept later : List KeptRec) → floor ≤ mark → AreFrom mark later
-      → IsReordered (at_least floor (rows (kept ++ later))) (sorted (before mark (at_least floor (rows kept))) ++ at_least mark (rows (left_open is_open mark kept ++ later)))
+      → IsReordered (at_least floor (rows (kept ++ later))) (sorted_records (before mark (at_least floor (rows kept))) ++ at_least mark (rows (left_open is_open mark kept ++ later)))
   closing floor mark kept later rises from f =
       sym (sum_by-filter_both (λ r. nat_lt r.time mark) (λ r. not (nat_lt r.time mark)) (λ r. refl) f (at_least floor all))
       ∙ (λ i. sum_by f (below i) + sum_by f (above i))
       ∙ ap (λ n. n + sum_by f (at_least mark (rows (left_open is_open mark kept ++ later)))) (sym (IsReordered-in_order record_cmp (before mark (at_least floor (rows kept))) f))
-      ∙ sym (sum_by-append f (sorted (before mark (at_least floor (rows kept)))) (at_least mark (rows (left_open is_open mark kept ++ later))))
+      ∙ sym (sum_by-append f (sorted_records (before mark (at_least floor (rows kept)))) (at_least mark (rows (left_open is_open mark kept ++ later))))
     where
       all : List Record
       all = rows (kept ++ later)

@@ -5,7 +5,7 @@ use Rattle.std.proofs.lemmas.List.{take_more, take_all}
 use Rattle.std.proofs.lemmas.List.Elements.{recursion_from_All}
 use Rattle.sb_record.specs.declared.item.Record.{Record}
 use Rattle.sb_record.specs.declared.item.TheConstants.{END_MARK}
-use Rattle.sb_window.specs.Gatherings.{joined}
+use Rattle.sb_window.specs.Gatherings.{joined_value}
 use Rattle.sb_aggregate.specs.Partials.{join_values, partial_at}
 use Rattle.sb_aggregate.proofs.Ends.{partial_at-append}
 use Rattle.sb_aggregate.proofs.part.part_of.Goals as goal
@@ -18,7 +18,7 @@ loop-record-preserved c =
     let fits : SFits w64 c.record-item.result.value = search rules in
     record {
       at = λ q. c.in_ok-add_record.ensures q
-          ∙ ap (λ o. joined (join_values c.args.agg) o (partial_at c.args.agg c.args.windows.now (r ∷ []) q)) (c.loop-record.invariant.at q)
+          ∙ ap (λ o. joined_value (join_values c.args.agg) o (partial_at c.args.agg c.args.windows.now (r ∷ []) q)) (c.loop-record.invariant.at q)
           ∙ sym (partial_at-append c.args.agg c.args.windows.now (take i records) (r ∷ []) q)
           ∙ ap (λ x. partial_at c.args.agg c.args.windows.now (take i records ++ x ∷ []) q) c.record-item.is
           ∙ ap (λ l. partial_at c.args.agg c.args.windows.now l q) (sym (take_more records i r (omega arith)));

@@ -1,6 +1,6 @@
 use Rattle.std.proofs.Common.{[], ◌∷◌, ◌++◌, ◌∙◌, false}
 use Rattle.std.proofs.KnownBytes.{Consumes-trans}
-use Rattle.sb_record.specs.Intake.{started}
+use Rattle.sb_record.specs.Intake.{first_progress}
 use Rattle.sb_feed.proofs.ReadSoFar.{read_more, read_nothing}
 use Rattle.sb_cli.proofs.KeptItems.{kept-all, kept-more, reads_err}
 use Rattle.sb_cli.proofs.input.read_input.Goals as goal
@@ -10,7 +10,7 @@ items-init g c =
     record {
       items = [];
       read = read_nothing c.args.plan.now (g.S.Source.left c.args.source.now) c.new-lines.result c.new-intake.result (g.S.Source.faults c.args.source.now) c.new-lines.ensures
-          (c.new-intake.ensures ∙ (λ i. started (c.streams.ensures.value i) 0 (c.late.ensures i) (c.keys.ensures i)));
+          (c.new-intake.ensures ∙ (λ i. first_progress (c.streams.ensures.value i) 0 (c.late.ensures i) (c.keys.ensures i)));
       kept = c.nothing-kept.ensures;
     }
 

@@ -6,9 +6,9 @@ use Rattle.sb_record.specs.declared.element.KeptRec.{KeptRec}
 use Rattle.sb_pipeline.specs.Operators.{operator_at}
 use Rattle.sb_core.specs.declared.moment.CoreLane.{CoreLane}
 use Rattle.sb_core.specs.declared.held.Held.{Held}
-use Rattle.sb_core.specs.Closings.{kept_at, rows_at, collected}
+use Rattle.sb_core.specs.Closings.{kept_at, rows_at, rows_at_sink}
 use Rattle.sb_core.specs.Lanes.{closable, with_first_closing}
-use Rattle.sb_core.specs.Marks.{begun, closed}
+use Rattle.sb_core.specs.Marks.{begun_count, least_begun_mark}
 use Rattle.sb_core.specs.Moments.{is_close}
 use Rattle.sb_core.proofs.places.BeginParts.{any-first, closable-first, closable-found, node-within, kept-times, lanes-few, lanes-begun, begun-is, begin-refused, sink-last}
 use Rattle.sb_core.proofs.places.InPlace.{read-there}
@@ -53,7 +53,7 @@ begun_in-requires-clause-begun c =
     let k = c.args.node in
     let node = c.in-Some.there.now in
     let at : slice_get m.nodes k ≡ Some node = read-there c.as_slice.result.now m.nodes k node c.as_slice.ensures c.in-Some.ensures.lookup.3.0 (c.in-Some.ensures.lookup.3.1 node) in
-    subst (λ (l : List CoreLane). All (λ lane. begun lane ≤ length lane.marks) l) (sym c.as_slice-lanes.ensures) (lanes-begun plan c.transforms.ensures.sound m c.requires k node at)
+    subst (λ (l : List CoreLane). All (λ lane. begun_count lane ≤ length lane.marks) l) (sym c.as_slice-lanes.ensures) (lanes-begun plan c.transforms.ensures.sound m c.requires k node at)
 
 pub begun_in-requires-clause-most : goal.begun_in-requires-clause-most
 begun_in-requires-clause-most c =
@@ -86,13 +86,13 @@ returns-clause-found c =
       closes = found.1;
       idle = ap (λ (hs : List Held). list_any (is_close k) hs) (sym c.as_slice-2.ensures) ∙ any-first (is_close k) c.as_slice-2.result.now c.find_close.result c.find_close.ensures ∙ sym c.is_some.ensures ∙ c.if-is_some.false;
       epoch = found.2;
-      serial = c.begun_in.ensures.value ∙ ap (sum_by begun) c.as_slice-lanes.ensures ∙ sym (begun-is plan c.transforms.ensures.sound m c.requires k node at);
+      serial = c.begun_in.ensures.value ∙ ap (sum_by begun_count) c.as_slice-lanes.ensures ∙ sym (begun-is plan c.transforms.ensures.sound m c.requires k node at);
       next_fits = c.begun_in.ensures.small;
-      floor = c.closed-floor.ensures ∙ ap closed c.as_slice-lanes.ensures;
+      floor = c.closed-floor.ensures ∙ ap least_begun_mark c.as_slice-lanes.ensures;
       mark = c.closed_with-mark.ensures lane found.0 rest.0 (ap (λ (ls : List CoreLane). slice_get ls l) c.as_slice-lanes.ensures ∙ in_it) rest.1
-          ∙ ap (λ (ls : List CoreLane). closed (slice_set ls l (record lane { conts = with_first_closing lane.conts }))) c.as_slice-lanes.ensures;
+          ∙ ap (λ (ls : List CoreLane). least_begun_mark (slice_set ls l (record lane { conts = with_first_closing lane.conts }))) c.as_slice-lanes.ensures;
       rows = c.new.ensures ∙ c.in_ok-rows.ensures ∙ ap (rows_at o c.closed-floor.result c.closed_with-mark.result) c.as_slice-kept.ensures;
       kept = c.new-2.ensures ∙ c.in_ok-kept.ensures ∙ ap (kept_at o c.closed_with-mark.result) c.as_slice-kept.ensures;
-      collected = c.new-3.ensures ∙ c.in_ok-collected.ensures ∙ ap (collected o c.closed_with-mark.result) c.as_slice-kept.ensures;
+      collected = c.new-3.ensures ∙ c.in_ok-collected.ensures ∙ ap (rows_at_sink o c.closed_with-mark.result) c.as_slice-kept.ensures;
       passed = sink-last plan.steps k c.transforms.result c.transforms.ensures.value (node-within plan c.transforms.ensures.sound m c.requires k node at);
     }

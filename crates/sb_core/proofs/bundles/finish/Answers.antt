@@ -6,7 +6,7 @@ use Rattle.sb_pipeline.specs.Operators.{operator_at}
 use Rattle.sb_core.specs.declared.moment.Moment.{Moment}
 use Rattle.sb_core.specs.declared.moment.Node.{Node}
 use Rattle.sb_core.specs.Choices.{is_empty}
-use Rattle.sb_core.specs.Closings.{delivery, absorbed}
+use Rattle.sb_core.specs.Closings.{delivery, kept_elements}
 use Rattle.sb_core.specs.Moments.{set_node, with_held}
 use Rattle.sb_core.proofs.places.Carried.{empty-by_length}
 use Rattle.sb_core.proofs.places.Finished.{may-finish, finished-node, finish-is, finish-never, found-in, lane-in, node-in}
@@ -69,8 +69,8 @@ returns-clause-becomes c =
           (λ z. v.if-not-work.true z || none z)
       | else-not-work-via-else-not-work v ↦ ap (λ b. b || is_empty gives) v.if-not-work.false
     ] in
-    let kept : c.absorb.new.kept.items ≡ node.kept ++ absorbed (operator_at (slice_get plan.steps k)) (on_lane l w.records.now) =
-    c.in_ok-absorb.ensures.ok ∙ (λ z. (c.there.view_is z).kept ++ absorbed (operator_at (slice_get plan.steps k)) (on_lane l w.records.now)) in
+    let kept : c.absorb.new.kept.items ≡ node.kept ++ kept_elements (operator_at (slice_get plan.steps k)) (on_lane l w.records.now) =
+    c.in_ok-absorb.ensures.ok ∙ (λ z. (c.there.view_is z).kept ++ kept_elements (operator_at (slice_get plan.steps k)) (on_lane l w.records.now)) in
     let left : c.remove.new.self.items ≡ others = c.remove.ensures.items ∙ ap (λ hs. remove hs w.place) held in
     finish-is plan m k l n w.epoch w.floor w.records.now w.delivered others found node c.index_mut.result.now at in_it may
     ∙ sym (

@@ -1,5 +1,5 @@
 use Rattle.std.proofs.Common.{ap, arith, refl, sym, ◌∙◌}
-use Rattle.sb_record.specs.Intake.{started}
+use Rattle.sb_record.specs.Intake.{first_progress}
 use Rattle.sb_outside.specs.Readings.{Held}
 use Rattle.sb_cut.proofs.GatheredItems.{gathered_all, gathered_listed, gathered_more, gathered_none, gathered_nothing, may_keep, on_error}
 use Rattle.sb_cut.proofs.gathering.gather.Goals as goal
@@ -8,7 +8,7 @@ pub items-init : goal.items-init
 items-init g c =
     record {
       so_far = gathered_nothing c.args.plan.now (g.S.Source.left c.args.source.now) c.new-lines.result c.new-intake.result (g.S.Source.faults c.args.source.now) c.new-keeper.result c.args.dropped.now.items
-          c.new-lines.ensures (c.new-intake.ensures ∙ (λ i. started (c.streams.ensures.value i) 0 (c.late.ensures i) (c.keys.ensures i))) c.new-keeper.ensures;
+          c.new-lines.ensures (c.new-intake.ensures ∙ (λ i. first_progress (c.streams.ensures.value i) 0 (c.late.ensures i) (c.keys.ensures i))) c.new-keeper.ensures;
       ends = λ e. absurd (cc (sym (ap (λ (l : Held). l.halt) c.new-lines.ensures), e));
       name = refl;
       room = let none = ap (λ p. p.lines) c.new-intake.ensures in omega (arith, none);

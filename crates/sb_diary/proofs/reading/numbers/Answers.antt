@@ -2,7 +2,7 @@ use Rattle.std.proofs.Common.{◌≡◌, ◌∙◌, ◌++◌, sym, ap, refl, ari
 use Rattle.std.proofs.Math.ListN.{length-set, length-replicate}
 use Rattle.std.proofs.lemmas.Bool.{eqb-true, eq-eqb}
 use Rattle.std.proofs.lemmas.List.{take_all, drop_all, nil_from_length}
-use Rattle.sb_diary.specs.Texts.{spaced}
+use Rattle.sb_diary.specs.Texts.{spaced_text}
 use Rattle.sb_diary.proofs.Spelling.{spaced-more, spaced-drop, spaced-none, all-zeros, all-set, apart}
 use Rattle.sb_diary.proofs.reading.numbers.Goals as goal
 
@@ -32,11 +32,11 @@ returns-then-is_empty-clause-some g c =
     record {
       count_is = c.loop-i.invariant.size;
       fit = c.loop-i.invariant.fit;
-      text = sym (append-nil (spaced c.loop-i.numbers)) ∙ (λ i. spaced (sym all i) ++ sym none i) ∙ c.loop-i.invariant.read;
+      text = sym (append-nil (spaced_text c.loop-i.numbers)) ∙ (λ i. spaced_text (sym all i) ++ sym none i) ∙ c.loop-i.invariant.read;
     }
 
 pub returns-else-is_empty-clause-none : goal.returns-else-is_empty-clause-none
 returns-else-is_empty-clause-none g c ns are =
     let end : drop c.loop-i.i ns ≡ [] = drop_all c.loop-i.i ns (omega (arith, are.count_is)) in
-    let none : c.loop-i.rest.now ≡ [] = sym (c.loop-i.invariant.left ns are) ∙ ap spaced end in
+    let none : c.loop-i.rest.now ≡ [] = sym (c.loop-i.invariant.left ns are) ∙ ap spaced_text end in
     apart (c.if-is_empty.ensures ∙ eq-eqb (length c.loop-i.rest.now) 0 (ap length none))

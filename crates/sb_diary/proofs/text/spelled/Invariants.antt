@@ -1,9 +1,9 @@
 use Rattle.std.proofs.Common.{◌≡◌, ◌≤◌, ◌+◌, ◌*◌, ◌++◌, length, take}
-use Rattle.sb_diary.specs.Texts.{spaced}
+use Rattle.sb_diary.specs.Texts.{spaced_text}
 use Rattle.sb_diary.proofs.text.spelled.Given as goal
 
 abbrev pub invariant-loop-number : goal.invariant-loop-number
 invariant-loop-number l = record {
-  text : l.text ≡ l.fn.word ++ spaced (take l.number-index l.numbers);
+  text : l.text ≡ l.fn.word ++ spaced_text (take l.number-index l.numbers);
   room : length l.text ≤ 9 + 21 * l.number-index;
 }

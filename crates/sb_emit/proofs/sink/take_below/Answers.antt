@@ -5,7 +5,7 @@ use Rattle.std.specs.BTreeMap.{BTreeMap, IsOrdered}
 use Rattle.std.specs.Ordering.{nat_cmp, is_gt}
 use Rattle.std.proofs.lemmas.Result.{IfOk-weaker}
 use Rattle.sb_record.specs.declared.item.Record.{Record}
-use Rattle.sb_record.specs.Records.{sorted}
+use Rattle.sb_record.specs.Records.{sorted_records}
 use Rattle.sb_emit.proofs.Rowwise.{IsSplit, split-before, split-at_least, split-keeps, on_ok}
 use Rattle.sb_emit.proofs.sink.take_below.Goals as goal
 
@@ -23,7 +23,7 @@ split c =
 
 pub returns-clause-rows : goal.returns-clause-rows
 returns-clause-rows c =
-    IfOk-weaker c.sorted_rows.result _ _ (λ rows in_order kept. in_order ∙ ap sorted (sym (split-before c.args.mark c.args.by_time.now c.replace-below.result c.replace-below.new.dest (split c) kept))) c.sorted_rows.ensures
+    IfOk-weaker c.sorted_rows.result _ _ (λ rows in_order kept. in_order ∙ ap sorted_records (sym (split-before c.args.mark c.args.by_time.now c.replace-below.result c.replace-below.new.dest (split c) kept))) c.sorted_rows.ensures
 
 pub returns-clause-kept : goal.returns-clause-kept
 returns-clause-kept c = on_ok c.sorted_rows.result (λ kept. sym (split-at_least c.args.mark c.args.by_time.now c.replace-below.result c.replace-below.new.dest (split c) kept))

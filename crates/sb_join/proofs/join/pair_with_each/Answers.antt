@@ -15,10 +15,10 @@ loop-y-preserved c =
     let ok : is_ok c.push.result ≡ true = search rules in
     let items = rw ok at c.push.ensures.items in
     let len = rw ok at c.push.ensures.len in
-    let row = λ (ys : List ℤ). map (spec.combined c.args.combine (to_z w64 (of_z w64 c.args.left))) ys in
+    let row = λ (ys : List ℤ). map (spec.pair_value c.args.combine (to_z w64 (of_z w64 c.args.left))) ys in
     let in_range : SFits w64 c.combine.result = search rules in
-    let value : to_z w64 (of_z w64 c.combine.result) ≡ spec.combined c.args.combine (to_z w64 (of_z w64 c.args.left)) y =
-    to_z-of_z w64 c.combine.result in_range ∙ c.combine.ensures ∙ ap (spec.combined c.args.combine (to_z w64 (of_z w64 c.args.left))) same in
+    let value : to_z w64 (of_z w64 c.combine.result) ≡ spec.pair_value c.args.combine (to_z w64 (of_z w64 c.args.left)) y =
+    to_z-of_z w64 c.combine.result in_range ∙ c.combine.ensures ∙ ap (spec.pair_value c.args.combine (to_z w64 (of_z w64 c.args.left))) same in
     let all : c.push.new.self.items ≡ c.args.into.now.items ++ row (take (i + 1) right) =
     items ∙ (λ k. c.loop-y.invariant.0 k ++ value k ∷ []) ∙ append_assoc c.args.into.now.items (row (take i right)) (row (y ∷ []))
     ∙ ap (λ l. c.args.into.now.items ++ l) (sym (map-append _ (take i right) (y ∷ [])) ∙ ap row (sym (take_more right i (pos 0) (omega arith)))) in
@@ -27,4 +27,4 @@ loop-y-preserved c =
 pub returns-clause-ok : goal.returns-clause-ok
 returns-clause-ok c =
     c.loop-y.invariant.0
-    ∙ (λ i. c.args.into.now.items ++ map (spec.combined c.args.combine (to_z-of_z w64 c.args.left c.ranges.left i)) (take_all c.loop-y.y-index c.args.right.now c.loop-y-test.false i))
+    ∙ (λ i. c.args.into.now.items ++ map (spec.pair_value c.args.combine (to_z-of_z w64 c.args.left c.ranges.left i)) (take_all c.loop-y.y-index c.args.right.now c.loop-y-test.false i))

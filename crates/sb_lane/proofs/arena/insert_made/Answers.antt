@@ -2,7 +2,7 @@ use Rattle.std.proofs.Common.{◌≡◌, ℕ, ◌∷◌, ◌++◌, [], List, len
 use Rattle.std.proofs.lemmas.List.{nil_from_length}
 use Rattle.std.specs.List.{insert}
 use Rattle.sb_lane.specs.Slots.{AreSlots}
-use Rattle.sb_lane.specs.Placed.{arranged, placed_at}
+use Rattle.sb_lane.specs.Placed.{containers_at, placed_at}
 use Rattle.sb_lane.proofs.Inserts.{reuse-arranged, reuse-are, new-arranged, new-are, within-free, kept-are}
 use Rattle.sb_lane.proofs.arena.insert_made.Goals as goal
 
@@ -40,6 +40,6 @@ returns-in-None-clause-list c =
     let old = none_free c.args.free.now.items (omega (arith, c.in-None.ensures.cases, c.args.free.now.ok)) in
     let n : c.len-place.result ≡ length c.args.slots.now.items = omega (arith, c.len-place.ensures, c.args.slots.now.ok) in
     let are = subst (λ (o : List ℕ). AreSlots (length c.args.slots.now.items) (vec_capacity c.args.free.now) c.args.order.now.items o) old c.requires.are in
-    (λ i. arranged (c.push_reserved.ensures.items i) ((c.insert_reserved-in-None.ensures ∙ ap (insert c.args.order.now.items c.args.at) n) i))
+    (λ i. containers_at (c.push_reserved.ensures.items i) ((c.insert_reserved-in-None.ensures ∙ ap (insert c.args.order.now.items c.args.at) n) i))
     ∙ new-arranged c.args.slots.now.items (vec_capacity c.args.free.now) c.args.order.now.items c.args.at c.args.made c.requires.within 0 are
-    ∙ ap (λ q. insert (arranged c.args.slots.now.items c.args.order.now.items) c.args.at (placed_at q c.args.made)) (sym n)
+    ∙ ap (λ q. insert (containers_at c.args.slots.now.items c.args.order.now.items) c.args.at (placed_at q c.args.made)) (sym n)

@@ -1,7 +1,7 @@
-use Rattle.sb_record.specs.Records.{at_least, before, sorted}
+use Rattle.sb_record.specs.Records.{at_least, before, sorted_records}
 use Rattle.sb_record.proofs.Earlier.{sorted_before-front}
 use Rattle.sb_pipeline.specs.Results.{output_of}
 use Rattle.sb_pipeline.proofs.laws.rows_of_earlier_watermarks_come_first.Goals as goal
 
 pub returns : goal.returns
-returns c = λ v w plan streams earlier. (sorted (at_least v (before w (output_of plan streams))), sorted_before-front v w (output_of plan streams) earlier)
+returns c = λ v w plan streams earlier. (sorted_records (at_least v (before w (output_of plan streams))), sorted_before-front v w (output_of plan streams) earlier)

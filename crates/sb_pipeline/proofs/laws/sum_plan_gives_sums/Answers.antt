@@ -1,10 +1,10 @@
 use Rattle.std.proofs.Common.{ap, ◌∙◌}
-use Rattle.sb_record.specs.Records.{before, sorted}
+use Rattle.sb_record.specs.Records.{before, sorted_records}
 use Rattle.sb_record.specs.declared.item.Stream.TheVariants.{A}
-use Rattle.sb_window.specs.Spacing.{fixed}
+use Rattle.sb_window.specs.Spacing.{fixed_windows}
 use Rattle.sb_window.specs.Aggregations.{sum_rows}
 use Rattle.sb_record.proofs.OnLanes.{all_records-on_lane}
 use Rattle.sb_pipeline.proofs.laws.sum_plan_gives_sums.Goals as goal
 
 pub returns-clause-sums : goal.returns-clause-sums
-returns-clause-sums c = λ size w streams. ap (λ l. sorted (before w l)) (all_records-on_lane 0 _ ∙ ap (sum_rows (fixed size)) (all_records-on_lane 0 (streams A)))
+returns-clause-sums c = λ size w streams. ap (λ l. sorted_records (before w l)) (all_records-on_lane 0 _ ∙ ap (sum_rows (fixed_windows size)) (all_records-on_lane 0 (streams A)))

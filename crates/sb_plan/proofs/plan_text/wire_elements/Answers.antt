@@ -1,7 +1,7 @@
 use Rattle.std.proofs.Common.{◌+◌, ◌∙◌, ap, subst, sym, arith, rules, drop, get_or}
 use Rattle.toml.specs.View.{items_view, view}
 use Rattle.sb_outside.specs.Folders.{without}
-use Rattle.sb_plan.specs.PlanFiles.{IsPlanStopOf, unwired, wired_from}
+use Rattle.sb_plan.specs.PlanFiles.{IsPlanStopOf, first_wiring, wired_from}
 use Rattle.sb_plan.proofs.Integers.{items_at}
 use Rattle.sb_plan.proofs.Elements.{takes_passed, wired_from-past}
 use Rattle.sb_plan.proofs.Absent.{SameOrNoFile, fewer-more, wired-fewer}
@@ -26,7 +26,7 @@ returns-in-Err-clause-cause g c =
     let i = c.loop-value.value-index in
     let v = c.value-item.result in
     let at = c.value-item.is ∙ ap (λ l. get_or l i v) c.deref-value-items.ensures.value in
-    blames-element _ _ (c.loop-value.place + 1) (unwired c.args.late c.args.keys) c.loop-value.wiring (view v) (items_view (drop (i + 1) vs)) (items_view (drop i vs)) (items_view vs) _ _ _ c.in-Err.stop
+    blames-element _ _ (c.loop-value.place + 1) (first_wiring c.args.late c.args.keys) c.loop-value.wiring (view v) (items_view (drop (i + 1) vs)) (items_view (drop i vs)) (items_view vs) _ _ _ c.in-Err.stop
     c.loop-value.invariant.told c.loop-value.invariant.unlisted (items_at vs i v (omega arith) at) c.loop-value.invariant.fewer c.in-Err.ensures.blames
 
 pub loop-value-preserved : goal.loop-value-preserved
@@ -51,7 +51,7 @@ loop-value-preserved g c =
           ∙ takes_passed files place wiring c.take_element.new.wiring (view v) rest (c.in-Ok.ensures.exact files (c.loop-value.invariant.told ∙ told));
       fewer = λ files name told.
           fewer-more
-          (subst (λ from. SameOrNoFile (wired_from (without name files) 1 (unwired c.args.late c.args.keys) (items_view vs)) (wired_from (without name files) place wiring from)) items (c.loop-value.invariant.fewer files name told))
+          (subst (λ from. SameOrNoFile (wired_from (without name files) 1 (first_wiring c.args.late c.args.keys) (items_view vs)) (wired_from (without name files) place wiring from)) items (c.loop-value.invariant.fewer files name told))
           (wired-fewer files name place wiring c.take_element.new.wiring (view v) rest (c.in-Ok.ensures.exact files (c.loop-value.invariant.told ∙ told)));
     }
 

@@ -1,5 +1,5 @@
 use Rattle.std.proofs.Common.{◌∙◌, ap, arith, refl, sym}
-use Rattle.sb_record.specs.Intake.{started}
+use Rattle.sb_record.specs.Intake.{first_progress}
 use Rattle.sb_outside.specs.Readings.{Held}
 use Rattle.sb_pipeline.specs.Shapes.{Shape, streams_of}
 use Rattle.sb_feed.specs.FedByItems.{new_cutters}
@@ -20,7 +20,7 @@ items-init g c =
           (IsRested c.args.hand.now)
           (record { source = c.args.input.now; out = c.args.out.now; taps = _; dropped = c.args.dropped.now.items })
           c.new-lines.result c.new-intake.result c.new-cutters.result c.new-lines.ensures
-          (c.new-intake.ensures ∙ (λ i. started ((c.streams.ensures.value ∙ ap streams_of is) i) 0 ((c.late.ensures ∙ ap (λ (p : Shape). p.late) is) i) ((c.keys.ensures ∙ ap (λ (p : Shape). p.keys) is) i)))
+          (c.new-intake.ensures ∙ (λ i. first_progress ((c.streams.ensures.value ∙ ap streams_of is) i) 0 ((c.late.ensures ∙ ap (λ (p : Shape). p.late) is) i) ((c.keys.ensures ∙ ap (λ (p : Shape). p.keys) is) i)))
           (c.new-cutters.ensures ∙ ap new_cutters c.bundle.ensures) c.requires.begins;
       same = same_as_before c.args.hand.now;
       cause = cause_of_none (g.R.RowOut.row_state c.args.out.now) _ (λ e. cc e);

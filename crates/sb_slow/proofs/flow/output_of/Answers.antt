@@ -5,7 +5,7 @@ use Rattle.sb_record.specs.declared.item.Record.{Record}
 use Rattle.sb_record.specs.declared.item.TheConstants.{END_MARK}
 use Rattle.sb_record.specs.declared.element.KeptRec.{KeptRec}
 use Rattle.sb_record.specs.Elements.{all_records}
-use Rattle.sb_pipeline.specs.Flow.{Sent, arriving, from_streams, sent_from}
+use Rattle.sb_pipeline.specs.Flow.{Sent, arrivals_at, from_streams, sent_from}
 use Rattle.sb_pipeline.specs.Operators.{operator_of, output}
 use Rattle.sb_pipeline.specs.Results.{output_at, output_of}
 use Rattle.sb_pipeline.proofs.Times.{AreTimely}
@@ -38,15 +38,15 @@ loop-node-preserved c =
     let down = c.down.result in
     let left : List Sent = c.loop-node.sent.items in
     let all : List Sent = c.loop-node.invariant.all in
-    let same : arriving k left ≡ arriving k all = c.loop-node.invariant.left k (omega arith) in
-    let rows : output (operator_of c.kind.result.now) (arriving k left) ≡ output_at plan k (arriving k all) = λ i. output (sym c.kind.ensures.operator i) (same i) in
+    let same : arrivals_at k left ≡ arrivals_at k all = c.loop-node.invariant.left k (omega arith) in
+    let rows : output (operator_of c.kind.result.now) (arrivals_at k left) ≡ output_at plan k (arrivals_at k all) = λ i. output (sym c.kind.ensures.operator i) (same i) in
     record {
-      all = all ++ record { down = down; records = output_at plan k (arriving k all) } ∷ [];
+      all = all ++ record { down = down; records = output_at plan k (arrivals_at k all) } ∷ [];
       sent = sent_from-more plan k down all c.down.ensures.down ∙ c.loop-node.invariant.sent;
       timely = sent_from-timely_more plan c.transforms-node-end.ensures.sound k down all c.down.ensures.down c.loop-node.invariant.timely;
       left = λ behind later.
           c.in_ok-sent-2.ensures behind (omega (arith, later))
-          ∙ arriving-more behind left all down (output (operator_of c.kind.result.now) (arriving k left)) (output_at plan k (arriving k all)) (c.loop-node.invariant.left behind (omega (arith, later))) rows;
+          ∙ arriving-more behind left all down (output (operator_of c.kind.result.now) (arrivals_at k left)) (output_at plan k (arrivals_at k all)) (c.loop-node.invariant.left behind (omega (arith, later))) rows;
     }
 
 pub returns-clause-rows : goal.returns-clause-rows

@@ -1,5 +1,5 @@
 use Rattle.std.proofs.Common.{◌≡◌, ◌≤◌, ℕ, List, drop}
-use Rattle.sb_pipeline.specs.Flow.{Sent, arriving, from_streams, sent_from}
+use Rattle.sb_pipeline.specs.Flow.{Sent, arrivals_at, from_streams, sent_from}
 use Rattle.sb_pipeline.specs.Results.{output_at}
 use Rattle.sb_pipeline.proofs.Times.{AreTimely}
 use Rattle.sb_slow.specs.Inputs.{by_stream}
@@ -11,5 +11,5 @@ invariant-loop-node l =
       all : List Sent;
       sent : sent_from (output_at l.plan) l.node (drop l.node l.plan.steps) all ≡ sent_from (output_at l.plan) 0 l.plan.steps (from_streams l.plan (by_stream l.fn.a.items l.fn.b.items));
       timely : AreTimely all;
-      left : (k : ℕ) → l.node ≤ k → arriving k l.sent.items ≡ arriving k all;
+      left : (k : ℕ) → l.node ≤ k → arrivals_at k l.sent.items ≡ arrivals_at k all;
     }

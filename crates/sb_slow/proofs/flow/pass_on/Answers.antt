@@ -3,7 +3,7 @@ use Rattle.std.proofs.lemmas.List.Elements.{All-from_recursion, All-same, recurs
 use Rattle.sb_record.specs.declared.item.Record.{Record}
 use Rattle.sb_record.specs.declared.item.TheConstants.{END_MARK}
 use Rattle.sb_record.specs.declared.element.KeptRec.{KeptRec}
-use Rattle.sb_pipeline.specs.Flow.{arriving}
+use Rattle.sb_pipeline.specs.Flow.{arrivals_at}
 use Rattle.sb_pipeline.specs.Operators.{operator_of, output}
 use Rattle.sb_slow.specs.Taken.{first_input, second_input, given_for}
 use Rattle.sb_slow.proofs.TakingOut.{first-taken, second-taken, given-output, All-first_input, All-second_input, arriving-elsewhere, arriving-more}
@@ -14,7 +14,7 @@ given_for-requires-clause-first c =
     let kind = c.args.kind.now in
     let k = c.args.node in
     let sent = c.args.sent.items in
-    let elements = arriving k sent in
+    let elements = arrivals_at k sent in
     All-same (λ (r : Record). r.time < END_MARK) _ _ (first-taken kind k c.first_lane.result sent c.in_ok-first.first.items c.first_lane.ensures c.in_ok-first.ensures.records)
     (All-from_recursion (λ r. r.time < END_MARK) (first_input kind elements) (All-first_input (λ r. r.time < END_MARK) kind elements (recursion_from_All (λ (e : KeptRec). e.rec.time < END_MARK) elements c.requires.times)))
 
@@ -23,7 +23,7 @@ given_for-requires-clause-second c =
     let kind = c.args.kind.now in
     let k = c.args.node in
     let sent = c.args.sent.items in
-    let elements = arriving k sent in
+    let elements = arrivals_at k sent in
     All-same (λ (r : Record). r.time < END_MARK) _ _ (second-taken kind k c.first_lane.result sent c.in_ok-first.sent.items c.in_ok-second.second.items c.first_lane.ensures c.in_ok-first.ensures.others c.in_ok-second.ensures.records)
     (All-from_recursion (λ r. r.time < END_MARK) (second_input kind elements) (All-second_input (λ r. r.time < END_MARK) kind elements (recursion_from_All (λ (e : KeptRec). e.rec.time < END_MARK) elements c.requires.times)))
 
@@ -34,8 +34,8 @@ returns c = λ behind later.
     let sent = c.args.sent.items in
     let first = first-taken kind k c.first_lane.result sent c.in_ok-first.first.items c.first_lane.ensures c.in_ok-first.ensures.records in
     let second = second-taken kind k c.first_lane.result sent c.in_ok-first.sent.items c.in_ok-second.second.items c.first_lane.ensures c.in_ok-first.ensures.others c.in_ok-second.ensures.records in
-    let rows : c.in_ok-records.records.items ≡ output (operator_of kind) (arriving k sent) = c.in_ok-records.ensures ∙ (λ i. given_for kind (first i) (second i)) ∙ given-output kind (arriving k sent) in
-    let left : arriving behind c.in_ok-second.sent.items ≡ arriving behind sent =
-    ap (arriving behind) c.in_ok-second.ensures.others ∙ arriving-elsewhere k (Some 1) behind later c.in_ok-first.sent.items
-    ∙ ap (arriving behind) c.in_ok-first.ensures.others ∙ arriving-elsewhere k c.first_lane.result behind later sent in
-    ap (arriving behind) c.in_ok-send.ensures ∙ arriving-more behind c.in_ok-second.sent.items sent c.args.down c.in_ok-records.records.items (output (operator_of kind) (arriving k sent)) left rows
+    let rows : c.in_ok-records.records.items ≡ output (operator_of kind) (arrivals_at k sent) = c.in_ok-records.ensures ∙ (λ i. given_for kind (first i) (second i)) ∙ given-output kind (arrivals_at k sent) in
+    let left : arrivals_at behind c.in_ok-second.sent.items ≡ arrivals_at behind sent =
+    ap (arrivals_at behind) c.in_ok-second.ensures.others ∙ arriving-elsewhere k (Some 1) behind later c.in_ok-first.sent.items
+    ∙ ap (arrivals_at behind) c.in_ok-first.ensures.others ∙ arriving-elsewhere k c.first_lane.result behind later sent in
+    ap (arrivals_at behind) c.in_ok-send.ensures ∙ arriving-more behind c.in_ok-second.sent.items sent c.args.down c.in_ok-records.records.items (output (operator_of kind) (arrivals_at k sent)) left rows

@@ -3,12 +3,12 @@ use Rattle.std.specs.BTreeMap.{get}
 use Rattle.sb_window.specs.declared.keyed_window.KeyedWindow.{KeyedWindow}
 use Rattle.sb_window.specs.Windows.{keyed_window_cmp, window_ends}
 use Rattle.sb_window.proofs.Multiples.{Rising}
-use Rattle.sb_slow.specs.Gathered.{followed}
+use Rattle.sb_slow.specs.Gathered.{values_with}
 use Rattle.sb_window.proofs.Gathering.{made_at}
 use Rattle.sb_slow.proofs.gather.add_record.Given as goal
 
 abbrev pub invariant-loop-end : goal.invariant-loop-end
 invariant-loop-end l = record {
-  so_far : (q : KeyedWindow) → followed (get keyed_window_cmp l.values q) (made_at (l.record.value ∷ []) l.record.key l.end-iterator q) ≡ followed (get keyed_window_cmp l.initial.values q) (made_at (l.record.value ∷ []) l.record.key (window_ends l.windows l.record.time) q);
+  so_far : (q : KeyedWindow) → values_with (get keyed_window_cmp l.values q) (made_at (l.record.value ∷ []) l.record.key l.end-iterator q) ≡ values_with (get keyed_window_cmp l.initial.values q) (made_at (l.record.value ∷ []) l.record.key (window_ends l.windows l.record.time) q);
   rest : Rising l.end-iterator;
 }

@@ -1,6 +1,6 @@
 use Rattle.std.proofs.Common.{refl}
 use Rattle.sb_words.specs.Texts.{texts}
-use Rattle.sb_words.specs.Words.{asked}
+use Rattle.sb_words.specs.Words.{asked_of}
 use Rattle.sb_words.proofs.Commands.{read_exact, read_is, read_valid, refused}
 use Rattle.sb_words.proofs.request.read_words.Goals as goal
 
@@ -19,7 +19,7 @@ returns-in_ok-read-in-Some-clause-valid c =
     (read_is c.in_ok-read-in-Some.read c.in-Some.field-0 (texts c.args.words.now) c.in-Some.ensures.exact c.in_ok-read-in-Some.ensures) c.in-Some.ensures.valid
 
 pub returns-in_ok-read-in-Some-clause-outside : goal.returns-in_ok-read-in-Some-clause-outside
-returns-in_ok-read-in-Some-clause-outside c = λ none. absurd (none (asked c.in-Some.field-0) ((c.in-Some.ensures.exact (asked c.in-Some.field-0)).0 refl))
+returns-in_ok-read-in-Some-clause-outside c = λ none. absurd (none (asked_of c.in-Some.field-0) ((c.in-Some.ensures.exact (asked_of c.in-Some.field-0)).0 refl))
 
 pub returns-in_err-read-in-Some-clause-outside : goal.returns-in_err-read-in-Some-clause-outside
-returns-in_err-read-in-Some-clause-outside c = λ none. absurd (none (asked c.in-Some.field-0) ((c.in-Some.ensures.exact (asked c.in-Some.field-0)).0 refl))
+returns-in_err-read-in-Some-clause-outside c = λ none. absurd (none (asked_of c.in-Some.field-0) ((c.in-Some.ensures.exact (asked_of c.in-Some.field-0)).0 refl))

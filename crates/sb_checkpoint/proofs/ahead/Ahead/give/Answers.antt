@@ -2,7 +2,7 @@ use Rattle.std.proofs.Common.{◌≡◌, ◌+◌, List, [], ◌++◌, take, drop
 use Rattle.std.proofs.lemmas.List.{drop_all}
 use Rattle.sb_record.specs.declared.item.Item.{Item}
 use Rattle.sb_checkpoint.specs.Ahead.{bytes}
-use Rattle.sb_checkpoint.specs.Checkpoints.{filled}
+use Rattle.sb_checkpoint.specs.Checkpoints.{with_comments}
 use Rattle.sb_checkpoint.specs.Saved.{items_in}
 use Rattle.sb_checkpoint.specs.Texts.{items_text}
 use Rattle.sb_checkpoint.proofs.LinesAhead.{given_of_all, text_from}
@@ -13,7 +13,7 @@ pub returns-clause-given : goal.returns-clause-given
 returns-clause-given c = given_of_all c.args.self.now c.if-self-len.self c.give_line.new.self (take c.give_line.result c.give_line.new.buf) same c.give_line.ensures.given c.give_line.ensures.behind
   where
     inside-items : List Item
-    inside-items = filled c.self.inside.checkpoint.lines (items_in c.self.inside.checkpoint)
+    inside-items = with_comments c.self.inside.checkpoint.lines (items_in c.self.inside.checkpoint)
 
     same : bytes c.args.self.now ≡ bytes c.if-self-len.self
     same = elim c.if-self-len.branch [

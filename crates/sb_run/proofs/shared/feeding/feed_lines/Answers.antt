@@ -1,5 +1,5 @@
 use Rattle.std.proofs.Common.{◌∙◌, ap, arith, refl, sym}
-use Rattle.sb_record.specs.Intake.{started}
+use Rattle.sb_record.specs.Intake.{first_progress}
 use Rattle.sb_outside.specs.Readings.{Held}
 use Rattle.sb_pipeline.specs.Shapes.{Shape, streams_of}
 use Rattle.sb_feed.proofs.FedSoFar.{all_fed, end_fails, fed_more, item_fails, may_end, may_take, nothing_fed_yet}
@@ -19,7 +19,7 @@ items-init g c =
           (HasFed c.args.cascade.now c.args.pass.now)
           (record { source = c.args.input.now; out = c.args.out.now; taps = _; dropped = c.args.dropped.now.items })
           c.new-lines.result c.new-intake.result c.new-cutters.result c.new-lines.ensures
-          (c.new-intake.ensures ∙ (λ i. started ((c.streams.ensures.value ∙ ap streams_of is) i) 0 ((c.late.ensures ∙ ap (λ (p : Shape). p.late) is) i) ((c.keys.ensures ∙ ap (λ (p : Shape). p.keys) is) i)))
+          (c.new-intake.ensures ∙ (λ i. first_progress ((c.streams.ensures.value ∙ ap streams_of is) i) 0 ((c.late.ensures ∙ ap (λ (p : Shape). p.late) is) i) ((c.keys.ensures ∙ ap (λ (p : Shape). p.keys) is) i)))
           c.new-cutters.ensures c.requires.begins;
       same = still_here c.args.cascade.now c.args.pass.now c.requires.begins.ready;
       cause = cause_of_none (g.R.RowOut.row_state c.args.out.now) _ (λ e. cc e);
