@@ -1,4 +1,5 @@
 -- Each event keeps a moment lawful.
+pub mod HeldStill
 pub mod Changed
 pub mod Frame
 pub mod ArriveLawful

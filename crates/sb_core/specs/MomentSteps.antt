@@ -1,5 +1,5 @@
 -- What the code makes of the whole moment at each event: it is proved to be the moment after the event.
-use Rattle.std.specs.Prelude.{ℕ, ◌+◌, ◌^◌, ◌-◌, ◌==◌, nat_lt, nat_le, true, false, not, ◌&&◌, ◌||◌, if◌then◌else◌, List, []}
+use Rattle.std.specs.Prelude.{ℕ, ◌+◌, ◌==◌, nat_le, true, false, not, ◌&&◌, ◌||◌, if◌then◌else◌, List, []}
 use Rattle.std.specs.Prelude.{◌∷◌, ◌++◌, length, take, drop, Option, Some, None, slice_get, slice_set}
 use Rattle.std.specs.List.{list_any, list_all}
 use Rattle.sb_record.specs.declared.item.Record.{Record}
@@ -16,18 +16,13 @@ use Rattle.sb_core.specs.declared.held.Held.TheVariants.{Work, Close}
 use Rattle.sb_core.specs.declared.event.Event.{Event}
 use Rattle.sb_core.specs.declared.event.Event.TheVariants.{Arrive, Seal, Take, Deliver, Finish, Begin, Pass, End}
 use Rattle.sb_core.specs.Choices.{only_if, is_empty, first_and_rest}
-use Rattle.sb_core.specs.Lanes.{next_epoch, next_floor, with_arrival, with_seal, take_from, finish_in, closable}
+use Rattle.sb_core.specs.Lanes.{next_epoch, next_floor, with_seal, take_from, finish_in, closable}
 use Rattle.sb_core.specs.Lanes.{with_first_closing}
 use Rattle.sb_core.specs.Marks.{least_begun_mark}
 use Rattle.sb_core.specs.Moments.{lane_at, set_lane, set_node, with_lane, with_held, is_work, is_close, is_close_of}
 use Rattle.sb_core.specs.Closings.{delivery, kept_elements, kept_at, rows_at, rows_at_sink, is_sink}
 use Rattle.sb_core.specs.Events.{below}
-
--- a bundle comes into a lane
-abbrev pub arrived_at : Down → ℕ → ℕ → List Record → Moment → Option Moment
-arrived_at d epoch floor records m =
-    lane_at m d >>= λ lane.
-    only_if (nat_lt lane.arrived (2 ^ 64 - 1)) (with_lane d (with_arrival epoch floor records lane) m)
+use Rattle.sb_core.specs.LaneSteps.{arrived_at}
 
 abbrev pub after_arrive : Shape → Moment → Stream → List Record → Option Moment
 after_arrive plan m stream records =

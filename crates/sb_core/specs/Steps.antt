@@ -13,7 +13,8 @@ use Rattle.sb_core.specs.Choices.{first_and_rest}
 use Rattle.sb_core.specs.Events.{after, run}
 use Rattle.sb_core.specs.Moments.{is_work}
 
--- the moment is the later one; or there is none, as the condition failed; a refusal changes nothing
+-- the moment is the later one; or there is none, as the condition failed; a refusal changes nothing. Out of memory says
+-- nothing of the condition: memory may be asked for before all of it is known
 abbrev pub Becomes : {T : Type 0} → Option Moment → Moment → Moment → Result T StepStop → Type 0
 Becomes later old new (Ok x) = later ≡ Some new
 Becomes later old new (Err NotNow) = (later ≡ None) × (new ≡ old)

@@ -12,9 +12,9 @@ use crate::held::Held;
 use crate::hold::find_close;
 use crate::lanes;
 use crate::machine::StepStop;
-use crate::marks::{begun_in, closed, closed_with};
+use crate::marks::{begun_in, least_begun_mark, least_begun_mark_with};
 use crate::moment::Moment;
-use crate::operate::{collected, kept_at, rows_at};
+use crate::operate::{kept_at, rows_at, rows_at_sink};
 use sb_pipeline::Plan;
 use sb_record::{KeptRec, Record, Sequence};
 use std::alloc::Global;
@@ -57,11 +57,13 @@ fn closing_of(
     if find_close(moment.held.as_slice(), node).is_some() {
         return Err(StepStop::NotNow);
     }
+    // The sink has no lane below it, so its closings have no watermark to pass.
     let passed = node == plan.transforms();
-    let (floor, mark) = (closed(lanes), closed_with(lanes, lane as usize));
+    let floor = least_begun_mark(lanes);
+    let mark = least_begun_mark_with(lanes, lane as usize);
     let kept = there.kept.as_slice();
     let rows = rows_at(alloc, plan, node, floor, mark, kept)?;
-    let collected = collected(alloc, plan, node, mark, kept)?;
+    let collected = rows_at_sink(alloc, plan, node, mark, kept)?;
     let kept = kept_at(alloc, plan, node, mark, kept)?;
     Ok(Closing {
         epoch,
@@ -88,6 +90,7 @@ pub(crate) fn begin(
 {
     let closing = closing_of(alloc, plan, moment, node, lane)?;
     let mut collected = closing.collected.into_vec();
+    // What asks for memory comes first, the rows last of it: from them on nothing may fail.
     moment.held.items.reserve(1)?;
     moment.rows.items.append(&mut collected)?;
     let nodes = &mut moment.nodes;

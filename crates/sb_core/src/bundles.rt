@@ -23,6 +23,7 @@ pub(crate) fn take(moment: &mut Moment, node: u32, lane: u32, number: u64) -> Re
     ensures { Becomes (after_take moment.old (record { node = node; lane = lane }) number)
         moment.old moment.new result }
 {
+    // The room for what is in hand comes first: once the lane has given the bundle up, nothing may fail.
     moment.held.items.reserve(1)?;
     let nodes = &mut moment.nodes;
     let Some(there) = nodes.items.get_mut(node as usize) else {
@@ -47,7 +48,7 @@ pub(crate) fn take(moment: &mut Moment, node: u32, lane: u32, number: u64) -> Re
 }
 
 /// The bundle, delivered.
-fn delivered(work: Held) -> Held
+fn delivered_work(work: Held) -> Held
     ensures { (k l e f n : ℕ) (rs : List Record) (b : Bool)
         → work ≡ Held.Work k l e f n rs b → result ≡ Held.Work k l e f n rs true }
 {
@@ -103,8 +104,9 @@ pub(crate) fn deliver(
         floor,
         Sequence::new(given),
     )?;
+    // The bundle leaves the room that it comes back into, so this asks for no memory.
     let work = moment.held.items.remove(place);
-    moment.held.items.push_reserved(delivered(work));
+    moment.held.items.push_reserved(delivered_work(work));
     Ok(())
 }
 
@@ -129,6 +131,7 @@ pub(crate) fn finish(
     }
     let nodes = &mut moment.nodes;
     let there = &mut nodes.items[node as usize];
+    // Of what is to change only this may ask for memory, so it comes first.
     absorb(alloc, plan, node, lane, work.records, &mut there.kept.items)?;
     let (place, epoch) = (work.place, work.epoch);
     let lanes = &mut there.lanes;

@@ -33,6 +33,7 @@ fn without_rows(close: Held, count: usize) -> Held
             mut rows,
             passed,
         } => {
+            // In place, with no memory: the first rows are below already, so nothing may fail any more.
             let count = count.min(rows.items.len());
             rows.items.rotate_left(count);
             let left = rows.items.len() - count;
@@ -53,7 +54,7 @@ fn without_rows(close: Held, count: usize) -> Held
 }
 
 /// The closing, with its watermark passed.
-fn passed(close: Held) -> Held
+fn passed_close(close: Held) -> Held
     ensures { (k l e s f m : ℕ) (rows : List ARecord) (p : Bool)
         → close ≡ Held.Close k l e s f m rows p → result ≡ Held.Close k l e s f m rows true }
 {
@@ -110,6 +111,7 @@ pub(crate) fn deliver(
         floor,
         Sequence::new(next),
     )?;
+    // The closing leaves the room that it comes back into, so this asks for no memory.
     let close = moment.held.items.remove(place);
     moment.held.items.push_reserved(without_rows(close, most));
     Ok(())
@@ -132,12 +134,14 @@ pub(crate) fn pass(
     }
     let (place, mark) = (close.place, close.mark);
     seal_at(alloc, moment, plan.down(node), mark)?;
+    // The closing leaves the room that it comes back into, so this asks for no memory.
     let close = moment.held.items.remove(place);
-    moment.held.items.push_reserved(passed(close));
+    moment.held.items.push_reserved(passed_close(close));
     Ok(())
 }
 
-/// A closing that has passed its watermark ends. The moment is sound for some plan.
+/// A closing that has passed its watermark ends. That takes no plan, but it takes a sound moment: the `requires` reads
+/// "there is a plan that the moment is sound for".
 pub(crate) fn end(moment: &mut Moment, node: u32) -> Result<(), StepStop>
     requires { (plan : Shape) × IsSound plan moment.old }
     ensures becomes { Becomes (closing_ended moment.old node) moment.old moment.new result }
@@ -153,7 +157,7 @@ pub(crate) fn end(moment: &mut Moment, node: u32) -> Result<(), StepStop>
     let nodes = &mut moment.nodes;
     let lanes = &mut nodes.items[node as usize].lanes;
     let at = &mut lanes.items[lane as usize];
-    // For the proof: each epoch that has ended has a mark.
+    // For the proof: each epoch that has ended has a mark. A list has fewer than 2^63 elements, so one more fits.
     let have_marks = at.ended <= at.marks.as_slice().len() as u64;
     prove!(have_marks);
     lanes::end(at);

@@ -2,8 +2,8 @@
 
 ghost use Rattle.std.specs.Prelude.{◌≡◌, ◌≤◌, ◌&&◌, nat_le, Some, None, IfSome, IfNone};
 ghost use Rattle.std.specs.List.{list_all};
-ghost use Rattle.sb_core.specs.MomentSteps.{after_arrive, after_seal, arrived_at};
-ghost use Rattle.sb_core.specs.LaneSteps.{sealed_at};
+ghost use Rattle.sb_core.specs.MomentSteps.{after_arrive, after_seal};
+ghost use Rattle.sb_core.specs.LaneSteps.{arrived_at, sealed_at};
 ghost use Rattle.sb_core.specs.Moments.{lane_at};
 ghost use Rattle.sb_core.specs.Steps.{Becomes};
 
@@ -37,6 +37,7 @@ pub(crate) fn put_at(
     let Some(lane) = lane_of(moment, place) else {
         return Err(StepStop::NotNow);
     };
+    // The bundle's number is one more than have arrived, and has to fit.
     if lane.arrived >= u64::MAX {
         return Err(StepStop::NotNow);
     }

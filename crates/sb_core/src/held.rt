@@ -21,9 +21,10 @@ pub enum Held {
     Close {
         node: u32,
         lane: u32,
-        /// The epoch of the container that is closing.
+        /// The epoch of the container that is closing, in its own lane.
         epoch: u64,
-        /// The number of the closing among those of its node, from 0: the epoch of its rows in the lane below.
+        /// The number of the closing among those of its node, from 0: the epoch of its rows in the lane below. With one
+        /// lane it is the `epoch`. A node of two lanes closes epochs of both, and the lane below counts them all.
         serial: u64,
         /// The mark of the node's closing before, 0 for the first.
         floor: u64,

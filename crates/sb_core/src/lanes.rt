@@ -78,6 +78,7 @@ pub(crate) fn put(
     ensures ok { OnOk result (lane.new ≡ spec.with_arrival epoch floor records lane.old) }
     ensures err { OnErr result (lane.new ≡ lane.old) }
 {
+    // Numbers begin with 1: a Deliver with number 0 is of a closing.
     let bundle = Bundle {
         number: lane.arrived + 1,
         epoch,
@@ -104,6 +105,7 @@ pub(crate) fn seal(alloc: Global, lane: &mut CoreLane, mark: u64) -> Result<(), 
 {
     let (epoch, floor) = (next_epoch(lane), next_floor(lane));
     let (conts, marks) = (&mut lane.conts, &mut lane.marks);
+    // The room for the mark comes first: once a container has it, nothing may fail.
     marks.items.reserve(1)?;
     match find_epoch(conts.as_slice(), epoch) {
         Ok(place) => conts.items[place].mark = Some(mark),

@@ -105,7 +105,8 @@ pub fn step(alloc: Global, plan: &Plan, moment: &mut Moment, event: Event) -> Re
     ensures exact { OnOk result (KeepsExact plan.now moment.old moment.new (event ∷ [])) }
     ensures memory { result ≡ Err StepStop.Memory → asks_for_memory moment.old event ≡ true }
 {
-    // For the proof: a plan keeps its rules, and with them an event keeps a moment sound.
+    // For the proof, the call is made for its contract: a plan keeps its rules, and with them an event keeps a moment
+    // sound.
     let _ = plan.transforms();
     do_event(alloc, plan, moment, event)
 }

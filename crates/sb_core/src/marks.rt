@@ -20,11 +20,13 @@ pub(crate) fn first_is_closing(conts: &[Cont]) -> bool
 }
 
 /// How many epochs of the lane have begun to close: no more than are sealed.
-fn begun(lane: &CoreLane) -> u64
+fn begun_count(lane: &CoreLane) -> u64
     requires { spec.begun_count lane.now ≤ length lane.now.marks }
     ensures value { result ≡ spec.begun_count lane.now }
     ensures small { result < 2 ^ 63 }
 {
+    // No more have begun than are sealed, so `min` changes nothing. It is there for the bound: a list has fewer than
+    // 2^63 elements, so the counts of two lanes, and one more, fit into 64 bits.
     let sealed = lane.marks.items.len() as u64;
     if first_is_closing(lane.conts.as_slice()) {
         sealed.min(lane.ended + 1)
@@ -42,7 +44,7 @@ pub(crate) fn begun_in(lanes: &[CoreLane]) -> u64
 {
     let mut count = 0;
     for lane in lanes {
-        count += begun(lane);
+        count += begun_count(lane);
     }
     count
 }
@@ -83,18 +85,18 @@ fn last_begun(lane: &CoreLane) -> u64
 }
 
 /// The mark up to which a node with these lanes is closed.
-pub(crate) fn closed(lanes: &[CoreLane]) -> u64
+pub(crate) fn least_begun_mark(lanes: &[CoreLane]) -> u64
     ensures { result ≡ spec.least_begun_mark lanes.now }
 {
     match lanes {
         [] => 0,
         [lane] => last_begun(lane),
-        [lane, rest @ ..] => last_begun(lane).min(closed(rest)),
+        [lane, rest @ ..] => last_begun(lane).min(least_begun_mark(rest)),
     }
 }
 
 /// The same, once the first container of a lane is closing.
-pub(crate) fn closed_with(lanes: &[CoreLane], begins: usize) -> u64
+pub(crate) fn least_begun_mark_with(lanes: &[CoreLane], begins: usize) -> u64
     ensures { (lane : ALane) (cont : ACont) (conts : List ACont)
         → slice_get lanes.now begins ≡ Some lane → lane.conts ≡ cont ∷ conts
         → result ≡ spec.least_begun_mark
@@ -105,9 +107,9 @@ pub(crate) fn closed_with(lanes: &[CoreLane], begins: usize) -> u64
         [lane] => with_first(lane),
         [lane, rest @ ..] => {
             if begins == 0 {
-                with_first(lane).min(closed(rest))
+                with_first(lane).min(least_begun_mark(rest))
             } else {
-                last_begun(lane).min(closed_with(rest, begins - 1))
+                last_begun(lane).min(least_begun_mark_with(rest, begins - 1))
             }
         }
     }

@@ -202,6 +202,7 @@ pub(crate) fn rows_at(
     if node == plan.transforms() || is_pardo(plan, node) {
         return Ok(Vec::new(alloc));
     }
+    // What is kept gives rows of windows that closed before, too: they went below with those closings.
     let mut rows = output(alloc, plan.kind(node), kept)?;
     keep_from(&mut rows, floor);
     sort_below(&mut rows, mark)?;
@@ -209,7 +210,7 @@ pub(crate) fn rows_at(
 }
 
 /// What a closing of the sink adds to the rows.
-pub(crate) fn collected(
+pub(crate) fn rows_at_sink(
     alloc: Global,
     plan: &Plan,
     node: u32,

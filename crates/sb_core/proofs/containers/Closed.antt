@@ -19,12 +19,12 @@ closed-later x y lanes zero with = refl
 closed-later x y lanes (suc i) with = refl
 
 -- of two lanes or more, where it is not the first that begins to close
-pub closed_with-later : (lanes : List CoreLane) (x : CoreLane) (i first others : ℕ) → 2 ≤ length lanes → x ≡ get_or lanes 0 x → (i ≡ 0 → ⊥) → first ≡ begun_mark x
+pub least_begun_mark_with-later : (lanes : List CoreLane) (x : CoreLane) (i first others : ℕ) → 2 ≤ length lanes → x ≡ get_or lanes 0 x → (i ≡ 0 → ⊥) → first ≡ begun_mark x
     → IsClosedWith (take (length lanes - 1) (drop 1 lanes)) (i - 1) others → IsClosedWith lanes i (min first others)
-closed_with-later [] x i first others two is later own rest = absurd (omega (arith, two))
-closed_with-later (z ∷ []) x i first others two is later own rest = absurd (omega (arith, two))
-closed_with-later (z ∷ y ∷ lanes) x zero first others two is later own rest = absurd (later refl)
-closed_with-later (z ∷ y ∷ lanes) x (suc i) first others two is later own rest =
+least_begun_mark_with-later [] x i first others two is later own rest = absurd (omega (arith, two))
+least_begun_mark_with-later (z ∷ []) x i first others two is later own rest = absurd (omega (arith, two))
+least_begun_mark_with-later (z ∷ y ∷ lanes) x zero first others two is later own rest = absurd (later refl)
+least_begun_mark_with-later (z ∷ y ∷ lanes) x (suc i) first others two is later own rest =
     λ lane cont conts at has. (λ j. min ((own ∙ ap begun_mark is) j) (below lane cont conts at has j)) ∙ sym (closed-later z y lanes i (record lane { conts = with_first_closing lane.conts }))
   where
     all : take (length (z ∷ y ∷ lanes) - 1) (y ∷ lanes) ≡ y ∷ lanes

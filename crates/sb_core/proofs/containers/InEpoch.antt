@@ -18,6 +18,15 @@ pub ready_calm : (cs : List Cont) → AllByRecursion (λ c. c.closing ≡ false)
 ready_calm [] all = tt
 ready_calm (c ∷ cs) all = λ h. let k : false ≡ true = sym all.0 ∙ h in cc
 
+-- ---- a container that is not sealed is of an epoch from the next one on
+pub open-from : (bound n g e f at : ℕ) (c : Cont) (cs : List Cont) → AreOpen bound n g e f cs → cont_at at cs ≡ Some c → e ≤ at
+open-from bound n g e f at c [] are h = cc
+open-from bound n g e f at c (x ∷ cs) are h = by_case (eqb x.epoch at) refl h (λ k. open-from bound n g (x.epoch + 1) x.floor at c cs are.1 k)
+  where
+    by_case : (b : Bool) → eqb x.epoch at ≡ b → cond b (Some x) (cont_at at cs) ≡ Some c → (cont_at at cs ≡ Some c → x.epoch + 1 ≤ at) → e ≤ at
+    by_case true e h ih = omega (arith, are.0.epoch_from, eqb-true x.epoch at e)
+    by_case false e h ih = omega (arith, are.0.epoch_from, ih h)
+
 -- ---- what is out stays out
 module _ (bound epoch floor : ℕ) (change : Cont → Cont) (epochs : (c : Cont) → (change c).epoch ≡ c.epoch) (floors : (c : Cont) → (change c).floor ≡ c.floor) (outs : (c : Cont) → (change c).out ≡ c.out) (closes : (c : Cont) → (change c).closing ≡ c.closing) where
   abbrev StillOut : ℕ → ℕ → Cont → List Cont → Type 0
@@ -56,15 +65,7 @@ module _ (bound epoch floor : ℕ) (change : Cont → Cont) (epochs : (c : Cont)
             where
               by_case : (a : Bool) → eqb x.epoch at ≡ a → cond a (Some x) (cont_at at cs) ≡ Some c → ⊥
               by_case true f h = let k : x.epoch ≡ at = eqb-true x.epoch at f in omega arith
-              by_case false f h = let k : x.epoch + 1 ≤ at = later n g (x.epoch + 1) x.floor cs are.1 h in omega arith
-                where
-                  later : (n g e f : ℕ) (cs : List Cont) → AreOpen bound n g e f cs → cont_at at cs ≡ Some c → e ≤ at
-                  later n g e f [] are h = cc
-                  later n g e f (y ∷ cs) are h = one (eqb y.epoch at) refl h (λ z. later n g (y.epoch + 1) y.floor cs are.1 z)
-                    where
-                      one : (a : Bool) → eqb y.epoch at ≡ a → cond a (Some y) (cont_at at cs) ≡ Some c → (cont_at at cs ≡ Some c → y.epoch + 1 ≤ at) → e ≤ at
-                      one true f h ih = omega (arith, are.0.epoch_from, eqb-true y.epoch at f)
-                      one false f h ih = omega (arith, are.0.epoch_from, ih h)
+              by_case false f h = let k : x.epoch + 1 ≤ at = open-from bound n g (x.epoch + 1) x.floor at c cs are.1 h in omega arith
 
       past : x.epoch ≢ epoch → x.epoch ≤ epoch → (cont_at at cs ≡ Some c → (d : Cont) × (cont_at at (in_epoch epoch floor change cs) ≡ Some d) × (d.floor ≡ c.floor) × (list_any (λ n. eqb n number) d.out ≡ true))
           → (d : Cont) × (cont_at at (in_epoch epoch floor change (x ∷ cs)) ≡ Some d) × (d.floor ≡ c.floor) × (list_any (λ n. eqb n number) d.out ≡ true)

@@ -3,6 +3,7 @@ use Rattle.sb_record.proofs.Numbers.{bind_some}
 use Rattle.sb_core.specs.Choices
 use Rattle.sb_core.specs.Closings
 use Rattle.sb_core.specs.Events
+use Rattle.sb_core.specs.LaneSteps
 use Rattle.sb_core.specs.MomentSteps
 use Rattle.sb_core.specs.Lanes
 use Rattle.sb_core.specs.Marks
@@ -31,7 +32,6 @@ use Rattle.sb_core.specs.declared.moment.Moment.{Moment}
 use Rattle.sb_core.specs.declared.held.Held.{Held}
 use Rattle.sb_core.specs.declared.held.Held.TheVariants.{Work, Close}
 use Rattle.sb_core.specs.declared.event.Event.TheVariants.{Finish, Begin}
-use Rattle.sb_record.specs.Reading.{◌>>=◌}
 use Rattle.sb_core.specs.Exactness.{gives, work_in, rows_left_in, IsAdmissible}
 use Rattle.sb_core.specs.Moments.{node_at, floor_of, floor_at, epoch_of, epoch_at}
 use Rattle.sb_core.specs.LaneOrder.{AreContainers, IsLane, IsReady}
@@ -45,7 +45,7 @@ use Rattle.sb_pardo.specs.Outputs.{outputs_of}
 use Rattle.sb_pipeline.specs.Operators.Operator.{ParDo, Windowed, Sink}
 use Rattle.sb_core.specs.Holdings.{IsHeld}
 use Rattle.sb_core.proofs.containers.LaneLaws.{All-pulled}
-use Rattle.sb_core.proofs.exact.Nodes.{begun_mark, lane_at-set, lane_at-cases, node_at-same, node_at-set_same}
+use Rattle.sb_core.proofs.exact.Nodes.{begun_mark, lane_at-set, lane_at-cases, node_at-same, node_at-set_same, lane_at-is}
 use Rattle.sb_core.proofs.exact.MoveExact.{arrival-gives, calm-gives, waiting-with_seal, rows-gives, delivery-gives}
 use Rattle.sb_core.proofs.exact.FinishExact.{finished-gives}
 use Rattle.sb_pipeline.specs.Plans.{IsPlan}
@@ -258,7 +258,7 @@ abbrev pub CarriesFrom : Shape → Moment → Moment → Held → Type 0
 CarriesFrom plan m m' h = (d : Down) × (Events.below plan (node_of h) ≡ Some d) × Carries plan m m' (Given (node_of h) d (given_now plan m.bundle h))
 
 module _ (plan : Shape) (m m' : Moment) (lawful : IsLawful plan m) where
-  arrived : (d : Down) (epoch floor : ℕ) (records : List Record) (held : List Held) → MomentSteps.arrived_at d epoch floor records (Moments.with_held held m) ≡ Some m'
+  arrived : (d : Down) (epoch floor : ℕ) (records : List Record) (held : List Held) → LaneSteps.arrived_at d epoch floor records (Moments.with_held held m) ≡ Some m'
       → (node : Node) × (lane : CoreLane) × (slice_get m.nodes d.node ≡ Some node) × (slice_get node.lanes d.lane ≡ Some lane) × (Moments.set_node d.node (Moments.set_lane d.lane (Lanes.with_arrival epoch floor records lane) node) (Moments.with_held held m) ≡ m')
   arrived d epoch floor records held h =
       let a = bind_some (Moments.lane_at (Moments.with_held held m) d) _ m' h in
@@ -267,7 +267,7 @@ module _ (plan : Shape) (m m' : Moment) (lawful : IsLawful plan m) where
       (p.0, a.0, p.1, p.2, with_lane-is (Moments.with_held held m) d p.0 (Lanes.with_arrival epoch floor records a.0) m' p.1 c.1)
 
   place : (d : Down) (node : Node) (lane : CoreLane) → slice_get m.nodes d.node ≡ Some node → slice_get node.lanes d.lane ≡ Some lane → Moments.lane_at m d ≡ Some lane
-  place d node lane at in_it = ap (λ (o : Option Node). o >>= λ n. slice_get n.lanes d.lane) at ∙ in_it
+  place d node lane at in_it = lane_at-is m d node lane at in_it
 
   pub rows-carries : (q : Held × List Held) → IsReordered m.held (q.0 ∷ q.1) → IsHeld plan m q.0 → MomentSteps.deliver_rows plan m q.0 q.1 ≡ Some m' → CarriesFrom plan m m' q.0
   rows-carries (Work k l epoch floor number records delivered, others) pulled held h = cc
@@ -284,7 +284,7 @@ module _ (plan : Shape) (m m' : Moment) (lawful : IsLawful plan m) where
       less : List Held
       less = others ++ Close y l epoch serial floor mark (drop m.bundle rows) passed ∷ []
 
-      go : (d : Down) (s : Step) → slice_get plan.steps y ≡ Some s → s.down ≡ d → passed ≡ false → MomentSteps.arrived_at d serial floor (take m.bundle rows) (Moments.with_held less m) ≡ Some m' → Carries plan m m' (Given y d (take m.bundle rows))
+      go : (d : Down) (s : Step) → slice_get plan.steps y ≡ Some s → s.down ≡ d → passed ≡ false → LaneSteps.arrived_at d serial floor (take m.bundle rows) (Moments.with_held less m) ≡ Some m' → Carries plan m m' (Given y d (take m.bundle rows))
       go d s is down unpassed h =
           let p = arrived d serial floor (take m.bundle rows) less h in
           let at : Moments.lane_at m d ≡ Some p.1 = place d p.0 p.1 p.2 p.3 in
@@ -388,13 +388,13 @@ module _ (plan : Shape) (m m' : Moment) (lawful : IsLawful plan m) where
       (a.0, a.1, by_operator o refl a.0 b.0 b.1 b.2 (not-true delivered t.0) t.1 c.1)
     where
       by_operator : (o : Operator) → operator_at (slice_get plan.steps y) ≡ o → (d : Down) (s : Step) → slice_get plan.steps y ≡ Some s → s.down ≡ d → delivered ≡ false → not (Choices.is_empty (Closings.delivery o records)) ≡ true
-          → MomentSteps.arrived_at d epoch floor (Closings.delivery (operator_at (slice_get plan.steps y)) records) (Moments.with_held (others ++ Work y l epoch floor number records true ∷ []) m) ≡ Some m' → Carries plan m m' (Given y d (Closings.delivery (operator_at (slice_get plan.steps y)) records))
+          → LaneSteps.arrived_at d epoch floor (Closings.delivery (operator_at (slice_get plan.steps y)) records) (Moments.with_held (others ++ Work y l epoch floor number records true ∷ []) m) ≡ Some m' → Carries plan m m' (Given y d (Closings.delivery (operator_at (slice_get plan.steps y)) records))
       by_operator (Windowed g) e d s is down f some h = cc
       by_operator Sink e d s is down f some h = cc
       by_operator (ParDo op) e d s is down f some h =
           let images = flat_map (outputs_of op) records in
           let held' = others ++ Work y l epoch floor number records true ∷ [] in
-          let p = arrived d epoch floor images held' (ap (λ o. MomentSteps.arrived_at d epoch floor (Closings.delivery o records) (Moments.with_held held' m)) (sym e) ∙ h) in
+          let p = arrived d epoch floor images held' (ap (λ o. LaneSteps.arrived_at d epoch floor (Closings.delivery o records) (Moments.with_held held' m)) (sym e) ∙ h) in
           let at : Moments.lane_at m d ≡ Some p.1 = place d p.0 p.1 p.2 p.3 in
           let fresh : epoch_at m s.down ≤ epoch = sealed y l epoch floor number records s (ap (Work y l epoch floor number records) f) is (ap is_pardo e) in
           let next : epoch_at m s.down ≡ Lanes.next_epoch p.1 = ap (epoch_at m) down ∙ ap epoch_of at in

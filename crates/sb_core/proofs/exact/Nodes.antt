@@ -43,14 +43,19 @@ sum_by-waiting_set f i (first ∷ lanes) (suc l) lane with h =
     step : (i l : ℕ) → (i + 1) + l ≡ i + suc l
     step i l = omega arith
 
+-- the least over the lanes, where of one lane it is as it was
+pub least-set : (f : CoreLane → ℕ) (least : List CoreLane → ℕ) → ((x : CoreLane) → least (x ∷ []) ≡ f x) → ((x y : CoreLane) (xs : List CoreLane) → least (x ∷ y ∷ xs) ≡ min (f x) (least (y ∷ xs)))
+    → (lanes : List CoreLane) (l : ℕ) (lane with : CoreLane) → slice_get lanes l ≡ Some lane → f with ≡ f lane → least (slice_set lanes l with) ≡ least lanes
+least-set f least one more [] l lane with h e = cc
+least-set f least one more (first ∷ []) zero lane with h e = let k : first ≡ lane = cc in one with ∙ e ∙ ap f (sym k) ∙ sym (one first)
+least-set f least one more (first ∷ []) (suc l) lane with h e = cc
+least-set f least one more (first ∷ second ∷ lanes) zero lane with h e = let k : first ≡ lane = cc in more with second lanes ∙ ap (λ n. min n (least (second ∷ lanes))) (e ∙ ap f (sym k)) ∙ sym (more first second lanes)
+least-set f least one more (first ∷ second ∷ lanes) (suc zero) lane with h e = more first with lanes ∙ ap (min (f first)) (least-set f least one more (second ∷ lanes) zero lane with h e) ∙ sym (more first second lanes)
+least-set f least one more (first ∷ second ∷ lanes) (suc (suc l)) lane with h e = more first second (slice_set lanes l with) ∙ ap (min (f first)) (least-set f least one more (second ∷ lanes) (suc l) lane with h e) ∙ sym (more first second lanes)
+
 -- a lane that began the same marks
 pub closed-set : (lanes : List CoreLane) (l : ℕ) (lane with : CoreLane) → slice_get lanes l ≡ Some lane → begun_mark with ≡ begun_mark lane → least_begun_mark (slice_set lanes l with) ≡ least_begun_mark lanes
-closed-set [] l lane with h e = cc
-closed-set (first ∷ []) zero lane with h e = let k : first ≡ lane = cc in e ∙ ap begun_mark (sym k)
-closed-set (first ∷ []) (suc l) lane with h e = cc
-closed-set (first ∷ second ∷ lanes) zero lane with h e = let k : first ≡ lane = cc in ap (λ n. min n (least_begun_mark (second ∷ lanes))) (e ∙ ap begun_mark (sym k))
-closed-set (first ∷ second ∷ lanes) (suc zero) lane with h e = ap (min (begun_mark first)) (closed-set (second ∷ lanes) zero lane with h e)
-closed-set (first ∷ second ∷ lanes) (suc (suc l)) lane with h e = ap (min (begun_mark first)) (closed-set (second ∷ lanes) (suc l) lane with h e)
+closed-set = least-set begun_mark least_begun_mark (λ x. refl) (λ x y xs. refl)
 
 -- node k of a moment in which one node is another
 module _ (m : Moment) (n : ℕ) (node with : Node) (at : slice_get m.nodes n ≡ Some node) where
@@ -62,6 +67,12 @@ module _ (m : Moment) (n : ℕ) (node with : Node) (at : slice_get m.nodes n ≡
 
   pub node_at-set_other : (k : ℕ) → k ≢ n → node_at (set_node n with m) k ≡ node_at m k
   node_at-set_other k ne = get_or-set_other m.nodes n k with no_node ne
+
+  -- what is of the new node as it was of the old one is so of each node
+  pub of_each_node : {Y : Type 0} (g : Node → Y) → g with ≡ g node → (k : ℕ) → g (node_at (set_node n with m) k) ≡ g (node_at m k)
+  of_each_node g same k = ⊎_elim
+      (λ e. ap (λ k. g (node_at (set_node n with m) k)) e ∙ ap g node_at-set_same ∙ same ∙ sym (ap (λ k. g (node_at m k)) e ∙ ap g node_at-same))
+      (λ ne. ap g (node_at-set_other k ne)) (cases_eq k n)
 
 -- a moment in which the lane at a place is another
 module _ (m : Moment) (d : Down) (node : Node) (lane with : CoreLane) (at : slice_get m.nodes d.node ≡ Some node) (in_it : slice_get node.lanes d.lane ≡ Some lane) where
@@ -98,25 +109,17 @@ module _ (m : Moment) (d : Down) (node : Node) (lane with : CoreLane) (at : slic
           subst (λ z. z) (λ i. sides (sym x i) (node_at m k) (sym b i)) h
 
   pub kept-changed : (k : ℕ) → (node_at changed k).kept ≡ (node_at m k).kept
-  kept-changed k = ⊎_elim here (λ ne. ap (λ (n : Node). n.kept) (node_at-set_other m d.node node (set_lane d.lane with node) at k ne)) (cases_eq k d.node)
-    where
-      here : k ≡ d.node → (node_at changed k).kept ≡ (node_at m k).kept
-      here e =
-          ap (λ (n : Node). n.kept) (ap (node_at changed) e ∙ node_at-set_same m d.node node (set_lane d.lane with node) at)
-          ∙ ap (λ (n : Node). n.kept) (sym (ap (node_at m) e ∙ node_at-same m d.node node (set_lane d.lane with node) at))
+  kept-changed k = of_each_node m d.node node (set_lane d.lane with node) at (λ n. n.kept) refl k
 
   pub closed-changed : begun_mark with ≡ begun_mark lane → (k : ℕ) → least_begun_mark (node_at changed k).lanes ≡ least_begun_mark (node_at m k).lanes
-  closed-changed same k = ⊎_elim here (λ ne. ap (λ (n : Node). least_begun_mark n.lanes) (node_at-set_other m d.node node (set_lane d.lane with node) at k ne)) (cases_eq k d.node)
-    where
-      here : k ≡ d.node → least_begun_mark (node_at changed k).lanes ≡ least_begun_mark (node_at m k).lanes
-      here e =
-          ap (λ (n : Node). least_begun_mark n.lanes) (ap (node_at changed) e ∙ node_at-set_same m d.node node (set_lane d.lane with node) at)
-          ∙ closed-set node.lanes d.lane lane with in_it same
-          ∙ ap (λ (n : Node). least_begun_mark n.lanes) (sym (ap (node_at m) e ∙ node_at-same m d.node node (set_lane d.lane with node) at))
+  closed-changed same k = of_each_node m d.node node (set_lane d.lane with node) at (λ n. least_begun_mark n.lanes) (closed-set node.lanes d.lane lane with in_it same) k
 
 -- ---- what is at an index after a write
 pub sum_by-set_get : {X : Type 0} (f : X → ℕ) (xs : List X) (i : ℕ) (x y : X) → slice_get xs i ≡ Some x → sum_by f (slice_set xs i y) + f x ≡ sum_by f xs + f y
 sum_by-set_get f xs i x y h = ap (λ z. sum_by f (slice_set xs i y) + f z) (sym (get_or_from_slice_get xs i x x h)) ∙ sum_by-set f xs i y x (slice_get_within xs i x h)
+
+pub sum_by-set_at : {X : Type 0} (f : X → ℕ) (xs : List X) (i : ℕ) (x y : X) → slice_get xs i ≡ Some x → f y ≡ f x → sum_by f (slice_set xs i y) ≡ sum_by f xs
+sum_by-set_at f xs i x y h e = omega (arith, sum_by-set_get f xs i x y h, e)
 
 pub slice_get-set_same : {X : Type 0} (xs : List X) (i : ℕ) (x y : X) → slice_get xs i ≡ Some x → slice_get (slice_set xs i y) i ≡ Some y
 slice_get-set_same [] i x y h = cc
@@ -129,6 +132,10 @@ slice_get-set_other (z ∷ xs) zero zero y ne = absurd (ne refl)
 slice_get-set_other (z ∷ xs) zero (suc j) y ne = refl
 slice_get-set_other (z ∷ xs) (suc i) zero y ne = refl
 slice_get-set_other (z ∷ xs) (suc i) (suc j) y ne = slice_get-set_other xs i j y (λ e. ne (ap suc e))
+
+-- a lane by its node
+pub lane_at-is : (m : Moment) (d : Down) (node : Node) (lane : CoreLane) → slice_get m.nodes d.node ≡ Some node → slice_get node.lanes d.lane ≡ Some lane → lane_at m d ≡ Some lane
+lane_at-is m d node lane at in_it = ap (λ (o : Option Node). o >>= λ x. slice_get x.lanes d.lane) at ∙ in_it
 
 -- a lane of a moment in which a node's lane is another
 module _ (m : Moment) (n l : ℕ) (node new : Node) (lane with : CoreLane) (at : slice_get m.nodes n ≡ Some node) (in_it : slice_get node.lanes l ≡ Some lane) (lanes : new.lanes ≡ slice_set node.lanes l with) where
@@ -151,20 +158,17 @@ module _ (m : Moment) (n l : ℕ) (node new : Node) (lane with : CoreLane) (at :
           ∙ ap (λ (o : Option Node). g (o >>= λ node. slice_get node.lanes d.lane)) (sym at)
           ∙ ap (λ i. g (slice_get m.nodes i >>= λ node. slice_get node.lanes d.lane)) (sym e)
 
+  pub lane_at-there : lane_at (set_node n new m) (record { node = n; lane = l }) ≡ Some with
+  lane_at-there = ap (λ (o : Option Node). o >>= λ node. slice_get node.lanes l) (slice_get-set_same m.nodes n node new at) ∙ ap (λ ls. slice_get ls l) lanes ∙ slice_get-set_same node.lanes l lane with in_it
+
   -- the place itself, or a lane that is as it was
   pub lane_at-cases : (d : Down) → ((d ≡ record { node = n; lane = l }) × (lane_at (set_node n new m) d ≡ Some with) × (lane_at m d ≡ Some lane)) ⊎ (lane_at (set_node n new m) d ≡ lane_at m d)
   lane_at-cases d = ⊎_elim (λ e. ⊎_elim (λ f. inl (here e f)) (λ ne. inr (there e ne)) (cases_eq d.lane l)) (λ ne. inr (ap (λ o. o >>= λ node. slice_get node.lanes d.lane) (slice_get-set_other m.nodes n d.node new ne))) (cases_eq d.node n)
     where
-      at_place : lane_at (set_node n new m) (record { node = n; lane = l }) ≡ Some with
-      at_place = ap (λ (o : Option Node). o >>= λ node. slice_get node.lanes l) (slice_get-set_same m.nodes n node new at) ∙ ap (λ ls. slice_get ls l) lanes ∙ slice_get-set_same node.lanes l lane with in_it
-
-      was_there : lane_at m (record { node = n; lane = l }) ≡ Some lane
-      was_there = ap (λ (o : Option Node). o >>= λ node. slice_get node.lanes l) at ∙ in_it
-
       here : d.node ≡ n → d.lane ≡ l → (d ≡ record { node = n; lane = l }) × (lane_at (set_node n new m) d ≡ Some with) × (lane_at m d ≡ Some lane)
       here e f =
           let k : d ≡ record { node = n; lane = l } = λ i. record { node = e i; lane = f i } in
-          (k, ap (lane_at (set_node n new m)) k ∙ at_place, ap (lane_at m) k ∙ was_there)
+          (k, ap (lane_at (set_node n new m)) k ∙ lane_at-there, ap (lane_at m) k ∙ lane_at-is m (record { node = n; lane = l }) node lane at in_it)
 
       there : d.node ≡ n → d.lane ≢ l → lane_at (set_node n new m) d ≡ lane_at m d
       there e ne =
@@ -174,3 +178,6 @@ module _ (m : Moment) (n l : ℕ) (node new : Node) (lane with : CoreLane) (at :
           ∙ slice_get-set_other node.lanes l d.lane with ne
           ∙ ap (λ (o : Option Node). o >>= λ node. slice_get node.lanes d.lane) (sym at)
           ∙ ap (λ i. slice_get m.nodes i >>= λ node. slice_get node.lanes d.lane) (sym e)
+
+  pub lane_at-other : (d : Down) → d ≢ record { node = n; lane = l } → lane_at (set_node n new m) d ≡ lane_at m d
+  lane_at-other d ne = ⊎_elim (λ c. absurd (ne c.0)) (λ c. c) (lane_at-cases d)

@@ -1,6 +1,6 @@
 -- A bundle arrives: the moment stays lawful.
 use Rattle.sb_record.proofs.Elements.{every}
-use Rattle.std.proofs.Common.{◌≡◌, ℕ, suc, zero, ◌+◌, ◌-◌, ◌≤◌, cond, eqb, List, [], ◌∷◌, length, drop, Some, Option, sym, refl, ap, subst, ◌∙◌, arith, get_or, length-drop}
+use Rattle.std.proofs.Common.{◌≡◌, ℕ, suc, zero, ◌+◌, ◌-◌, ◌≤◌, cond, eqb, List, [], ◌∷◌, length, drop, Some, sym, refl, ap, subst, ◌∙◌, arith, get_or, length-drop}
 use Rattle.std.specs.List.{slice_get}
 use Rattle.std.proofs.lemmas.Bool.{ne_eqb}
 use Rattle.std.proofs.Math.Numerals.{sub-one}
@@ -12,7 +12,6 @@ use Rattle.sb_pipeline.specs.declared.transform.Down.{Down}
 use Rattle.sb_core.specs.declared.moment.Node.{Node}
 use Rattle.sb_pipeline.specs.Shapes.{Shape}
 use Rattle.sb_core.specs.declared.moment.Moment.{Moment}
-use Rattle.sb_record.specs.Reading.{◌>>=◌}
 use Rattle.sb_core.specs.Lanes.{with_bundle, with_arrival, next_epoch, next_floor}
 use Rattle.sb_core.specs.Marks.{last_of_first}
 use Rattle.sb_core.specs.Moments.{lane_at, set_lane, set_node, with_held}
@@ -25,6 +24,7 @@ use Rattle.sb_core.proofs.times.InTime.{ups}
 use Rattle.sb_core.proofs.containers.InEpoch.{containers_out, others_calm, still_ready}
 use Rattle.sb_core.proofs.exact.EventExact.{calm}
 use Rattle.sb_core.proofs.lawful.Frame.{IsKept, frame, holds_still}
+use Rattle.sb_core.proofs.exact.Nodes.{lane_at-is}
 
 -- ---- the last mark
 last_from-drop : (low : ℕ) (marks : List ℕ) (n : ℕ) → n ≤ length marks → last_from (cond (eqb n 0) low (get_or marks (n - 1) 0)) (drop n marks) ≡ last_from low marks
@@ -125,7 +125,7 @@ arrival-kept bound records lane ok times = put-kept bound (next_epoch lane) (nex
 pub arrival-lawful : (plan : Shape) (m : Moment) (d : Down) (node : Node) (lane : CoreLane) (records : List Record) → slice_get m.nodes d.node ≡ Some node → slice_get node.lanes d.lane ≡ Some lane
     → IsWithin (next_floor lane) (bound_at plan d.node) records → IsLawful plan m → IsLawful plan (set_node d.node (set_lane d.lane (with_arrival (next_epoch lane) (next_floor lane) records lane) node) (with_held m.held m))
 arrival-lawful plan m d node lane records at in_it times lawful =
-    let was : lane_at m d ≡ Some lane = ap (λ (o : Option Node). o >>= λ x. slice_get x.lanes d.lane) at ∙ in_it in
+    let was : lane_at m d ≡ Some lane = lane_at-is m d node lane at in_it in
     let ok : IsLane (bound_at plan d.node) lane = lawful.lanes d lane was in
     let kept : IsKept lane (with_arrival (next_epoch lane) (next_floor lane) records lane) = arrival-kept (bound_at plan d.node) records lane ok times in
     frame plan m d node lane (with_arrival (next_epoch lane) (next_floor lane) records lane) at in_it kept m.held lawful (arrival-lane (bound_at plan d.node) records lane ok times)

@@ -31,19 +31,21 @@ use Rattle.sb_core.specs.Marks.{begun_count, least_begun_mark, last_of_first, fi
 use Rattle.sb_core.specs.Lanes.{closable, with_first_closing}
 use Rattle.sb_core.specs.Choices.{is_empty}
 use Rattle.sb_core.specs.Closings.{is_sink, rows_at}
-use Rattle.sb_core.specs.Moments.{is_close, is_close_of, lane_at, node_at, floor_of, floor_at, epoch_of, epoch_at}
+use Rattle.sb_core.specs.Moments.{is_close, is_close_of, lane_at, set_node, with_held, node_at, floor_of, floor_at, epoch_of, epoch_at}
 use Rattle.sb_core.specs.LaneOrder.{IsWithin, AreContainers, IsLane, cont_at}
 use Rattle.sb_core.specs.Bounds.{bound_at}
-use Rattle.sb_core.specs.Holdings.{IsWork, IsHeld, is_unpassed}
+use Rattle.sb_core.specs.Holdings.{IsHeld, is_unpassed}
 use Rattle.sb_core.specs.Soundness.{IsSealedBelow}
 use Rattle.sb_core.proofs.sound.Orderly.{IsLawful}
 use Rattle.sb_core.proofs.containers.Lists.{cond_is_some, empty_is}
-use Rattle.sb_core.proofs.exact.Nodes.{begun_mark, slice_get-set_same, lane_at-set, lane_at-cases, node_at-same, node_at-set_same, node_at-set_other, sum_by-set_get}
+use Rattle.sb_core.proofs.exact.Nodes.{begun_mark, lane_at-set, lane_at-cases, node_at-same, node_at-set_same, node_at-set_other, sum_by-set_get, lane_at-is, lane_at-there, of_each_node}
 use Rattle.sb_core.proofs.sound.HeldLists.{All-last}
 use Rattle.sb_core.proofs.times.InTime.{last_of_first-rises}
 use Rattle.sb_core.proofs.exact.EventExact.{transform_is}
 use Rattle.sb_core.proofs.exact.BeginExact.{begun_lane, closing_mark, begun_node, new_close, after_beginning}
 use Rattle.sb_core.proofs.containers.LaneLaws.{same-bundles}
+use Rattle.sb_core.proofs.lawful.HeldStill.{beside}
+use Rattle.sb_core.proofs.lawful.Changed.{work_still}
 
 -- ---- the first container may close
 pub record IsClosable (epoch : ℕ) (cs : List Cont) (c : Cont) : Type 0 where
@@ -163,10 +165,10 @@ module _ (plan : Shape) (m : Moment) (n l : ℕ) (node : Node) (lane : CoreLane)
   place = record { node = n; lane = l }
 
   was : lane_at m (record { node = n; lane = l }) ≡ Some lane
-  was = ap (λ (o : Option Node). o >>= λ x. slice_get x.lanes l) at ∙ in_it
+  was = lane_at-is m (record { node = n; lane = l }) node lane at in_it
 
   is_now : lane_at after (record { node = n; lane = l }) ≡ Some begun_l
-  is_now = ap (λ (o : Option Node). o >>= λ x. slice_get x.lanes l) (slice_get-set_same m.nodes n node begun_n at) ∙ slice_get-set_same node.lanes l lane begun_l in_it
+  is_now = lane_at-there m n l node begun_n lane begun_l at in_it refl
 
   ok : IsLane (bound_at plan n) begun_l × (lane.ended + 1 ≤ length lane.marks)
   ok = begun-lane (bound_at plan n) lane c (lawful.lanes (record { node = n; lane = l }) lane was) closes
@@ -204,16 +206,10 @@ module _ (plan : Shape) (m : Moment) (n l : ℕ) (node : Node) (lane : CoreLane)
 
   -- a held Close is of another node
   holds_still : (h : Held) → is_close n h ≡ false → IsHeld plan m h → IsHeld plan after h
-  holds_still (Work k i epoch floor number records delivered) no_close h = ⊎_elim here there (cases (record { node = k; lane = i }))
-    where
-      here : (◌≡◌ {A = Down} (record { node = k; lane = i }) (record { node = n; lane = l })) × (lane_at after (record { node = k; lane = i }) ≡ Some begun_l) × (lane_at m (record { node = k; lane = i }) ≡ Some lane) → IsWork plan after k i epoch floor number records delivered
-      here x =
-          let same : h.lane ≡ lane = same_Some h.lane lane (sym h.there ∙ x.2) in
-          let o = begun-out epoch number lane.conts h.cont (ap (λ (x : CoreLane). cont_at epoch x.conts) (sym same) ∙ h.of_epoch) h.is_out in
-          record { lane = begun_l; there = x.1; cont = o.0; of_epoch = o.1; floor_is = o.2 ∙ h.floor_is; is_out = o.3; times = h.times; only_pardo = h.only_pardo }
-
-      there : lane_at after (record { node = k; lane = i }) ≡ lane_at m (record { node = k; lane = i }) → IsWork plan after k i epoch floor number records delivered
-      there e = record { lane = h.lane; there = e ∙ h.there; cont = h.cont; of_epoch = h.of_epoch; floor_is = h.floor_is; is_out = h.is_out; times = h.times; only_pardo = h.only_pardo }
+  holds_still (Work k i epoch floor number records delivered) no_close h =
+      beside plan (set_node n begun_n (with_held after.held m)) after.held after.rows (Work k i epoch floor number records delivered)
+      (work_still plan m n l node begun_n lane begun_l at in_it refl after.held k i epoch floor number records delivered h
+      (λ _ o. let x = begun-out epoch number lane.conts o.0 o.1 o.3 in (x.0, x.1, x.2 ∙ o.2, x.3)))
   holds_still (Close k i epoch serial floor mark rows passed) no_close h =
       let other : node_at after k ≡ node_at m k = other_node k (eqb-false k n no_close) in
       record {
@@ -276,9 +272,7 @@ module _ (plan : Shape) (m : Moment) (n l : ℕ) (node : Node) (lane : CoreLane)
         record {
           nodes = length-set m.nodes n begun_n ∙ lawful.nodes;
           lanes = λ e x h. ⊎_elim (λ y. subst (λ z. IsLane (bound_at plan e.node) z) (same_Some begun_l x (sym y.1 ∙ h)) (subst (λ (e : Down). IsLane (bound_at plan e.node) begun_l) (sym y.0) ok.0)) (λ y. lawful.lanes e x (sym y ∙ h)) (cases e);
-          one_lane = λ k h. ⊎_elim
-              (λ e. ap (λ k. length (node_at after k).lanes) e ∙ ap (λ (x : Node). length x.lanes) this_node ∙ length-set node.lanes l begun_l ∙ ap (λ (x : Node). length x.lanes) (sym (node_at-same m n node node at)) ∙ ap (λ k. length (node_at m k).lanes) (sym e) ∙ lawful.one_lane k h)
-              (λ ne. ap (λ (x : Node). length x.lanes) (other_node k ne) ∙ lawful.one_lane k h) (cases_eq k n);
+          one_lane = λ k h. of_each_node m n node begun_n at (λ x. length x.lanes) (length-set node.lanes l begun_l) k ∙ lawful.one_lane k h;
           holds = All-last (IsHeld plan after) m.held close (none_is m.held idle lawful.holds) new_is;
           one_close = one_close;
           closing_held = λ e x h z. list_any-append (is_close_of e.node e.lane) m.held (close ∷ []) ∙ ⊎_elim

@@ -1,6 +1,6 @@
 -- A bundle is delivered: the moment stays lawful.
 use Rattle.sb_record.proofs.Elements.{every, All-flat_map}
-use Rattle.std.proofs.Common.{eqb, ◌≡◌, ℕ, suc, zero, ◌+◌, ◌≤◌, ◌<◌, Bool, true, false, cond, List, [], ◌∷◌, ◌++◌, take, drop, Some, Option, sym, refl, ap, subst, ◌∙◌, arith, zero-add, add-zero}
+use Rattle.std.proofs.Common.{eqb, ◌≡◌, ℕ, suc, zero, ◌+◌, ◌≤◌, ◌<◌, Bool, true, false, cond, List, [], ◌∷◌, ◌++◌, take, drop, Some, sym, refl, ap, subst, ◌∙◌, arith, zero-add, add-zero}
 use Rattle.std.specs.List.{flat_map, slice_get, AllByRecursion}
 use Rattle.std.proofs.lemmas.Bool.{eq-eqb, ne_eqb}
 use Rattle.std.proofs.lemmas.Option.{same_Some}
@@ -19,7 +19,6 @@ use Rattle.sb_pardo.specs.Outputs.{outputs_of}
 use Rattle.sb_pipeline.specs.Operators.{operator_at}
 use Rattle.sb_pipeline.specs.Plans.{IsPlan}
 use Rattle.sb_pipeline.specs.declared.transform.Step.{Step}
-use Rattle.sb_record.specs.Reading.{◌>>=◌}
 use Rattle.sb_core.specs.Lanes.{next_epoch, next_floor, with_arrival}
 use Rattle.sb_core.specs.Moments.{is_close, is_close_of, set_lane, set_node, with_held}
 use Rattle.sb_core.specs.LaneOrder.{IsWithin, IsLane}
@@ -32,6 +31,8 @@ use Rattle.sb_window.specs.declared.windows.TheConstants.{MAX_SIZE}
 use Rattle.sb_core.proofs.lawful.Frame.{IsKept, frame, holds_still}
 use Rattle.sb_core.proofs.lawful.ArriveLawful.{put-lane, put-kept, next_fits}
 use Rattle.sb_core.proofs.sound.HeldLists.{any_swap, count_swap, All-last}
+use Rattle.sb_core.proofs.exact.Nodes.{lane_at-is}
+use Rattle.sb_core.proofs.lawful.HeldStill.{goes-on}
 
 pub All-take : {X : Type 0} (P : X → Type 0) (n : ℕ) (xs : List X) → AllByRecursion P xs → AllByRecursion P (take n xs)
 All-take P zero xs all = tt
@@ -103,20 +104,8 @@ rows-lawful plan m d node lane y l epoch serial floor mark rows others count at 
     frame plan m d node lane with at in_it kept held lawful placed
     (All-last (IsHeld plan (set_node d.node (set_lane d.lane (with_arrival serial floor (take count rows) lane) node) (with_held (others ++ Close y l epoch serial floor mark (drop count rows) false ∷ []) m))) others (Close y l epoch serial floor mark (drop count rows) false)
     (every (λ h. holds_still plan m d node lane with at in_it kept held h) others holds)
-    (holds_still plan m d node lane with at in_it kept held (Close y l epoch serial floor mark (drop count rows) false) (record {
-      lane = closing.lane;
-      there = closing.there;
-      closing = closing.closing;
-      epoch_is = closing.epoch_is;
-      mark_is = closing.mark_is;
-      rises = closing.rises;
-      serial_is = closing.serial_is;
-      times = All-drop (λ r. (floor ≤ r.time) × (r.time ≤ bound_at plan y + MAX_SIZE)) count rows closing.times;
-      before_mark = All-drop (λ r. r.time < mark) count rows closing.before_mark;
-      no_rows = λ f. cc;
-      under = closing.under;
-      next_under = closing.next_under;
-    })))
+    (holds_still plan m d node lane with at in_it kept held (Close y l epoch serial floor mark (drop count rows) false)
+    (goes-on closing (drop count rows) false (All-drop (λ r. (floor ≤ r.time) × (r.time ≤ bound_at plan y + MAX_SIZE)) count rows closing.times) (All-drop (λ r. r.time < mark) count rows closing.before_mark) (λ f. cc))))
     (λ k. omega (arith, count_swap (is_close k) m.held others (Close y l epoch serial floor mark rows false) (Close y l epoch serial floor mark (drop count rows) false) pulled refl))
     (λ e. any_swap (is_close_of e.node e.lane) m.held others (Close y l epoch serial floor mark rows false) (Close y l epoch serial floor mark (drop count rows) false) pulled refl)
     (λ k. any_swap (is_unpassed k) m.held others (Close y l epoch serial floor mark rows false) (Close y l epoch serial floor mark (drop count rows) false) pulled refl)
@@ -128,7 +117,7 @@ rows-lawful plan m d node lane y l epoch serial floor mark rows others count at 
     held = others ++ Close y l epoch serial floor mark (drop count rows) false ∷ []
 
     ok : IsLane (bound_at plan d.node) lane
-    ok = lawful.lanes d lane (ap (λ (o : Option Node). o >>= λ x. slice_get x.lanes d.lane) at ∙ in_it)
+    ok = lawful.lanes d lane (lane_at-is m d node lane at in_it)
 
     times : IsWithin floor (bound_at plan d.node) (take count rows)
     times = within_wider floor (bound_at plan y + MAX_SIZE) (bound_at plan d.node) further (take count rows) (All-take (λ r. (floor ≤ r.time) × (r.time ≤ bound_at plan y + MAX_SIZE)) count rows closing.times)
@@ -164,7 +153,7 @@ work-lawful plan m d node lane op y l epoch floor number records others at in_it
     held = others ++ Work y l epoch floor number records true ∷ []
 
     ok : IsLane (bound_at plan d.node) lane
-    ok = lawful.lanes d lane (ap (λ (o : Option Node). o >>= λ x. slice_get x.lanes d.lane) at ∙ in_it)
+    ok = lawful.lanes d lane (lane_at-is m d node lane at in_it)
 
     times : IsWithin floor (bound_at plan d.node) (flat_map (outputs_of op) records)
     times = within_wider floor (bound_at plan y) (bound_at plan d.node) (omega (arith, further)) (flat_map (outputs_of op) records) (images_within op floor (bound_at plan y) records work.times)

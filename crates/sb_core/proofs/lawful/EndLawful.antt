@@ -1,5 +1,5 @@
 -- A closing ends, a Work is finished: the moment stays lawful.
-use Rattle.std.proofs.Common.{◌≡◌, ℕ, suc, zero, ◌+◌, ◌≤◌, Bool, true, false, not, cond, eqb, List, [], ◌∷◌, length, drop, Some, Option, sym, refl, ap, subst, ◌∙◌, arith, ⊎_elim, length-drop}
+use Rattle.std.proofs.Common.{◌≡◌, ℕ, suc, zero, ◌+◌, ◌≤◌, Bool, true, false, not, cond, eqb, List, [], ◌∷◌, length, drop, Some, sym, refl, ap, subst, ◌∙◌, arith, ⊎_elim, length-drop}
 use Rattle.std.specs.Prelude.{◌≢◌, ◌⊎◌, ◌&&◌, ◌||◌, count_by, slice_set}
 use Rattle.std.specs.List.{filter, slice_get, list_any, AllByRecursion}
 use Rattle.std.proofs.lemmas.Bool.{eq-eqb, ne_eqb, cases_eq, eqb-true, eqb-false}
@@ -14,7 +14,6 @@ use Rattle.sb_pipeline.specs.Shapes.{Shape}
 use Rattle.sb_core.specs.declared.moment.Moment.{Moment}
 use Rattle.sb_core.specs.declared.held.Held.{Held}
 use Rattle.sb_core.specs.declared.held.Held.TheVariants.{Work, Close}
-use Rattle.sb_record.specs.Reading.{◌>>=◌}
 use Rattle.sb_core.specs.Marks.{begun_count, first_is_closing, last_of_first}
 use Rattle.sb_core.specs.Lanes.{finish_in}
 use Rattle.sb_core.specs.Moments.{is_work, is_close, is_close_of, lane_at, set_lane, set_node, with_held, floor_of, floor_at, epoch_of, epoch_at}
@@ -24,12 +23,12 @@ use Rattle.sb_core.specs.Holdings.{IsHeld, is_unpassed}
 use Rattle.sb_core.proofs.sound.Orderly.{IsLawful}
 use Rattle.sb_record.proofs.Sums.{IsReordered}
 use Rattle.sb_core.proofs.containers.LaneLaws.{DifferInBundles, containers-differ, finish_in-differ}
-use Rattle.sb_core.proofs.exact.Nodes.{begun_mark}
+use Rattle.sb_core.proofs.exact.Nodes.{begun_mark, lane_at-is, lane_at-cases, lane_at-there}
 use Rattle.sb_core.proofs.times.InTime.{next_mark, out_behind}
 use Rattle.sb_core.proofs.containers.InEpoch.{tail_calm, ready_calm}
 use Rattle.sb_core.proofs.lawful.TakeLawful.{differ-closing, differ-tail}
 use Rattle.sb_core.proofs.sound.HeldLists.{any_gone, count_gone, none_left, every_both}
-use Rattle.sb_core.proofs.lawful.Changed.{IsOutAt, cases, at_place, work_still, close_still, below_still, lawful_still}
+use Rattle.sb_core.proofs.lawful.Changed.{IsOutAt, work_still, close_still, below_still, lawful_still}
 
 -- ---- the lane without its first container
 abbrev pub shorter : CoreLane → CoreLane
@@ -89,16 +88,16 @@ pub end-lawful : (plan : Shape) (m : Moment) (node : Node) (lane : CoreLane) (y 
     → slice_get m.nodes y ≡ Some node → slice_get node.lanes l ≡ Some lane → IsLawful plan m → IsReordered m.held (Close y l epoch serial floor mark rows true ∷ others) → AllByRecursion (IsHeld plan m) others
     → first_is_closing lane.conts ≡ true → IsLawful plan (set_node y (set_lane l (shorter lane) node) (with_held others m))
 end-lawful plan m node lane y l epoch serial floor mark rows others at in_it lawful pulled holds closing =
-    lawful_still plan m y l node (set_lane l (shorter lane) node) lane (shorter lane) at in_it refl refl begins marks others lawful
+    lawful_still plan m y l node (set_lane l (shorter lane) node) lane (shorter lane) at in_it refl others refl begins marks lawful
     (end-lane (bound_at plan y) lane ok closing)
     (every_both one others holds left)
     (λ k. omega (arith, count_gone (is_close k) m.held others (Close y l epoch serial floor mark rows true) pulled, lawful.one_close k))
     closing_left
-    (λ k s is. below_still plan m y l node (set_lane l (shorter lane) node) lane (shorter lane) at in_it refl refl begins marks others k s
+    (λ k s is. below_still plan m y l node (set_lane l (shorter lane) node) lane (shorter lane) at in_it refl others refl begins marks k s
     (any_gone (is_unpassed k) m.held others (Close y l epoch serial floor mark rows true) pulled (and-false (eqb y k))) (floors s.down) (epochs s.down) (lawful.below k s is))
   where
     was : lane_at m (record { node = y; lane = l }) ≡ Some lane
-    was = ap (λ (o : Option Node). o >>= λ x. slice_get x.lanes l) at ∙ in_it
+    was = lane_at-is m (record { node = y; lane = l }) node lane at in_it
 
     ok : IsLane (bound_at plan y) lane
     ok = lawful.lanes (record { node = y; lane = l }) lane was
@@ -113,7 +112,7 @@ end-lawful plan m node lane y l epoch serial floor mark rows others at in_it law
     after = set_node y (set_lane l (shorter lane) node) (with_held others m)
 
     by_place : (e : Down) → ((e ≡ record { node = y; lane = l }) × (lane_at after e ≡ Some (shorter lane)) × (lane_at m e ≡ Some lane)) ⊎ (lane_at after e ≡ lane_at m e)
-    by_place e = cases plan m y l node (set_lane l (shorter lane) node) lane (shorter lane) at in_it refl refl begins marks others e
+    by_place e = lane_at-cases m y l node (set_lane l (shorter lane) node) lane (shorter lane) at in_it refl e
 
     floors : (e : Down) → floor_at after e ≡ floor_at m e
     floors e = ⊎_elim (λ c. ap floor_of c.1 ∙ sym (ap floor_of c.2)) (λ c. ap floor_of c) (by_place e)
@@ -126,9 +125,9 @@ end-lawful plan m node lane y l epoch serial floor mark rows others at in_it law
 
     one : (h : Held) → IsHeld plan m h → is_close y h ≡ false → IsHeld plan after h
     one (Work k i epoch floor number records delivered) h no_close =
-        work_still plan m y l node (set_lane l (shorter lane) node) lane (shorter lane) at in_it refl refl begins marks others k i epoch floor number records delivered h (λ e o. end-out (bound_at plan y) lane ok closing epoch floor number o)
+        work_still plan m y l node (set_lane l (shorter lane) node) lane (shorter lane) at in_it refl others k i epoch floor number records delivered h (λ e o. end-out (bound_at plan y) lane ok closing epoch floor number o)
     one (Close k i epoch serial floor c rows passed) h no_close =
-        close_still plan m y l node (set_lane l (shorter lane) node) lane (shorter lane) at in_it refl refl begins marks others k i epoch serial floor c rows passed h
+        close_still plan m y l node (set_lane l (shorter lane) node) lane (shorter lane) at in_it refl others refl begins marks k i epoch serial floor c rows passed h
         (λ e. absurd (eqb-false k y no_close (ap (λ (d : Down). d.node) e))) (λ p s is. (floors s.down, epochs s.down))
 
     closing_left : (d : Down) (x : CoreLane) → lane_at after d ≡ Some x → first_is_closing x.conts ≡ true → list_any (is_close_of d.node d.lane) others ≡ true
@@ -137,7 +136,7 @@ end-lawful plan m node lane y l epoch serial floor mark rows others at in_it law
         here : d.node ≡ y → d.lane ≡ l → list_any (is_close_of d.node d.lane) others ≡ true
         here e f =
             let k : d ≡ record { node = y; lane = l } = λ i. record { node = e i; lane = f i } in
-            let z : lane_at after d ≡ Some (shorter lane) = ap (lane_at after) k ∙ at_place plan m y l node (set_lane l (shorter lane) node) lane (shorter lane) at in_it refl refl begins marks others in
+            let z : lane_at after d ≡ Some (shorter lane) = ap (lane_at after) k ∙ lane_at-there m y l node (set_lane l (shorter lane) node) lane (shorter lane) at in_it refl in
             let n : false ≡ true = sym (end-calm (bound_at plan y) lane ok closing) ∙ ap (λ (x : CoreLane). first_is_closing x.conts) (same_Some (shorter lane) x (sym z ∙ h)) ∙ c in cc
 
         there : d ≢ record { node = y; lane = l } → (eqb y d.node && eqb l d.lane) ≡ false → list_any (is_close_of d.node d.lane) others ≡ true
@@ -201,18 +200,18 @@ pub finish-lawful : (plan : Shape) (m : Moment) (node new : Node) (lane : CoreLa
     → IsLawful plan m → IsReordered m.held (Work k l epoch floor number records delivered ∷ others) → AllByRecursion (IsHeld plan m) others
     → count_by (is_work k l number) m.held ≤ 1 → IsLawful plan (set_node k new (with_held others m))
 finish-lawful plan m node new lane k l epoch floor number records delivered others at in_it lanes closings lawful pulled holds once =
-    lawful_still plan m k l node new lane (record lane { conts = finish_in epoch number lane.conts }) at in_it lanes closings begins marks others lawful
+    lawful_still plan m k l node new lane (record lane { conts = finish_in epoch number lane.conts }) at in_it lanes others closings begins marks lawful
     (record { ended_in = ok.ended_in; rising = ok.rising; containers = containers-differ (bound_at plan k) lane.ended _ _ lane.conts (finish_in epoch number lane.conts) differ ok.containers; ready = finish-ready epoch number lane.conts ok.ready; others = differ-tail (bound_at plan k) lane.conts (finish_in epoch number lane.conts) differ ok.others })
     (every_both one others holds left)
     (λ j. omega (arith, count_gone (is_close j) m.held others (Work k l epoch floor number records delivered) pulled, lawful.one_close j))
     (λ d x h c. any_gone (is_close_of d.node d.lane) m.held others (Work k l epoch floor number records delivered) pulled refl ∙ ⊎_elim
     (λ y. lawful.closing_held d lane y.2 (sym closing ∙ ap (λ (x : CoreLane). first_is_closing x.conts) (same_Some (record lane { conts = finish_in epoch number lane.conts }) x (sym y.1 ∙ h)) ∙ c))
     (λ y. lawful.closing_held d x (sym y ∙ h) c) (by_place d))
-    (λ j s is. below_still plan m k l node new lane (record lane { conts = finish_in epoch number lane.conts }) at in_it lanes closings begins marks others j s
+    (λ j s is. below_still plan m k l node new lane (record lane { conts = finish_in epoch number lane.conts }) at in_it lanes others closings begins marks j s
     (any_gone (is_unpassed j) m.held others (Work k l epoch floor number records delivered) pulled refl) (floors s.down) (epochs s.down) (lawful.below j s is))
   where
     was : lane_at m (record { node = k; lane = l }) ≡ Some lane
-    was = ap (λ (o : Option Node). o >>= λ x. slice_get x.lanes l) at ∙ in_it
+    was = lane_at-is m (record { node = k; lane = l }) node lane at in_it
 
     ok : IsLane (bound_at plan k) lane
     ok = lawful.lanes (record { node = k; lane = l }) lane was
@@ -233,7 +232,7 @@ finish-lawful plan m node new lane k l epoch floor number records delivered othe
     after = set_node k new (with_held others m)
 
     by_place : (e : Down) → ((e ≡ record { node = k; lane = l }) × (lane_at after e ≡ Some (record lane { conts = finish_in epoch number lane.conts })) × (lane_at m e ≡ Some lane)) ⊎ (lane_at after e ≡ lane_at m e)
-    by_place e = cases plan m k l node new lane (record lane { conts = finish_in epoch number lane.conts }) at in_it lanes closings begins marks others e
+    by_place e = lane_at-cases m k l node new lane (record lane { conts = finish_in epoch number lane.conts }) at in_it lanes e
 
     floors : (e : Down) → floor_at after e ≡ floor_at m e
     floors e = ⊎_elim (λ c. ap floor_of c.1 ∙ sym (ap floor_of c.2)) (λ c. ap floor_of c) (by_place e)
@@ -246,12 +245,12 @@ finish-lawful plan m node new lane k l epoch floor number records delivered othe
 
     one : (h : Held) → IsHeld plan m h → is_work k l number h ≡ false → IsHeld plan after h
     one (Work j i e f other rs sent) h nope =
-        work_still plan m k l node new lane (record lane { conts = finish_in epoch number lane.conts }) at in_it lanes closings begins marks others j i e f other rs sent h
+        work_still plan m k l node new lane (record lane { conts = finish_in epoch number lane.conts }) at in_it lanes others j i e f other rs sent h
         (λ p o. finish-out epoch number e f other lane.conts o.0 (differs p) o.1 o.2 o.3)
       where
         differs : ◌≡◌ {A = Down} (record { node = j; lane = i }) (record { node = k; lane = l }) → other ≢ number
         differs p e =
             let n : true ≡ false = sym (λ z. eq-eqb j k (ap (λ (d : Down). d.node) p) z && (eq-eqb i l (ap (λ (d : Down). d.lane) p) z && eq-eqb other number e z)) ∙ nope in cc
     one (Close j i e serial f c rows passed) h nope =
-        close_still plan m k l node new lane (record lane { conts = finish_in epoch number lane.conts }) at in_it lanes closings begins marks others j i e serial f c rows passed h
+        close_still plan m k l node new lane (record lane { conts = finish_in epoch number lane.conts }) at in_it lanes others closings begins marks j i e serial f c rows passed h
         (λ p. (closing, refl)) (λ p s is. (floors s.down, epochs s.down))

@@ -1,7 +1,7 @@
 -- A lane is sealed: the moment stays lawful.
 use Rattle.sb_record.proofs.Elements.{every}
 use Rattle.sb_pipeline.proofs.Feeding
-use Rattle.std.proofs.Common.{◌≡◌, ℕ, suc, zero, ◌+◌, ◌-◌, ◌≤◌, Bool, true, false, not, cond, eqb, List, [], ◌∷◌, ◌++◌, length, drop, Some, Option, sym, refl, ap, subst, ◌∙◌, arith, ⊎_elim, get_or, length-drop, length-append}
+use Rattle.std.proofs.Common.{◌≡◌, ℕ, suc, zero, ◌+◌, ◌-◌, ◌≤◌, Bool, true, false, not, cond, eqb, List, [], ◌∷◌, ◌++◌, length, drop, Some, sym, refl, ap, subst, ◌∙◌, arith, ⊎_elim, get_or, length-drop, length-append}
 use Rattle.std.specs.Prelude.{◌≢◌, ◌⊎◌, ◌&&◌, count_by}
 use Rattle.std.specs.List.{slice_get, list_any, AllByRecursion}
 use Rattle.std.proofs.lemmas.Bool.{eq-eqb, ne_eqb, cases_eq, eqb-false}
@@ -18,7 +18,6 @@ use Rattle.sb_core.specs.declared.moment.Moment.{Moment}
 use Rattle.sb_core.specs.declared.held.Held.{Held}
 use Rattle.sb_core.specs.declared.held.Held.TheVariants.{Work, Close}
 use Rattle.sb_pipeline.specs.Plans.{IsPlan}
-use Rattle.sb_record.specs.Reading.{◌>>=◌}
 use Rattle.sb_core.specs.Marks.{begun_count, least_begun_mark, first_is_closing, last_of_first}
 use Rattle.sb_core.specs.Lanes.{in_epoch, next_epoch, next_floor, with_seal}
 use Rattle.sb_core.specs.Moments.{is_close, is_close_of, lane_at, set_lane, set_node, with_held, node_at, floor_of, floor_at, epoch_of, epoch_at}
@@ -29,12 +28,13 @@ use Rattle.sb_core.specs.Soundness.{IsSealedBelow}
 use Rattle.sb_core.proofs.sound.Orderly.{IsLawful}
 use Rattle.sb_record.proofs.Sums.{IsReordered}
 use Rattle.sb_core.proofs.containers.LaneLaws.{last_from, MarkFits, containers-seal}
-use Rattle.sb_core.proofs.exact.Nodes.{begun_mark}
+use Rattle.sb_core.proofs.exact.Nodes.{begun_mark, lane_at-is, lane_at-cases, lane_at-there, lane_at-other}
 use Rattle.sb_core.proofs.containers.InEpoch.{containers_out, others_calm, still_ready}
 use Rattle.sb_core.proofs.lawful.ArriveLawful.{last-next_floor}
 use Rattle.sb_core.proofs.exact.EventExact.{calm, seal_calm, sealed_floor}
 use Rattle.sb_core.proofs.sound.HeldLists.{any_same, any_swap, count_swap, none_left, every_both, All-last}
-use Rattle.sb_core.proofs.lawful.Changed.{IsOutAt, cases, at_place, other, work_still, close_still, below_still, lawful_still}
+use Rattle.sb_core.proofs.lawful.Changed.{IsOutAt, work_still, close_still, below_still, lawful_still}
+use Rattle.sb_core.proofs.lawful.HeldStill.{goes-on}
 
 falls-snoc : (low mark : ℕ) (ms : List ℕ) → NeverFalls low ms → last_from low ms ≤ mark → NeverFalls low (ms ++ mark ∷ [])
 falls-snoc low mark [] up h = (h, tt)
@@ -89,7 +89,7 @@ module _ (bound mark : ℕ) (lane : CoreLane) (ok : IsLane bound lane) (up : nex
 module _ (plan : Shape) (m : Moment) (d : Down) (node : Node) (lane : CoreLane) (mark : ℕ) (at : slice_get m.nodes d.node ≡ Some node) (in_it : slice_get node.lanes d.lane ≡ Some lane)
     (lawful : IsLawful plan m) (up : next_floor lane ≤ mark) (fits : MarkFits mark (next_epoch lane) lane.conts) (held : List Held) where
   was : lane_at m d ≡ Some lane
-  was = ap (λ (o : Option Node). o >>= λ x. slice_get x.lanes d.lane) at ∙ in_it
+  was = lane_at-is m d node lane at in_it
 
   ok : IsLane (bound_at plan d.node) lane
   ok = lawful.lanes d lane was
@@ -107,33 +107,33 @@ module _ (plan : Shape) (m : Moment) (d : Down) (node : Node) (lane : CoreLane) 
   sealed_mark = seal_calm (bound_at plan d.node) mark lane ok
 
   pub sealed_cases : (e : Down) → ((e ≡ d) × (lane_at now e ≡ Some (with_seal mark lane)) × (lane_at m e ≡ Some lane)) ⊎ (lane_at now e ≡ lane_at m e)
-  sealed_cases e = cases plan m d.node d.lane node (set_lane d.lane with node) lane with at in_it refl refl sealed_begun sealed_mark held e
+  sealed_cases e = lane_at-cases m d.node d.lane node (set_lane d.lane with node) lane with at in_it refl e
 
   pub sealed_place : lane_at now d ≡ Some (with_seal mark lane)
-  sealed_place = at_place plan m d.node d.lane node (set_lane d.lane with node) lane with at in_it refl refl sealed_begun sealed_mark held
+  sealed_place = lane_at-there m d.node d.lane node (set_lane d.lane with node) lane with at in_it refl
 
   pub sealed_other : (e : Down) → e ≢ d → lane_at now e ≡ lane_at m e
-  sealed_other e ne = other plan m d.node d.lane node (set_lane d.lane with node) lane with at in_it refl refl sealed_begun sealed_mark held e ne
+  sealed_other e ne = lane_at-other m d.node d.lane node (set_lane d.lane with node) lane with at in_it refl e ne
 
   pub sealed_work : (k i epoch floor number : ℕ) (records : List Record) (delivered : Bool) → IsWork plan m k i epoch floor number records delivered → IsWork plan now k i epoch floor number records delivered
   sealed_work k i epoch floor number records delivered h =
-      work_still plan m d.node d.lane node (set_lane d.lane with node) lane with at in_it refl refl sealed_begun sealed_mark held k i epoch floor number records delivered h (λ e o. seal-out (bound_at plan d.node) mark lane ok up fits epoch floor number o)
+      work_still plan m d.node d.lane node (set_lane d.lane with node) lane with at in_it refl held k i epoch floor number records delivered h (λ e o. seal-out (bound_at plan d.node) mark lane ok up fits epoch floor number o)
 
   pub sealed_close : (k i epoch serial floor c : ℕ) (rows : List Record) (passed : Bool) → IsClosing plan m k i epoch serial floor c rows passed
       → (passed ≡ false → (s : Step) → slice_get plan.steps k ≡ Some s → s.down ≢ d) → IsClosing plan now k i epoch serial floor c rows passed
   sealed_close k i epoch serial floor c rows passed h apart =
-      close_still plan m d.node d.lane node (set_lane d.lane with node) lane with at in_it refl refl sealed_begun sealed_mark held k i epoch serial floor c rows passed h
+      close_still plan m d.node d.lane node (set_lane d.lane with node) lane with at in_it refl held refl sealed_begun sealed_mark k i epoch serial floor c rows passed h
       (λ e. (seal-closing (bound_at plan d.node) mark lane ok up fits, refl)) (λ p s is. (ap floor_of (sealed_other s.down (apart p s is)), ap epoch_of (sealed_other s.down (apart p s is))))
 
   pub sealed_below : (k : ℕ) (s : Step) → slice_get plan.steps k ≡ Some s → s.down ≢ d → list_any (is_unpassed k) held ≡ list_any (is_unpassed k) m.held → IsSealedBelow now k s.down
   sealed_below k s is ne unpassed =
-      below_still plan m d.node d.lane node (set_lane d.lane with node) lane with at in_it refl refl sealed_begun sealed_mark held k s unpassed (ap floor_of (sealed_other s.down ne)) (ap epoch_of (sealed_other s.down ne)) (lawful.below k s is)
+      below_still plan m d.node d.lane node (set_lane d.lane with node) lane with at in_it refl held refl sealed_begun sealed_mark k s unpassed (ap floor_of (sealed_other s.down ne)) (ap epoch_of (sealed_other s.down ne)) (lawful.below k s is)
 
   pub sealed_lawful : AllByRecursion (IsHeld plan now) held
       → ((p : Held → Bool) → ((k i e s f c : ℕ) (rows : List Record) (a b : Bool) → p (Close k i e s f c rows a) ≡ p (Close k i e s f c rows b)) → count_by p held ≡ count_by p m.held)
       → ((k : ℕ) (s : Step) → slice_get plan.steps k ≡ Some s → IsSealedBelow now k s.down) → IsLawful plan now
   sealed_lawful holds counts below =
-      lawful_still plan m d.node d.lane node (set_lane d.lane with node) lane with at in_it refl refl sealed_begun sealed_mark held lawful (seal-lane (bound_at plan d.node) mark lane ok up fits) holds
+      lawful_still plan m d.node d.lane node (set_lane d.lane with node) lane with at in_it refl held refl sealed_begun sealed_mark lawful (seal-lane (bound_at plan d.node) mark lane ok up fits) holds
       (λ k. omega (arith, counts (is_close k) (λ k i e s f c rows a b. refl), lawful.one_close k))
       (λ e x h c. any_same (is_close_of e.node e.lane) held m.held (counts (is_close_of e.node e.lane) (λ k i e s f c rows a b. refl)) ∙ ⊎_elim
       (λ y. lawful.closing_held e lane y.2 (sym (seal-closing (bound_at plan d.node) mark lane ok up fits) ∙ ap (λ (x : CoreLane). first_is_closing x.conts) (same_Some with x (sym y.1 ∙ h)) ∙ c))
@@ -179,20 +179,7 @@ pass-lawful plan is_plan m d node lane y l epoch serial floor mark rows others s
     passed_now : IsClosing plan after y l epoch serial floor mark rows true
     passed_now =
         sealed_close plan m d node lane mark at in_it lawful up fits done y l epoch serial floor mark rows true
-        (record {
-          lane = closing.lane;
-          there = closing.there;
-          closing = closing.closing;
-          epoch_is = closing.epoch_is;
-          mark_is = closing.mark_is;
-          rises = closing.rises;
-          serial_is = closing.serial_is;
-          times = closing.times;
-          before_mark = closing.before_mark;
-          no_rows = λ _. none;
-          under = λ f. cc;
-          next_under = λ f. cc;
-        })
+        (goes-on closing rows true closing.times closing.before_mark (λ _. none))
         (λ f. cc)
 
     below : (k : ℕ) (t : Step) → slice_get plan.steps k ≡ Some t → IsSealedBelow after k t.down
@@ -202,7 +189,7 @@ pass-lawful plan is_plan m d node lane y l epoch serial floor mark rows others s
         here e =
             let same : t ≡ s = same_Some t s (sym it ∙ ap (slice_get plan.steps) e ∙ is) in
             let to : t.down ≡ d = ap (λ (s : Step). s.down) same ∙ down in
-            let was : lane_at m d ≡ Some lane = ap (λ (o : Option Node). o >>= λ x. slice_get x.lanes d.lane) at ∙ in_it in
+            let was : lane_at m d ≡ Some lane = lane_at-is m d node lane at in_it in
             let now : lane_at after d ≡ Some (with_seal mark lane) = sealed_place plan m d node lane mark at in_it lawful up fits done in
             let many : length (lane.marks ++ mark ∷ []) ≡ length lane.marks + 1 = length-append lane.marks (mark ∷ []) in
             let epoch_under : length lane.marks ≡ serial = sym (ap epoch_of was) ∙ ap (epoch_at m) (sym down) ∙ closing.next_under refl s is in

@@ -4,7 +4,7 @@ use Rattle.sb_record.proofs.Numbers.{bind_some}
 use Rattle.sb_core.specs.Moments
 use Rattle.std.proofs.Common.{◌≡◌, ℕ, ◌+◌, ◌≤◌, ◌<◌, Bool, true, false, cond, eqb, List, [], ◌∷◌, ◌++◌, drop, Some, Option, sym, refl, ap, subst, ◌∙◌, arith}
 use Rattle.std.specs.Prelude.{◌||◌}
-use Rattle.std.specs.List.{slice_get, list_any, AllByRecursion}
+use Rattle.std.specs.List.{list_any, AllByRecursion}
 use Rattle.std.proofs.lemmas.Bool.{eq-eqb, ne_eqb}
 use Rattle.std.proofs.lemmas.List.Sums.{sum_by-append}
 use Rattle.std.proofs.lemmas.List.Folds.{list_any-append}
@@ -14,7 +14,6 @@ use Rattle.sb_bundle.specs.declared.bundle.Bundle.{Bundle}
 use Rattle.sb_core.specs.declared.moment.Cont.{Cont}
 use Rattle.sb_core.specs.declared.moment.CoreLane.{CoreLane}
 use Rattle.sb_pipeline.specs.declared.transform.Down.{Down}
-use Rattle.sb_core.specs.declared.moment.Node.{Node}
 use Rattle.sb_pipeline.specs.Shapes.{Shape}
 use Rattle.sb_core.specs.declared.moment.Moment.{Moment}
 use Rattle.sb_core.specs.declared.held.Held.{Held}
@@ -29,7 +28,7 @@ use Rattle.sb_core.specs.LaneOrder.{IsWithin, IsBundleOf, AreOpen, AreContainers
 use Rattle.sb_core.specs.Bounds.{bound_at}
 use Rattle.sb_core.specs.Holdings.{IsHeld, is_unpassed}
 use Rattle.sb_core.proofs.sound.Orderly.{IsLawful}
-use Rattle.sb_core.proofs.exact.Nodes.{slice_get-set_same}
+use Rattle.sb_core.proofs.exact.Nodes.{lane_at-there}
 use Rattle.sb_core.proofs.lawful.Frame.{IsKept, frame, holds_still}
 use Rattle.sb_core.proofs.exact.Gives.{lane_at-parts, with_lane-is}
 use Rattle.sb_core.proofs.sound.HeldLists.{All-last}
@@ -199,7 +198,7 @@ take-lawful plan m m' d number h lawful =
           closing = differ-closing (bound_at plan d.node) lane.conts q.1 differ;
           out = λ epoch n c e o. still_at (bound_at plan d.node) epoch n lane.conts q.1 c differ (take_from-grows number lane.conts q took) e o;
         } in
-        let there : lane_at (set_node d.node (set_lane d.lane with p.0) (with_held (m.held ++ work ∷ []) m)) d ≡ Some with = at_place d p.0 lane with p.1 p.2 (m.held ++ work ∷ []) in
+        let there : lane_at (set_node d.node (set_lane d.lane with p.0) (with_held (m.held ++ work ∷ []) m)) d ≡ Some with = lane_at-there m d.node d.lane p.0 (set_lane d.lane with p.0) lane with p.1 p.2 refl in
         subst (IsLawful plan) made
         (frame plan m d p.0 lane with p.1 p.2 kept (m.held ++ work ∷ []) lawful
         (record { ended_in = ok.ended_in; rising = ok.rising; containers = containers-differ (bound_at plan d.node) lane.ended _ _ lane.conts q.1 differ ok.containers; ready = take-ready number lane.conts q took ok.ready; others = differ-tail (bound_at plan d.node) lane.conts q.1 differ ok.others })
@@ -209,6 +208,3 @@ take-lawful plan m m' d number h lawful =
         (λ k. omega (arith, sum_by-append (λ h. cond (is_close k h) 1 0) m.held (work ∷ [])))
         (λ e. list_any-append (is_close_of e.node e.lane) m.held (work ∷ []) ∙ or-false _)
         (λ k. list_any-append (is_unpassed k) m.held (work ∷ []) ∙ or-false _))
-      where
-        at_place : (d : Down) (node : Node) (lane with : CoreLane) → slice_get m.nodes d.node ≡ Some node → slice_get node.lanes d.lane ≡ Some lane → (held : List Held) → lane_at (set_node d.node (set_lane d.lane with node) (with_held held m)) d ≡ Some with
-        at_place d node lane with at in_it held = ap (λ (o : Option Node). o >>= λ n. slice_get n.lanes d.lane) (slice_get-set_same m.nodes d.node node (set_lane d.lane with node) at) ∙ slice_get-set_same node.lanes d.lane lane with in_it

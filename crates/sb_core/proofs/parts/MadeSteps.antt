@@ -23,7 +23,8 @@ use Rattle.sb_core.specs.Events.{below, place_of, concerns, Part, only_node, put
 use Rattle.sb_core.specs.Holdings.{IsHeld}
 use Rattle.sb_core.specs.Lanes.{next_epoch, next_floor, with_arrival, with_seal, take_from, closable}
 use Rattle.sb_core.specs.Marks.{first_is_closing}
-use Rattle.sb_core.specs.MomentSteps.{arrived_at, deliver_rows, deliver_work, after_finish, after_pass, after_end, made}
+use Rattle.sb_core.specs.LaneSteps.{arrived_at}
+use Rattle.sb_core.specs.MomentSteps.{deliver_rows, deliver_work, after_finish, after_pass, after_end, made}
 use Rattle.sb_core.specs.Moments.{lane_at, set_lane, set_node, with_lane, with_held, is_work, is_close, is_close_of}
 use Rattle.sb_core.proofs.containers.TidyLanes.{pulled-passes}
 use Rattle.sb_core.proofs.places.Carried.{then_never}

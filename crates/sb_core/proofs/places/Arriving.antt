@@ -14,7 +14,8 @@ use Rattle.sb_core.specs.declared.moment.Moment.{Moment}
 use Rattle.sb_core.specs.Choices.{only_if, is_empty}
 use Rattle.sb_core.specs.Lanes.{next_epoch, next_floor}
 use Rattle.sb_core.specs.Moments.{lane_at}
-use Rattle.sb_core.specs.MomentSteps.{arrived_at, after_arrive}
+use Rattle.sb_core.specs.LaneSteps.{arrived_at}
+use Rattle.sb_core.specs.MomentSteps.{after_arrive}
 
 empty_is : (l : List Record) (b : Bool) → b ≡ eqb (length l) 0 → is_empty l ≡ b
 empty_is [] b e = sym e

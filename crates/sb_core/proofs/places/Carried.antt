@@ -19,9 +19,9 @@ use Rattle.sb_core.specs.declared.held.Held.TheVariants.{Work, Close}
 use Rattle.sb_core.specs.Choices.{first_and_rest, is_empty}
 use Rattle.sb_core.specs.Closings.{delivery}
 use Rattle.sb_core.specs.Events.{below}
-use Rattle.sb_core.specs.MomentSteps.{arrived_at, bundle_delivered, rows_delivered, mark_passed}
+use Rattle.sb_core.specs.MomentSteps.{bundle_delivered, rows_delivered, mark_passed}
 use Rattle.sb_core.specs.Lanes.{with_arrival, with_seal}
-use Rattle.sb_core.specs.LaneSteps.{sealed_at}
+use Rattle.sb_core.specs.LaneSteps.{arrived_at, sealed_at}
 use Rattle.sb_core.specs.Moments.{lane_at, set_lane, set_node, with_lane, with_held, is_work, is_close, is_close_of}
 use Rattle.sb_core.proofs.places.InPlace.{then_some}
 

@@ -13,8 +13,8 @@ use Rattle.sb_core.specs.declared.moment.Node.{Node}
 use Rattle.sb_core.specs.declared.moment.Moment.{Moment}
 use Rattle.sb_core.specs.declared.held.Held.{Held}
 use Rattle.sb_core.specs.declared.held.Held.TheVariants.{Work}
-use Rattle.sb_core.specs.MomentSteps.{arrived_at, after_take}
-use Rattle.sb_core.specs.LaneSteps.{TakesOut}
+use Rattle.sb_core.specs.MomentSteps.{after_take}
+use Rattle.sb_core.specs.LaneSteps.{arrived_at, TakesOut}
 use Rattle.sb_core.specs.Lanes.{take_from, with_arrival}
 use Rattle.sb_core.specs.Moments.{lane_at, set_lane, set_node, with_lane, with_held}
 use Rattle.sb_core.proofs.exact.Gives.{lane_at-parts}

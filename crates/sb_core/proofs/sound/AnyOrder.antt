@@ -3,8 +3,8 @@ use Rattle.sb_record.proofs.Elements.{every}
 use Rattle.sb_core.specs.Lanes
 use Rattle.sb_core.specs.Moments
 use Rattle.sb_core.proofs.sound.Orderly.{lawful_of, tidy_of, sound_of, IsLawful, IsTidy}
-use Rattle.std.proofs.Common.{◌≡◌, ℕ, ◌+◌, ◌≤◌, Bool, true, cond, List, [], ◌∷◌, ◌++◌, sym, refl, subst, ◌∙◌, arith}
-use Rattle.std.specs.Prelude.{IsPermutation, sum_by}
+use Rattle.std.proofs.Common.{◌≡◌, ℕ, ◌+◌, ◌≤◌, Bool, true, cond, List, [], ◌∷◌, ◌++◌, sym, refl, ap, subst, ◌∙◌, arith}
+use Rattle.std.specs.Prelude.{◌≢◌, IsPermutation, sum_by}
 use Rattle.std.specs.List.{flat_map, slice_get, list_any, AllByRecursion}
 use Rattle.std.proofs.lemmas.List.Sorted.{IsPermutation-to_front, sum_by-IsPermutation, All-permutation, IsPermutation-append_comm}
 use Rattle.std.proofs.lemmas.List.Elements.{All-from_recursion, recursion_from_All}
@@ -33,6 +33,7 @@ use Rattle.sb_core.proofs.sound.HeldLists.{any_same}
 use Rattle.sb_core.proofs.sound.AfterSound.{events-keep_sound}
 use Rattle.sb_core.proofs.parts.ByParts.{head-left, took}
 use Rattle.sb_core.proofs.parts.MadeSteps.{idle}
+use Rattle.sb_core.proofs.lawful.HeldStill.{beside}
 
 module _ (plan : Shape) (m : Moment) (held : List Held) (same : IsPermutation m.held held) where
   now : Moment
@@ -47,25 +48,6 @@ module _ (plan : Shape) (m : Moment) (held : List Held) (same : IsPermutation m.
   each : (P : Held → Type 0) → AllByRecursion P m.held → AllByRecursion P held
   each P all = recursion_from_All P held (All-permutation P m.held held same (All-from_recursion P m.held all))
 
-  held_same : (h : Held) → IsHeld plan m h → IsHeld plan (with_held held m) h
-  held_same (Work k l epoch floor number records delivered) h =
-      record { lane = h.lane; there = h.there; cont = h.cont; of_epoch = h.of_epoch; floor_is = h.floor_is; is_out = h.is_out; times = h.times; only_pardo = h.only_pardo }
-  held_same (Close k l epoch serial floor mark rows passed) h =
-      record {
-        lane = h.lane;
-        there = h.there;
-        closing = h.closing;
-        epoch_is = h.epoch_is;
-        mark_is = h.mark_is;
-        rises = h.rises;
-        serial_is = h.serial_is;
-        times = h.times;
-        before_mark = h.before_mark;
-        no_rows = h.no_rows;
-        under = h.under;
-        next_under = h.next_under;
-      }
-
   close_same : (h : Held) → IsCloseOf plan m h → IsCloseOf plan (with_held held m) h
   close_same (Work k l epoch floor number records delivered) h = h
   close_same (Close k l epoch serial floor mark rows passed) h = h
@@ -77,7 +59,7 @@ module _ (plan : Shape) (m : Moment) (held : List Held) (same : IsPermutation m.
           nodes = lawful.nodes;
           lanes = lawful.lanes;
           one_lane = lawful.one_lane;
-          holds = every held_same held (each (IsHeld plan m) lawful.holds);
+          holds = every (beside plan m held m.rows) held (each (IsHeld plan m) lawful.holds);
           one_close = λ k. omega (arith, sums (λ h. cond (Moments.is_close k h) 1 0), lawful.one_close k);
           closing_held = λ d lane h c. any_is (Moments.is_close_of d.node d.lane) ∙ lawful.closing_held d lane h c;
           below = λ k s is. let b = lawful.below k s is in record {
@@ -132,24 +114,25 @@ module _ (plan : Shape) (m : Moment) (held : List Held) (same : IsPermutation m.
 pub held-in_any_order : HeldInAnyOrder
 held-in_any_order plan m held same sound = (sound-permuted plan m held same sound, λ fed exact. exact-permuted plan m held same (lawful_of sound) fed exact)
 
+-- only an arrival feeds
+fed-same : (event : Event) (fed : Stream → List Record) → ((s : Stream) (records : List Record) → event ≢ Arrive s records) → fed_after event fed ≡ fed
+fed-same (Arrive A records) fed no_arrival = absurd (no_arrival A records refl)
+fed-same (Arrive B records) fed no_arrival = absurd (no_arrival B records refl)
+fed-same (Seal stream mark) fed no_arrival = refl
+fed-same (Take node lane number) fed no_arrival = refl
+fed-same (Deliver node lane number) fed no_arrival = refl
+fed-same (Finish node lane number) fed no_arrival = refl
+fed-same (Begin node lane) fed no_arrival = refl
+fed-same (Pass node) fed no_arrival = refl
+fed-same (End node) fed no_arrival = refl
+
 -- ---- an event of what is at the head
 pub events-at_the_head : EventsAtTheHead
 events-at_the_head plan is_plan m later event h rest c e sound =
     let k = events-keep_sound plan is_plan (with_held (h ∷ rest) m) later event e sound in
     let same : IsPermutation later.held (remains_of m.bundle event h ++ rest) = subst (λ l. IsPermutation l (remains_of m.bundle event h ++ rest)) (sym (head-left plan m later event h rest c e)) (IsPermutation-append_comm rest (remains_of m.bundle event h)) in
     let p = held-in_any_order plan later (remains_of m.bundle event h ++ rest) same k.0 in
-    (p.0, λ fed exact. p.1 fed (subst (IsExact plan later) (fed_none event fed c) (k.1 fed exact)))
-  where
-    fed_none : (event : Event) (fed : Stream → List Record) → concerns event h ≡ true → fed_after event fed ≡ fed
-    fed_none (Arrive A records) fed c = cc
-    fed_none (Arrive B records) fed c = cc
-    fed_none (Seal stream mark) fed c = cc
-    fed_none (Take node lane number) fed c = cc
-    fed_none (Begin node lane) fed c = cc
-    fed_none (Finish node lane number) fed c = refl
-    fed_none (Pass node) fed c = refl
-    fed_none (End node) fed c = refl
-    fed_none (Deliver node lane number) fed c = refl
+    (p.0, λ fed exact. p.1 fed (subst (IsExact plan later) (fed-same event fed (λ s rs q. let z : concerns (Arrive s rs) h ≡ true = ap (λ e. concerns e h) (sym q) ∙ c in cc)) (k.1 fed exact)))
 
 -- ---- what is new at the head
 pub new-at_the_head : NewAtTheHead
@@ -158,18 +141,7 @@ new-at_the_head plan is_plan m later event t e sound =
     let h = took plan m later event t e in
     let same : IsPermutation later.held (h.0 ∷ m.held) = subst (λ l. IsPermutation l (h.0 ∷ m.held)) (sym h.1) (IsPermutation-to_front m.held h.0) in
     let p = held-in_any_order plan later (h.0 ∷ m.held) same k.0 in
-    (h.0, h.1, p.0, λ fed exact. p.1 fed (subst (IsExact plan later) (fed_none event fed t) (k.1 fed exact)))
-  where
-    fed_none : (event : Event) (fed : Stream → List Record) → takes_up event ≡ true → fed_after event fed ≡ fed
-    fed_none (Arrive A records) fed t = cc
-    fed_none (Arrive B records) fed t = cc
-    fed_none (Seal stream mark) fed t = cc
-    fed_none (Take node lane number) fed t = refl
-    fed_none (Begin node lane) fed t = refl
-    fed_none (Finish node lane number) fed t = cc
-    fed_none (Pass node) fed t = cc
-    fed_none (End node) fed t = cc
-    fed_none (Deliver node lane number) fed t = cc
+    (h.0, h.1, p.0, λ fed exact. p.1 fed (subst (IsExact plan later) (fed-same event fed (λ s rs q. let z : takes_up (Arrive s rs) ≡ true = ap takes_up (sym q) ∙ t in cc)) (k.1 fed exact)))
 
 -- ---- the lanes tell
 pub idle-by_its_lanes : IdleByItsLanes

@@ -30,7 +30,6 @@ use Rattle.sb_record.specs.Elements.{all_records}
 use Rattle.sb_pipeline.specs.Plans.{IsPlan}
 use Rattle.sb_pipeline.specs.Operators.Operator.{ParDo, Windowed, Sink}
 use Rattle.sb_record.proofs.OnLanes.{All-all_records}
-use Rattle.sb_record.specs.Reading.{◌>>=◌}
 use Rattle.sb_core.specs.Marks.{before_closing, first_is_closing, last_of_first, least_begun_mark}
 use Rattle.sb_core.specs.Moments.{is_close, is_work, lane_at, node_at}
 use Rattle.sb_core.specs.Lanes.{closable, next_epoch, with_first_closing}
@@ -40,7 +39,7 @@ use Rattle.sb_core.specs.Bounds.{bound_at}
 use Rattle.sb_core.specs.Holdings.{is_unpassed, IsCloseOf}
 use Rattle.sb_core.specs.Soundness.{out_of, numbers_of, Begins, IsOpenBelow, AreKeptAt, IsSound}
 use Rattle.sb_core.proofs.containers.Lists.{cond_is_some}
-use Rattle.sb_core.proofs.exact.Nodes.{lane_at-cases, node_at-same, node_at-set_same, node_at-set_other}
+use Rattle.sb_core.proofs.exact.Nodes.{lane_at-cases, node_at-same, node_at-set_same, node_at-set_other, lane_at-is, of_each_node}
 use Rattle.sb_record.proofs.Sorting.{records_total, in_order-ascending, All-in_order}
 use Rattle.sb_core.proofs.exact.EventExact.{transform_is}
 use Rattle.sb_core.proofs.exact.BeginExact.{none_past, begun_lane, closing_mark, begun_node, new_close, after_beginning}
@@ -82,7 +81,7 @@ module _ (plan : Shape) (is_plan : IsPlan plan) (m : Moment) (n l : ℕ) (node :
   o = operator_at (slice_get plan.steps n)
 
   was : lane_at m (record { node = n; lane = l }) ≡ Some lane
-  was = ap (λ (o : Option Node). o >>= λ x. slice_get x.lanes l) at ∙ in_it
+  was = lane_at-is m (record { node = n; lane = l }) node lane at in_it
 
   up : least_begun_mark node.lanes ≤ mark
   up = rises plan m n l node lane c at in_it closes idle lawful
@@ -189,12 +188,7 @@ module _ (plan : Shape) (is_plan : IsPlan plan) (m : Moment) (n l : ℕ) (node :
 
   close_still : (h : Held) → IsCloseOf plan m h → IsCloseOf plan after h
   close_still (Work k i epoch floor number records delivered) h = h
-  close_still (Close k i epoch serial floor c rows passed) h = (
-    h.0,
-    h.1 ∙ ⊎_elim
-        (λ e. ap (λ k. before_closing (node_at m k).lanes) e ∙ ap (λ (x : Node). before_closing x.lanes) (node_at-same m n node new at) ∙ sym before_node ∙ ap (λ (x : Node). before_closing x.lanes) (sym (node_at-set_same m n node new at)) ∙ ap (λ k. before_closing (node_at after k).lanes) (sym e))
-        (λ ne. ap (λ (x : Node). before_closing x.lanes) (sym (node_at-set_other m n node new at k ne))) (cases_eq k n),
-  )
+  close_still (Close k i epoch serial floor c rows passed) h = (h.0, h.1 ∙ sym (of_each_node m n node new at (λ x. before_closing x.lanes) before_node k))
 
   calm_closed : (lanes : List CoreLane) → ((i : ℕ) (x : CoreLane) → slice_get lanes i ≡ Some x → first_is_closing x.conts ≡ false) → least_begun_mark lanes ≡ before_closing lanes
   calm_closed [] each = refl
@@ -210,9 +204,7 @@ module _ (plan : Shape) (is_plan : IsPlan plan) (m : Moment) (n l : ℕ) (node :
         lawful = begin-lawful plan m n l node lane c at in_it closes idle lawful (rows-bounded plan o n (least_begun_mark node.lanes) (least_begun_mark node.lanes) mark node.kept (windows-at plan is_plan n) kept_before);
         tidy = record {
           bundle = tidy.bundle;
-          lanes = λ k b. ⊎_elim
-              (λ e. ap (λ k. length (node_at after k).lanes) e ∙ ap (λ (x : Node). length x.lanes) (node_at-set_same m n node new at) ∙ length-set node.lanes l with ∙ ap (λ (x : Node). length x.lanes) (sym (node_at-same m n node new at)) ∙ ap (λ k. length (node_at m k).lanes) (sym e) ∙ tidy.lanes k b)
-              (λ ne. ap (λ (x : Node). length x.lanes) (node_at-set_other m n node new at k ne) ∙ tidy.lanes k b) (cases_eq k n);
+          lanes = λ k b. of_each_node m n node new at (λ x. length x.lanes) (length-set node.lanes l with) k ∙ tidy.lanes k b;
           numbers = λ d x h. let b = as_before d x h in numbered-less b.0 x b.2.2 (λ i. omega (arith, (b.2.3 i).0)) (tidy.numbers d b.0 b.1);
           outs = λ d x h i. let b = as_before d x h in (b.2.3 i).1 ∙ tidy.outs d b.0 b.1 i ∙ sym (count_snoc (is_work d.node d.lane i) m.held close ∙ add-zero _);
           open_source = λ s d x is h. let b = as_before d x h in subst (λ z. AllByRecursion (λ c. z ≤ c.epoch → IsOpenAtSource z c.epoch c.floor) x.conts) (ap length (sym b.2.0)) (All-same (λ e f. next_epoch b.0 ≤ e → IsOpenAtSource (next_epoch b.0) e f) b.0.conts x.conts b.2.1 (tidy.open_source s d b.0 is b.1));

@@ -6,7 +6,7 @@ use Rattle.sb_core.specs.Moments
 use Rattle.sb_core.proofs.windows.WindowOperators.{kept-more}
 use Rattle.sb_core.proofs.windows.WindowsAt.{windows-at}
 use Rattle.sb_core.proofs.sound.Orderly.{lawful_of, tidy_of, sound_of, IsTidy}
-use Rattle.std.proofs.Common.{◌≡◌, ℕ, ◌+◌, ◌≤◌, Bool, true, false, not, cond, eqb, List, [], ◌∷◌, ◌++◌, length, drop, Some, Option, sym, refl, ap, subst, ◌∙◌, arith, ⊎_elim, add-zero, zero-add}
+use Rattle.std.proofs.Common.{◌≡◌, ℕ, ◌+◌, ◌≤◌, Bool, true, false, not, cond, eqb, List, [], ◌∷◌, ◌++◌, length, drop, Some, sym, refl, ap, subst, ◌∙◌, arith, ⊎_elim, add-zero, zero-add}
 use Rattle.std.specs.Prelude.{◌≢◌, ◌&&◌, ◌||◌, count_by, sum_by}
 use Rattle.std.specs.List.{slice_get, list_any, AllByRecursion}
 use Rattle.std.proofs.lemmas.Bool.{eqb-false, eq-eqb, ne_eqb, cases_eq, eqb-true}
@@ -28,13 +28,12 @@ use Rattle.sb_record.specs.Elements.{on_lane}
 use Rattle.sb_pipeline.specs.Plans.{IsPlan}
 use Rattle.sb_record.proofs.OnLanes.{All-on_lane}
 use Rattle.sb_pipeline.specs.Operators.Operator.{ParDo, Windowed, Sink}
-use Rattle.sb_record.specs.Reading.{◌>>=◌}
 use Rattle.sb_core.specs.Marks.{before_closing, begun_count, least_begun_mark, last_of_first, first_is_closing}
 use Rattle.sb_core.specs.Moments.{is_work, is_close, lane_at, set_lane, set_node, with_held, node_at, epoch_of}
 use Rattle.sb_core.specs.Closings.{kept_elements, is_pardo}
 use Rattle.sb_core.specs.Lanes.{finish_in, next_epoch, take_from}
 use Rattle.sb_core.specs.MomentSteps.{after_take, after_finish, after_end}
-use Rattle.sb_core.specs.LaneOrder.{IsWithin, IsLane, IsReady, AreContainers}
+use Rattle.sb_core.specs.LaneOrder.{IsLane, IsReady, AreContainers}
 use Rattle.sb_core.specs.Soundness.{IsOpenAtSource}
 use Rattle.sb_core.specs.Bounds.{bound_at}
 use Rattle.sb_core.specs.Holdings.{IsHeld, is_unpassed, IsCloseOf}
@@ -42,13 +41,13 @@ use Rattle.sb_core.specs.Soundness.{out_of, numbers_of, has_cont, IsOpenBelow, A
 use Rattle.sb_record.proofs.Sums.{IsReordered}
 use Rattle.sb_core.proofs.containers.Lists.{cond_is_some}
 use Rattle.sb_core.proofs.exact.Gives.{lane_at-parts, with_lane-is}
-use Rattle.sb_core.proofs.exact.Nodes.{begun_mark, node_at-set_other}
+use Rattle.sb_core.proofs.exact.Nodes.{begun_mark, node_at-set_other, lane_at-is}
 use Rattle.sb_core.proofs.times.InTime.{work_floor, closed_least}
 use Rattle.sb_core.proofs.containers.LaneLaws.{DifferInBundles, take_from-differ, finish_in-differ}
 use Rattle.sb_core.proofs.times.LawfulTimely.{lane_of}
 use Rattle.sb_core.proofs.lawful.TakeLawful.{take-lawful, differ-closing}
 use Rattle.sb_core.proofs.exact.AfterExact.{lone}
-use Rattle.sb_core.proofs.lawful.EndLawful.{shorter, end-begun, end-mark, end-lawful, finish-lawful}
+use Rattle.sb_core.proofs.lawful.EndLawful.{shorter, end-mark, end-lawful, finish-lawful}
 use Rattle.sb_core.proofs.lawful.DeliverLawful.{All-drop}
 use Rattle.sb_core.proofs.sound.HeldLists.{every_both, any_gone, any_same, count_gone, count_snoc, none_left, All-last}
 use Rattle.sb_core.proofs.containers.TidyLanes.{SameEpochs, numbered-less, taken-sums, finished-sums, finished-none, All-same, has-same, same-differ}
@@ -77,7 +76,7 @@ take-sound plan is_plan m m' d number h sound =
         λ k next e f. open_moves (operator_at (slice_get plan.steps k)) (node_at m k).lanes (node_at (set_node d.node (set_lane d.lane (record lane { conts = q.1 }) p.0) (with_held (m.held ++ work ∷ []) m)) k).lanes (list_any (is_unpassed k) m.held) (list_any (is_unpassed k) (m.held ++ work ∷ [])) next e f
         (lanes_move m d.node d.lane p.0 (set_lane d.lane (record lane { conts = q.1 }) p.0) lane (record lane { conts = q.1 }) p.1 p.2 refl (m.held ++ work ∷ []) k e f (λ z. sym (has-same e f lane.conts q.1 same) ∙ z)) (λ u. unpassed k ∙ u) in
         subst (IsTidy plan) made
-        (tidy_still plan m d.node d.lane p.0 (set_lane d.lane (record lane { conts = q.1 }) p.0) lane (record lane { conts = q.1 }) p.1 p.2 refl refl begins (ap (λ n. last_of_first n lane.marks) begins) (m.held ++ work ∷ []) (tidy_of sound)
+        (tidy_still plan m d.node d.lane p.0 (set_lane d.lane (record lane { conts = q.1 }) p.0) lane (record lane { conts = q.1 }) p.1 p.2 refl (ap (λ n. last_of_first n lane.marks) begins) (m.held ++ work ∷ []) (tidy_of sound)
         (numbered-less lane (record lane { conts = q.1 }) refl (λ n. omega (arith, (taken-sums number n lane.conts q took).0)) ((tidy_of sound).numbers d lane at))
         (λ i. (taken-sums number i lane.conts q took).1 ∙ (λ z. (tidy_of sound).outs d lane at i z + here_is i z) ∙ sym (count_snoc (is_work d.node d.lane i) m.held work))
         (λ e ne i. count_snoc (is_work e.node e.lane i) m.held work ∙ ap (λ b. count_by (is_work e.node e.lane i) m.held + cond b 1 0) (not_here e ne i) ∙ add-zero _)
@@ -88,7 +87,7 @@ take-sound plan is_plan m m' d number h sound =
         (λ xs h. h)
         (λ k s own is e lone_is. (tidy_of sound).own_marks k s lane own is (ap (lane_at m) e ∙ at) lone_is)
         is_plan.further (λ all. all)
-        (closes_still plan m d.node d.lane p.0 (set_lane d.lane (record lane { conts = q.1 }) p.0) lane (record lane { conts = q.1 }) p.1 p.2 refl refl begins (ap (λ n. last_of_first n lane.marks) begins) (m.held ++ work ∷ []) refl (m.held ++ work ∷ []) (All-last (IsCloseOf plan m) m.held work (tidy_of sound).closes tt)))
+        (closes_still plan m d.node d.lane p.0 (set_lane d.lane (record lane { conts = q.1 }) p.0) lane (record lane { conts = q.1 }) p.1 p.2 refl (ap (λ n. last_of_first n lane.marks) begins) (m.held ++ work ∷ []) refl (m.held ++ work ∷ []) (All-last (IsCloseOf plan m) m.held work (tidy_of sound).closes tt)))
       where
         here_is : (i : ℕ) → cond {A = ℕ} (eqb number i) 1 0 ≡ cond (eqb d.node d.node && (eqb d.lane d.lane && eqb number i)) 1 0
         here_is i = sym (λ z. cond {A = ℕ} (eq-eqb d.node d.node refl z && (eq-eqb d.lane d.lane refl z && eqb number i)) 1 0)
@@ -125,7 +124,7 @@ finish-sound plan is_plan m m' sound (Work k l epoch floor number records delive
     go node lane at in_it =
         (sound_of (record {
           lawful = finish-lawful plan m node new lane k l epoch floor number records delivered others at in_it refl refl (lawful_of sound) pulled held.1 once;
-          tidy = tidy_still plan m k l node new lane (record lane { conts = finish_in epoch number lane.conts }) at in_it refl refl begins (ap (λ n. last_of_first n lane.marks) begins) others (tidy_of sound)
+          tidy = tidy_still plan m k l node new lane (record lane { conts = finish_in epoch number lane.conts }) at in_it refl (ap (λ n. last_of_first n lane.marks) begins) others (tidy_of sound)
               (numbered-less lane (record lane { conts = finish_in epoch number lane.conts }) refl (λ n. (finished-sums epoch number n lane.conts).0) ((tidy_of sound).numbers place lane was))
               outs_here outs_other
               (λ s is. All-same (λ e f. next_epoch lane ≤ e → IsOpenAtSource (next_epoch lane) e f) lane.conts (finish_in epoch number lane.conts) same ((tidy_of sound).open_source s place lane is was))
@@ -136,7 +135,7 @@ finish-sound plan is_plan m m' sound (Work k l epoch floor number records delive
               (λ j s own is e lone_is. (tidy_of sound).own_marks j s lane own is (ap (lane_at m) e ∙ was) lone_is)
               is_plan.further
               (by_operator (operator_at (slice_get plan.steps k)) refl)
-              (closes_still plan m k l node new lane (record lane { conts = finish_in epoch number lane.conts }) at in_it refl refl begins (ap (λ n. last_of_first n lane.marks) begins) others refl others closes.1);
+              (closes_still plan m k l node new lane (record lane { conts = finish_in epoch number lane.conts }) at in_it refl (ap (λ n. last_of_first n lane.marks) begins) others refl others closes.1);
         }))
       where
         new : Node
@@ -146,7 +145,7 @@ finish-sound plan is_plan m m' sound (Work k l epoch floor number records delive
         place = record { node = k; lane = l }
 
         was : lane_at m (record { node = k; lane = l }) ≡ Some lane
-        was = ap (λ (o : Option Node). o >>= λ x. slice_get x.lanes l) at ∙ in_it
+        was = lane_at-is m (record { node = k; lane = l }) node lane at in_it
 
         is_lane : held.0.lane ≡ lane
         is_lane = same_Some held.0.lane lane (sym held.0.there ∙ was)
@@ -252,7 +251,7 @@ end-sound plan is_plan m m' sound (Close y l epoch serial floor mark rows passed
     go node lane at in_it closing first =
         (sound_of (record {
           lawful = end-lawful plan m node lane y l epoch serial floor mark rows others at in_it (lawful_of sound) first held.1 closing;
-          tidy = tidy_still plan m y l node (set_lane l (shorter lane) node) lane (shorter lane) at in_it refl refl (end-begun (bound_at plan y) lane ok closing) (end-mark (bound_at plan y) lane ok closing) others (tidy_of sound)
+          tidy = tidy_still plan m y l node (set_lane l (shorter lane) node) lane (shorter lane) at in_it refl (end-mark (bound_at plan y) lane ok closing) others (tidy_of sound)
               (numbered-less lane (shorter lane) refl (λ n. drop_sum (numbers_of n) lane.conts) ((tidy_of sound).numbers (record { node = y; lane = l }) lane was))
               (λ i. end-outs i lane.conts ok.ready closing ∙ (tidy_of sound).outs (record { node = y; lane = l }) lane was i ∙ sym (works y l i))
               (λ d ne i. works d.node d.lane i)
@@ -266,7 +265,7 @@ end-sound plan is_plan m m' sound (Close y l epoch serial floor mark rows passed
         }))
       where
         was : lane_at m (record { node = y; lane = l }) ≡ Some lane
-        was = ap (λ (o : Option Node). o >>= λ x. slice_get x.lanes l) at ∙ in_it
+        was = lane_at-is m (record { node = y; lane = l }) node lane at in_it
 
         ok : IsLane (bound_at plan y) lane
         ok = (lawful_of sound).lanes (record { node = y; lane = l }) lane was

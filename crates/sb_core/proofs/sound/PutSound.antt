@@ -5,7 +5,7 @@ use Rattle.sb_core.specs.LaneOrder
 use Rattle.sb_core.specs.Moments
 use Rattle.sb_pipeline.proofs.Feeding
 use Rattle.sb_core.proofs.sound.Orderly.{lawful_of, tidy_of, sound_of, IsLawful, IsTidy}
-use Rattle.std.proofs.Common.{◌≡◌, ℕ, suc, zero, ◌+◌, ◌-◌, ◌^◌, ◌≤◌, ◌<◌, Bool, true, false, not, cond, eqb, List, [], ◌∷◌, ◌++◌, length, take, drop, Some, Option, sym, refl, ap, subst, ◌∙◌, arith, ⊎_elim}
+use Rattle.std.proofs.Common.{◌≡◌, ℕ, suc, zero, ◌+◌, ◌-◌, ◌^◌, ◌≤◌, ◌<◌, Bool, true, false, not, cond, eqb, List, [], ◌∷◌, ◌++◌, length, take, drop, Some, sym, refl, ap, subst, ◌∙◌, arith, ⊎_elim}
 use Rattle.std.specs.Prelude.{◌&&◌, ◌||◌, nat_lt, nat_le, sum_by}
 use Rattle.std.specs.List.{flat_map, slice_get, list_any, list_all, AllByRecursion}
 use Rattle.std.proofs.lemmas.Bool.{cases_lt, eq-eqb, not-true, and_parts}
@@ -28,7 +28,6 @@ use Rattle.sb_pipeline.specs.Operators.{Operator, operator_at}
 use Rattle.sb_pardo.specs.Outputs.{outputs_of}
 use Rattle.sb_pipeline.specs.Plans.{IsPlan}
 use Rattle.sb_pipeline.specs.Operators.Operator.{ParDo, Windowed, Sink}
-use Rattle.sb_record.specs.Reading.{◌>>=◌}
 use Rattle.sb_core.specs.Marks.{begun_count, least_begun_mark}
 use Rattle.sb_core.specs.Moments.{is_work, lane_at, set_lane, set_node, with_held, node_at, floor_of, floor_at, epoch_of, epoch_at}
 use Rattle.sb_core.specs.Closings.{is_sink, delivery, is_pardo}
@@ -36,7 +35,8 @@ use Rattle.sb_core.specs.Choices.{is_empty}
 use Rattle.sb_core.specs.Lanes.{next_epoch, next_floor, with_arrival}
 use Rattle.sb_record.specs.declared.item.TheConstants.{MAX_TIME}
 use Rattle.sb_core.specs.Events.{below}
-use Rattle.sb_core.specs.MomentSteps.{arrived_at, deliver_rows, deliver_work, after_arrive}
+use Rattle.sb_core.specs.LaneSteps.{arrived_at}
+use Rattle.sb_core.specs.MomentSteps.{deliver_rows, deliver_work, after_arrive}
 use Rattle.sb_core.specs.LaneOrder.{IsWithin, IsLane}
 use Rattle.sb_core.proofs.containers.Fitting.{Fits}
 use Rattle.sb_record.specs.Records.{record_cmp}
@@ -47,7 +47,7 @@ use Rattle.sb_record.proofs.Sums.{IsReordered}
 use Rattle.sb_window.specs.declared.windows.TheConstants.{MAX_SIZE}
 use Rattle.sb_core.proofs.containers.Lists.{cond_is_some}
 use Rattle.sb_core.proofs.exact.Gives.{lane_at-parts, with_lane-is}
-use Rattle.sb_core.proofs.exact.Nodes.{begun_mark}
+use Rattle.sb_core.proofs.exact.Nodes.{begun_mark, lane_at-is}
 use Rattle.sb_core.proofs.times.InTime.{work_floor, work_epoch}
 use Rattle.sb_core.proofs.times.LawfulTimely.{lane_of, lawful-timely}
 use Rattle.sb_core.proofs.exact.EventExact.{nat_le-le, list_all-AllByRecursion, below-is, transform_is}
@@ -110,7 +110,7 @@ module _ (plan : Shape) (is_plan : IsPlan plan) (m m' : Moment) (sound : IsSound
       (p.0, a.0, p.1, p.2, with_lane-is (with_held held m) d p.0 (with_arrival epoch floor records a.0) m' p.1 c.1)
 
   place : (d : Down) (node : Node) (lane : CoreLane) → slice_get m.nodes d.node ≡ Some node → slice_get node.lanes d.lane ≡ Some lane → lane_at m d ≡ Some lane
-  place d node lane at in_it = ap (λ (o : Option Node). o >>= λ n. slice_get n.lanes d.lane) at ∙ in_it
+  place d node lane at in_it = lane_at-is m d node lane at in_it
 
   -- one held and the others: which of them are a Close that is not passed
   unpassed_first : (y l epoch serial floor mark : ℕ) (rows : List Record) (others : List Held) → IsReordered m.held (Close y l epoch serial floor mark rows false ∷ others) → list_any (is_unpassed y) m.held ≡ true

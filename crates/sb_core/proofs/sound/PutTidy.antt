@@ -1,6 +1,6 @@
 -- A bundle comes into a lane: the moment stays tidy.
 use Rattle.sb_record.proofs.Elements.{every}
-use Rattle.std.proofs.Common.{◌≡◌, ℕ, suc, zero, ◌+◌, ◌≤◌, Bool, true, false, cond, List, [], ◌∷◌, Some, Option, sym, refl, ap, subst, ◌∙◌, ⊎_elim, set as slice_set}
+use Rattle.std.proofs.Common.{◌≡◌, ℕ, suc, zero, ◌+◌, ◌≤◌, Bool, true, false, List, [], ◌∷◌, Some, sym, refl, ap, subst, ◌∙◌, ⊎_elim, set as slice_set}
 use Rattle.std.specs.Prelude.{◌||◌, count_by}
 use Rattle.std.specs.List.{slice_get, list_any, AllByRecursion}
 use Rattle.std.proofs.lemmas.Bool.{cases_eq}
@@ -18,15 +18,13 @@ use Rattle.sb_core.specs.declared.held.Held.{Held}
 use Rattle.sb_pipeline.specs.Operators.{Operator, operator_at}
 use Rattle.sb_pipeline.specs.Plans.{IsPlan}
 use Rattle.sb_pipeline.specs.Operators.Operator.{ParDo, Windowed, Sink}
-use Rattle.sb_record.specs.Reading.{◌>>=◌}
-use Rattle.sb_core.specs.Marks.{begun_count, last_of_first}
 use Rattle.sb_core.specs.Moments.{is_work, lane_at, set_lane, set_node, with_held, node_at}
 use Rattle.sb_core.specs.Lanes.{next_epoch, with_bundle, with_arrival}
 use Rattle.sb_core.specs.Holdings.{is_unpassed, IsCloseOf}
 use Rattle.sb_core.specs.Soundness.{has_cont, IsOpenAtSource, IsOpenBelow}
 use Rattle.sb_core.proofs.sound.Orderly.{IsTidy}
-use Rattle.sb_core.proofs.lawful.Frame.{IsKept}
-use Rattle.sb_core.proofs.exact.Nodes.{begun_mark, node_at-same, node_at-set_same, node_at-set_other}
+use Rattle.sb_core.proofs.lawful.Frame.{IsKept, mark-kept}
+use Rattle.sb_core.proofs.exact.Nodes.{node_at-same, node_at-set_same, node_at-set_other, lane_at-is}
 use Rattle.sb_core.proofs.containers.TidyLanes.{numbered-arrival, outs-arrival, All-in_epoch, has-in_epoch}
 use Rattle.sb_core.proofs.sound.TidyFrame.{closes_still, tidy_still}
 
@@ -67,7 +65,7 @@ pub put-tidy : (plan : Shape) (is_plan : IsPlan plan) (m : Moment) (d : Down) (n
     → AllByRecursion (IsCloseOf plan m) held
     → IsTidy plan (set_node d.node (set_lane d.lane (with_arrival epoch floor records lane) node) (with_held held m))
 put-tidy plan is_plan m d node lane epoch floor records held at in_it kept tidy works unpassed source_here below_here closes =
-    tidy_still plan m d.node d.lane node (set_lane d.lane (with_arrival epoch floor records lane) node) lane (with_arrival epoch floor records lane) at in_it refl refl begins marks held tidy
+    tidy_still plan m d.node d.lane node (set_lane d.lane (with_arrival epoch floor records lane) node) lane (with_arrival epoch floor records lane) at in_it refl (mark-kept kept) held tidy
     (numbered-arrival epoch floor records lane (tidy.numbers d lane was))
     (λ i. outs-arrival epoch floor records lane i ∙ tidy.outs d lane was i ∙ sym (works d.node d.lane i))
     (λ e ne i. works e.node e.lane i)
@@ -78,7 +76,7 @@ put-tidy plan is_plan m d node lane epoch floor records held at in_it kept tidy 
     (λ k s under is ne at_under e f b z. moves k (next_epoch under) e f z)
     (λ xs h. h)
     (λ k s own is e lone. tidy.own_marks k s lane own is (ap (lane_at m) e ∙ was) lone)
-    is_plan.further (λ all. all) (closes_still plan m d.node d.lane node (set_lane d.lane (with_arrival epoch floor records lane) node) lane (with_arrival epoch floor records lane) at in_it refl refl begins marks held refl held closes)
+    is_plan.further (λ all. all) (closes_still plan m d.node d.lane node (set_lane d.lane (with_arrival epoch floor records lane) node) lane (with_arrival epoch floor records lane) at in_it refl (mark-kept kept) held refl held closes)
   where
     change : Cont → Cont
     change = with_bundle (record { number = lane.arrived + 1; epoch = epoch; floor = floor; records = records })
@@ -87,13 +85,7 @@ put-tidy plan is_plan m d node lane epoch floor records held at in_it kept tidy 
     in_epoch_of cs = (with_arrival epoch floor records (record lane { conts = cs })).conts
 
     was : lane_at m d ≡ Some lane
-    was = ap (λ (o : Option Node). o >>= λ x. slice_get x.lanes d.lane) at ∙ in_it
-
-    begins : begun_count (with_arrival epoch floor records lane) ≡ begun_count lane
-    begins = ap (λ b. cond b (lane.ended + 1) lane.ended) kept.closing
-
-    marks : begun_mark (with_arrival epoch floor records lane) ≡ begun_mark lane
-    marks = ap (λ n. last_of_first n lane.marks) begins
+    was = lane_at-is m d node lane at in_it
 
     moves : (k next e f : ℕ) → IsOpenBelow (operator_at (slice_get plan.steps k)) (node_at m k).lanes (list_any (is_unpassed k) m.held) next e f
         → IsOpenBelow (operator_at (slice_get plan.steps k)) (node_at (set_node d.node (set_lane d.lane (with_arrival epoch floor records lane) node) (with_held held m)) k).lanes (list_any (is_unpassed k) held) next e f

@@ -4,7 +4,7 @@ use Rattle.sb_record.proofs.Elements.{every}
 use Rattle.sb_core.specs.Moments
 use Rattle.sb_pipeline.proofs.Feeding
 use Rattle.sb_core.proofs.sound.Orderly.{lawful_of, tidy_of, sound_of, IsLawful, IsTidy}
-use Rattle.std.proofs.Common.{◌≡◌, ℕ, suc, zero, ◌+◌, ◌-◌, ◌≤◌, ◌<◌, Bool, true, false, not, cond, eqb, List, [], ◌∷◌, ◌++◌, length, Some, Option, sym, refl, ap, subst, ◌∙◌, arith, get_or, length-append}
+use Rattle.std.proofs.Common.{◌≡◌, ℕ, suc, zero, ◌+◌, ◌-◌, ◌≤◌, ◌<◌, Bool, true, false, not, cond, eqb, List, [], ◌∷◌, ◌++◌, length, Some, sym, refl, ap, subst, ◌∙◌, arith, get_or, length-append}
 use Rattle.std.specs.Prelude.{◌≢◌, ◌&&◌, nat_le, count_by, sum_by}
 use Rattle.std.specs.List.{slice_get, list_any, AllByRecursion}
 use Rattle.std.proofs.lemmas.Bool.{ne_eqb, not-true, and_parts}
@@ -22,7 +22,6 @@ use Rattle.sb_core.specs.declared.held.Held.TheVariants.{Work, Close}
 use Rattle.sb_pipeline.specs.Operators.{Operator, operator_at}
 use Rattle.sb_pipeline.specs.Plans.{IsPlan}
 use Rattle.sb_pipeline.specs.Operators.Operator.{ParDo, Windowed, Sink}
-use Rattle.sb_record.specs.Reading.{◌>>=◌}
 use Rattle.sb_core.specs.Marks.{begun_count, last_of_first}
 use Rattle.sb_core.specs.Moments.{is_work, lane_at, set_lane, set_node, with_held, node_at, floor_of, floor_at, epoch_of, epoch_at}
 use Rattle.sb_core.specs.Choices.{is_empty}
@@ -38,14 +37,14 @@ use Rattle.sb_core.specs.Soundness.{has_cont, Begins, IsOpenAtSource, IsOpenBelo
 use Rattle.sb_record.proofs.Sums.{IsReordered}
 use Rattle.sb_core.proofs.containers.Lists.{cond_is_some, empty_is}
 use Rattle.sb_core.proofs.exact.Gives.{lane_at-parts, with_lane-is}
-use Rattle.sb_core.proofs.exact.Nodes.{begun_mark}
+use Rattle.sb_core.proofs.exact.Nodes.{begun_mark, lane_at-is}
 use Rattle.sb_core.proofs.times.InTime.{begun_within}
 use Rattle.sb_core.proofs.containers.LaneLaws.{MarkFits}
 use Rattle.sb_core.proofs.times.LawfulTimely.{lane_of}
 use Rattle.sb_core.proofs.exact.EventExact.{nat_le-le, below-is, seal_calm}
 use Rattle.sb_core.proofs.exact.AfterExact.{lone}
 use Rattle.sb_core.proofs.containers.Ordered.{closing_fits, has_one}
-use Rattle.sb_core.proofs.lawful.SealLawful.{last_of_first-longer, marks_fit, seal-begun, seal-lawful, pass-lawful}
+use Rattle.sb_core.proofs.lawful.SealLawful.{last_of_first-longer, marks_fit, seal-lawful, pass-lawful}
 use Rattle.sb_core.proofs.sound.PutSound.{lone_has, lone_closed}
 use Rattle.sb_core.proofs.sound.HeldLists.{any_swap, count_swap, All-last}
 use Rattle.sb_core.proofs.containers.TidyLanes.{numbered-less, numbered-seal, outs-seal, All-in_epoch, has-in_epoch}
@@ -78,7 +77,7 @@ pub seal-tidy : (plan : Shape) (is_plan : IsPlan plan) (m : Moment) (d : Down) (
     → AllByRecursion (IsCloseOf plan m) held
     → IsTidy plan (set_node d.node (set_lane d.lane (with_seal mark lane) node) (with_held held m))
 seal-tidy plan is_plan m d node lane mark held at in_it lawful up fits tidy works unpassed marks_here closes =
-    tidy_still plan m d.node d.lane node (set_lane d.lane (with_seal mark lane) node) lane (with_seal mark lane) at in_it refl refl (seal-begun (bound_at plan d.node) mark lane ok up fits) (seal_calm (bound_at plan d.node) mark lane ok) held tidy
+    tidy_still plan m d.node d.lane node (set_lane d.lane (with_seal mark lane) node) lane (with_seal mark lane) at in_it refl (seal_calm (bound_at plan d.node) mark lane ok) held tidy
     (numbered-less lane (with_seal mark lane) refl (λ n. omega (arith, numbered-seal mark n lane)) (tidy.numbers d lane was))
     (λ i. outs-seal mark i lane ∙ tidy.outs d lane was i ∙ sym (works d.node d.lane i))
     (λ e ne i. works e.node e.lane i)
@@ -92,7 +91,7 @@ seal-tidy plan is_plan m d node lane mark held at in_it lawful up fits tidy work
     (λ k s under is ne at_under e f b z. open_moves (operator_at (slice_get plan.steps k)) (node_at m k).lanes (node_at after k).lanes (list_any (is_unpassed k) m.held) (list_any (is_unpassed k) held) (next_epoch under) e f (moves k e f) (unpassed k s is ne) z)
     (λ xs h. begins-longer mark xs lane.marks h)
     marks_here is_plan.further (λ all. all)
-    (closes_still plan m d.node d.lane node (set_lane d.lane (with_seal mark lane) node) lane (with_seal mark lane) at in_it refl refl (seal-begun (bound_at plan d.node) mark lane ok up fits) (seal_calm (bound_at plan d.node) mark lane ok) held (last_of_first-longer lane.ended mark lane.marks ok.ended_in) held closes)
+    (closes_still plan m d.node d.lane node (set_lane d.lane (with_seal mark lane) node) lane (with_seal mark lane) at in_it refl (seal_calm (bound_at plan d.node) mark lane ok) held (last_of_first-longer lane.ended mark lane.marks ok.ended_in) held closes)
   where
     change : Cont → Cont
     change c = record c { mark = Some mark }
@@ -104,7 +103,7 @@ seal-tidy plan is_plan m d node lane mark held at in_it lawful up fits tidy work
     more = length-append lane.marks (mark ∷ [])
 
     was : lane_at m d ≡ Some lane
-    was = ap (λ (o : Option Node). o >>= λ x. slice_get x.lanes d.lane) at ∙ in_it
+    was = lane_at-is m d node lane at in_it
 
     ok : IsLane (bound_at plan d.node) lane
     ok = lawful.lanes d lane was

@@ -1,7 +1,7 @@
 -- A lane changes and begins the same marks: what stays tidy.
 use Rattle.sb_record.proofs.Elements.{every}
-use Rattle.std.proofs.Common.{length-set, ◌≡◌, ℕ, suc, zero, ◌≤◌, ◌<◌, List, [], ◌∷◌, length, Some, sym, ap, subst, ◌∙◌, arith, ⊎_elim, inl, inr, set as slice_set}
-use Rattle.std.specs.Prelude.{min, ◌⊎◌, ◌≢◌, count_by, sum_by}
+use Rattle.std.proofs.Common.{length-set, refl, ◌≡◌, ℕ, suc, zero, ◌≤◌, ◌<◌, List, [], ◌∷◌, length, Some, sym, ap, subst, ◌∙◌, arith, ⊎_elim, inl, inr, set as slice_set}
+use Rattle.std.specs.Prelude.{◌⊎◌, ◌≢◌, count_by, sum_by}
 use Rattle.std.specs.List.{slice_get, list_any, AllByRecursion}
 use Rattle.std.proofs.lemmas.Bool.{cases_eq}
 use Rattle.std.proofs.lemmas.Option.{same_Some}
@@ -16,15 +16,14 @@ use Rattle.sb_core.specs.declared.moment.Moment.{Moment}
 use Rattle.sb_core.specs.declared.held.Held.{Held}
 use Rattle.sb_core.specs.declared.held.Held.TheVariants.{Work, Close}
 use Rattle.sb_pipeline.specs.Operators.{operator_at}
-use Rattle.sb_core.specs.Marks.{begun_count, before_closing, last_of_first, least_begun_mark}
+use Rattle.sb_core.specs.Marks.{before_closing, last_of_first, least_begun_mark}
 use Rattle.sb_core.specs.Moments.{is_work, lane_at, set_node, with_held, node_at}
 use Rattle.sb_core.specs.Lanes.{next_epoch}
 use Rattle.sb_core.specs.Bounds.{bound_at}
 use Rattle.sb_core.specs.Holdings.{is_unpassed, IsCloseOf}
 use Rattle.sb_core.specs.Soundness.{out_of, AreNumbered, Begins, IsOpenBelow, AreKeptAt}
 use Rattle.sb_core.proofs.sound.Orderly.{IsTidy}
-use Rattle.sb_core.proofs.exact.Nodes.{begun_mark, closed-set, node_at-same, node_at-set_same, node_at-set_other}
-use Rattle.sb_core.proofs.lawful.Changed.{cases, at_place, of_node, other, closed_same}
+use Rattle.sb_core.proofs.exact.Nodes.{begun_mark, closed-set, least-set, lane_at-cases, lane_at-there, lane_at-other, of_each_node, node_at-same, node_at-set_same, node_at-set_other}
 
 -- is it the place
 pub place_or : (n l : ℕ) (d : Down) → (d ≡ record { node = n; lane = l }) ⊎ (d ≢ record { node = n; lane = l })
@@ -47,15 +46,10 @@ abbrev pub ended_mark : CoreLane → ℕ
 ended_mark lane = last_of_first lane.ended lane.marks
 
 pub before-set : (lanes : List CoreLane) (l : ℕ) (lane with : CoreLane) → slice_get lanes l ≡ Some lane → ended_mark with ≡ ended_mark lane → before_closing (slice_set lanes l with) ≡ before_closing lanes
-before-set [] l lane with h e = cc
-before-set (first ∷ []) zero lane with h e = let k : first ≡ lane = cc in e ∙ ap ended_mark (sym k)
-before-set (first ∷ []) (suc l) lane with h e = cc
-before-set (first ∷ second ∷ lanes) zero lane with h e = let k : first ≡ lane = cc in ap (λ n. min n (before_closing (second ∷ lanes))) (e ∙ ap ended_mark (sym k))
-before-set (first ∷ second ∷ lanes) (suc zero) lane with h e = ap (min (ended_mark first)) (before-set (second ∷ lanes) zero lane with h e)
-before-set (first ∷ second ∷ lanes) (suc (suc l)) lane with h e = ap (min (ended_mark first)) (before-set (second ∷ lanes) (suc l) lane with h e)
+before-set = least-set ended_mark before_closing (λ x. refl) (λ x y xs. refl)
 
 module _ (plan : Shape) (m : Moment) (n l : ℕ) (node new : Node) (lane with : CoreLane) (at : slice_get m.nodes n ≡ Some node) (in_it : slice_get node.lanes l ≡ Some lane)
-    (lanes : new.lanes ≡ slice_set node.lanes l with) (closings_same : new.closings ≡ node.closings) (begun_same : begun_count with ≡ begun_count lane) (mark_same : begun_mark with ≡ begun_mark lane) (held : List Held) where
+    (lanes : new.lanes ≡ slice_set node.lanes l with) (mark_same : begun_mark with ≡ begun_mark lane) (held : List Held) where
   abbrev now : Moment
   now = set_node n new (with_held held m)
 
@@ -66,7 +60,7 @@ module _ (plan : Shape) (m : Moment) (n l : ℕ) (node new : Node) (lane with : 
       one : (h : Held) → IsCloseOf plan m h → IsCloseOf plan now h
       one (Work k i epoch floor number records delivered) h = h
       one (Close k i epoch serial floor mark rows passed) h =
-          (h.0, h.1 ∙ sym (of_node plan m n l node new lane with at in_it lanes closings_same begun_same mark_same held (λ x. before_closing x.lanes) (ap before_closing lanes ∙ before-set node.lanes l lane with in_it same) k))
+          (h.0, h.1 ∙ sym (of_each_node m n node new at (λ x. before_closing x.lanes) (ap before_closing lanes ∙ before-set node.lanes l lane with in_it same) k))
 
   pub tidy_still : IsTidy plan m → AreNumbered with
       → ((i : ℕ) → sum_by (out_of i) with.conts ≡ count_by (is_work n l i) held)
@@ -86,7 +80,7 @@ module _ (plan : Shape) (m : Moment) (n l : ℕ) (node new : Node) (lane with : 
   tidy_still tidy numbers outs_here outs_other source_here below_here below_other grows marks_here further kept_new closes =
       record {
         bundle = tidy.bundle;
-        lanes = λ k b. of_node plan m n l node new lane with at in_it lanes closings_same begun_same mark_same held (λ x. length x.lanes) (ap length lanes ∙ length-set node.lanes l with) k ∙ tidy.lanes k b;
+        lanes = λ k b. of_each_node m n node new at (λ x. length x.lanes) (ap length lanes ∙ length-set node.lanes l with) k ∙ tidy.lanes k b;
         numbers = λ d x h. ⊎_elim (λ c. subst AreNumbered (same_Some with x (sym c.1 ∙ h)) numbers) (λ c. tidy.numbers d x (sym c ∙ h)) (by_place d);
         outs = outs;
         open_source = λ s d x is h. ⊎_elim
@@ -98,17 +92,17 @@ module _ (plan : Shape) (m : Moment) (n l : ℕ) (node new : Node) (lane with : 
             (λ ne. subst (λ (x : Node). AreKeptAt (operator_at (slice_get plan.steps k)) (least_begun_mark x.lanes) (bound_at plan k) x.kept) (sym (node_at-set_other m n node new at k ne)) (tidy.kept k)) (cases_eq k n);
         closes = closes;
         sorted = tidy.sorted;
-        written = subst (λ z. AllByRecursion (λ r. r.time < z) m.rows) (sym (closed_same plan m n l node new lane with at in_it lanes closings_same begun_same mark_same held (length plan.steps))) tidy.written;
+        written = subst (λ z. AllByRecursion (λ r. r.time < z) m.rows) (sym (of_each_node m n node new at (λ x. least_begun_mark x.lanes) (ap least_begun_mark lanes ∙ closed-set node.lanes l lane with in_it mark_same) (length plan.steps))) tidy.written;
       }
     where
       by_place : (d : Down) → ((d ≡ record { node = n; lane = l }) × (lane_at now d ≡ Some with) × (lane_at m d ≡ Some lane)) ⊎ (lane_at now d ≡ lane_at m d)
-      by_place d = cases plan m n l node new lane with at in_it lanes closings_same begun_same mark_same held d
+      by_place d = lane_at-cases m n l node new lane with at in_it lanes d
 
       placed : (d : Down) → d ≡ record { node = n; lane = l } → lane_at now d ≡ Some with
-      placed d e = ap (lane_at now) e ∙ at_place plan m n l node new lane with at in_it lanes closings_same begun_same mark_same held
+      placed d e = ap (lane_at now) e ∙ lane_at-there m n l node new lane with at in_it lanes
 
       elsewhere : (d : Down) → d ≢ record { node = n; lane = l } → lane_at now d ≡ lane_at m d
-      elsewhere d ne = other plan m n l node new lane with at in_it lanes closings_same begun_same mark_same held d ne
+      elsewhere d ne = lane_at-other m n l node new lane with at in_it lanes d ne
 
       outs : (d : Down) (x : CoreLane) → lane_at now d ≡ Some x → (i : ℕ) → sum_by (out_of i) x.conts ≡ count_by (is_work d.node d.lane i) held
       outs d x h i = ⊎_elim

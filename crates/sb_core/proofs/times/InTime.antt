@@ -18,6 +18,7 @@ use Rattle.sb_core.proofs.containers.Lists.{waiting_of, of_cont}
 use Rattle.sb_core.proofs.exact.Nodes.{begun_mark}
 use Rattle.sb_core.proofs.windows.Groupings.{early}
 use Rattle.sb_core.proofs.times.Timely.{zero_early}
+use Rattle.sb_core.proofs.containers.InEpoch.{open-from}
 
 -- ---- marks
 last-rises : (low : ℕ) (marks : List ℕ) (j n : ℕ) → NeverFalls low marks → j ≤ n → n < length marks → get_or marks j 0 ≤ get_or marks n 0
@@ -161,16 +162,8 @@ module _ (bound : ℕ) (lane : CoreLane) (ok : IsLane bound lane) where
   pub work_epoch : (epoch number : ℕ) (c : Cont) → cont_at epoch lane.conts ≡ Some c → list_any (λ n. eqb n number) c.out ≡ true → begun_count lane ≤ epoch
   work_epoch epoch number c = go lane.conts (drop lane.ended lane.marks) ok.containers ok.ready
     where
-      of_open : (n g e f : ℕ) (cs : List Cont) → AreOpen bound n g e f cs → cont_at epoch cs ≡ Some c → e ≤ epoch
-      of_open n g e f [] are h = cc
-      of_open n g e f (x ∷ cs) are h = by_case (eqb x.epoch epoch) refl h (λ k. of_open n g (x.epoch + 1) x.floor cs are.1 k)
-        where
-          by_case : (b : Bool) → eqb x.epoch epoch ≡ b → cond b (Some x) (cont_at epoch cs) ≡ Some c → (cont_at epoch cs ≡ Some c → x.epoch + 1 ≤ epoch) → e ≤ epoch
-          by_case true e h ih = omega (arith, are.0.epoch_from, eqb-true x.epoch epoch e)
-          by_case false e h ih = omega (arith, are.0.epoch_from, ih h)
-
       of_all : (e f : ℕ) (ms : List ℕ) (cs : List Cont) → AreContainers bound e f ms cs → cont_at epoch cs ≡ Some c → e ≤ epoch
-      of_all e f [] cs are h = of_open e f e f cs are h
+      of_all e f [] cs are h = open-from bound e f e f epoch c cs are h
       of_all e f (m ∷ ms) [] are h = absurd are
       of_all e f (m ∷ ms) (x ∷ cs) are h = by_case (eqb x.epoch epoch) refl h (λ k. of_all (e + 1) m ms cs are.1 k)
         where

@@ -88,11 +88,11 @@ returns-clause-found c =
       epoch = found.2;
       serial = c.begun_in.ensures.value ∙ ap (sum_by begun_count) c.as_slice-lanes.ensures ∙ sym (begun-is plan c.transforms.ensures.sound m c.requires k node at);
       next_fits = c.begun_in.ensures.small;
-      floor = c.closed-floor.ensures ∙ ap least_begun_mark c.as_slice-lanes.ensures;
-      mark = c.closed_with-mark.ensures lane found.0 rest.0 (ap (λ (ls : List CoreLane). slice_get ls l) c.as_slice-lanes.ensures ∙ in_it) rest.1
+      floor = c.least_begun_mark-floor.ensures ∙ ap least_begun_mark c.as_slice-lanes.ensures;
+      mark = c.least_begun_mark_with-mark.ensures lane found.0 rest.0 (ap (λ (ls : List CoreLane). slice_get ls l) c.as_slice-lanes.ensures ∙ in_it) rest.1
           ∙ ap (λ (ls : List CoreLane). least_begun_mark (slice_set ls l (record lane { conts = with_first_closing lane.conts }))) c.as_slice-lanes.ensures;
-      rows = c.new.ensures ∙ c.in_ok-rows.ensures ∙ ap (rows_at o c.closed-floor.result c.closed_with-mark.result) c.as_slice-kept.ensures;
-      kept = c.new-2.ensures ∙ c.in_ok-kept.ensures ∙ ap (kept_at o c.closed_with-mark.result) c.as_slice-kept.ensures;
-      collected = c.new-3.ensures ∙ c.in_ok-collected.ensures ∙ ap (rows_at_sink o c.closed_with-mark.result) c.as_slice-kept.ensures;
+      rows = c.new.ensures ∙ c.in_ok-rows.ensures ∙ ap (rows_at o c.least_begun_mark-floor.result c.least_begun_mark_with-mark.result) c.as_slice-kept.ensures;
+      kept = c.new-2.ensures ∙ c.in_ok-kept.ensures ∙ ap (kept_at o c.least_begun_mark_with-mark.result) c.as_slice-kept.ensures;
+      collected = c.new-3.ensures ∙ c.in_ok-collected.ensures ∙ ap (rows_at_sink o c.least_begun_mark_with-mark.result) c.as_slice-kept.ensures;
       passed = sink-last plan.steps k c.transforms.result c.transforms.ensures.value (node-within plan c.transforms.ensures.sound m c.requires k node at);
     }

@@ -8,7 +8,7 @@ use Rattle.sb_core.specs.declared.held.Held.{Held}
 use Rattle.sb_core.specs.declared.held.Held.TheVariants.{Work}
 use Rattle.sb_core.specs.Choices.{is_empty}
 use Rattle.sb_core.specs.Closings.{delivery}
-use Rattle.sb_core.specs.MomentSteps.{arrived_at}
+use Rattle.sb_core.specs.LaneSteps.{arrived_at}
 use Rattle.sb_core.specs.Moments.{with_held}
 use Rattle.sb_core.proofs.places.Finished.{found-in}
 use Rattle.sb_core.proofs.places.Carried.{below-down, empty-by_length, arrived-held, held-after, held-delivered, work-is}
@@ -34,7 +34,7 @@ returns c =
     let taken = c.remove-work.ensures.value ∙ get_or_from_slice_get c.moment.inside.0.1.1.0.items.items w.place (Work k l w.epoch w.floor n w.records.now w.delivered) c.remove-work.result there in
     let held : c.push_reserved.new.self.items ≡ held-delivered plan m k l n w.epoch w.floor w.records.now w.delivered others found =
     c.push_reserved.ensures.items
-    ∙ (λ z. (c.remove-work.ensures.items ∙ ap (λ l. remove l w.place) inside) z ++ (c.delivered.ensures k l w.epoch w.floor n w.records.now w.delivered taken) z ∷ []) in
+    ∙ (λ z. (c.remove-work.ensures.items ∙ ap (λ l. remove l w.place) inside) z ++ (c.delivered_work.ensures k l w.epoch w.floor n w.records.now w.delivered taken) z ∷ []) in
     work-is plan m k l n w.epoch w.floor w.records.now w.delivered others found c.down.result (below-down plan k c.down.result c.down.ensures.down) c.if-work.false some
     ∙ (λ z. option_map (with_held (sym held z)) (arrived_at c.down.result w.epoch w.floor (sym (c.new.ensures ∙ c.in_ok-given.ensures) z) m))
     ∙ ap (option_map (with_held c.push_reserved.new.self.items)) c.in_ok-put_at.ensures

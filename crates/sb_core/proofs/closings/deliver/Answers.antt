@@ -7,7 +7,7 @@ use Rattle.sb_core.specs.declared.moment.Moment.{Moment}
 use Rattle.sb_core.specs.declared.held.Held.{Held}
 use Rattle.sb_core.specs.declared.held.Held.TheVariants.{Close}
 use Rattle.sb_core.specs.Choices.{is_empty}
-use Rattle.sb_core.specs.MomentSteps.{arrived_at}
+use Rattle.sb_core.specs.LaneSteps.{arrived_at}
 use Rattle.sb_core.specs.Moments.{with_held}
 use Rattle.sb_core.proofs.places.FromHeld.{close-in_lane}
 use Rattle.sb_core.proofs.places.Carried.{below-down, empty-by_length, arrived-held, held-after, held-fewer, rows-is}

@@ -29,7 +29,7 @@ returns c =
     let taken = c.remove-close.ensures.value ∙ get_or_from_slice_get c.moment.inside.0.1.1.0.items.items h.place x c.remove-close.result there in
     let held : c.push_reserved.new.self.items ≡ held-passed plan m k h.lane h.epoch h.serial h.floor h.mark h.rows.now h.passed others found =
     c.push_reserved.ensures.items
-    ∙ (λ z. (c.remove-close.ensures.items ∙ ap (λ l. remove l h.place) inside) z ++ (c.passed.ensures k h.lane h.epoch h.serial h.floor h.mark h.rows.now h.passed taken) z ∷ []) in
+    ∙ (λ z. (c.remove-close.ensures.items ∙ ap (λ l. remove l h.place) inside) z ++ (c.passed_close.ensures k h.lane h.epoch h.serial h.floor h.mark h.rows.now h.passed taken) z ∷ []) in
     pass-is plan m k h.lane h.epoch h.serial h.floor h.mark h.rows.now h.passed others found c.down.result (below-down plan k c.down.result c.down.ensures.down) c.if-close.false none
     ∙ (λ z. option_map (with_held (sym held z)) (c.in_ok-seal_at.ensures z))
     ∙ (λ z. Some (with_held c.push_reserved.new.self.items (sym c.moment.view_is z)))
