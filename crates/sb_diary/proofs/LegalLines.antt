@@ -4,13 +4,13 @@ use Rattle.std.specs.Prelude.{is_some}
 use Rattle.std.specs.List.{AllByRecursion}
 use Rattle.std.proofs.lemmas.List.{length-map}
 use Rattle.sb_diary.specs.Lines.{Sized, arrivals, finishes}
-use Rattle.sb_diary.specs.Legal.{Came, Audit, after_line, after_lines, fresh, audit_of}
+use Rattle.sb_diary.specs.Legal.{Came, Audit, after_line, after_lines, fresh_audit, audit_of}
 use Rattle.sb_diary.specs.Laws.{LegalLineByLine, FinishedOnesCame, IsOneOf}
 use Rattle.sb_diary.proofs.Telling.{after_lines-append, bind_cong, one-line, lane_in, told}
 
 pub line_by_line : LegalLineByLine
 line_by_line lanes diary e =
-    after_lines-append diary (e ∷ []) (fresh lanes)
+    after_lines-append diary (e ∷ []) (fresh_audit lanes)
     ∙ bind_cong (audit_of lanes diary) (λ a. after_lines (e ∷ []) a) (λ a. after_line a e) (λ a. one-line (after_line a e))
 
 the-audit : (o : Option Audit) → is_some o ≡ true → (a : Audit) × (o ≡ Some a)

@@ -7,7 +7,7 @@ use Rattle.sb_diary.specs.declared.event.DiaryEvent.{DiaryEvent}
 use Rattle.sb_diary.specs.declared.event.DiaryEvent.TheVariants.{Arrive, Seal, Take, Finish, Begin, End}
 use Rattle.sb_diary.specs.declared.line_stop.LineStop.{LineStop}
 use Rattle.sb_diary.specs.declared.line_stop.LineStop.TheVariants.{NotLegal, Memory}
-use Rattle.sb_diary.specs.Legal.{LaneAudit, Audit, when, with_stage, with_lane, with_end, ended_to, last_of, after_line}
+use Rattle.sb_diary.specs.Legal.{LaneAudit, Audit, when, with_stage, with_lane, with_end, least_ended_mark, last_of, after_line}
 use Rattle.sb_diary.specs.Books.{Answers, IsOpen, IsSound, in_lane, lane_after, with_arrival, with_mark}
 
 -- where code reads an element, it is there
@@ -20,20 +20,20 @@ read-none xs ys i e h = subst (λ l. slice_get l i ≡ None) e (slice_get_past x
 
 -- ---- the mark up to which a node is closed once one more epoch of a lane has ended
 abbrev pub IsClosedWith : List LaneAudit → ℕ → ℕ → Type 0
-IsClosedWith lanes i mark = (lane : LaneAudit) → slice_get lanes i ≡ Some lane → mark ≡ ended_to (slice_set lanes i (with_end lane))
+IsClosedWith lanes i mark = (lane : LaneAudit) → slice_get lanes i ≡ Some lane → mark ≡ least_ended_mark (slice_set lanes i (with_end lane))
 
 ended-later : (x y : LaneAudit) (lanes : List LaneAudit) (i : ℕ) (new : LaneAudit)
-    → ended_to (x ∷ slice_set (y ∷ lanes) i new) ≡ min (last_of x.ended x.marks) (ended_to (slice_set (y ∷ lanes) i new))
+    → least_ended_mark (x ∷ slice_set (y ∷ lanes) i new) ≡ min (last_of x.ended x.marks) (least_ended_mark (slice_set (y ∷ lanes) i new))
 ended-later x y lanes zero new = refl
 ended-later x y lanes (suc i) new = refl
 
 -- of two lanes or more, where it is not the first
-pub closed_with-later : (lanes : List LaneAudit) (x : LaneAudit) (i first others : ℕ) → 2 ≤ length lanes → x ≡ get_or lanes 0 x → (i ≡ 0 → ⊥)
+pub least_ended_mark_after-later : (lanes : List LaneAudit) (x : LaneAudit) (i first others : ℕ) → 2 ≤ length lanes → x ≡ get_or lanes 0 x → (i ≡ 0 → ⊥)
     → first ≡ last_of x.ended x.marks → IsClosedWith (take (length lanes - 1) (drop 1 lanes)) (i - 1) others → IsClosedWith lanes i (min first others)
-closed_with-later [] x i first others two is later own rest = absurd (omega (arith, two))
-closed_with-later (z ∷ []) x i first others two is later own rest = absurd (omega (arith, two))
-closed_with-later (z ∷ y ∷ lanes) x zero first others two is later own rest = absurd (later refl)
-closed_with-later (z ∷ y ∷ lanes) x (suc i) first others two is later own rest =
+least_ended_mark_after-later [] x i first others two is later own rest = absurd (omega (arith, two))
+least_ended_mark_after-later (z ∷ []) x i first others two is later own rest = absurd (omega (arith, two))
+least_ended_mark_after-later (z ∷ y ∷ lanes) x zero first others two is later own rest = absurd (later refl)
+least_ended_mark_after-later (z ∷ y ∷ lanes) x (suc i) first others two is later own rest =
     λ lane at. (λ j. min ((own ∙ ap (λ (x : LaneAudit). last_of x.ended x.marks) is) j) (below lane at j)) ∙ sym (ended-later z y lanes i (with_end lane))
   where
     all : take (length (z ∷ y ∷ lanes) - 1) (y ∷ lanes) ≡ y ∷ lanes

@@ -15,7 +15,7 @@ use Rattle.sb_diary.specs.Lines.{Sized, Finished, arrive_in, seal_in, end_in, fi
 use Rattle.sb_diary.specs.declared.bundle.Came.{Came}
 use Rattle.sb_diary.specs.declared.bundle.Stage.{Stage}
 use Rattle.sb_diary.specs.declared.bundle.Stage.TheVariants.{Taken, Done, Waiting}
-use Rattle.sb_diary.specs.Legal.{LaneAudit, Audit, with_stage, is_waiting, is_taken, with_end, when, after_line, after_lines, fresh_lane, fresh, audit_of}
+use Rattle.sb_diary.specs.Legal.{LaneAudit, Audit, with_stage, is_waiting, is_taken, with_end, when, after_line, after_lines, fresh_lane, fresh_audit, audit_of}
 
 -- ---- lines one after another
 bind_assoc : {X Y Z : Type 0} (o : Option X) (f : X → Option Y) (g : Y → Option Z) → ((o >>= f) >>= g) ≡ (o >>= λ x. f x >>= g)
@@ -38,7 +38,7 @@ one-line (Some a) = refl
 
 -- one line more
 pub audited-push : (lanes : ℕ) (diary : List DiaryEvent) (e : DiaryEvent) (a b : Audit) → audit_of lanes diary ≡ Some a → after_line a e ≡ Some b → audit_of lanes (diary ++ e ∷ []) ≡ Some b
-audited-push lanes diary e a b h k = after_lines-append diary (e ∷ []) (fresh lanes) ∙ ap (λ o. o >>= λ c. after_lines (e ∷ []) c) h ∙ ap (λ o. o >>= λ c. after_lines [] c) k
+audited-push lanes diary e a b h k = after_lines-append diary (e ∷ []) (fresh_audit lanes) ∙ ap (λ o. o >>= λ c. after_lines (e ∷ []) c) h ∙ ap (λ o. o >>= λ c. after_lines [] c) k
 
 pub one_more : {Y : Type 0} (g : DiaryEvent → List Y) (diary : List DiaryEvent) (e : DiaryEvent) → flat_map g (diary ++ e ∷ []) ≡ flat_map g diary ++ g e
 one_more g diary e = flat_map-append g diary (e ∷ []) ∙ ap (λ l. flat_map g diary ++ l) (append-nil (g e))
@@ -177,11 +177,11 @@ lines-tell (e ∷ diary) a b h k =
       done_is = all-append (length (lane_in b k).came) (finish_in k e) (finishes k diary) (all-more (length (lane_in q.0 k).came) (length (lane_in b k).came) low (finish_in k e) x.done_is) y.done_is;
     }
 
-fresh-lane : (n k : ℕ) → lane_in (fresh n) k ≡ fresh_lane
+fresh-lane : (n k : ℕ) → lane_in (fresh_audit n) k ≡ fresh_lane
 fresh-lane zero k = refl
 fresh-lane (suc n) zero = refl
 fresh-lane (suc n) (suc k) = fresh-lane n k
 
 -- a legal diary tells of each lane: the epochs of its bundles, its marks, how many epochs have ended, and that the finished bundles are of those that came
 pub told : (lanes : ℕ) (diary : List DiaryEvent) (a : Audit) → audit_of lanes diary ≡ Some a → (k : ℕ) → Tells (arrivals k diary) (seals k diary) (ends k diary) (finishes k diary) fresh_lane (lane_in a k)
-told lanes diary a h k = subst (λ x. tells-lines diary k x (lane_in a k)) (fresh-lane lanes k) (lines-tell diary (fresh lanes) a h k)
+told lanes diary a h k = subst (λ x. tells-lines diary k x (lane_in a k)) (fresh-lane lanes k) (lines-tell diary (fresh_audit lanes) a h k)

@@ -9,7 +9,7 @@ use Rattle.sb_diary.specs.declared.audit.AuditStop.TheVariants.{Fault, Memory}
 use Rattle.sb_diary.specs.declared.audit.AuditEnd.{AuditEnd}
 use Rattle.sb_diary.specs.declared.text.DiaryLine.{DiaryLine}
 use Rattle.sb_diary.specs.declared.text.DiaryLine.TheVariants.{Head, Event}
-use Rattle.sb_diary.specs.Legal.{Audit, when, fresh, after_line, is_settled}
+use Rattle.sb_diary.specs.Legal.{Audit, when, fresh_audit, after_line, is_settled}
 use Rattle.sb_diary.specs.Texts.{text_of, IsLine}
 
 -- what the lines say: how many are heads, and how many are events; whether the diaries before the last head are
@@ -44,7 +44,7 @@ after_diary_line t (Head node lanes) =
       transforms = t.transforms + 1;
       events = t.events;
       settled = is_text_settled t;
-      diary = Some (fresh lanes);
+      diary = Some (fresh_audit lanes);
     })
 after_diary_line t (Event e) =
     t.diary >>= λ a. after_line a e >>= λ b. Some (record t { events = t.events + 1; diary = Some b })

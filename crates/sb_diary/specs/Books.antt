@@ -10,7 +10,7 @@ use Rattle.sb_diary.specs.declared.event.DiaryEvent.{DiaryEvent}
 use Rattle.sb_diary.specs.declared.event.DiaryEvent.TheVariants.{Arrive, Seal, Take, Finish, Begin, End}
 use Rattle.sb_diary.specs.declared.line_stop.LineStop.{LineStop}
 use Rattle.sb_diary.specs.declared.line_stop.LineStop.TheVariants.{NotLegal, Memory}
-use Rattle.sb_diary.specs.Legal.{Came, LaneAudit, Audit, is_waiting, is_taken, is_done, all_done, when, with_stage, with_lane, may_arrive, may_seal}
+use Rattle.sb_diary.specs.Legal.{Came, LaneAudit, Audit, is_waiting, is_taken, is_done, is_all_done, when, with_stage, with_lane, may_arrive, may_seal}
 
 -- the count at an epoch, 0 if there is none
 abbrev pub count_in : BTreeMap ℕ ℕ → ℕ → ℕ
@@ -36,9 +36,9 @@ pub record IsCounted (came : List Came) (counts : BTreeMap ℕ ℕ) (count : ℕ
   pub newest : (epoch : ℕ) → list_all (λ c. nat_lt c.epoch epoch) came ≡ is_below epoch latest
 
 -- the newer of an epoch and the newest one so far
-abbrev pub newer : Option ℕ → ℕ → ℕ
-newer None epoch = epoch
-newer (Some e) epoch = max e epoch
+abbrev pub newer_epoch : Option ℕ → ℕ → ℕ
+newer_epoch None epoch = epoch
+newer_epoch (Some e) epoch = max e epoch
 
 -- the lane with one more bundle, or one more mark
 abbrev pub with_arrival : ℕ → LaneAudit → LaneAudit
@@ -53,7 +53,7 @@ bundle_at number came = if nat_lt 0 number then slice_get came (number - 1) else
 
 -- an epoch may close: it is the oldest, it is sealed, and all its bundles were finished
 abbrev pub may_close : LaneAudit → ℕ → Bool
-may_close lane epoch = (epoch == lane.ended) && (nat_lt epoch (length lane.marks) && all_done epoch lane.came)
+may_close lane epoch = (epoch == lane.ended) && (nat_lt epoch (length lane.marks) && is_all_done epoch lane.came)
 
 -- the answer to a line after which this is said; there is nothing if it is not legal, and a refusal changes nothing
 abbrev pub Answers : {X T : Type 0} → Option X → X → X → Result T LineStop → Type 0

@@ -25,8 +25,8 @@ pub record Audit : Type 0 where
 abbrev pub fresh_lane : LaneAudit
 fresh_lane = record { came = []; marks = []; ended = 0 }
 
-abbrev pub fresh : ℕ → Audit
-fresh lanes = record { lanes = replicate lanes fresh_lane; closing = None }
+abbrev pub fresh_audit : ℕ → Audit
+fresh_audit lanes = record { lanes = replicate lanes fresh_lane; closing = None }
 
 -- with lane l as this one
 abbrev pub with_lane : ℕ → LaneAudit → Audit → Audit
@@ -64,18 +64,18 @@ abbrev pub last_of : ℕ → List ℕ → ℕ
 last_of n marks = if n == 0 then 0 else slice_index marks (n - 1)
 
 -- the least over the lanes of the mark of the last epoch that has ended, 0 for a lane in which none has
-abbrev pub ended_to : List LaneAudit → ℕ
-ended_to [] = 0
-ended_to (lane ∷ []) = last_of lane.ended lane.marks
-ended_to (lane ∷ other ∷ lanes) = min (last_of lane.ended lane.marks) (ended_to (other ∷ lanes))
+abbrev pub least_ended_mark : List LaneAudit → ℕ
+least_ended_mark [] = 0
+least_ended_mark (lane ∷ []) = last_of lane.ended lane.marks
+least_ended_mark (lane ∷ other ∷ lanes) = min (last_of lane.ended lane.marks) (least_ended_mark (other ∷ lanes))
 
 -- the lane with one more epoch ended
 abbrev pub with_end : LaneAudit → LaneAudit
 with_end lane = record lane { ended = lane.ended + 1 }
 
 -- each bundle of the epoch was finished
-abbrev pub all_done : ℕ → List Came → Bool
-all_done epoch came = list_all (λ c. not (c.epoch == epoch) || is_done c.stage) came
+abbrev pub is_all_done : ℕ → List Came → Bool
+is_all_done epoch came = list_all (λ c. not (c.epoch == epoch) || is_done c.stage) came
 
 -- a closing has begun and not ended
 abbrev pub is_closing : Option ℕ → Bool
@@ -95,7 +95,7 @@ may_seal lane epoch mark = (epoch == length lane.marks) && nat_le (last_of (leng
 abbrev pub may_begin : Audit → ℕ → LaneAudit → ℕ → ℕ → Bool
 may_begin a l lane epoch mark =
     not (is_closing a.closing) && ((epoch == lane.ended) && (nat_lt epoch (length lane.marks)
-    && (all_done epoch lane.came && (mark == ended_to (slice_set a.lanes l (with_end lane))))))
+    && (is_all_done epoch lane.came && (mark == least_ended_mark (slice_set a.lanes l (with_end lane))))))
 
 -- what the lines say with one line more, none if that line is not legal after them
 abbrev pub after_line : Audit → DiaryEvent → Option Audit
@@ -124,7 +124,7 @@ after_lines (e ∷ diary) a = after_line a e >>= λ b. after_lines diary b
 
 -- what the lines of the diary of a node with so many lanes say, none if one is not legal
 abbrev pub audit_of : ℕ → List DiaryEvent → Option Audit
-audit_of lanes diary = after_lines diary (fresh lanes)
+audit_of lanes diary = after_lines diary (fresh_audit lanes)
 
 -- the diary of a node with so many lanes is legal
 abbrev pub IsLegal : ℕ → List DiaryEvent → Type 0
@@ -140,10 +140,10 @@ is_lane_settled lane =
 abbrev pub is_settled : Audit → Bool
 is_settled a = not (is_closing a.closing) && list_all is_lane_settled a.lanes
 
-abbrev pub settled_after : Option Audit → Bool
-settled_after None = false
-settled_after (Some a) = is_settled a
+abbrev pub is_settled_after : Option Audit → Bool
+is_settled_after None = false
+is_settled_after (Some a) = is_settled a
 
 -- the diary is legal, and no container is left
 abbrev pub IsSettled : ℕ → List DiaryEvent → Type 0
-IsSettled lanes diary = settled_after (audit_of lanes diary) ≡ true
+IsSettled lanes diary = is_settled_after (audit_of lanes diary) ≡ true

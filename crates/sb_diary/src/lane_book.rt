@@ -2,7 +2,7 @@
 
 ghost use Rattle.std.specs.Prelude.{◌≡◌, ◌<◌, ◌+◌, ◌==◌, length, slice_index, nat_lt};
 ghost use Rattle.std.specs.List.{list_all};
-ghost use Rattle.sb_diary.specs.Books.{Answers, bundle_at, lane_after, may_close, newer, with_arrival, with_mark};
+ghost use Rattle.sb_diary.specs.Books.{Answers, bundle_at, lane_after, may_close, newer_epoch, with_arrival, with_mark};
 ghost use Rattle.sb_diary.specs.Legal as spec;
 
 use crate::bundle::{Came, Stage};
@@ -42,7 +42,7 @@ impl Model for LaneBook {
 
 // The newer of an epoch and the newest one so far.
 fn newer_of(latest: Option<u64>, epoch: u64) -> u64
-    ensures { result ≡ newer latest epoch }
+    ensures { result ≡ newer_epoch latest epoch }
 {
     match latest {
         Some(latest) => latest.max(epoch),
@@ -66,7 +66,7 @@ impl LaneBook {
     }
 
     // How many epochs are sealed.
-    fn sealed(&self) -> u64
+    fn sealed_count(&self) -> u64
         ensures { result ≡ length self.now.marks }
     {
         self.marks.len() as u64
@@ -117,7 +117,10 @@ impl LaneBook {
     fn may_arrive(&self, epoch: u64, number: u64, length: u64) -> bool
         ensures { result ≡ spec.may_arrive self.now epoch number length }
     {
-        number > 0 && number - 1 == self.came.len() as u64 && epoch >= self.sealed() && length > 0
+        number > 0
+            && number - 1 == self.came.len() as u64
+            && epoch >= self.sealed_count()
+            && length > 0
     }
 
     // A bundle comes.
@@ -144,7 +147,7 @@ impl LaneBook {
         ensures { Answers (spec.when (spec.may_seal self.old epoch mark) (with_mark mark self.old))
             self.old self.new result }
     {
-        if epoch != self.sealed() || mark < self.last_mark() {
+        if epoch != self.sealed_count() || mark < self.last_mark() {
             return Err(LineStop::NotLegal);
         }
         self.marks.push(mark)?;
@@ -219,7 +222,7 @@ impl LaneBook {
     pub fn may_close(&self, epoch: u64) -> bool
         ensures { result ≡ may_close self.now epoch }
     {
-        epoch == self.ended && epoch < self.sealed() && count_at(&self.by_epoch, epoch) == 0
+        epoch == self.ended && epoch < self.sealed_count() && count_at(&self.by_epoch, epoch) == 0
     }
 
     // Whether this epoch is the oldest that has not ended.
@@ -249,7 +252,7 @@ impl LaneBook {
         ensures { result ≡ list_all (λ c. nat_lt c.epoch (length self.now.marks)) self.now.came }
     {
         match self.latest {
-            Some(latest) => latest < self.sealed(),
+            Some(latest) => latest < self.sealed_count(),
             None => true,
         }
     }
@@ -259,6 +262,6 @@ impl LaneBook {
     pub fn is_settled(&self) -> bool
         ensures { result ≡ spec.is_lane_settled self.now }
     {
-        self.ended == self.sealed() && self.is_all_done() && self.is_all_sealed()
+        self.ended == self.sealed_count() && self.is_all_done() && self.is_all_sealed()
     }
 }

@@ -33,29 +33,30 @@ impl Model for NodeBook {
 }
 
 // The mark up to which a node with these lanes is closed.
-fn closed_to(lanes: &[LaneBook]) -> u64
-    ensures { result ≡ spec.ended_to lanes.now }
+fn least_ended_mark(lanes: &[LaneBook]) -> u64
+    ensures { result ≡ spec.least_ended_mark lanes.now }
 {
     match lanes {
         [] => 0,
         [lane] => lane.ended_mark(),
-        [lane, others @ ..] => lane.ended_mark().min(closed_to(others)),
+        [lane, others @ ..] => lane.ended_mark().min(least_ended_mark(others)),
     }
 }
 
 // The same, once one more epoch of a lane has ended.
-fn closed_with(lanes: &[LaneBook], ends: usize) -> u64
+fn least_ended_mark_after(lanes: &[LaneBook], ends: usize) -> u64
     ensures { (lane : LaneAudit) → slice_get lanes.now ends ≡ Some lane
-        → result ≡ spec.ended_to (slice_set lanes.now ends (spec.with_end lane)) }
+        → result ≡ spec.least_ended_mark (slice_set lanes.now ends (spec.with_end lane)) }
 {
     match lanes {
         [] => 0,
         [lane] => lane.next_mark(),
         [lane, others @ ..] => {
             if ends == 0 {
-                lane.next_mark().min(closed_to(others))
+                lane.next_mark().min(least_ended_mark(others))
             } else {
-                lane.ended_mark().min(closed_with(others, ends - 1))
+                lane.ended_mark()
+                    .min(least_ended_mark_after(others, ends - 1))
             }
         }
     }
@@ -71,7 +72,7 @@ fn are_settled(lanes: &[LaneBook]) -> bool
 impl NodeBook {
     // A node of so many lanes before its first line.
     pub fn new(alloc: Global, lanes: u32) -> Result<NodeBook, NoMemory>
-        ensures { IfOk result (λ book. book ≡ spec.fresh lanes) }
+        ensures { IfOk result (λ book. book ≡ spec.fresh_audit lanes) }
     {
         let mut books = Vec::new(alloc);
         for _lane in 0..lanes {
@@ -124,7 +125,7 @@ impl NodeBook {
         if self.closing.is_some() || !book.may_close(epoch) {
             return Err(LineStop::NotLegal);
         }
-        if mark != closed_with(lanes, lane as usize) {
+        if mark != least_ended_mark_after(lanes, lane as usize) {
             return Err(LineStop::NotLegal);
         }
         self.closing = Some(lane);

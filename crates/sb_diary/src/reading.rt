@@ -40,7 +40,7 @@ fn split_at_space(bytes: &[u8]) -> (&[u8], &[u8])
 }
 
 // The number that a text spells, perhaps with a plus sign or leading zeros.
-fn parsed(text: &[u8]) -> Option<u64>
+fn loose_number(text: &[u8]) -> Option<u64>
     ensures { (n : ℕ) → spec.IsNumber n text.now → result ≡ Some n }
 {
     match str::from_utf8(text) {
@@ -54,7 +54,7 @@ fn number_of(text: &[u8]) -> Option<u64>
     ensures some { IfSome result (λ n. spec.IsNumber n text.now) }
     ensures none { IfNone result ((n : ℕ) → spec.IsNumber n text.now → ⊥) }
 {
-    let number = parsed(text)?;
+    let number = loose_number(text)?;
     let mut printed = NumberBuf::new();
     printed.push_number(number);
     if printed.as_slice() == text {

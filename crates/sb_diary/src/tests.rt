@@ -38,7 +38,7 @@ const WORKED: [&str; 29] = [
 ];
 
 /// What an audit of these lines gives: how it stopped, if it did, and what it says at the end.
-fn audited(alloc: Global, lines: &[&str]) -> (Result<(), AuditStop>, AuditEnd) {
+fn outcome_of(alloc: Global, lines: &[&str]) -> (Result<(), AuditStop>, AuditEnd) {
     let mut auditor = Auditor::new(alloc);
     let mut outcome = Ok(());
     for line in lines {
@@ -47,7 +47,7 @@ fn audited(alloc: Global, lines: &[&str]) -> (Result<(), AuditStop>, AuditEnd) {
     (outcome, auditor.end())
 }
 
-fn told(transforms: u32, events: u64, settled: bool) -> AuditEnd {
+fn audit_end(transforms: u32, events: u64, settled: bool) -> AuditEnd {
     AuditEnd {
         transforms,
         events,
@@ -58,18 +58,18 @@ fn told(transforms: u32, events: u64, settled: bool) -> AuditEnd {
 #[test]
 fn legal_texts_are_told(rt: HostRuntime) -> Result<(), Fail> {
     let cases: [(&[&str], AuditEnd); 10] = [
-        (&WORKED, told(2, 27, true)),
-        (&WORKED[..28], told(2, 26, false)),
-        (&WORKED[..16], told(1, 15, true)),
-        (&[], told(0, 0, true)),
-        (&["transform 0 1"], told(1, 0, true)),
+        (&WORKED, audit_end(2, 27, true)),
+        (&WORKED[..28], audit_end(2, 26, false)),
+        (&WORKED[..16], audit_end(1, 15, true)),
+        (&[], audit_end(0, 0, true)),
+        (&["transform 0 1"], audit_end(1, 0, true)),
         // A bundle waits, and one is out; an epoch is sealed and has not ended.
-        (&["transform 0 1", "arrive 0 0 1 1"], told(1, 1, false)),
+        (&["transform 0 1", "arrive 0 0 1 1"], audit_end(1, 1, false)),
         (
             &["transform 0 1", "arrive 0 0 1 1", "take 0 1"],
-            told(1, 2, false),
+            audit_end(1, 2, false),
         ),
-        (&["transform 0 1", "seal 0 0 10"], told(1, 1, false)),
+        (&["transform 0 1", "seal 0 0 10"], audit_end(1, 1, false)),
         // A bundle was finished in an epoch that is not sealed.
         (
             &[
@@ -78,16 +78,16 @@ fn legal_texts_are_told(rt: HostRuntime) -> Result<(), Fail> {
                 "take 0 1",
                 "finish 0 1 0",
             ],
-            told(1, 3, false),
+            audit_end(1, 3, false),
         ),
         // What is left open in a diary stays so behind the next head.
         (
             &["transform 0 1", "seal 0 0 10", "transform 1 2"],
-            told(2, 1, false),
+            audit_end(2, 1, false),
         ),
     ];
     for (lines, want) in cases {
-        let (outcome, end) = audited(rt.alloc(), lines);
+        let (outcome, end) = outcome_of(rt.alloc(), lines);
         assert_eq!(rt; outcome, Ok(()), "{lines:?}");
         assert_eq!(rt; end, want, "{lines:?}");
     }
@@ -180,7 +180,7 @@ fn illegal_lines_are_refused(rt: HostRuntime) -> Result<(), Fail> {
     for lines in NOT_LEGAL {
         let line = lines.len() as u64;
         let stop = AuditStop::Fault(AuditFault::NotLegal { line });
-        let (outcome, _) = audited(rt.alloc(), lines);
+        let (outcome, _) = outcome_of(rt.alloc(), lines);
         assert_eq!(rt; outcome, Err(stop), "{lines:?}");
     }
     Ok(())
@@ -192,21 +192,21 @@ fn a_refusal_is_kept(rt: HostRuntime) -> Result<(), Fail> {
         (
             &["transform 0 3", "transform 0 1"],
             AuditFault::Malformed { line: 1 },
-            told(0, 0, true),
+            audit_end(0, 0, true),
         ),
         (
             &["transform 0 1", "seal 0 0 10", "# x", "begin 0 0 10 0"],
             AuditFault::Malformed { line: 3 },
-            told(1, 1, false),
+            audit_end(1, 1, false),
         ),
         (
             &["transform 0 1", "take 0 1", "seal 0 0 10"],
             AuditFault::NotLegal { line: 2 },
-            told(1, 0, true),
+            audit_end(1, 0, true),
         ),
     ];
     for (lines, fault, want) in cases {
-        let (outcome, end) = audited(rt.alloc(), lines);
+        let (outcome, end) = outcome_of(rt.alloc(), lines);
         assert_eq!(rt; outcome, Err(AuditStop::Fault(fault)), "{lines:?}");
         assert_eq!(rt; end, want, "{lines:?}");
     }

@@ -36,7 +36,7 @@ pub enum DiaryLine {
 }
 
 // The text of a word and numbers behind it.
-fn spelled(word: &[u8], numbers: &[u64]) -> LineBuf
+fn spelling(word: &[u8], numbers: &[u64]) -> LineBuf
     requires word { length word.now ≤ 9 }
     requires numbers { length numbers.now ≤ 4 }
     ensures { result ≡ word.now ++ spaced_text numbers.now }
@@ -60,21 +60,24 @@ fn event_bytes(event: &DiaryEvent) -> LineBuf
             epoch,
             number,
             length,
-        } => spelled(b"arrive", &[u64::from(lane), epoch, number, length]),
-        DiaryEvent::Seal { lane, epoch, mark } => spelled(b"seal", &[u64::from(lane), epoch, mark]),
-        DiaryEvent::Take { lane, number } => spelled(b"take", &[u64::from(lane), number]),
+        } => spelling(b"arrive", &[u64::from(lane), epoch, number, length]),
+        DiaryEvent::Seal { lane, epoch, mark } => spelling(
+            b"seal",
+            &[u64::from(lane), epoch, mark],
+        ),
+        DiaryEvent::Take { lane, number } => spelling(b"take", &[u64::from(lane), number]),
         DiaryEvent::Finish {
             lane,
             number,
             length,
-        } => spelled(b"finish", &[u64::from(lane), number, length]),
+        } => spelling(b"finish", &[u64::from(lane), number, length]),
         DiaryEvent::Begin {
             lane,
             epoch,
             mark,
             rows,
-        } => spelled(b"begin", &[u64::from(lane), epoch, mark, rows]),
-        DiaryEvent::End { lane, epoch } => spelled(b"end", &[u64::from(lane), epoch]),
+        } => spelling(b"begin", &[u64::from(lane), epoch, mark, rows]),
+        DiaryEvent::End { lane, epoch } => spelling(b"end", &[u64::from(lane), epoch]),
     }
 }
 
@@ -84,7 +87,7 @@ pub fn line_bytes(line: &DiaryLine) -> LineBuf
 {
     match line {
         DiaryLine::Head { node, lanes } => {
-            spelled(HEAD_WORD, &[u64::from(*node), u64::from(*lanes)])
+            spelling(HEAD_WORD, &[u64::from(*node), u64::from(*lanes)])
         }
         DiaryLine::Event(event) => event_bytes(event),
     }

@@ -29,7 +29,7 @@ use Rattle.std.proofs.lemmas.Option.{get_or_from_slice_get}
 use Rattle.sb_core.specs.Choices.{first_and_rest}
 use Rattle.sb_diary.specs.declared.event.DiaryEvent.{DiaryEvent}
 use Rattle.sb_tally.specs.Written.{diaries_with, line_after, held_line}
-use Rattle.sb_tally.specs.Keeping.{line_at, logged_at, diaries_after, if_some, diaries_by}
+use Rattle.sb_tally.specs.Keeping.{line_at, diaries_with_line, diaries_after, if_some, diaries_by}
 use Rattle.sb_hand.specs.Showing.{ShowsNode, Stands, Reaches, diaries_of}
 use Rattle.sb_hand.proofs.Calm.{node_is}
 
@@ -62,7 +62,7 @@ told-one nodes k own with line at more =
 pub told-by : (plan : Shape) (m later : Moment) (e : Event) (k : ℕ) (line : DiaryEvent) (ds : List (List DiaryEvent)) → after plan m e ≡ Some later → place_of plan e ≡ Some k
     → line_at plan m.bundle e (first_and_rest (concerns e) m.held) (node_at m k) ≡ line → diaries_with k line ds ≡ diaries_by plan (e ∷ []) m ds
 told-by plan m later e k line ds is place line_is =
-    ap (λ x. diaries_with k x ds) (sym line_is) ∙ (λ i. logged_at (sym place i) plan m e ds) ∙ (λ i. if_some (sym is i) (λ x. diaries_by plan [] x (diaries_after plan m e ds)) ds)
+    ap (λ x. diaries_with k x ds) (sym line_is) ∙ (λ i. diaries_with_line (sym place i) plan m e ds) ∙ (λ i. if_some (sym is i) (λ x. diaries_by plan [] x (diaries_after plan m e ds)) ds)
 
 module _ (plan : Shape) (is_plan : IsPlan plan) (bundle : ℕ) (nodes : List NodeState) (held : List Held) (rows : List Record) (m : Moment) (s : Stands plan bundle nodes held rows m) (k : ℕ) (own with : NodeState) (n : Node) (p : Part)
     (at : slice_get nodes k ≡ Some own) (at_m : slice_get m.nodes k ≡ Some n) where

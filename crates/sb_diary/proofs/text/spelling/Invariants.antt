@@ -1,6 +1,6 @@
 use Rattle.std.proofs.Common.{◌≡◌, ◌≤◌, ◌+◌, ◌*◌, ◌++◌, length, take}
 use Rattle.sb_diary.specs.Texts.{spaced_text}
-use Rattle.sb_diary.proofs.text.spelled.Given as goal
+use Rattle.sb_diary.proofs.text.spelling.Given as goal
 
 abbrev pub invariant-loop-number : goal.invariant-loop-number
 invariant-loop-number l = record {
