@@ -112,22 +112,41 @@ look-closes (c ∷ cs) close h = by_closing c.closing h
     by_closing true h = cc
     by_closing false h = by_mark c.mark refl h
 
+-- the first container, which may close, is that of the first epoch that has not ended
+pub record MayClose (lane : CoreLane) (close : LaneClose) : Type 0 where
+  pub first : Cont
+  pub rest : List Cont
+  pub conts : lane.conts ≡ first ∷ rest
+  pub may : closable lane.ended lane.conts ≡ Some first
+  pub epoch_is : first.epoch ≡ close.epoch
+  pub oldest : first.epoch ≡ lane.ended
+  pub mark_is : close.mark ≡ last_of_first (lane.ended + 1) lane.marks
+  pub sealed : lane.ended < length lane.marks
+
 -- the first container, once it is known which it is, by the marks ahead
-pub next_closing : (bound : ℕ) (lane : CoreLane) (close : LaneClose) → IsLane bound lane → look_of lane.conts ≡ Ok close → IsNextClosing lane close
-next_closing bound lane close ok h = go (drop lane.ended lane.marks) refl (subst (λ cs. AreContainers bound lane.ended (last_of_first lane.ended lane.marks) (drop lane.ended lane.marks) cs) closes.conts ok.containers)
+pub may-close : (bound : ℕ) (lane : CoreLane) (close : LaneClose) → IsLane bound lane → look_of lane.conts ≡ Ok close → MayClose lane close
+may-close bound lane close ok h = go (drop lane.ended lane.marks) refl (subst (λ cs. AreContainers bound lane.ended (last_of_first lane.ended lane.marks) (drop lane.ended lane.marks) cs) closes.conts ok.containers)
   where
     closes : Closes lane.conts close
     closes = look-closes lane.conts close h
 
-    go : (ms : List ℕ) → drop lane.ended lane.marks ≡ ms → AreContainers bound lane.ended (last_of_first lane.ended lane.marks) ms (closes.first ∷ closes.rest) → IsNextClosing lane close
+    go : (ms : List ℕ) → drop lane.ended lane.marks ≡ ms → AreContainers bound lane.ended (last_of_first lane.ended lane.marks) ms (closes.first ∷ closes.rest) → MayClose lane close
     go [] e are = let n : None ≡ Some close.mark = sym are.0.no_mark ∙ closes.marked in cc
     go (m ∷ ms) e are =
         let n : length (drop lane.ended lane.marks) ≡ suc (length ms) = ap length e in
         record {
           first = closes.first;
-          may_close = ap (closable lane.ended) closes.conts
+          rest = closes.rest;
+          conts = closes.conts;
+          may = ap (closable lane.ended) closes.conts
               ∙ (λ i. only_if (eq-eqb closes.first.epoch lane.ended are.0.epoch_is i && (is_some (closes.marked i) && (is_empty (closes.none_waits i) && is_empty (closes.none_out i)))) (Some closes.first));
-          epoch_is = sym closes.epoch_is ∙ are.0.epoch_is;
+          epoch_is = closes.epoch_is;
+          oldest = are.0.epoch_is;
           mark_is = same_Some close.mark m (sym closes.marked ∙ are.0.mark_is) ∙ sym (next_mark bound lane ok m ms e);
           sealed = omega (arith, n, length-drop lane.ended lane.marks);
         }
+
+pub next_closing : (bound : ℕ) (lane : CoreLane) (close : LaneClose) → IsLane bound lane → look_of lane.conts ≡ Ok close → IsNextClosing lane close
+next_closing bound lane close ok h =
+    let c = may-close bound lane close ok h in
+    record { first = c.first; may_close = c.may; epoch_is = sym c.epoch_is ∙ c.oldest; mark_is = c.mark_is; sealed = c.sealed }

@@ -94,7 +94,7 @@ impl Lane {
     }
 
     /// How many bundles have arrived.
-    pub fn arrived(&self) -> u64
+    pub fn arrived_count(&self) -> u64
         ensures { result ≡ self.now.arrived }
     {
         self.arrived
@@ -109,7 +109,7 @@ impl Lane {
     }
 
     /// How many epochs have ended.
-    pub fn ended(&self) -> u64
+    pub fn ended_count(&self) -> u64
         ensures { result ≡ self.now.ended }
     {
         self.ended

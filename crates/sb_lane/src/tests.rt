@@ -54,7 +54,7 @@ fn bundle(alloc: Global, epoch: u64, floor: u64) -> Bundle
 
 /// Puts a bundle into a lane, as an arrival or not.
 fn put(lane: &mut Lane, bundle: Bundle, arrives: bool) -> Result<Answer, AllocError> {
-    if lane.arrived() == u64::MAX {
+    if lane.arrived_count() == u64::MAX {
         return Err(AllocError);
     }
     if !arrives {
@@ -69,7 +69,7 @@ fn put(lane: &mut Lane, bundle: Bundle, arrives: bool) -> Result<Answer, AllocEr
 
 /// Ends the oldest container, if it is closing.
 fn end(lane: &mut Lane) -> Answer {
-    let sealed = lane.ended() < lane.next().0;
+    let sealed = lane.ended_count() < lane.next().0;
     match lane.look() {
         Err(NotYet::Closing { .. }) if sealed => {
             lane.end();

@@ -31,7 +31,7 @@ fn deliver_there(lane: &mut Lane, place: u64, bundle: Bundle) -> Result<u64, NoM
     ensures links { LinksStay lane.old lane.new }
     ensures same { OnErr result (lane_of lane.new ≡ lane_of lane.old) }
 {
-    if lane.arrived() == u64::MAX {
+    if lane.arrived_count() == u64::MAX {
         return Err(NoMemory);
     }
     match lane.deliver_at(place, bundle) {
@@ -54,7 +54,7 @@ fn deliver_first(lane: &mut Lane, bundle: Bundle) -> Result<(u64, u64), NoMemory
     ensures links { IfOk result (λ n. FindsPlace bundle.epoch n.0 lane.old lane.new) }
     ensures same { OnErr result (IsUnchanged lane.old lane.new) }
 {
-    if lane.arrived() == u64::MAX {
+    if lane.arrived_count() == u64::MAX {
         return Err(NoMemory);
     }
     let place = lane.place(bundle.epoch, bundle.floor)?;
@@ -86,7 +86,7 @@ impl NodeState {
         ensures same { OnErr result ((at : LaneView) → HasLane lane at self.old → Stays lane at self.old self.new) }
     {
         let into = &mut self.lanes[lane as usize];
-        if into.arrived() >= u64::MAX {
+        if into.arrived_count() >= u64::MAX {
             return Err(ArriveStop::Memory(bundle));
         }
         let (epoch, length) = (bundle.epoch, bundle.records.as_slice().len() as u64);

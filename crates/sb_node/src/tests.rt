@@ -130,7 +130,7 @@ fn begin_single(node: &mut NodeState) -> Result<Answer, NoMemory> {
 fn end(node: &mut NodeState, epoch: u64) -> Result<Answer, NoMemory> {
     node.diary.reserve(1)?;
     match node.lanes.as_slice() {
-        [own] if own.ended() < own.next().0 => match own.look() {
+        [own] if own.ended_count() < own.next().0 => match own.look() {
             Err(NotYet::Closing { .. }) => (),
             _ => return Ok(Refused),
         },
