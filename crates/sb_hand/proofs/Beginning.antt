@@ -40,7 +40,8 @@ use Rattle.sb_node.specs.Marking.{mark_for}
 use Rattle.sb_hand.specs.Sets.{HasLane, BeginsAt}
 use Rattle.sb_hand.specs.Showing.{ShowsNode, Stands, Reaches, Does, diaries_of}
 use Rattle.sb_hand.proofs.Calm.{node_is}
-use Rattle.sb_hand.proofs.LaneLaws.{MayClose, calm_before, may-close, mark_for-is}
+use Rattle.sb_lane.proofs.InTheCore.{MayClose, may-close}
+use Rattle.sb_hand.proofs.ClosingMarks.{calm_before, mark_for-is}
 use Rattle.sb_hand.proofs.ShowsKept.{StandsFor, groups-at, rows-closes, shows-closes, rows-at}
 use Rattle.std.proofs.lemmas.Option.{get_or_from_slice_get}
 use Rattle.sb_core.specs.Moments.{empty_lane}

@@ -44,7 +44,7 @@ use Rattle.sb_hand.proofs.LaneEvents.{lane_in, the_lane-is, lane-free, lane-held
 use Rattle.sb_hand.proofs.Numbers.{work_number}
 use Rattle.sb_hand.proofs.SettingsStay.{settings-lane}
 use Rattle.sb_hand.proofs.Single.{chain, passing, there-too}
-use Rattle.sb_hand.proofs.TakesFirst.{take_first-is}
+use Rattle.sb_lane.proofs.InTheCore.{take_first-is}
 
 pub below-is : (plan : Shape) (k : ℕ) (st : Step) → slice_get plan.steps k ≡ Some st → below plan k ≡ Some st.down
 below-is plan k st h = ap (λ (o : Option Step). o >>= λ s. Some s.down) h

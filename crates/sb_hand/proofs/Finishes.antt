@@ -44,7 +44,7 @@ use Rattle.sb_diary.specs.declared.event.DiaryEvent.TheVariants as line
 use Rattle.sb_hand.specs.Showing.{ShowsNode, Reaches, Does, diaries_of}
 use Rattle.sb_hand.proofs.Calm.{calm}
 use Rattle.sb_hand.proofs.LaneEvents.{lane_in, lane-held}
-use Rattle.sb_hand.proofs.LaneLaws.{finish-first}
+use Rattle.sb_lane.proofs.InTheCore.{finish_first-is}
 use Rattle.sb_hand.proofs.ShowsKept.{StandsFor, shows-adds}
 use Rattle.sb_hand.proofs.Single.{chain, passing, there-too, get-map, event-held}
 
@@ -95,7 +95,7 @@ module _ (plan : Shape) (is_plan : IsPlan plan) (bundle : ℕ) (old new : List N
       let held : List Held = Work k l epoch floor number records delivered ∷ [] in
       let in_it = lane_in plan is_plan bundle old new held rows m s k l lane t.now (line.Finish l number count) t.sets n at.1 in
       let ok = s.sound.lanes (record { node = k; lane = l }) (lane_of lane) (ap (λ (o : Option Node). o >>= λ y. slice_get y.lanes l) at.1 ∙ in_it) in
-      let is : lane_of t.now ≡ record (lane_of lane) { conts = finish_in epoch number (conts_of lane.containers) } = t.is ∙ ap (λ cs. record (lane_of lane) { conts = cs }) (finish-first (bound_at plan k) epoch number (lane_of lane) ok) in
+      let is : lane_of t.now ≡ record (lane_of lane) { conts = finish_in epoch number (conts_of lane.containers) } = t.is ∙ ap (λ cs. record (lane_of lane) { conts = cs }) (finish_first-is (bound_at plan k) epoch number (lane_of lane) ok) in
       let none : n.kept ++ kept_elements op (on_lane l records) ≡ n.kept = ap (λ es. n.kept ++ es) (absorbs_none op (on_lane l records) pardo) ∙ append-nil n.kept in
       lane-held plan is_plan bundle old new held rows m s k l lane t.now (line.Finish l number count) t.sets n at.1 (inl (ap (λ (x : CoreLane). x.marks) t.is)) (Finish k l number) (Work k l epoch floor number records delivered) [] refl (found delivered) refl
       (chain (slice_get n.lanes l) _ (lane_of lane) _ in_it
@@ -116,7 +116,7 @@ module _ (plan : Shape) (is_plan : IsPlan plan) (bundle : ℕ) (old new : List N
       let in_it : slice_get n.lanes l ≡ Some (lane_of lane) = ap (λ ls. slice_get ls l) sh.lanes ∙ get-map lane_of a.sets.own.lanes.items l lane a.sets.in_it in
       let ok = s.sound.lanes (record { node = k; lane = l }) (lane_of lane) (ap (λ (o : Option Node). o >>= λ y. slice_get y.lanes l) at.1 ∙ in_it) in
       let done_lane : CoreLane = record (lane_of lane) { conts = finish_in epoch number (conts_of lane.containers) } in
-      let is : lane_of a.now ≡ done_lane = a.lane_is ∙ ap (λ cs. record (lane_of lane) { conts = cs }) (finish-first (bound_at plan k) epoch number (lane_of lane) ok) in
+      let is : lane_of a.now ≡ done_lane = a.lane_is ∙ ap (λ cs. record (lane_of lane) { conts = cs }) (finish_first-is (bound_at plan k) epoch number (lane_of lane) ok) in
       let p : Part = only_node [] (record (set_lane l done_lane n) { kept = n.kept ++ kept_elements op (on_lane l records) }) in
       let from = work_from plan m s.sound k l epoch floor number records false s.held_is n at.1 in
       let shows : IsSound plan (with_part k [] m p) → ShowsNode op a.sets.with p.node = λ still.

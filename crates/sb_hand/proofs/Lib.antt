@@ -3,6 +3,7 @@ pub mod AtNodes
 pub mod Beginning
 pub mod Calm
 pub mod ClosingLinks
+pub mod ClosingMarks
 pub mod Composing
 pub mod Doing
 pub mod Examples
@@ -15,7 +16,6 @@ pub mod Gives
 pub mod Having
 pub mod KeptLinks
 pub mod LaneEvents
-pub mod LaneLaws
 pub mod LeftToDo
 pub mod LinkLists
 pub mod LinkedEvents
@@ -31,7 +31,6 @@ pub mod ShownLanes
 pub mod ShowsKept
 pub mod Single
 pub mod Stepwise
-pub mod TakesFirst
 pub mod Unsealed
 pub mod Whole
 pub mod Works

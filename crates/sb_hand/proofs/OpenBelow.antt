@@ -19,7 +19,7 @@ use Rattle.sb_core.specs.Closings.{is_pardo}
 use Rattle.sb_core.specs.Holdings.{is_unpassed}
 use Rattle.sb_core.specs.LaneOrder.{IsLane}
 use Rattle.sb_core.specs.Moments.{lane_at, node_at}
-use Rattle.sb_core.specs.Soundness.{IsOpenBelow, has_cont}
+use Rattle.sb_core.specs.Soundness.{IsOpenBelow, IsSound, has_cont}
 use Rattle.sb_core.proofs.sound.Orderly.{lawful_of}
 use Rattle.sb_core.proofs.sound.PutSound.{lone_has}
 use Rattle.sb_lane.specs.LaneView.{LaneView, lane_of}
@@ -60,6 +60,35 @@ below-other (ParDo op) lanes u n e f p q h = cc
 below-other (Windowed g) lanes u n e f p q h = let z : false ≡ true = sym q ∙ h.0 in cc
 below-other Sink lanes u n e f p q h = h
 
+module _ (plan : Shape) (is_plan : IsPlan plan) (m : Moment) (sound : IsSound plan m) (k : ℕ) (st : Step) (is : slice_get plan.steps k ≡ Some st) (under : LaneView) (below : lane_at m st.down ≡ Some (lane_of under)) (epoch : ℕ) (from : length under.marks ≤ epoch) where
+  opens : (j : Link) → link_in epoch (links_of under.containers) ≡ Some j → (f : ℕ) × IsOpenBelow (operator_at (slice_get plan.steps k)) (node_at m k).lanes (list_any (is_unpassed k) m.held) (length under.marks) epoch f
+  opens j h =
+      open-at (λ e f. IsOpenBelow (operator_at (slice_get plan.steps k)) (node_at m k).lanes (list_any (is_unpassed k) m.held) (length under.marks) e f) (length under.marks) epoch under.containers j
+      (sound.open_below k st (lane_of under) is below) h from
+
+  -- below a transform of single records each has one above
+  pub none-below-pardo : is_pardo (operator_at (slice_get plan.steps k)) ≡ true → (own : LaneView) → slice_get (node_at m k).lanes 0 ≡ Some (lane_of own) → link_in epoch (links_of own.containers) ≡ None → link_in epoch (links_of under.containers) ≡ None
+  none-below-pardo pardo own above none = by_link (link_in epoch (links_of under.containers)) refl
+    where
+      by_link : (o : Option Link) → link_in epoch (links_of under.containers) ≡ o → o ≡ None
+      by_link None h = refl
+      by_link (Some j) h =
+          let w = opens j h in
+          let any = below-pardo (operator_at (slice_get plan.steps k)) (node_at m k).lanes (list_any (is_unpassed k) m.held) (length under.marks) epoch w.0 pardo w.1 in
+          let one = (lawful_of sound).one_lane k pardo in
+          let mine : has_cont epoch w.0 (lane_of own) ≡ true = sym (lone_has plan is_plan m m sound (node_at m k).lanes 0 epoch w.0 (lane_of own) one above) ∙ any in
+          absurd (cont-linked own.containers epoch w.0 mine none)
+
+  -- below another there is none while none of its closings is in hand
+  pub none-below-other : is_pardo (operator_at (slice_get plan.steps k)) ≡ false → list_any (is_unpassed k) m.held ≡ false → link_in epoch (links_of under.containers) ≡ None
+  none-below-other other passed = by_link (link_in epoch (links_of under.containers)) refl
+    where
+      by_link : (o : Option Link) → link_in epoch (links_of under.containers) ≡ o → o ≡ None
+      by_link None h = refl
+      by_link (Some j) h =
+          let w = opens j h in
+          absurd (below-other (operator_at (slice_get plan.steps k)) (node_at m k).lanes (list_any (is_unpassed k) m.held) (length under.marks) epoch w.0 other passed w.1)
+
 module _ (plan : Shape) (is_plan : IsPlan plan) (bundle : ℕ) (nodes : List NodeState) (held : List Held) (rows : List Record) (m : Moment) (s : Stands plan bundle nodes held rows m) where
   pub lane-shown : (k l : ℕ) (lane : LaneView) → HasLane k l lane nodes → lane_at m (record { node = k; lane = l }) ≡ Some (lane_of lane)
   lane-shown k l lane has =
@@ -77,30 +106,10 @@ module _ (plan : Shape) (is_plan : IsPlan plan) (bundle : ℕ) (nodes : List Nod
       ap (λ (x : Node). slice_get x.lanes l) (node_is m k n.0 n.1) ∙ ap (λ ls. slice_get ls l) sh.lanes ∙ get-map lane_of has.own.lanes.items l lane has.in_it
 
   module _ (k : ℕ) (st : Step) (is : slice_get plan.steps k ≡ Some st) (under : LaneView) (has : HasLane st.down.node st.down.lane under nodes) (epoch : ℕ) (from : length under.marks ≤ epoch) where
-    opens : (j : Link) → link_in epoch (links_of under.containers) ≡ Some j → (f : ℕ) × IsOpenBelow (operator_at (slice_get plan.steps k)) (node_at m k).lanes (list_any (is_unpassed k) m.held) (length under.marks) epoch f
-    opens j h =
-        open-at (λ e f. IsOpenBelow (operator_at (slice_get plan.steps k)) (node_at m k).lanes (list_any (is_unpassed k) m.held) (length under.marks) e f) (length under.marks) epoch under.containers j
-        (s.sound.open_below k st (lane_of under) is (lane-shown st.down.node st.down.lane under has)) h from
-
-    -- below a transform of single records each has one above
     pub none-under : is_pardo (operator_at (slice_get plan.steps k)) ≡ true → (own : LaneView) → HasLane k 0 own nodes → link_in epoch (links_of own.containers) ≡ None → link_in epoch (links_of under.containers) ≡ None
-    none-under pardo own above none = by_link (link_in epoch (links_of under.containers)) refl
-      where
-        by_link : (o : Option Link) → link_in epoch (links_of under.containers) ≡ o → o ≡ None
-        by_link None h = refl
-        by_link (Some j) h =
-            let w = opens j h in
-            let any = below-pardo (operator_at (slice_get plan.steps k)) (node_at m k).lanes (list_any (is_unpassed k) m.held) (length under.marks) epoch w.0 pardo w.1 in
-            let one = (lawful_of s.sound).one_lane k pardo in
-            let mine : has_cont epoch w.0 (lane_of own) ≡ true = sym (lone_has plan is_plan m m s.sound (node_at m k).lanes 0 epoch w.0 (lane_of own) one (lane-of-node k 0 own above)) ∙ any in
-            absurd (cont-linked own.containers epoch w.0 mine none)
+    none-under pardo own above =
+        none-below-pardo plan is_plan m s.sound k st is under (lane-shown st.down.node st.down.lane under has) epoch from pardo own (lane-of-node k 0 own above)
 
-    -- below another there is none while none of its closings is in hand
     pub none-before : is_pardo (operator_at (slice_get plan.steps k)) ≡ false → held ≡ [] → link_in epoch (links_of under.containers) ≡ None
-    none-before other empty = by_link (link_in epoch (links_of under.containers)) refl
-      where
-        by_link : (o : Option Link) → link_in epoch (links_of under.containers) ≡ o → o ≡ None
-        by_link None h = refl
-        by_link (Some j) h =
-            let w = opens j h in
-            absurd (below-other (operator_at (slice_get plan.steps k)) (node_at m k).lanes (list_any (is_unpassed k) m.held) (length under.marks) epoch w.0 other (ap (list_any (is_unpassed k)) (s.held_is ∙ empty)) w.1)
+    none-before other empty =
+        none-below-other plan is_plan m s.sound k st is under (lane-shown st.down.node st.down.lane under has) epoch from other (ap (list_any (is_unpassed k)) (s.held_is ∙ empty))

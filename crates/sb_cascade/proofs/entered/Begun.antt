@@ -19,7 +19,8 @@ use Rattle.sb_node.specs.Changes.{HasLane}
 use Rattle.sb_node.specs.Looking.{NoneClosing}
 use Rattle.sb_node.specs.Marking.{mark_for}
 use Rattle.sb_hand.proofs.Beginning.{begun_part}
-use Rattle.sb_hand.proofs.LaneLaws.{MayClose, calm_before, may-close, mark_for-is}
+use Rattle.sb_lane.proofs.InTheCore.{MayClose, may-close}
+use Rattle.sb_hand.proofs.ClosingMarks.{calm_before, mark_for-is}
 use Rattle.sb_cascade.specs.declared.telling.Hands.{Hands}
 use Rattle.sb_cascade.specs.declared.telling.Setting.{Setting}
 use Rattle.sb_cascade.specs.Found.{IsFound}

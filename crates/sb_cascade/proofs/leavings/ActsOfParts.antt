@@ -34,7 +34,7 @@ use Rattle.sb_work.specs.declared.claim.Claim.{Claim}
 use Rattle.sb_work.specs.declared.outputs.Part.{Part as WorkPart}
 use Rattle.sb_hand.specs.Showing.{IsKept}
 use Rattle.sb_hand.proofs.Calm.{calm}
-use Rattle.sb_hand.proofs.LaneLaws.{finish-first}
+use Rattle.sb_lane.proofs.InTheCore.{finish_first-is}
 use Rattle.sb_hand.proofs.ShowsKept.{StandsFor, shows-adds}
 use Rattle.sb_cascade.specs.declared.telling.Change.TheVariants.{Finish}
 use Rattle.sb_cascade.specs.declared.telling.Hands.{Hands}
@@ -92,7 +92,7 @@ module _ (a : Setting) (w : Hands) (seen : ℕ) (x y : SharedView) (t : Snapshot
   p = only_node [] (record (set_lane c.lane done_lane n) { kept = n.kept ++ kept_elements op es })
 
   is : lane_of ch.own.now ≡ done_lane
-  is = ch.own.is ∙ ap (λ cs. record (lane_of lane) { conts = cs }) (finish-first (bound_at a.plan c.node) c.bundle.epoch c.bundle.number (lane_of lane) (lane_ok a w c.node x f c.lane lane has))
+  is = ch.own.is ∙ ap (λ cs. record (lane_of lane) { conts = cs }) (finish_first-is (bound_at a.plan c.node) c.bundle.epoch c.bundle.number (lane_of lane) (lane_ok a w c.node x f c.lane lane has))
 
   found : concerns (event.Finish c.node c.lane c.bundle.number) (work_of c false) ≡ true
   found = λ i. eq-eqb c.node c.node refl i && (eq-eqb c.lane c.lane refl i && eq-eqb c.bundle.number c.bundle.number refl i)

@@ -24,7 +24,7 @@ use Rattle.sb_node.specs.Changes.{Takes, Turns}
 use Rattle.sb_work.specs.declared.claim.Claim.{Claim}
 use Rattle.sb_hand.proofs.LaneEvents.{put-is}
 use Rattle.sb_hand.proofs.Single.{chain, passing}
-use Rattle.sb_hand.proofs.TakesFirst.{take_first-is}
+use Rattle.sb_lane.proofs.InTheCore.{take_first-is}
 use Rattle.sb_cascade.specs.declared.telling.Change.TheVariants.{Arrive, Seal, Take}
 use Rattle.sb_cascade.specs.declared.telling.Hands.{Hands}
 use Rattle.sb_cascade.specs.declared.telling.Setting.{Setting}

@@ -32,7 +32,7 @@ use Rattle.sb_node.specs.Changes.{Turns}
 use Rattle.sb_node.specs.declared.closing.Closing.{Closing}
 use Rattle.sb_work.specs.declared.claim.Claim.{Claim}
 use Rattle.sb_hand.proofs.LaneEvents.{put-is}
-use Rattle.sb_hand.proofs.LaneLaws.{finish-first}
+use Rattle.sb_lane.proofs.InTheCore.{finish_first-is}
 use Rattle.sb_hand.proofs.Single.{chain, passing}
 use Rattle.sb_cascade.specs.declared.telling.Change.TheVariants.{Deliver, End, Finish, Pass, Rows}
 use Rattle.sb_cascade.specs.declared.telling.Hands.{Hands}
@@ -156,7 +156,7 @@ module _ (a : Setting) (w : Hands) (seen k : ℕ) (x y : SharedView) where
       (λ f. work-is n l b.epoch b.floor b.number b.records delivered)
       (λ f. let in_it = lane-in a w seen k x y l lane later told turns f in
       let ok = f.sound.lanes (record { node = k; lane = l }) (lane_of lane) (chain (slice_get f.moment.nodes k) (λ (z : Node). slice_get z.lanes l) f.part (lane_of lane) f.there in_it) in
-      let is : finish_in b.epoch b.number (conts_of lane.containers) ≡ finish_first b.epoch b.number (conts_of lane.containers) = sym (finish-first (bound_at a.plan k) b.epoch b.number (lane_of lane) ok) in
+      let is : finish_in b.epoch b.number (conts_of lane.containers) ≡ finish_first b.epoch b.number (conts_of lane.containers) = sym (finish_first-is (bound_at a.plan k) b.epoch b.number (lane_of lane) ok) in
       let none : f.part.kept ++ kept_elements op (on_lane l b.records) ≡ f.part.kept = ap (λ es. f.part.kept ++ es) (takes_none_in op (on_lane l b.records) pardo) ∙ append-nil f.part.kept in
       chain (slice_get f.part.lanes l) _ (lane_of lane) _ in_it
       (passing _ _ _ done (λ i. Some (only_node [] (record (set_lane l (record (lane_of lane) { conts = is i }) f.part) { kept = none i })))))

@@ -24,7 +24,7 @@ use Rattle.sb_lane.specs.LaneView.{LaneView, lane_of}
 use Rattle.sb_lane.specs.Placed.{conts_of}
 use Rattle.sb_node.specs.Changes.{Takes}
 use Rattle.sb_work.specs.declared.claim.Claim.{Claim}
-use Rattle.sb_hand.proofs.TakesFirst.{take_first-is}
+use Rattle.sb_lane.proofs.InTheCore.{take_first-is}
 use Rattle.sb_cascade.specs.declared.telling.Hands.{Hands}
 use Rattle.sb_cascade.specs.declared.telling.Piece.{Piece}
 use Rattle.sb_cascade.specs.declared.telling.Setting.{Setting}
