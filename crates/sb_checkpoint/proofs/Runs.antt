@@ -242,7 +242,7 @@ low-under p B used = by_case p.streams.a p.streams.b used
     by_case false true h = omega arith
     by_case x false h = cc
 
-least-rises : (streams : Streams) (a b c d : ℕ) → a ≤ c → b ≤ d → least_of streams a b ≤ least_of streams c d
+pub least-rises : (streams : Streams) (a b c d : ℕ) → a ≤ c → b ≤ d → least_of streams a b ≤ least_of streams c d
 least-rises streams a b c d h k = by_case streams.a streams.b
   where
     by_case : (x y : Bool) → cond x (cond y (min a b) a) (cond y b 0) ≤ cond x (cond y (min c d) c) (cond y d 0)

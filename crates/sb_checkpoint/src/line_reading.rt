@@ -34,7 +34,7 @@ fn first_space(bytes: &[u8]) -> Option<usize>
 }
 
 /// The number that a text spells, perhaps with a plus sign or leading zeros.
-fn parsed(text: &[u8]) -> Option<u64>
+fn loose_number(text: &[u8]) -> Option<u64>
     ensures { (n : ℕ) → spec.IsNumber n text.now → result ≡ Some n }
 {
     match str::from_utf8(text) {
@@ -57,7 +57,7 @@ fn number_of(text: &[u8]) -> Option<u64>
     ensures some { IfSome result (λ n. spec.IsNumber n text.now) }
     ensures none { IfNone result ((n : ℕ) → spec.IsNumber n text.now → ⊥) }
 {
-    let number = parsed(text)?;
+    let number = loose_number(text)?;
     if is_number(text, number) {
         Some(number)
     } else {

@@ -1,8 +1,7 @@
 -- What is kept, and listed, with one item more.
-use Rattle.std.proofs.Common.{◌≡◌, ◌≤◌, ◌<◌, ℕ, ◌+◌, min, Bool, true, false, cond, List, [], ◌∷◌, ◌++◌, length, Option, Some, None, Result, Ok, Err, refl, sym, ap, subst, ◌∙◌, arith, append-nil, append_assoc, length-append}
-use Rattle.std.specs.List.{filter, flat_map}
+use Rattle.std.proofs.Common.{◌≡◌, ◌≤◌, ◌<◌, ℕ, ◌+◌, List, [], ◌∷◌, ◌++◌, Option, None, Result, Ok, Err, refl, sym, ap, subst, ◌∙◌, append-nil, append_assoc, length-append}
+use Rattle.std.specs.List.{filter}
 use Rattle.std.specs.Prelude.{OnErr}
-use Rattle.std.specs.Io.KnownBytes.{IsAtEnd}
 use Rattle.std.proofs.lemmas.List.Concat.{flat_map-append}
 use Rattle.std.proofs.lemmas.List.Elements.{filter-append}
 use Rattle.sb_record.specs.declared.intake.Stop.{Stop}
@@ -11,36 +10,22 @@ use Rattle.sb_record.specs.declared.item.Dropped.{Dropped}
 use Rattle.sb_record.specs.declared.item.Item.{Item}
 use Rattle.sb_record.specs.declared.item.Item.TheVariants.{Rec, Mark, Skip, Late}
 use Rattle.sb_record.specs.declared.item.Stream.TheVariants.{A, B}
-use Rattle.sb_record.specs.declared.item.Streams.{Streams}
-use Rattle.sb_record.specs.Inputs.{Accepted}
 use Rattle.sb_record.specs.Intake.{after, mark_of, answer_to}
 use Rattle.sb_record.specs.Progress.{Progress}
 use Rattle.sb_record.specs.Streams.{dropped_in, dropped_of, last_watermark, least_of}
-use Rattle.sb_outside.specs.declared.lines.Halt.{Halt}
-use Rattle.sb_outside.specs.declared.lines.Halt.TheVariants as halt
-use Rattle.sb_outside.specs.Lines.{lines}
-use Rattle.sb_outside.specs.Readings.{Held, reading, rest_of_lines}
+use Rattle.sb_outside.specs.Readings.{Held, reading}
 use Rattle.sb_pipeline.specs.Shapes.{Shape, streams_of}
 use Rattle.sb_feed.specs.FedByItems.{IsTimely}
-use Rattle.sb_feed.specs.Given.{Given, items_of}
-use Rattle.sb_feed.specs.Reads.{IsGoing, StopsReading, TakesItem}
-use Rattle.sb_feed.proofs.LaterItems.{GoesOnTo, accepted_goes_on, following, mark_rises, mark_then, said_by, starting, tested_is_timely}
+use Rattle.sb_feed.specs.Reads.{StopsReading, TakesItem}
+use Rattle.sb_feed.proofs.FedSoFar.{dropped_more, given_so_far}
+use Rattle.sb_feed.proofs.LaterItems.{mark_rises, mark_then, said_by, tested_is_timely}
 use Rattle.sb_feed.proofs.ReadSoFar.{ReadSoFar, read_more, read_nothing, reading_stops}
-use Rattle.sb_feed.proofs.ReadSteps.{ended_by, may_end}
 use Rattle.sb_checkpoint.specs.Checkpoints.{is_kept, kept_of, low_of}
 use Rattle.sb_checkpoint.specs.Keeping.{Kept, kept_after, low_in, with_item}
 use Rattle.sb_checkpoint.specs.Reach.{reach}
 use Rattle.sb_checkpoint.proofs.Keepings.{kept_again, kept_behind}
+use Rattle.sb_checkpoint.proofs.Runs.{least-rises}
 use Rattle.sb_cut.specs.Saves.{Gathers, GathersNone}
-
-least-rises : (streams : Streams) (a b c d : ℕ) → a ≤ c → b ≤ d → least_of streams a b ≤ least_of streams c d
-least-rises streams a b c d h k = by_case streams.a streams.b
-  where
-    by_case : (x y : Bool) → cond x (cond y (min a b) a) (cond y b 0) ≤ cond x (cond y (min c d) c) (cond y d 0)
-    by_case true true = omega arith
-    by_case true false = h
-    by_case false true = k
-    by_case false false = omega arith
 
 -- an item in time lowers no low watermark
 pub low_rises : (plan : Shape) (items : List Item) (i : Item) → IsTimely (streams_of plan) items i → low_of plan items ≤ low_of plan (items ++ i ∷ [])
@@ -105,29 +90,6 @@ pub gathered_nothing : (plan : Shape) (left : Option (List ℕ)) (held : Held) (
 gathered_nothing plan left held p faults kept dropped nothing said none =
     record { items = []; read = read_nothing plan left held p faults nothing said; kept_is = none; listed = sym (append-nil dropped) }
 
--- the late record that the item is, if it is one
-listed_more : (items : List Item) (i : Item) (start dropped dropped' : List Dropped) → dropped ≡ start ++ dropped_of items → dropped' ≡ dropped ++ dropped_in i → dropped' ≡ start ++ dropped_of (items ++ i ∷ [])
-listed_more items i start dropped dropped' listed is =
-    is ∙ ap (λ l. l ++ dropped_in i) listed ∙ append_assoc start (dropped_of items) (dropped_in i)
-    ∙ ap (λ l. start ++ l) (sym (flat_map-append dropped_in items (i ∷ []) ∙ ap (λ l. dropped_of items ++ l) (append-nil (dropped_in i))))
-
--- the lines so far as what was given
-given_so_far : (plan : Shape) (left left' : Option (List ℕ)) (held : Held) (p : Progress) (items : List Item) (faults faults' : ℕ) → ReadSoFar plan left left' held p items faults faults'
-    → (given : Given left left') × GoesOnTo items (items_of plan given)
-given_so_far plan left left' held p items faults faults' t = (
-  record { bytes = t.bytes; were_left = t.given; ended = ended_by held.halt; at_end = at_end held.halt t.going },
-  subst (λ a. GoesOnTo items a) (sym (ap (λ (a : Accepted). a.items) are)) (accepted_goes_on plan (rest_of_lines held.halt held.at_hand (ended_by held.halt) []) items),
-)
-  where
-    at_end : (h : Option Halt) → IsGoing h left' → ended_by h ≡ true → IsAtEnd left'
-    at_end None going e = absurd (cc e)
-    at_end (Some halt.End) going e = going
-    at_end (Some halt.TooLong) going e = absurd going
-    at_end (Some halt.Fault) going e = absurd going
-
-    are : starting plan (lines (ended_by held.halt) t.bytes) ≡ following plan items (rest_of_lines held.halt held.at_hand (ended_by held.halt) [])
-    are = ap (λ l. starting plan (lines (ended_by held.halt) l)) (sym (append-nil t.bytes)) ∙ t.accepts (ended_by held.halt) [] (may_end held.halt)
-
 -- the list ends with what these items say, all of which were accepted
 none_of : (plan : Shape) (left left' : Option (List ℕ)) (held : Held) (p : Progress) (items more : List Item) (faults faults' : ℕ) (start dropped : List Dropped)
     → ReadSoFar plan left left' held p (items ++ more) faults faults' → dropped ≡ start ++ dropped_of items → GathersNone plan left left' start dropped
@@ -161,7 +123,7 @@ module _ {S : Type 0} (left_of : S → Option (List ℕ)) (plan : Shape) (left :
   pub gathered_more : (i : Item) (kept' : Kept) (dropped' : List Dropped) → TakesItem left_of (reading source held) (reading source' held') p p' i → faults2 ≡ faults' → p.lines < MAX_LINES
       → kept' ≡ with_item i kept → dropped' ≡ dropped ++ dropped_in i → GatheredSoFar plan left (left_of source') held' p' faults faults2 kept' start dropped'
   gathered_more i kept' dropped' takes same room is listed =
-      record { items = h.items ++ i ∷ []; read = read_one i takes same room; kept_is = is ∙ is_more i takes; listed = listed_more h.items i start dropped dropped' h.listed listed }
+      record { items = h.items ++ i ∷ []; read = read_one i takes same room; kept_is = is ∙ is_more i takes; listed = dropped_more h.items i start dropped dropped' h.listed listed }
 
   -- reading stopped
   pub gathered_all : (stop : Stop) → StopsReading left_of (reading source held) (reading source' held') p p' stop → Gathers plan left (left_of source') kept stop start dropped
@@ -181,4 +143,4 @@ module _ {S : Type 0} (left_of : S → Option (List ℕ)) (plan : Shape) (left :
   gathered_listed i dropped' takes same room listed =
       none_of plan left (left_of source') held' p' (h.items ++ i ∷ []) [] faults faults2 start dropped'
       (subst (λ l. ReadSoFar plan left (left_of source') held' p' l faults faults2) (sym (append-nil (h.items ++ i ∷ []))) (read_one i takes same room))
-      (listed_more h.items i start dropped dropped' h.listed listed)
+      (dropped_more h.items i start dropped dropped' h.listed listed)

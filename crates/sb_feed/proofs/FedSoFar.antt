@@ -47,7 +47,7 @@ pub record Around (S O : Type 0) : Type 0 where
   pub dropped : List Dropped
 
 -- ---- what was given so far
-given_so_far : (plan : Shape) (left left' : Option (List ℕ)) (held : Held) (p : Progress) (items : List Item) (faults faults' : ℕ) → ReadSoFar plan left left' held p items faults faults'
+pub given_so_far : (plan : Shape) (left left' : Option (List ℕ)) (held : Held) (p : Progress) (items : List Item) (faults faults' : ℕ) → ReadSoFar plan left left' held p items faults faults'
     → (given : Given left left') × GoesOnTo items (items_of plan given)
 given_so_far plan left left' held p items faults faults' t = (
   record { bytes = t.bytes; were_left = t.given; ended = ended_by held.halt; at_end = at_end held.halt t.going },
@@ -63,7 +63,8 @@ given_so_far plan left left' held p items faults faults' t = (
     are : starting plan (lines (ended_by held.halt) t.bytes) ≡ following plan items (rest_of_lines held.halt held.at_hand (ended_by held.halt) [])
     are = ap (λ l. starting plan (lines (ended_by held.halt) l)) (sym (append-nil t.bytes)) ∙ t.accepts (ended_by held.halt) [] (nothing_may_come held.halt)
 
-dropped_more : (items : List Item) (i : Item) (before now next : List Dropped) → now ≡ before ++ dropped_of items → next ≡ now ++ dropped_in i → next ≡ before ++ dropped_of (items ++ i ∷ [])
+-- the late record that the item is, if it is one
+pub dropped_more : (items : List Item) (i : Item) (before now next : List Dropped) → now ≡ before ++ dropped_of items → next ≡ now ++ dropped_in i → next ≡ before ++ dropped_of (items ++ i ∷ [])
 dropped_more items i before now next so_far one =
     one ∙ ap (λ l. l ++ dropped_in i) so_far ∙ append_assoc before (dropped_of items) (dropped_in i)
     ∙ ap (λ l. before ++ l) (sym (flat_map-append dropped_in items (i ∷ []) ∙ ap (λ l. dropped_of items ++ l) (append-nil (dropped_in i))))
