@@ -37,17 +37,17 @@ abbrev pub hands : CascadePass → Hands
 hands p = (view_of p).client
 
 -- how many records a bundle in hand gave, once they are delivered
-abbrev pub given_by : Setting → Option Held → Option ℕ
-given_by a None = None
-given_by a (Some (Work node lane epoch floor number records true)) =
+abbrev pub given_count : Setting → Option Held → Option ℕ
+given_count a None = None
+given_count a (Some (Work node lane epoch floor number records true)) =
     Some (length (delivery (operator_of a node) records))
-given_by a (Some (Work node lane epoch floor number records false)) = None
-given_by a (Some (Close node lane epoch serial floor mark rows passed)) = None
+given_count a (Some (Work node lane epoch floor number records false)) = None
+given_count a (Some (Close node lane epoch serial floor mark rows passed)) = None
 
 -- what the pass has at run time is what its view lists
 pub record Knows (c : Cascade) (p : CascadePass) : Type 0 where
   pub link : p.link ≡ (hands p).link
-  pub delivered : p.delivered ≡ given_by c.setting (hands p).held
+  pub delivered : p.delivered ≡ given_count c.setting (hands p).held
   pub kept : IfSome p.kept (λ claim. IsClaim c.setting claim × ((hands p).held ≡ Some (work_of claim false)))
 
 -- the pass is of the cascade, and has no turn

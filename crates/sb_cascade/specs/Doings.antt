@@ -33,24 +33,25 @@ pub data Doing : Type 0 where
   Of : (e : Event) (h : Held) → Doing
 
 -- of a leaving of node k
-abbrev pub doing : ℕ → Change → Doing
-doing k (Arrive stream records) = Fresh (event.Arrive stream records.value)
-doing k (Seal stream mark) = Fresh (event.Seal stream mark)
-doing k (Take c link) = Fresh (event.Take k c.value.lane c.value.bundle.number)
-doing k (Deliver c place) = Of (event.Deliver c.value.node c.value.lane c.value.bundle.number) (work_of c.value false)
-doing k (Finish c delivered) =
+abbrev pub doing_of : ℕ → Change → Doing
+doing_of k (Arrive stream records) = Fresh (event.Arrive stream records.value)
+doing_of k (Seal stream mark) = Fresh (event.Seal stream mark)
+doing_of k (Take c link) = Fresh (event.Take k c.value.lane c.value.bundle.number)
+doing_of k (Deliver c place) =
+    Of (event.Deliver c.value.node c.value.lane c.value.bundle.number) (work_of c.value false)
+doing_of k (Finish c delivered) =
     Of (event.Finish c.value.node c.value.lane c.value.bundle.number) (work_of c.value delivered)
-doing k (Begin c passed) = Fresh (event.Begin k c.value.lane)
-doing k (Rows c first most place) =
+doing_of k (Begin c passed) = Fresh (event.Begin k c.value.lane)
+doing_of k (Rows c first most place) =
     Of (event.Deliver c.value.node c.value.lane 0) (close_of c.value (drop first c.value.rows.items) false)
-doing k (Pass c) = Of (event.Pass c.value.node) (close_of c.value [] false)
-doing k (End c) = Of (event.End c.value.node) (close_of c.value [] true)
-doing k Idle = Quiet
-doing k (NotYet why) = Quiet
-doing k (Full lane) = Quiet
-doing k (Drain rows) = Quiet
-doing k Spent = Quiet
-doing k Nothing = Quiet
+doing_of k (Pass c) = Of (event.Pass c.value.node) (close_of c.value [] false)
+doing_of k (End c) = Of (event.End c.value.node) (close_of c.value [] true)
+doing_of k Idle = Quiet
+doing_of k (NotYet why) = Quiet
+doing_of k (Full lane) = Quiet
+doing_of k (Drain rows) = Quiet
+doing_of k Spent = Quiet
+doing_of k Nothing = Quiet
 
 abbrev pub is_done : Doing → Bool
 is_done Quiet = false
@@ -59,7 +60,7 @@ is_done (Of e h) = true
 
 -- whether the change is an event
 abbrev pub is_event : Change → Bool
-is_event c = is_done (doing 0 c)
+is_event c = is_done (doing_of 0 c)
 
 -- what a leaving makes of its node's part, if its condition holds
 abbrev pub part_by : Setting → Doing → Node → Option Part
@@ -82,23 +83,23 @@ pub record Story : Type 0 where
 abbrev pub replay : Setting → ℕ → List Change → Story → Option Story
 replay a k [] s = Some s
 replay a k (c ∷ cs) s =
-    part_by a (doing k c) s.node >>= λ p.
-    replay a k cs (record { node = p.node; lines = s.lines ++ lines_by a (doing k c) s.node })
+    part_by a (doing_of k c) s.node >>= λ p.
+    replay a k cs (record { node = p.node; lines = s.lines ++ lines_by a (doing_of k c) s.node })
 
 -- the rows that the feeder drains by a leaving
-abbrev pub drained_by : Change → List Record
-drained_by (Drain rows) = rows.value
-drained_by (Arrive stream records) = []
-drained_by (Seal stream mark) = []
-drained_by (Take c link) = []
-drained_by (Deliver c place) = []
-drained_by (Finish c delivered) = []
-drained_by (Begin c passed) = []
-drained_by (Rows c first most place) = []
-drained_by (Pass c) = []
-drained_by (End c) = []
-drained_by Idle = []
-drained_by (NotYet why) = []
-drained_by (Full lane) = []
-drained_by Spent = []
-drained_by Nothing = []
+abbrev pub drained_rows : Change → List Record
+drained_rows (Drain rows) = rows.value
+drained_rows (Arrive stream records) = []
+drained_rows (Seal stream mark) = []
+drained_rows (Take c link) = []
+drained_rows (Deliver c place) = []
+drained_rows (Finish c delivered) = []
+drained_rows (Begin c passed) = []
+drained_rows (Rows c first most place) = []
+drained_rows (Pass c) = []
+drained_rows (End c) = []
+drained_rows Idle = []
+drained_rows (NotYet why) = []
+drained_rows (Full lane) = []
+drained_rows Spent = []
+drained_rows Nothing = []

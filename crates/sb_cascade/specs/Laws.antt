@@ -17,7 +17,7 @@ use Rattle.sb_cascade.specs.declared.telling.Change.{Change}
 use Rattle.sb_cascade.specs.declared.telling.Hands.{Hands}
 use Rattle.sb_cascade.specs.declared.telling.Piece.{Piece}
 use Rattle.sb_cascade.specs.declared.telling.Setting.{Setting}
-use Rattle.sb_cascade.specs.Doings.{Doing, Quiet, Fresh, Of, doing, is_event}
+use Rattle.sb_cascade.specs.Doings.{Doing, Quiet, Fresh, Of, doing_of, is_event}
 use Rattle.sb_cascade.specs.Leavings.{Does}
 use Rattle.sb_cascade.specs.SharedNodes.{SharedView}
 use Rattle.sb_cascade.specs.Shown.{ShowsMoment, moment_of}
@@ -50,7 +50,7 @@ EachLeavingIsOneEvent =
     → seen ≤ status → length logs ≡ length states → get_elem? states k ≡ some x → get_elem? views id ≡ some w
     → (later : ShowsMoment a shelf status (slice_set states k y) (logs_after is_event k c logs)
     (slice_set views id (after w k c)))
-    × IsLeaving a.plan (doing k c) (shown_by r) (shown_by later)
+    × IsLeaving a.plan (doing_of k c) (shown_by r) (shown_by later)
 
 -- a bundle was taken from a lane, and is not done with
 abbrev pub IsTaken : Moment → Down → ℕ → Type 0

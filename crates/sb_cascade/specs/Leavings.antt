@@ -16,7 +16,7 @@ use Rattle.sb_cascade.specs.declared.telling.Change.TheVariants.{End}
 use Rattle.sb_cascade.specs.declared.telling.Change.TheVariants.{Idle, NotYet, Full, Drain, Spent, Nothing}
 use Rattle.sb_cascade.specs.declared.telling.Hands.{Hands}
 use Rattle.sb_cascade.specs.declared.telling.Setting.{Setting}
-use Rattle.sb_cascade.specs.Doings.{Doing, Quiet, Fresh, Of, doing, drained_by, lines_by}
+use Rattle.sb_cascade.specs.Doings.{Doing, Quiet, Fresh, Of, doing_of, drained_rows, lines_by}
 use Rattle.sb_cascade.specs.Found.{IsFound}
 use Rattle.sb_cascade.specs.Linked.{LinksBy}
 use Rattle.sb_cascade.specs.SharedNodes.{SharedView}
@@ -84,17 +84,17 @@ Feeds w w' d rows = FeedsNothing w w' d rows ⊎ FeedsThis w w' d rows
 pub record DoesPart (a : Setting) (w w' : Hands) (seen k : ℕ) (x y : SharedView) (c : Change) (p : Node)
     : Type 0 where
   pub q : Part
-  pub may : May a k w w' p (doing k c) q
+  pub may : May a k w w' p (doing_of k c) q
   pub shows : ShowsPart (operator_of a k) y q.node
-  pub lines : y.own.diary.events ≡ x.own.diary.events ++ lines_by a (doing k c) p
+  pub lines : y.own.diary.events ≡ x.own.diary.events ++ lines_by a (doing_of k c) p
   pub settings : settings_in y ≡ settings_in x
-  pub tray : drained_by c ++ y.tray ≡ x.tray ++ q.rows
-  pub rows : k ≢ length a.plan.steps → (q.rows ≡ []) × (drained_by c ≡ [])
-  pub dry : (drained_by c ≡ []) ⊎ (y.tray ≡ [])
+  pub tray : drained_rows c ++ y.tray ≡ x.tray ++ q.rows
+  pub rows : k ≢ length a.plan.steps → (q.rows ≡ []) × (drained_rows c ≡ [])
+  pub dry : (drained_rows c ≡ []) ⊎ (y.tray ≡ [])
   pub spent : y.spent ≡ true → (x.spent ≡ true) ⊎ (3 ≤ seen)
 
 -- a leaving of node k by a pass that knows w is its change, whatever part the state was found to show
 pub record Does (a : Setting) (w : Hands) (seen k : ℕ) (x y : SharedView) (c : Change) : Type 0 where
-  pub feeds : Feeds w (after w k c) (doing k c) (drained_by c)
+  pub feeds : Feeds w (after w k c) (doing_of k c) (drained_rows c)
   pub part : (f : IsFound a w k x) → DoesPart a w (after w k c) seen k x y c f.part
   pub links : LinksBy a w k x y c

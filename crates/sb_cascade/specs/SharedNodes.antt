@@ -91,12 +91,12 @@ pub record PutsAt (epoch place : ℕ) (was is : LaneView) : Type 0 where
   pub stands : StandsAt epoch place is.containers
 
 -- the links, with that of an epoch set to a place below, if that is known and it had none
-abbrev pub linked_once : Option ℕ → ℕ → List Link → List Link
-linked_once None epoch links = links
-linked_once (Some place) epoch links = if is_some (down_of epoch links) then links else with_link epoch place links
+abbrev pub with_link_once : Option ℕ → ℕ → List Link → List Link
+with_link_once None epoch links = links
+with_link_once (Some place) epoch links = if is_some (down_of epoch links) then links else with_link epoch place links
 
 abbrev pub FinishesLinked : ℕ → Option ℕ → LaneView → LaneView → Type 0
-FinishesLinked epoch link was is = links_of is.containers ≡ linked_once link epoch (links_of was.containers)
+FinishesLinked epoch link was is = links_of is.containers ≡ with_link_once link epoch (links_of was.containers)
 
 -- a closing begins, of the oldest container of a lane; its rows are in it, or of the sink's in the tray
 pub record BeginsAt (sink : Bool) (c : Closing) (old new : SharedView) : Type 0 where

@@ -4,7 +4,7 @@ use Rattle.std.specs.List.{AllByRecursion}
 use Rattle.sb_turn.specs.declared.shelf.TheConstants.{PLACES}
 use Rattle.sb_turn.specs.declared.turns.Entry.{Entry}
 use Rattle.sb_turn.specs.declared.turns.Entry.TheVariants as entry
-use Rattle.sb_turn.specs.Turning.{looked_from}
+use Rattle.sb_turn.specs.Turning.{looks_from}
 use Rattle.sb_work.specs.declared.claim.Claim.{Claim}
 use Rattle.sb_cascade.specs.declared.pass.CascadePass.{CascadePass}
 use Rattle.sb_cascade.specs.declared.telling.Change.{Change}
@@ -33,13 +33,13 @@ EndsWith last p q = (more : List (Entry Change)) × AllByRecursion (λ e. is_sea
 -- each of the 64 places was looked at, and was not free
 abbrev pub FoundNoneFree : CascadePass → CascadePass → Type 0
 FoundNoneFree p q =
-    (words : List ℕ) × (length words ≡ PLACES) × All (λ w. w ≢ 0) words × EndsWith (looked_from 0 words) p q
+    (words : List ℕ) × (length words ≡ PLACES) × All (λ w. w ≢ 0) words × EndsWith (looks_from 0 words) p q
 
 -- and was not full; the pass kept none
 abbrev pub FoundNoneFull : CascadePass → CascadePass → Type 0
 FoundNoneFull p q =
     (p.kept ≡ None) × ((words : List ℕ) × (length words ≡ PLACES) × All (λ w. w ≢ 2) words
-    × ((view_of q).trace ≡ (view_of p).trace ++ looked_from 0 words))
+    × ((view_of q).trace ≡ (view_of p).trace ++ looks_from 0 words))
 
 -- the pass keeps a bundle: the one that it kept before, and it did nothing, or one of the node for which it found no
 -- place
@@ -56,4 +56,4 @@ WasIdle node p q = (lines : ℕ) × EndsWith (entry.Left node lines change.Idle 
 abbrev pub ClaimedOne : Claim → CascadePass → CascadePass → Type 0
 ClaimedOne claim p q =
     ((p.kept ≡ Some claim) × (view_of q ≡ view_of p)) ⊎ ((p.kept ≡ None) × ((words : List ℕ) × (length words < PLACES)
-    × ((view_of q).trace ≡ (view_of p).trace ++ (looked_from 0 words ++ entry.Claimed (length words) ∷ []))))
+    × ((view_of q).trace ≡ (view_of p).trace ++ (looks_from 0 words ++ entry.Claimed (length words) ∷ []))))

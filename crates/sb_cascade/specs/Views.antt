@@ -55,8 +55,8 @@ with_drained rows f = record f { drained = f.drained ++ rows }
 abbrev pub hands_with : Held → Option ℕ → Hands → Hands
 hands_with h link w = record w { held = Some h; link = link }
 
-abbrev pub empty_handed : Hands → Hands
-empty_handed w = record w { held = None; link = None }
+abbrev pub with_empty_hands : Hands → Hands
+with_empty_hands w = record w { held = None; link = None }
 
 -- what a pass knows after it left node k with a change
 abbrev pub after : Hands → ℕ → Change → Hands
@@ -64,12 +64,12 @@ after w k (Arrive stream records) = record w { feed = with_bundle stream records
 after w k (Seal stream mark) = record w { feed = with_mark stream mark w.feed }
 after w k (Take c link) = hands_with (work_of c.value false) link w
 after w k (Deliver c place) = hands_with (work_of c.value true) (Some place) w
-after w k (Finish c delivered) = empty_handed w
+after w k (Finish c delivered) = with_empty_hands w
 after w k (Begin c passed) = hands_with (close_of c.value c.value.rows.items passed) None w
 after w k (Rows c first most place) =
     hands_with (close_of c.value (drop most (drop first c.value.rows.items)) false) (Some place) w
 after w k (Pass c) = hands_with (close_of c.value [] true) None w
-after w k (End c) = empty_handed w
+after w k (End c) = with_empty_hands w
 after w k Idle = w
 after w k (NotYet why) = w
 after w k (Full lane) = w
@@ -79,19 +79,19 @@ after w k Nothing = w
 
 -- after it laid a bundle on the shelf, and after it claimed one
 abbrev pub hands_after_put : Hands → Piece → Hands
-hands_after_put w p = empty_handed w
+hands_after_put w p = with_empty_hands w
 
 abbrev pub hands_after_claim : Hands → Piece → Hands
 hands_after_claim w p = hands_with (work_of p.claim false) p.link w
 
 -- the one thing, if there is one
-abbrev pub listed : {X : Type 0} → Option X → List X
-listed None = []
-listed (Some x) = x ∷ []
+abbrev pub as_list : {X : Type 0} → Option X → List X
+as_list None = []
+as_list (Some x) = x ∷ []
 
 -- what a pass has in hand, and what a bundle on the shelf is in the core
 abbrev pub held_by : Hands → List Held
-held_by w = listed w.held
+held_by w = as_list w.held
 
 abbrev pub work_on : Piece → List Held
 work_on p = work_of p.claim false ∷ []

@@ -21,7 +21,7 @@ fn read(alloc: Global, keys: Keys, text: &[u8]) -> Result<Checkpoint, Checkpoint
 }
 
 /// The text of a checkpoint.
-fn written(alloc: Global, checkpoint: &Checkpoint) -> Result<MemSink, Fail> {
+fn text_sink(alloc: Global, checkpoint: &Checkpoint) -> Result<MemSink, Fail> {
     let mut sink = MemSink::new(alloc, Vec::new(alloc), Vec::new(alloc));
     write_checkpoint(checkpoint, &mut sink).map_err(|_| AllocError)?;
     Ok(sink)
@@ -72,7 +72,7 @@ fn whole_texts_are_read(rt: HostRuntime) -> Result<(), Fail> {
     for (keys, text) in cases {
         match read(rt.alloc(), keys, text) {
             Ok(checkpoint) => {
-                assert_eq!(rt; written(rt.alloc(), &checkpoint)?.taken(), text);
+                assert_eq!(rt; text_sink(rt.alloc(), &checkpoint)?.taken(), text);
             }
             Err(stop) => assert_eq!(rt; stop, CheckpointStop::Memory, "{text:?}"),
         }

@@ -19,7 +19,7 @@ fn record(time: u64, value: i64) -> Item {
     Item::Rec(Stream::A, row(time, value))
 }
 
-fn of_a(time: u64, value: i64) -> StreamRec {
+fn record_of_a(time: u64, value: i64) -> StreamRec {
     StreamRec {
         stream: Stream::A,
         rec: row(time, value),
@@ -36,7 +36,7 @@ fn sink(alloc: Global) -> MemSink {
 }
 
 /// The text of the checkpoint of these items, one of each line, for sums over windows of 10.
-fn saved(alloc: Global, items: &[Item]) -> Result<MemSink, Fail> {
+fn checkpoint_sink(alloc: Global, items: &[Item]) -> Result<MemSink, Fail> {
     let plan = sum_plan(alloc, 10).map_err(|_| AllocError)?;
     let mut sink = sink(alloc);
     if !has_session(&plan) {
@@ -81,7 +81,7 @@ fn texts_of_checkpoints(rt: HostRuntime) -> Result<(), Fail> {
         ),
     ];
     for (items, want) in cases {
-        assert_eq!(rt; saved(rt.alloc(), items)?.taken(), want);
+        assert_eq!(rt; checkpoint_sink(rt.alloc(), items)?.taken(), want);
     }
     Ok(())
 }
@@ -109,7 +109,7 @@ fn what_was_kept_comes_before_the_rest(rt: HostRuntime) -> Result<(), Fail> {
     ];
     for (lines, want) in cases {
         for piece in [1, 7, 16] {
-            let records = vec![in alloc; of_a(3, 5), of_a(12, 4)]?;
+            let records = vec![in alloc; record_of_a(3, 5), record_of_a(12, 4)]?;
             let checkpoint = Checkpoint {
                 lines,
                 low: 10,

@@ -36,7 +36,7 @@ fn sink(alloc: Global) -> MemSink {
 }
 
 /// What is saved of an input, for sums over windows of 10.
-fn saved(alloc: Global, input: &mut MemSource) -> Result<Option<Saved>, Fail>
+fn saved_part(alloc: Global, input: &mut MemSource) -> Result<Option<Saved>, Fail>
     ensures { IfOk result (λ some. IfSome some (λ s. length (items_in s.checkpoint) ≤ s.checkpoint.lines)) }
 {
     let plan = sum_plan(alloc, 10).map_err(|_| AllocError)?;
@@ -76,7 +76,7 @@ fn what_is_saved_of_a_first_part(rt: HostRuntime) -> Result<(), Fail> {
     ];
     for (text, failing, stop, want) in cases {
         let mut input = source(alloc, text, failing)?;
-        let Some(saved) = saved(alloc, &mut input)? else {
+        let Some(saved) = saved_part(alloc, &mut input)? else {
             continue;
         };
         let mut sink = sink(alloc);
@@ -158,7 +158,7 @@ fn the_rest_writes_the_rows_from_there_on(rt: HostRuntime) -> Result<(), Fail> {
     for (text, refused, rows) in cases {
         for workers in [1, 2] {
             let mut first = source(alloc, FIRST, &[])?;
-            let Some(saved) = saved(alloc, &mut first)? else {
+            let Some(saved) = saved_part(alloc, &mut first)? else {
                 continue;
             };
             let plan = sum_plan(alloc, 10).map_err(|_| AllocError)?;

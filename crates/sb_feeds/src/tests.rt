@@ -29,13 +29,13 @@ fn mark(time: u64) -> Fed {
     Fed::Item(Item::Mark(Stream::A, time))
 }
 
-fn late(line: u64, time: u64, mark: u64) -> Fed {
+fn late_item(line: u64, time: u64, mark: u64) -> Fed {
     Fed::Item(Item::Late { line, time, mark })
 }
 
 const END: Fed = Fed::Stop(FeedStop::End);
 
-fn refused(refusal: Refusal) -> Fed {
+fn refusal_stop(refusal: Refusal) -> Fed {
     Fed::Stop(FeedStop::Refused(refusal))
 }
 
@@ -60,7 +60,7 @@ fn receive<R: Wait>(rt: &R, alloc: Global, inward: &mut FeedIn) -> Result<Vec<Fe
 }
 
 /// The values of a file that one thread feeds, as another receives them.
-fn fed_across<R: Threads + Wait + Sync>(
+fn values_across<R: Threads + Wait + Sync>(
     rt: &R,
     alloc: Global,
     text: &[u8],
@@ -88,8 +88,8 @@ fn fed_across<R: Threads + Wait + Sync>(
 
 #[test]
 fn a_file_goes_through_the_ring(rt: HostRuntime) -> Result<(), Fail> {
-    let malformed = refused(Refusal::Malformed { line: 2 });
-    let too_long = refused(Refusal::TooLong { line: 1 });
+    let malformed = refusal_stop(Refusal::Malformed { line: 2 });
+    let too_long = refusal_stop(Refusal::TooLong { line: 1 });
     for (text, values) in [
         (b"".as_slice(), [END].as_slice()),
         (
@@ -98,14 +98,14 @@ fn a_file_goes_through_the_ring(rt: HostRuntime) -> Result<(), Fail> {
         ),
         (
             b"# a comment\nw,a,10\nr,a,9,1,1\n",
-            &[mark(10), late(3, 9, 10), END],
+            &[mark(10), late_item(3, 9, 10), END],
         ),
         (b"r,a,3,1,5\r\nw,a,4\r\n", &[record(3, 5), mark(4), END]),
         (b"r,a,3,1,5\nx\nr,a,4,1,6\n", &[record(3, 5), malformed]),
         (b"r,a,3,1,5\nr,a,4,1,6", &[record(3, 5), record(4, 6), END]),
         (&[b'#'; 129], &[too_long]),
     ] {
-        let across = fed_across(&rt, rt.alloc(), text)?;
+        let across = values_across(&rt, rt.alloc(), text)?;
         assert_eq!(rt; across.as_slice(), values);
     }
     Ok(())
@@ -148,7 +148,7 @@ fn a_file_of_many_more_lines_than_the_ring_has_places_goes_through(
         }
     }
     values.push(END)?;
-    let across = fed_across(&rt, alloc, text.as_slice())?;
+    let across = values_across(&rt, alloc, text.as_slice())?;
     assert_eq!(rt; across.as_slice(), values.as_slice());
     Ok(())
 }

@@ -35,7 +35,7 @@ use Rattle.sb_lane.specs.LaneView.{LaneView, lane_of}
 use Rattle.sb_lane.specs.Placed.{conts_of}
 use Rattle.sb_node.specs.declared.state.NodeState.{NodeState}
 use Rattle.sb_kept.specs.declared.kept.Kept.{Kept}
-use Rattle.sb_kept.specs.Keeping.{IsMadeFor, IsSpent, ShowsKept, closed_mark, given_by, gives}
+use Rattle.sb_kept.specs.Keeping.{IsMadeFor, IsSpent, ShowsKept, closed_mark, output_from, gives}
 use Rattle.sb_node.specs.Marking.{mark_for}
 use Rattle.sb_hand.specs.Sets.{HasLane, BeginsAt}
 use Rattle.sb_hand.specs.Showing.{ShowsNode, Stands, Reaches, Does, diaries_of}
@@ -127,7 +127,7 @@ rows_at-sink (ParDo op) floor mark kept h = cc
 rows_at-sink (Windowed g) floor mark kept h = cc
 rows_at-sink Sink floor mark kept h = refl
 
-collected-sink : (op : Operator) (floor mark : ℕ) (kept : List KeptRec) → is_sink op ≡ true → rows_at_sink op mark kept ≡ sorted_records (before mark (given_by op floor kept))
+collected-sink : (op : Operator) (floor mark : ℕ) (kept : List KeptRec) → is_sink op ≡ true → rows_at_sink op mark kept ≡ sorted_records (before mark (output_from op floor kept))
 collected-sink (ParDo op) floor mark kept h = cc
 collected-sink (Windowed g) floor mark kept h = cc
 collected-sink Sink floor mark kept h = refl
@@ -170,7 +170,7 @@ module _ (plan : Shape) (is_plan : IsPlan plan) (bundle : ℕ) (nodes new : List
     shows0 : StandsFor op floor (gives b.was) n.kept
     shows0 = subst (λ x. StandsFor op x (gives b.was) n.kept) floor_now (subst (λ (x : Kept). ShowsKept op x n.kept) b.sets.was_so sh.kept.kept)
 
-    out_is : sorted_records (before mark (given_by op floor n.kept)) ≡ out
+    out_is : sorted_records (before mark (output_from op floor n.kept)) ≡ out
     out_is = sym (rows-closes op floor mark (gives b.was) (gives b.is) n.kept out shows0 b.closes)
 
     epoch_path : first.epoch ≡ close.epoch

@@ -24,7 +24,7 @@ use Rattle.sb_record.specs.Orders.{IsAscending}
 use Rattle.sb_record.proofs.Sorting.{IsReordered-in_order, records_total, in_order-ascending, sorted-unique}
 use Rattle.sb_record.specs.Reorderings.{IsReordered}
 use Rattle.sb_window.specs.Groupings.{IsFrom, Adds, Closes}
-use Rattle.sb_kept.specs.Keeping.{given_by}
+use Rattle.sb_kept.specs.Keeping.{output_from}
 
 pub all-append : {X : Type 0} (P : X → Type 0) (a b : List X) → AllByRecursion P a → AllByRecursion P b → AllByRecursion P (a ++ b)
 all-append P [] b h k = k
@@ -32,12 +32,12 @@ all-append P (x ∷ a) b h k = (h.0, all-append P a b h.1 k)
 
 -- what is kept stands for these elements, by its mark and by what it gives
 abbrev pub StandsFor : Operator → ℕ → (List KeptRec → List Record) → List KeptRec → Type 0
-StandsFor op closed gives kept = (l : List KeptRec) → IsFrom closed l → IsReordered (gives l) (given_by op closed (kept ++ l))
+StandsFor op closed gives kept = (l : List KeptRec) → IsFrom closed l → IsReordered (gives l) (output_from op closed (kept ++ l))
 
 -- what is absorbed is kept
 pub shows-adds : (op : Operator) (closed : ℕ) (gives later : List KeptRec → List Record) (kept es : List KeptRec) → StandsFor op closed gives kept → IsFrom closed es → Adds closed gives later es → StandsFor op closed later (kept ++ es)
 shows-adds op closed gives later kept es shows from adds l late f =
-    adds l late f ∙ shows (es ++ l) (all-append (λ e. closed ≤ e.rec.time) es l from late) f ∙ ap (λ x. sum_by f (given_by op closed x)) (sym (append_assoc kept es l))
+    adds l late f ∙ shows (es ++ l) (all-append (λ e. closed ≤ e.rec.time) es l from late) f ∙ ap (λ x. sum_by f (output_from op closed x)) (sym (append_assoc kept es l))
 
 -- ---- closing
 before-low : (w : ℕ) (l : List Record) → AllByRecursion (λ r. r.time < w) l → before w l ≡ l
@@ -100,23 +100,23 @@ after-sorted w l f = IsReordered-filter (λ r. not (nat_lt r.time w)) (sorted_re
 
 module _ (op : Operator) (floor mark : ℕ) (gives later : List KeptRec → List Record) (kept : List KeptRec) (rows : List Record) where
   -- the rows are those below the mark of what is kept
-  pub rows-closes : StandsFor op floor gives kept → Closes mark gives rows later → rows ≡ sorted_records (before mark (given_by op floor kept))
+  pub rows-closes : StandsFor op floor gives kept → Closes mark gives rows later → rows ≡ sorted_records (before mark (output_from op floor kept))
   rows-closes shows closes =
-      sorted-unique rows (before mark (given_by op floor kept)) (subst (λ (l : List Record). IsAscending record_cmp l) (sym closes.in_order) (in_order-ascending records_total rows)) same
+      sorted-unique rows (before mark (output_from op floor kept)) (subst (λ (l : List Record). IsAscending record_cmp l) (sym closes.in_order) (in_order-ascending records_total rows)) same
     where
-      same : IsReordered rows (before mark (given_by op floor kept))
+      same : IsReordered rows (before mark (output_from op floor kept))
       same f =
           ap (sum_by f) (sym (filter-append (λ r. nat_lt r.time mark) rows (later []) ∙ (λ i. before-low mark rows closes.low i ++ before-high mark (later []) (closes.high [] tt) i) ∙ append-nil rows))
           ∙ sym (IsReordered-filter (λ r. nat_lt r.time mark) (gives []) (rows ++ later []) (closes.same [] tt) f)
-          ∙ IsReordered-filter (λ r. nat_lt r.time mark) (gives []) (given_by op floor (kept ++ [])) (shows [] tt) f
-          ∙ ap (λ l. sum_by f (before mark (given_by op floor l))) (append-nil kept)
+          ∙ IsReordered-filter (λ r. nat_lt r.time mark) (gives []) (output_from op floor (kept ++ [])) (shows [] tt) f
+          ∙ ap (λ l. sum_by f (before mark (output_from op floor l))) (append-nil kept)
 
   -- what stays is what is given from the mark on
-  pub rest-closes : floor ≤ mark → StandsFor op floor gives kept → Closes mark gives rows later → (l : List KeptRec) → IsFrom mark l → IsReordered (later l) (at_least mark (given_by op floor (kept ++ l)))
+  pub rest-closes : floor ≤ mark → StandsFor op floor gives kept → Closes mark gives rows later → (l : List KeptRec) → IsFrom mark l → IsReordered (later l) (at_least mark (output_from op floor (kept ++ l)))
   rest-closes rises shows closes l late f =
       ap (sum_by f) (sym (filter-append (λ r. not (nat_lt r.time mark)) rows (later l) ∙ (λ i. after-low mark rows closes.low i ++ after-high mark (later l) (closes.high l late) i)))
       ∙ sym (IsReordered-filter (λ r. not (nat_lt r.time mark)) (gives l) (rows ++ later l) (closes.same l late) f)
-      ∙ IsReordered-filter (λ r. not (nat_lt r.time mark)) (gives l) (given_by op floor (kept ++ l)) (shows l (later_from l late)) f
+      ∙ IsReordered-filter (λ r. not (nat_lt r.time mark)) (gives l) (output_from op floor (kept ++ l)) (shows l (later_from l late)) f
     where
       later_from : (l : List KeptRec) → IsFrom mark l → IsFrom floor l
       later_from [] all = tt
@@ -131,7 +131,7 @@ all_from mark [] all = tt
 all_from mark (e ∷ l) all = (all.0, all_from mark l all.1)
 
 -- and so is what the core keeps
-pub given-rest : (op : Operator) → IsGroupingAt op → (floor mark : ℕ) (kept l : List KeptRec) → floor ≤ mark → IsFrom mark l → IsReordered (at_least mark (given_by op floor (kept ++ l))) (given_by op mark (kept_at op mark kept ++ l))
+pub given-rest : (op : Operator) → IsGroupingAt op → (floor mark : ℕ) (kept l : List KeptRec) → floor ≤ mark → IsFrom mark l → IsReordered (at_least mark (output_from op floor (kept ++ l))) (output_from op mark (kept_at op mark kept ++ l))
 given-rest (ParDo op) groups floor mark kept l rises late f = refl
 given-rest Sink groups floor mark kept l rises late f = ap (sum_by f)
     (ap (at_least mark) (all_records-append kept l) ∙ filter-append (λ r. not (nat_lt r.time mark)) (all_records kept) (all_records l)
@@ -155,7 +155,7 @@ pub shows-closes : (op : Operator) → IsGroupingAt op → (floor mark : ℕ) (g
 shows-closes op groups floor mark gives later kept rows rises shows closes l late f = rest-closes op floor mark gives later kept rows rises shows closes l late f ∙ given-rest op groups floor mark kept l rises late f
 
 -- the rows of the core's closing
-pub rows-at : (op : Operator) (floor mark : ℕ) (kept : List KeptRec) → is_sink op ≡ false → rows_at op floor mark kept ≡ sorted_records (before mark (given_by op floor kept))
+pub rows-at : (op : Operator) (floor mark : ℕ) (kept : List KeptRec) → is_sink op ≡ false → rows_at op floor mark kept ≡ sorted_records (before mark (output_from op floor kept))
 rows-at (ParDo op) floor mark kept h = refl
 rows-at (Windowed g) floor mark kept h = refl
 rows-at Sink floor mark kept h = cc

@@ -62,13 +62,13 @@ pub record IsPartFor (g : Kept) (part : Part) (lane : ℕ) (records : List Recor
   pub from : IsFrom (closed_mark g) (on_lane lane records)
 
 -- what a node gives of all of its elements, from its closed mark on; the sink gives them as they are
-abbrev pub given_by : Operator → ℕ → List KeptRec → List Record
-given_by (ParDo op) closed es = []
-given_by (Windowed grouping) closed es = at_least closed (operator_rows grouping es)
-given_by Sink closed es = all_records es
+abbrev pub output_from : Operator → ℕ → List KeptRec → List Record
+output_from (ParDo op) closed es = []
+output_from (Windowed grouping) closed es = at_least closed (operator_rows grouping es)
+output_from Sink closed es = all_records es
 
 -- it stands for these elements: it gives what the node gives of them and of what comes
 abbrev pub ShowsKept : Operator → Kept → List KeptRec → Type 0
 ShowsKept operator g elements =
     (l : List KeptRec) → IsFrom (closed_mark g) l
-    → IsReordered (gives g l) (given_by operator (closed_mark g) (elements ++ l))
+    → IsReordered (gives g l) (output_from operator (closed_mark g) (elements ++ l))

@@ -83,7 +83,7 @@ fn take(alloc: Global, plan: &Plan, kept: &mut Kept, claim: &Claim) -> Result<()
 }
 
 // What a node keeps of two bundles, the second one on its last lane.
-fn filled(alloc: Global, plan: &Plan, node: u32) -> Result<Kept, NoMemory>
+fn kept_of_two_bundles(alloc: Global, plan: &Plan, node: u32) -> Result<Kept, NoMemory>
     requires { node ≤ length plan.now.steps }
     ensures { IfOk result (λ kept. closed_mark kept ≡ 0) }
 {
@@ -97,7 +97,7 @@ fn filled(alloc: Global, plan: &Plan, node: u32) -> Result<Kept, NoMemory>
 }
 
 // The rows of a closing at 10, and those of one at the end.
-fn closed_twice(mut kept: Kept) -> Result<(Vec<Record>, Vec<Record>), NoMemory>
+fn rows_of_two_closings(mut kept: Kept) -> Result<(Vec<Record>, Vec<Record>), NoMemory>
     requires { closed_mark kept ≡ 0 }
 {
     let early = kept.close(10)?;
@@ -109,7 +109,7 @@ fn rows_of(alloc: Global, plan: &Plan, node: u32) -> Result<(Vec<Record>, Vec<Re
     if node > plan.transforms() {
         return Err(NoMemory);
     }
-    closed_twice(filled(alloc, plan, node)?)
+    rows_of_two_closings(kept_of_two_bundles(alloc, plan, node)?)
 }
 
 // Sums of windows of size 10, after a transform of single records.

@@ -205,7 +205,7 @@ fn a_diary_tells_the_events(rt: HostRuntime) -> Result<(), Fail> {
 }
 
 /// A node that keeps so, whose next epoch is sealed.
-fn sealed(alloc: Global, kept: Kept, mark: u64) -> Result<NodeState, NoMemory>
+fn sealed_node(alloc: Global, kept: Kept, mark: u64) -> Result<NodeState, NoMemory>
     ensures { IfOk result (λ node. node.kept ≡ kept) }
 {
     let mut node = new_node(alloc, kept)?;
@@ -252,7 +252,7 @@ fn a_closing_gives_rows(rt: HostRuntime) -> Result<(), Fail> {
         lane: 0,
         bundle,
     };
-    let mut node = sealed(alloc, Kept::new(alloc, &plan, 0), 10)?;
+    let mut node = sealed_node(alloc, Kept::new(alloc, &plan, 0), 10)?;
     absorb(alloc, &plan, &mut node, &claim)?;
     let closing = begin(&mut node, 0)?.ok_or("not closing")?;
     assert_eq!(rt; (closing.serial, closing.floor, closing.mark), (0, 0, 10));

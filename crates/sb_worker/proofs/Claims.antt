@@ -4,7 +4,7 @@ use Rattle.std.specs.Prelude.{IfNone}
 use Rattle.std.proofs.lemmas.Bool.{eq-eqb}
 use Rattle.sb_turn.specs.declared.turns.Entry.{Entry}
 use Rattle.sb_turn.specs.declared.turns.Entry.TheVariants.{Left, Claimed}
-use Rattle.sb_turn.specs.Turning.{looked_from}
+use Rattle.sb_turn.specs.Turning.{looks_from}
 use Rattle.sb_work.specs.declared.claim.Claim.{Claim}
 use Rattle.sb_cascade.specs.declared.pass.CascadePass.{CascadePass}
 use Rattle.sb_cascade.specs.declared.telling.Change.{Change}
@@ -26,7 +26,7 @@ if-none (Some a) P Q so h = h
 pub claimed-gains : (p q : CascadePass) (claim : Claim) → p.kept ≡ None → ClaimedOne claim p q → Gains IsClaiming p q
 claimed-gains p q claim none = ⊎_elim
     (λ kept. absurd (cc (sym none ∙ kept.0)))
-    (λ c. let looks = looked_from 0 c.1.0 in
+    (λ c. let looks = looks_from 0 c.1.0 in
     let last : List (Entry Change) = Claimed (length c.1.0) ∷ [] in (
       looks ++ last,
       c.1.2,
@@ -43,7 +43,7 @@ claiming-after a b x y = (
 -- a claim that found no place full
 pub unclaimed-gains : (p q : CascadePass) → shelving.FoundNoneFull p q → Gains (λ l. Does 0 0 l × FoundNoneFull l) p q
 unclaimed-gains p q f =
-    let looks = looked_from 0 f.1.0 in
+    let looks = looks_from 0 f.1.0 in
     (looks, f.1.3, (looks-none 0 f.1.0, (f.1.0, f.1.1, f.1.2, ([], [], sym (append-nil looks)))))
 
 module _ (node : ℕ) (p q : CascadePass) where
@@ -64,7 +64,7 @@ module _ (node : ℕ) (p q : CascadePass) where
   keeps-gains none k = ⊎_elim
       (λ kept. absurd (cc (sym none ∙ kept.0)))
       (λ f. let e = f.2.3 in
-      let looks = looked_from 0 f.2.0 in (
+      let looks = looks_from 0 f.2.0 in (
         e.0 ++ looks,
         e.2,
         (

@@ -5,7 +5,7 @@ use Rattle.std.proofs.lemmas.List.Folds.{list_any-append}
 use Rattle.std.proofs.lemmas.List.Sums.{sum_by-append}
 use Rattle.sb_turn.specs.declared.turns.Entry.{Entry}
 use Rattle.sb_turn.specs.declared.turns.Entry.TheVariants.{Left, Looked}
-use Rattle.sb_turn.specs.Turning.{looked_from}
+use Rattle.sb_turn.specs.Turning.{looks_from}
 use Rattle.sb_cascade.specs.declared.telling.Change.{Change}
 use Rattle.sb_cascade.specs.declared.telling.Change.TheVariants as change
 use Rattle.sb_cascade.specs.Shelving.{is_search}
@@ -19,9 +19,9 @@ does-then f e g h a b x y = (
 )
 
 -- looks at places finish and end nothing
-pub looks-none : (k : ℕ) (words : List ℕ) → Does 0 0 (looked_from k words)
+pub looks-none : (k : ℕ) (words : List ℕ) → Does 0 0 (looks_from k words)
 looks-none k [] = (refl, refl)
-looks-none k (w ∷ ws) = does-then 0 0 0 0 (Looked k w ∷ []) (looked_from (k + 1) ws) (refl, refl) (looks-none (k + 1) ws)
+looks-none k (w ∷ ws) = does-then 0 0 0 0 (Looked k w ∷ []) (looks_from (k + 1) ws) (refl, refl) (looks-none (k + 1) ws)
 
 -- an entry of a search finishes and ends nothing
 search-none : (e : Entry Change) → is_search e ≡ true → (is_finish e ≡ false) × (is_end e ≡ false)
@@ -66,13 +66,13 @@ module _ (run a b : List (Entry Change)) where
 module _ (a b : List (Entry Change)) where
   -- no place was found full among the first, so among all; and so on
   pub full-before : FoundNoneFull a → FoundNoneFull (a ++ b)
-  full-before f = (f.0, f.1, f.2, run-before (looked_from 0 f.0) a b f.3)
+  full-before f = (f.0, f.1, f.2, run-before (looks_from 0 f.0) a b f.3)
 
   pub full-after : FoundNoneFull b → FoundNoneFull (a ++ b)
-  full-after f = (f.0, f.1, f.2, run-after (looked_from 0 f.0) a b f.3)
+  full-after f = (f.0, f.1, f.2, run-after (looks_from 0 f.0) a b f.3)
 
   pub free-before : FoundNoneFree a → FoundNoneFree (a ++ b)
-  free-before f = (f.0, f.1, f.2, run-before (looked_from 0 f.0) a b f.3)
+  free-before f = (f.0, f.1, f.2, run-before (looks_from 0 f.0) a b f.3)
 
   pub free-after : FoundNoneFree b → FoundNoneFree (a ++ b)
-  free-after f = (f.0, f.1, f.2, run-after (looked_from 0 f.0) a b f.3)
+  free-after f = (f.0, f.1, f.2, run-after (looks_from 0 f.0) a b f.3)

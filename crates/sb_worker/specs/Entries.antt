@@ -4,7 +4,7 @@ use Rattle.std.specs.List.{count_by, list_any}
 use Rattle.sb_turn.specs.declared.shelf.TheConstants.{PLACES}
 use Rattle.sb_turn.specs.declared.turns.Entry.{Entry}
 use Rattle.sb_turn.specs.declared.turns.Entry.TheVariants.{Left, Saw, Raised, Claimed}
-use Rattle.sb_turn.specs.Turning.{looked_from}
+use Rattle.sb_turn.specs.Turning.{looks_from}
 use Rattle.sb_cascade.specs.declared.pass.CascadePass.{CascadePass}
 use Rattle.sb_cascade.specs.declared.telling.Change.{Change}
 use Rattle.sb_cascade.specs.declared.telling.Change.TheVariants as change
@@ -89,12 +89,12 @@ HasRun run entries =
 -- the 64 places were looked at, one after the other, and none was free
 abbrev pub FoundNoneFree : List (Entry Change) → Type 0
 FoundNoneFree entries =
-    (words : List ℕ) × (length words ≡ PLACES) × All (λ w. w ≢ 0) words × HasRun (looked_from 0 words) entries
+    (words : List ℕ) × (length words ≡ PLACES) × All (λ w. w ≢ 0) words × HasRun (looks_from 0 words) entries
 
 -- and none was full
 abbrev pub FoundNoneFull : List (Entry Change) → Type 0
 FoundNoneFull entries =
-    (words : List ℕ) × (length words ≡ PLACES) × All (λ w. w ≢ 2) words × HasRun (looked_from 0 words) entries
+    (words : List ℕ) × (length words ≡ PLACES) × All (λ w. w ≢ 2) words × HasRun (looks_from 0 words) entries
 
 -- so many bundles were finished, and so many closings ended
 abbrev pub Does : ℕ → ℕ → List (Entry Change) → Type 0

@@ -94,7 +94,7 @@ fn hand_back(cascade: Cascade, mut pass: CascadePass) -> Result<Hand, Fail>
 }
 
 /// How many bundles were taken before the first was finished.
-fn taken_first(events: &[DiaryEvent]) -> u64 {
+fn takes_before_a_finish(events: &[DiaryEvent]) -> u64 {
     let mut taken = 0_u64;
     for event in events {
         match event {
@@ -125,6 +125,6 @@ fn shelf_first(rt: HostRuntime) -> Result<(), Fail> {
     assert_eq!(rt; hand.step(0)?, Did::Nothing);
     let diary = hand.diary(0);
     assert!(rt; diary.keeps());
-    assert_eq!(rt; taken_first(diary.events()), 3);
+    assert_eq!(rt; takes_before_a_finish(diary.events()), 3);
     Ok(())
 }

@@ -5,7 +5,7 @@ use Rattle.sb_turn.specs.Turning.{one_if}
 use Rattle.sb_cascade.specs.declared.telling.Change.{Change}
 use Rattle.sb_cascade.specs.declared.telling.Hands.{Hands}
 use Rattle.sb_cascade.specs.declared.telling.Setting.{Setting}
-use Rattle.sb_cascade.specs.Doings.{Doing, Quiet, Fresh, Of, doing, is_done, is_event, lines_by}
+use Rattle.sb_cascade.specs.Doings.{Doing, Quiet, Fresh, Of, doing_of, is_done, is_event, lines_by}
 use Rattle.sb_cascade.specs.Found.{IsFound}
 use Rattle.sb_cascade.specs.Leavings.{Does}
 use Rattle.sb_cascade.specs.SharedNodes.{SharedView, lines_of}
@@ -23,5 +23,5 @@ pub line_more : (a : Setting) (w : Hands) (seen k : ℕ) (x y : SharedView) (c :
 line_more a w seen k x y c does f =
     let d = does.part f in
     ap length d.lines
-    ∙ length-append x.own.diary.events (lines_by a (doing k c) f.part)
-    ∙ ap (λ n. lines_of x + n) (count_by_doing a (doing k c) f.part ∙ ap one_if (same_doing k c))
+    ∙ length-append x.own.diary.events (lines_by a (doing_of k c) f.part)
+    ∙ ap (λ n. lines_of x + n) (count_by_doing a (doing_of k c) f.part ∙ ap one_if (same_doing k c))

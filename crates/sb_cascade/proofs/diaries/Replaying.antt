@@ -14,11 +14,11 @@ use Rattle.sb_cascade.specs.declared.telling.Change.TheVariants.{Arrive, Seal, T
 use Rattle.sb_cascade.specs.declared.telling.Change.TheVariants.{Idle, NotYet, Full, Drain, Spent, Nothing}
 use Rattle.sb_cascade.specs.declared.telling.Hands.{Hands}
 use Rattle.sb_cascade.specs.declared.telling.Setting.{Setting}
-use Rattle.sb_cascade.specs.Doings.{Doing, Quiet, Fresh, Of, Story, doing, is_done, is_event, lines_by, part_by, replay}
+use Rattle.sb_cascade.specs.Doings.{Doing, Quiet, Fresh, Of, Story, doing_of, is_done, is_event, lines_by, part_by, replay}
 use Rattle.sb_cascade.specs.Leavings.{May}
 
 -- whether a change is an event does not depend on the node that is left
-pub same_doing : (k : ℕ) (c : Change) → is_done (doing k c) ≡ is_event c
+pub same_doing : (k : ℕ) (c : Change) → is_done (doing_of k c) ≡ is_event c
 same_doing k (Arrive stream records) = refl
 same_doing k (Seal stream mark) = refl
 same_doing k (Take c link) = refl
@@ -56,30 +56,30 @@ module _ (a : Setting) where
 
   -- what one leaving more makes of a story
   abbrev pub next : ℕ → Change → Story → Part → Story
-  next k c s q = record { node = q.node; lines = s.lines ++ lines_by a (doing k c) s.node }
+  next k c s q = record { node = q.node; lines = s.lines ++ lines_by a (doing_of k c) s.node }
 
   -- one leaving more, at the end
-  replay_more : (k : ℕ) (l : List Change) (c : Change) (s t : Story) (q : Part) → replay a k l s ≡ Some t → part_by a (doing k c) t.node ≡ Some q
+  replay_more : (k : ℕ) (l : List Change) (c : Change) (s t : Story) (q : Part) → replay a k l s ≡ Some t → part_by a (doing_of k c) t.node ≡ Some q
       → replay a k (l ++ c ∷ []) s ≡ Some (next k c t q)
   replay_more k [] c s t q e f =
-      ap (λ (u : Story). part_by a (doing k c) u.node >>= λ p. Some (next k c u p)) (same_Some s t e)
+      ap (λ (u : Story). part_by a (doing_of k c) u.node >>= λ p. Some (next k c u p)) (same_Some s t e)
       ∙ ap (λ (o : Option Part). o >>= λ p. Some (next k c t p)) f
   replay_more k (d ∷ l) c s t q e f =
-      let b = bind_some (part_by a (doing k d) s.node) (λ p. replay a k l (next k d s p)) t e in
+      let b = bind_some (part_by a (doing_of k d) s.node) (λ p. replay a k l (next k d s p)) t e in
       ap (λ (o : Option Part). o >>= λ p. replay a k (l ++ c ∷ []) (next k d s p)) b.1
       ∙ replay_more k l c (next k d s b.0) t q b.2 f
 
   -- the story of a node once it is left
   pub replays : (k : ℕ) (w w' : Hands) (s : Story) (p : Node) (lines : List DiaryEvent) (c : Change) (q : Part) (logs : List (List Change)) → k < length logs
-      → replay a k (log_of logs k) s ≡ Some (record { node = p; lines = lines }) → May a k w w' p (doing k c) q
+      → replay a k (log_of logs k) s ≡ Some (record { node = p; lines = lines }) → May a k w w' p (doing_of k c) q
       → (b : Bool) → is_event c ≡ b
-      → replay a k (log_of (cond b (set logs k (log_of logs k ++ c ∷ [])) logs) k) s ≡ Some (record { node = q.node; lines = lines ++ lines_by a (doing k c) p })
+      → replay a k (log_of (cond b (set logs k (log_of logs k ++ c ∷ [])) logs) k) s ≡ Some (record { node = q.node; lines = lines ++ lines_by a (doing_of k c) p })
   replays k w w' s p lines c q logs near e may true is =
       ap (λ l. replay a k l s) (grown_here k c logs near true)
-      ∙ replay_more k (log_of logs k) c s (record { node = p; lines = lines }) q e (does_part k w w' p (doing k c) q may)
+      ∙ replay_more k (log_of logs k) c s (record { node = p; lines = lines }) q e (does_part k w w' p (doing_of k c) q may)
   replays k w w' s p lines c q logs near e may false is =
       let quiet = same_doing k c ∙ is in
       e ∙ (λ i. Some (record {
-        node = sym (quiet_part k w w' p (doing k c) q quiet may) i;
-        lines = (sym (append-nil lines) ∙ ap (λ l. lines ++ l) (sym (quiet_lines (doing k c) p quiet))) i;
+        node = sym (quiet_part k w w' p (doing_of k c) q quiet may) i;
+        lines = (sym (append-nil lines) ∙ ap (λ l. lines ++ l) (sym (quiet_lines (doing_of k c) p quiet))) i;
       }))

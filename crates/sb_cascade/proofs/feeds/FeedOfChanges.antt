@@ -13,7 +13,7 @@ use Rattle.sb_cascade.specs.declared.telling.Change.TheVariants.{Idle, NotYet, F
 use Rattle.sb_cascade.specs.declared.telling.Feed.{Feed}
 use Rattle.sb_cascade.specs.declared.telling.Hands.{Hands}
 use Rattle.sb_cascade.specs.declared.telling.Setting.{Setting}
-use Rattle.sb_cascade.specs.Doings.{doing, drained_by}
+use Rattle.sb_cascade.specs.Doings.{doing_of, drained_rows}
 use Rattle.sb_cascade.specs.Linked.{LinksBy}
 use Rattle.sb_cascade.specs.Leavings.{Does, Feeds}
 use Rattle.sb_cascade.specs.SharedNodes.{SharedView}
@@ -39,7 +39,7 @@ is_feeding Spent = false
 is_feeding Nothing = false
 
 -- any other change feeds and drains nothing
-pub feeds-nothing : (w : Hands) (k : ℕ) (c : Change) → is_feeding c ≡ false → Feeds w (after w k c) (doing k c) (drained_by c)
+pub feeds-nothing : (w : Hands) (k : ℕ) (c : Change) → is_feeding c ≡ false → Feeds w (after w k c) (doing_of k c) (drained_rows c)
 feeds-nothing w k (Arrive stream records) is = cc
 feeds-nothing w k (Seal stream mark) is = cc
 feeds-nothing w k (Drain rows) is = cc
@@ -128,15 +128,15 @@ drained-fed rows f = λ i. record { bundles = λ t. map as_fed (same-feed rows t
 -- ---- the feeder's changes
 module _ (w : Hands) (k : ℕ) (on : w.feed.on ≡ true) where
   -- a bundle
-  pub feeds-bundle : (s : Stream) (t : Snapshot (List Record)) → Feeds w (after w k (Arrive s t)) (doing k (Arrive s t)) (drained_by (Arrive s t))
+  pub feeds-bundle : (s : Stream) (t : Snapshot (List Record)) → Feeds w (after w k (Arrive s t)) (doing_of k (Arrive s t)) (drained_rows (Arrive s t))
   feeds-bundle s t = inr (record { was = on; is = bundle-on s t.value w.feed ∙ on; drained = bundle-dry s t.value w.feed; feed = bundle-fed s t.value w.feed })
 
   -- a mark
-  pub feeds-mark : (s : Stream) (mark : ℕ) → Feeds w (after w k (Seal s mark)) (doing k (Seal s mark)) (drained_by (Seal s mark))
+  pub feeds-mark : (s : Stream) (mark : ℕ) → Feeds w (after w k (Seal s mark)) (doing_of k (Seal s mark)) (drained_rows (Seal s mark))
   feeds-mark s mark = inr (record { was = on; is = mark-on s mark w.feed ∙ on; drained = mark-dry s mark w.feed; feed = mark-fed s mark w.feed })
 
   -- rows that are drained
-  pub feeds-drained : (t : Snapshot (List Record)) → Feeds w (after w k (Drain t)) (doing k (Drain t)) (drained_by (Drain t))
+  pub feeds-drained : (t : Snapshot (List Record)) → Feeds w (after w k (Drain t)) (doing_of k (Drain t)) (drained_rows (Drain t))
   feeds-drained t = inr (record { was = on; is = on; drained = refl; feed = drained-fed t.value w.feed })
 
 -- ---- both halves of a leaving

@@ -11,7 +11,7 @@ use Rattle.sb_cascade.specs.declared.telling.Change.{Change}
 use Rattle.sb_cascade.specs.declared.telling.Change.TheVariants.{Drain, Spent}
 use Rattle.sb_cascade.specs.declared.telling.Hands.{Hands}
 use Rattle.sb_cascade.specs.declared.telling.Setting.{Setting}
-use Rattle.sb_cascade.specs.Doings.{Doing, Quiet, doing, drained_by, lines_by}
+use Rattle.sb_cascade.specs.Doings.{Doing, Quiet, doing_of, drained_rows, lines_by}
 use Rattle.sb_cascade.specs.Found.{IsFound}
 use Rattle.sb_cascade.specs.Leavings.{DoesPart, May}
 use Rattle.sb_cascade.specs.SharedNodes.{Face, LosesKept, SharedView, ShowsSame, face}
@@ -28,9 +28,9 @@ same_settings x y same = λ i. record { keeps = (same i).keeps; limits = (same i
 
 module _ (a : Setting) (w : Hands) (seen k : ℕ) (x y : SharedView) where
   -- the part and the diary stay, and so does what is in hand
-  quiet : (c : Change) → doing k c ≡ Quiet → held_by (after w k c) ≡ held_by w → ((p : Node) → ShowsPart (operator_of a k) x p → ShowsPart (operator_of a k) y p)
-      → y.own.diary.events ≡ x.own.diary.events → settings_in y ≡ settings_in x → drained_by c ++ y.tray ≡ x.tray
-      → (k ≢ length a.plan.steps → drained_by c ≡ []) → (drained_by c ≡ []) ⊎ (y.tray ≡ []) → (y.spent ≡ true → (x.spent ≡ true) ⊎ (3 ≤ seen)) → Acts a w seen k x y c
+  quiet : (c : Change) → doing_of k c ≡ Quiet → held_by (after w k c) ≡ held_by w → ((p : Node) → ShowsPart (operator_of a k) x p → ShowsPart (operator_of a k) y p)
+      → y.own.diary.events ≡ x.own.diary.events → settings_in y ≡ settings_in x → drained_rows c ++ y.tray ≡ x.tray
+      → (k ≢ length a.plan.steps → drained_rows c ≡ []) → (drained_rows c ≡ []) ⊎ (y.tray ≡ []) → (y.spent ≡ true → (x.spent ≡ true) ⊎ (3 ≤ seen)) → Acts a w seen k x y c
   quiet c is held shows lines settings tray rows dry spent f = record {
     q = only_node [] f.part;
     may = subst (λ (d : Doing). May a k w (after w k c) f.part d (only_node [] f.part)) (sym is) (refl, held);
@@ -44,7 +44,7 @@ module _ (a : Setting) (w : Hands) (seen k : ℕ) (x y : SharedView) where
   }
 
   -- nothing is done
-  pub rests : (c : Change) → doing k c ≡ Quiet → drained_by c ≡ [] → after w k c ≡ w → ShowsSame x y → Acts a w seen k x y c
+  pub rests : (c : Change) → doing_of k c ≡ Quiet → drained_rows c ≡ [] → after w k c ≡ w → ShowsSame x y → Acts a w seen k x y c
   rests c is dry stays same =
       quiet c is (ap held_by stays)
       (λ p s. record {

@@ -23,7 +23,7 @@ use Rattle.sb_diary.specs.declared.event.DiaryEvent.{DiaryEvent}
 use Rattle.sb_diary.specs.declared.event.DiaryEvent.TheVariants as line
 use Rattle.sb_lane.specs.LaneView.{LaneView, lane_of}
 use Rattle.sb_lane.specs.Placed.{conts_of}
-use Rattle.sb_kept.specs.Keeping.{IsMadeFor, IsSpent, ShowsKept, closed_mark, given_by, gives}
+use Rattle.sb_kept.specs.Keeping.{IsMadeFor, IsSpent, ShowsKept, closed_mark, output_from, gives}
 use Rattle.sb_node.specs.Changes.{HasLane}
 use Rattle.sb_node.specs.Marking.{mark_for}
 use Rattle.sb_node.specs.declared.closing.Closing.{Closing}
@@ -45,12 +45,12 @@ use Rattle.sb_cascade.proofs.entered.FoundLanes.{lane_in_part, sink_here}
 use Rattle.sb_cascade.proofs.links.SetLanes.{lanes_set, limits_set}
 
 -- the rows that a closing has, and those that go to the sink
-rows_at-if : (op : Operator) (floor mark : ℕ) (kept : List KeptRec) → rows_at op floor mark kept ≡ cond (is_sink op) [] (sorted_records (before mark (given_by op floor kept)))
+rows_at-if : (op : Operator) (floor mark : ℕ) (kept : List KeptRec) → rows_at op floor mark kept ≡ cond (is_sink op) [] (sorted_records (before mark (output_from op floor kept)))
 rows_at-if (ParDo op) floor mark kept = refl
 rows_at-if (Windowed g) floor mark kept = refl
 rows_at-if Sink floor mark kept = refl
 
-collected-if : (op : Operator) (floor mark : ℕ) (kept : List KeptRec) → rows_at_sink op mark kept ≡ cond (is_sink op) (sorted_records (before mark (given_by op floor kept))) []
+collected-if : (op : Operator) (floor mark : ℕ) (kept : List KeptRec) → rows_at_sink op mark kept ≡ cond (is_sink op) (sorted_records (before mark (output_from op floor kept))) []
 collected-if (ParDo op) floor mark kept = refl
 collected-if (Windowed g) floor mark kept = refl
 collected-if Sink floor mark kept = refl
@@ -110,7 +110,7 @@ module _ (a : Setting) (w : Hands) (seen : ℕ) (x y : SharedView) (t : Snapshot
   closes : Closes c.mark (gives x.own.kept) b.rows (gives b.mid.kept)
   closes = subst (λ z. Closes z (gives x.own.kept) b.rows (gives b.mid.kept)) mark_same b.closes.closes
 
-  rows_are : sorted_records (before c.mark (given_by op c.floor n.kept)) ≡ b.rows
+  rows_are : sorted_records (before c.mark (output_from op c.floor n.kept)) ≡ b.rows
   rows_are = sym (rows-closes op c.floor c.mark (gives x.own.kept) (gives b.mid.kept) n.kept b.rows stood closes)
 
   due : rows_at op (least_begun_mark n.lanes) (least_begun_mark (slice_set n.lanes c.lane begun_lane)) n.kept ≡ cond (is_sink op) [] b.rows

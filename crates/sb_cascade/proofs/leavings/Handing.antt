@@ -3,7 +3,7 @@ use Rattle.std.proofs.Common.{◌≡◌, ℕ, zero, suc, ◌+◌, true, List, []
 use Rattle.std.specs.List.{AllByRecursion}
 use Rattle.sb_turn.specs.declared.turns.Entry.{Entry}
 use Rattle.sb_turn.specs.declared.turns.Entry.TheVariants as entry
-use Rattle.sb_turn.specs.Turning.{looked_from}
+use Rattle.sb_turn.specs.Turning.{looks_from}
 use Rattle.sb_work.specs.declared.claim.Claim.{Claim}
 use Rattle.sb_hand.proofs.ShowsKept.{all-append}
 use Rattle.sb_cascade.specs.declared.pass.CascadePass.{CascadePass}
@@ -43,7 +43,7 @@ tries-search node zero = tt
 tries-search node (suc n) = (refl, tries-search node n)
 
 -- and so are looks at places
-pub looks-search : (k : ℕ) (words : List ℕ) → AllByRecursion IsSearch (looked_from k words)
+pub looks-search : (k : ℕ) (words : List ℕ) → AllByRecursion IsSearch (looks_from k words)
 looks-search k [] = tt
 looks-search k (w ∷ ws) = (refl, looks-search (k + 1) ws)
 

@@ -28,7 +28,7 @@ use Rattle.sb_cascade.specs.declared.telling.Change.{Change}
 use Rattle.sb_cascade.specs.declared.telling.Hands.{Hands}
 use Rattle.sb_cascade.specs.declared.telling.Piece.{Piece}
 use Rattle.sb_cascade.specs.declared.telling.Setting.{Setting}
-use Rattle.sb_cascade.specs.Doings.{doing, drained_by, is_event, lines_by, replay}
+use Rattle.sb_cascade.specs.Doings.{doing_of, drained_rows, is_event, lines_by, replay}
 use Rattle.sb_cascade.specs.Found.{IsFound}
 use Rattle.sb_cascade.specs.Laws.{IsLeaving, shown_by}
 use Rattle.sb_cascade.specs.Leavings.{Does, DoesPart}
@@ -149,11 +149,11 @@ module _ (a : Setting) where
       views' = slice_set views id w'
 
       -- what was fed then
-      is_fed : IsFed views' r.feeder (doing k c) (drained_by c)
-      is_fed = fed_on views id w w' r.feeder (doing k c) (drained_by c) at r.first r.feeds r.others does.feeds
+      is_fed : IsFed views' r.feeder (doing_of k c) (drained_rows c)
+      is_fed = fed_on views id w w' r.feeder (doing_of k c) (drained_rows c) at r.first r.feeds r.others does.feeds
 
       -- the diaries then
-      diaries_are : slice_set (diaries_in states) k (x.own.diary.events ++ lines_by a (doing k c) p) ≡ diaries_in states'
+      diaries_are : slice_set (diaries_in states) k (x.own.diary.events ++ lines_by a (doing_of k c) p) ≡ diaries_in states'
       diaries_are = ap (slice_set (diaries_in states) k) (sym part.lines) ∙ sym (map-set (λ (x : SharedView). x.own.diary.events) states k y)
 
       -- the moment after it
@@ -161,7 +161,7 @@ module _ (a : Setting) where
       now =
           subst (λ (t : List (List DiaryEvent) × tally.Feed). IsGood a parts' (all_in_hand views' shelf) rows' t.0 t.1) (λ i. (diaries_are i, sym is_fed.feed i))
           (in_any_order a parts' (held_by w' ++ rest) (all_in_hand views' shelf) rows' _ _ hand.2
-          (acts a r.plan r.parts r.rows k p w w' rest (diaries_in states) x.own.diary.events fed was.1 (diary_there states k x here) (doing k c) q part.may good))
+          (acts a r.plan r.parts r.rows k p w w' rest (diaries_in states) x.own.diary.events fed was.1 (diary_there states k x here) (doing_of k c) q part.may good))
 
       -- the parts then
       there : slice_get parts' k ≡ Some q.node
@@ -193,7 +193,7 @@ module _ (a : Setting) where
 
       -- a leaving of another node than the sink drains nothing
       same_drained : k ≢ sink → drained' ≡ r.feeder.feed.drained
-      same_drained ne = is_fed.drained ∙ more_none r.feeder.feed.drained (drained_by c) (part.rows ne).1
+      same_drained ne = is_fed.drained ∙ more_none r.feeder.feed.drained (drained_rows c) (part.rows ne).1
 
       -- the rows are those drained and the tray
       tray : (z : SharedView) → get_elem? states' sink ≡ some z → rows' ≡ drained' ++ z.tray
@@ -202,24 +202,24 @@ module _ (a : Setting) where
           ap (λ l. l ++ q.rows) (r.tray x (ap (get_elem? states) t.0 ∙ here))
           ∙ append_assoc r.feeder.feed.drained x.tray q.rows
           ∙ ap (λ l. r.feeder.feed.drained ++ l) (sym part.tray)
-          ∙ sym (append_assoc r.feeder.feed.drained (drained_by c) y.tray)
+          ∙ sym (append_assoc r.feeder.feed.drained (drained_rows c) y.tray)
           ∙ (λ i. sym is_fed.drained i ++ (t.1 i).tray))
           (λ t. let ne : k ≢ sink = λ e. t.0 (sym e) in
           more_none r.rows q.rows (part.rows ne).0 ∙ r.tray z t.1 ∙ ap (λ l. l ++ z.tray) (sym (same_drained ne)))
           (at_set states k sink y z g)
 
       -- at the sink: the rows that come are later, or the tray is empty
-      later_here : sink ≡ k → AreLater (r.feeder.feed.drained ++ drained_by c) y.tray
+      later_here : sink ≡ k → AreLater (r.feeder.feed.drained ++ drained_rows c) y.tray
       later_here e =
           let m = moment_of a.bundle r.parts (all_in_hand views shelf) r.rows in
           let old : get_elem? states sink ≡ some x = ap (get_elem? states) e ∙ here in
           ⊎_elim
           (λ dry. subst (λ (u : List Record × List Record). AreLater u.0 u.1)
-          (λ i. (sym (more_none r.feeder.feed.drained (drained_by c) dry) i, (sym part.tray ∙ ap (λ rs. rs ++ y.tray) dry) i))
+          (λ i. (sym (more_none r.feeder.feed.drained (drained_rows c) dry) i, (sym part.tray ∙ ap (λ rs. rs ++ y.tray) dry) i))
           (later_too (written_to a.plan m) r.feeder.feed.drained x.tray q.rows (r.later x old)
           (drained_low a m r.sound r.feeder.feed.drained x.tray (r.tray x old))
-          (added_high a m r.sound k p w w' (doing k c) q refl was.1 part.may)))
-          (λ empty. subst (AreLater (r.feeder.feed.drained ++ drained_by c)) (sym empty) (later_none (r.feeder.feed.drained ++ drained_by c)))
+          (added_high a m r.sound k p w w' (doing_of k c) q refl was.1 part.may)))
+          (λ empty. subst (AreLater (r.feeder.feed.drained ++ drained_rows c)) (sym empty) (later_none (r.feeder.feed.drained ++ drained_rows c)))
           part.dry
 
       -- and the tray is later
@@ -261,8 +261,8 @@ module _ (a : Setting) where
           settings_of_node j = settings_for a.keeps a.pending (operator_of a j)
 
       -- the one event
-      is : IsLeaving a.plan (doing k c) (moment_of a.bundle r.parts (all_in_hand views shelf) r.rows) (moment_of a.bundle parts' (all_in_hand views' shelf) rows')
-      is = is_event_of a r.parts r.rows k p w w' rest (doing k c) q (all_in_hand views shelf) (all_in_hand views' shelf) was.1 part.may good.sound hand.1 hand.2
+      is : IsLeaving a.plan (doing_of k c) (moment_of a.bundle r.parts (all_in_hand views shelf) r.rows) (moment_of a.bundle parts' (all_in_hand views' shelf) rows')
+      is = is_event_of a r.parts r.rows k p w w' rest (doing_of k c) q (all_in_hand views shelf) (all_in_hand views' shelf) was.1 part.may good.sound hand.1 hand.2
 
   -- the rule after a leaving, and what it did to the moment that is shown
   pub leaves_to : (id k seen : ℕ) (w : Hands) (x y : SharedView) (c : Change) → Does a w seen k x y c
@@ -270,7 +270,7 @@ module _ (a : Setting) where
       → (r : ShowsMoment a shelf status states logs views) → seen ≤ status → length logs ≡ length states
       → get_elem? states k ≡ some x → get_elem? views id ≡ some w
       → (later : ShowsMoment a shelf status (slice_set states k y) (logs_after is_event k c logs) (slice_set views id (after w k c)))
-      × IsLeaving a.plan (doing k c) (shown_by r) (shown_by later)
+      × IsLeaving a.plan (doing_of k c) (shown_by r) (shown_by later)
   unfolding kept
   leaves_to id k seen w x y c does shelf status states logs views r known as_long here at = (
     kept id k seen w x y c does shelf status states logs views r known as_long here at,

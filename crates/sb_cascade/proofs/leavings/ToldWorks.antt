@@ -22,7 +22,7 @@ use Rattle.sb_work.specs.Processing.{IsPart}
 use Rattle.sb_cascade.specs.declared.telling.Change.TheVariants.{Deliver, Finish}
 use Rattle.sb_cascade.specs.declared.telling.Hands.{Hands}
 use Rattle.sb_cascade.specs.declared.telling.Setting.{Setting}
-use Rattle.sb_cascade.specs.Calls.{given_by}
+use Rattle.sb_cascade.specs.Calls.{given_count}
 use Rattle.sb_cascade.specs.Doings.{work_of}
 use Rattle.sb_cascade.specs.SharedNodes.{ChangesOwn, SharedView}
 use Rattle.sb_cascade.specs.Shown.{operator_of}
@@ -50,12 +50,12 @@ anyway (Some x) p = p
 
 module _ (a : Setting) (c : Claim) where
   -- a pass counts what a bundle gave exactly if it is delivered
-  pub counts_given : (delivered : Bool) → is_some (given_by a (Some (work_of c delivered))) ≡ delivered
+  pub counts_given : (delivered : Bool) → is_some (given_count a (Some (work_of c delivered))) ≡ delivered
   counts_given true = refl
   counts_given false = refl
 
   -- and it counts what the bundle gives
-  count_given : (delivered : Bool) → NeedsNoPart (operator_of a c.node) c.bundle.records delivered → unwrap_or (given_by a (Some (work_of c delivered))) 0 ≡ length (delivery (operator_of a c.node) c.bundle.records)
+  count_given : (delivered : Bool) → NeedsNoPart (operator_of a c.node) c.bundle.records delivered → unwrap_or (given_count a (Some (work_of c delivered))) 0 ≡ length (delivery (operator_of a c.node) c.bundle.records)
   count_given true needs = refl
   count_given false needs = ⊎_elim (λ e. absurd (cc e)) (λ e. ap (λ (l : List Record). length l) (sym e)) needs.done
 
@@ -79,7 +79,7 @@ module _ (a : Setting) (w : Hands) (seen k : ℕ) (x y : SharedView) (t : Snapsh
 
   -- a bundle of a transform of single records is done with, of which the pass counts what was delivered
   pub finishes_given_told : (c : Claim) → t.value ≡ c → (delivered so : Bool) (count : ℕ) (given : Option ℕ) (lane : LaneView) (links : LaneView → LaneView → Type 0) → c.node ≡ k → NeedsNoPart (operator_of a c.node) c.bundle.records delivered
-      → given ≡ given_by a (Some (work_of c delivered)) → count ≡ unwrap_or given 0 → so ≡ is_some given
+      → given ≡ given_count a (Some (work_of c delivered)) → count ≡ unwrap_or given 0 → so ≡ is_some given
       → ChangesOwn (Turns c.lane lane (record (lane_of lane) { conts = finish_first c.bundle.epoch c.bundle.number (conts_of lane.containers) }) links (line.Finish c.lane c.bundle.number count)) x y
       → held_by w ≡ work_of c delivered ∷ [] → Acts a w seen k x y (Finish t so)
   finishes_given_told c told delivered so count given lane links here needs known counted says own one =

@@ -29,7 +29,7 @@ use Rattle.sb_hand.proofs.Single.{get-map}
 use Rattle.sb_cascade.specs.declared.telling.Change.{Change}
 use Rattle.sb_cascade.specs.declared.telling.Hands.{Hands}
 use Rattle.sb_cascade.specs.declared.telling.Setting.{Setting}
-use Rattle.sb_cascade.specs.Doings.{Doing, Fresh, Of, doing, drained_by, lines_by}
+use Rattle.sb_cascade.specs.Doings.{Doing, Fresh, Of, doing_of, drained_rows, lines_by}
 use Rattle.sb_cascade.specs.Found.{IsFound}
 use Rattle.sb_cascade.specs.Leavings.{DoesPart, May}
 use Rattle.sb_cascade.specs.SharedNodes.{ChangesOwn, SharedView}
@@ -100,7 +100,7 @@ module _ (a : Setting) (w : Hands) (seen k : ℕ) (x y : SharedView) (l : ℕ) (
         }
 
     -- what an event owes that changes the lane alone
-    acts : (c : Change) (held' : List Held) (f : IsFound a w k x) → drained_by c ≡ [] → May a k w (after w k c) f.part (doing k c) (only_node held' (set_lane l later f.part)) → lines_by a (doing k c) f.part ≡ told ∷ []
+    acts : (c : Change) (held' : List Held) (f : IsFound a w k x) → drained_rows c ≡ [] → May a k w (after w k c) f.part (doing_of k c) (only_node held' (set_lane l later f.part)) → lines_by a (doing_of k c) f.part ≡ told ∷ []
         → ShowsPart (operator_of a k) y (set_lane l later f.part) → DoesPart a w (after w k c) seen k x y c f.part
     acts c held' f dry may line_is shown = record {
       q = only_node held' (set_lane l later f.part);
@@ -115,7 +115,7 @@ module _ (a : Setting) (w : Hands) (seen k : ℕ) (x y : SharedView) (l : ℕ) (
     }
 
     -- an event that concerns nothing in hand, where nothing is
-    pub acts-free : (c : Change) (e : Event) (held' : List Held) → doing k c ≡ Fresh e → drained_by c ≡ [] → place_of a.plan e ≡ Some k → held_by w ≡ [] → held_by (after w k c) ≡ held'
+    pub acts-free : (c : Change) (e : Event) (held' : List Held) → doing_of k c ≡ Fresh e → drained_rows c ≡ [] → place_of a.plan e ≡ Some k → held_by w ≡ [] → held_by (after w k c) ≡ held'
         → ((f : IsFound a w k x) → part_after a.plan a.bundle e f.part ≡ Some (only_node held' (set_lane l later f.part))) → ((f : IsFound a w k x) → line_after a.plan e f.part ≡ told) → Acts a w seen k x y c
     acts-free c e held' is dry place none had does line_is f =
         let p : Part = only_node held' (set_lane l later f.part) in
@@ -126,7 +126,7 @@ module _ (a : Setting) (w : Hands) (seen k : ℕ) (x y : SharedView) (l : ℕ) (
         (shows f f.moment.held held' still)
 
     -- an event of the one thing in hand
-    pub acts-held : (c : Change) (e : Event) (h : Held) (held' : List Held) → doing k c ≡ Of e h → drained_by c ≡ [] → place_of a.plan e ≡ Some k → held_by w ≡ h ∷ [] → held_by (after w k c) ≡ held'
+    pub acts-held : (c : Change) (e : Event) (h : Held) (held' : List Held) → doing_of k c ≡ Of e h → drained_rows c ≡ [] → place_of a.plan e ≡ Some k → held_by w ≡ h ∷ [] → held_by (after w k c) ≡ held'
         → ((f : IsFound a w k x) → concerns e h ≡ true) → ((f : IsFound a w k x) → held_after a.plan a.bundle e h f.part ≡ Some (only_node held' (set_lane l later f.part)))
         → ((f : IsFound a w k x) → held_line a.plan a.bundle e h f.part ≡ told) → Acts a w seen k x y c
     acts-held c e h held' is dry place one had its does line_is f =

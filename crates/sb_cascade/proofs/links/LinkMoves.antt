@@ -13,7 +13,7 @@ use Rattle.sb_hand.proofs.Unsealed.{Oldest}
 use Rattle.sb_cascade.specs.declared.telling.Hands.{Hands}
 use Rattle.sb_cascade.specs.declared.telling.Setting.{Setting}
 use Rattle.sb_cascade.specs.Linked.{IsDelivered, is_pardo_at}
-use Rattle.sb_cascade.specs.SharedNodes.{SharedView, linked_once}
+use Rattle.sb_cascade.specs.SharedNodes.{SharedView, with_link_once}
 use Rattle.sb_cascade.proofs.links.MovedLanes.{IsGivenInto, IsSameLink, Moved, NoneUnder, StandsUnder}
 
 -- what has a place has a link
@@ -126,7 +126,7 @@ module _ (a : Setting) (old : List SharedView) (before later : List Hands) (k j 
     }
 
     -- it is linked to what is left to it, if it was linked to none
-    pub finish-moved : (left : Option ℕ) → links_of is.containers ≡ linked_once left p (links_of was.containers) → ((place : ℕ) → left ≡ Some place → is_pardo_at a j ≡ true → StandsUnder a old before later j p place)
+    pub finish-moved : (left : Option ℕ) → links_of is.containers ≡ with_link_once left p (links_of was.containers) → ((place : ℕ) → left ≡ Some place → is_pardo_at a j ≡ true → StandsUnder a old before later j p place)
         → ((e : ℕ) → e ≢ p → KeepsDelivered e) → (left ≡ None → (e : ℕ) → KeepsDelivered e) → IsMoved
     finish-moved None links stands other keeps = stay-moved links marks (keeps refl)
     finish-moved (Some place) links stands other keeps = by_known (is_some (down_of p (links_of was.containers))) refl links

@@ -25,7 +25,7 @@ use Rattle.sb_cascade.specs.declared.telling.Setting.{Setting}
 use Rattle.sb_cascade.specs.Doings.{work_of}
 use Rattle.sb_cascade.specs.Linked.{AreLinked, HasLaneIn, IsDelivered, IsUnder, LeadsRight}
 use Rattle.sb_cascade.specs.SharedNodes.{SharedView}
-use Rattle.sb_cascade.specs.Views.{held_by, listed}
+use Rattle.sb_cascade.specs.Views.{held_by, as_list}
 use Rattle.sb_cascade.proofs.links.LeftLanes.{delivered-kept, still}
 use Rattle.sb_cascade.proofs.links.MovedLanes.{WasMoved, own-kept, right-kept}
 
@@ -42,7 +42,7 @@ place-stands e place lane h = by_link (link_in e (links_of lane.containers)) ref
     by_link (Some x) is h = record { link = x; there = is; place_is = same_Some x.place place h }
 
 -- what is the one thing in hand is in hand
-pub only-listed : (o : Option Held) (h : Held) → listed o ≡ h ∷ [] → o ≡ Some h
+pub only-listed : (o : Option Held) (h : Held) → as_list o ≡ h ∷ [] → o ≡ Some h
 only-listed None h e = cc
 only-listed (Some z) h e = let q : z ≡ h = cc in ap (λ u. Some u) q
 
@@ -128,21 +128,21 @@ module _ (a : Setting) (shelf : List (Option Piece)) (old : List SharedView) (vi
 
   -- as it had nothing
   pub keeps-empty : held_by w ≡ [] → (j e : ℕ) → IsDelivered j e views → IsDelivered j e later
-  keeps-empty empty = keeps-others (λ j l e floor number records held. no-head (Work j l e floor number records true) (sym (ap listed held) ∙ empty))
+  keeps-empty empty = keeps-others (λ j l e floor number records held. no-head (Work j l e floor number records true) (sym (ap as_list held) ∙ empty))
     where
       no-head : (h : Held) → h ∷ [] ≡ [] → ⊥
       no-head h q = cc
 
   -- as it had a closing
   pub keeps-closing : (n i epoch serial low mark : ℕ) (rows : List Record) (passed : Bool) → held_by w ≡ Close n i epoch serial low mark rows passed ∷ [] → (j e : ℕ) → IsDelivered j e views → IsDelivered j e later
-  keeps-closing n i epoch serial low mark rows passed has = keeps-others (λ j l e floor number records held. no-work j l e floor number records (sym (ap listed held) ∙ has))
+  keeps-closing n i epoch serial low mark rows passed has = keeps-others (λ j l e floor number records held. no-work j l e floor number records (sym (ap as_list held) ∙ has))
     where
       no-work : (j l e floor number : ℕ) (records : List Record) → Work j l e floor number records true ∷ [] ≡ Close n i epoch serial low mark rows passed ∷ [] → ⊥
       no-work j l e floor number records q = cc
 
   -- as it had a bundle that is not delivered
   pub keeps-working : (n i epoch low count : ℕ) (rs : List Record) → held_by w ≡ Work n i epoch low count rs false ∷ [] → (j e : ℕ) → IsDelivered j e views → IsDelivered j e later
-  keeps-working n i epoch low count rs has = keeps-others (λ j l e floor number records held. not-given j l e floor number records (sym (ap listed held) ∙ has))
+  keeps-working n i epoch low count rs has = keeps-others (λ j l e floor number records held. not-given j l e floor number records (sym (ap as_list held) ∙ has))
     where
       not-given : (j l e floor number : ℕ) (records : List Record) → Work j l e floor number records true ∷ [] ≡ Work n i epoch low count rs false ∷ [] → ⊥
       not-given j l e floor number records q = cc

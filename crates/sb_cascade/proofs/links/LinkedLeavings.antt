@@ -36,7 +36,7 @@ use Rattle.sb_cascade.specs.Doings.{close_of, work_of}
 use Rattle.sb_cascade.specs.Linked.{AreLinked, HasLaneIn, IsDelivered, KnowsLink, LanesStay, LeadsRight, PlacesNext, SetsLinks, SetsLinksAt, epoch_below, giver, is_pardo_at, link_left}
 use Rattle.sb_cascade.specs.SharedNodes.{FinishesLinked, PutsAt, SharedView}
 use Rattle.sb_cascade.specs.Shown.{ShowsMoment, moment_of}
-use Rattle.sb_cascade.specs.Views.{all_in_hand, empty_handed, hands_with, held_by}
+use Rattle.sb_cascade.specs.Views.{all_in_hand, with_empty_hands, hands_with, held_by}
 use Rattle.sb_cascade.proofs.links.LeftLanes.{delivered-kept, one-lane, one-lane-in, same-moved, set-moved}
 use Rattle.sb_cascade.proofs.links.LinkMoves.{KeepsDelivered, end-moved, finish-moved, placed-moved, stay-moved}
 use Rattle.sb_cascade.proofs.links.LinkedAfter.{has-now, keeps-closing, keeps-empty, keeps-same, keeps-working, only-listed, linked-closing, linked-empty, linked-same, linked-work, stands-place, under-here}
@@ -183,7 +183,7 @@ module _ (a : Setting) (shelf : List (Option Piece)) (status : ℕ) (states : Li
         })
 
     -- it is finished
-    pub finished-linked : (c : Claim) (delivered : Bool) → c.node ≡ k → held_by w ≡ work_of c delivered ∷ [] → SetsLinks c.lane 0 (FinishesLinked c.bundle.epoch (link_left a k w)) x y → AreLinkedNow (empty_handed w)
+    pub finished-linked : (c : Claim) (delivered : Bool) → c.node ≡ k → held_by w ≡ work_of c delivered ∷ [] → SetsLinks c.lane 0 (FinishesLinked c.bundle.epoch (link_left a k w)) x y → AreLinkedNow (with_empty_hands w)
     finished-linked c delivered node has s =
         linked-empty a shelf states views linked id w w' at k new r.plan
         (set-moved a states views (so w') k x y here c.lane 0 (FinishesLinked c.bundle.epoch (link_left a k w)) s
@@ -191,7 +191,7 @@ module _ (a : Setting) (shelf : List (Option Piece)) (status : ℕ) (states : Li
         refl
       where
         w' : Hands
-        w' = empty_handed w
+        w' = with_empty_hands w
 
         held : w.held ≡ Some (work_of c delivered)
         held = only-listed w.held (work_of c delivered) has
@@ -249,9 +249,9 @@ module _ (a : Setting) (shelf : List (Option Piece)) (status : ℕ) (states : Li
         c.node c.lane c.epoch c.serial c.floor c.mark rows true refl (λ place under is gives u from. absurd (none-some place is))
 
     -- it ends
-    pub ended-linked : (c : Closing) (rows : List Record) → c.node ≡ k → held_by w ≡ close_of c rows true ∷ [] → SetsLinks c.lane 0 DropsLink x y → AreLinkedNow (empty_handed w)
+    pub ended-linked : (c : Closing) (rows : List Record) → c.node ≡ k → held_by w ≡ close_of c rows true ∷ [] → SetsLinks c.lane 0 DropsLink x y → AreLinkedNow (with_empty_hands w)
     ended-linked c rows node has s =
-        let w' : Hands = empty_handed w in
+        let w' : Hands = with_empty_hands w in
         let closing = closing-here a shelf status states logs views r k x here id w at c rows true node has s.lane s.in_it in
         let ok : IsLane (bound_at a.plan k) (lane_of s.lane) = r.sound.lanes (record { node = k; lane = c.lane }) (lane_of s.lane) (lane-shown a shelf status states logs views r k c.lane s.lane (lane-here a shelf status states logs views r k x here c.lane s.lane s.in_it)) in
         let less : s.lane.ended < length s.lane.marks = (end-kept (bound_at a.plan k) (lane_of s.lane) ok closing).0 in

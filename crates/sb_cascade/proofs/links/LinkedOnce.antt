@@ -9,7 +9,7 @@ use Rattle.sb_lane.specs.Links.{down_of, with_link, links_of}
 use Rattle.sb_node.specs.Changes.{GetsDown, Turns}
 use Rattle.sb_node.specs.LinkChanges.{LinksStay}
 use Rattle.sb_node.specs.declared.state.NodeState.{NodeState}
-use Rattle.sb_cascade.specs.SharedNodes.{FinishesLinked, linked_once}
+use Rattle.sb_cascade.specs.SharedNodes.{FinishesLinked, with_link_once}
 
 -- a turn of which more is known of the links
 pub turns-as : (l : ℕ) (at : LaneView) (later : CoreLane) (links others : LaneView → LaneView → Type 0) (line : DiaryEvent) (old new : NodeState) (t : Turns l at later links line old new) → others at t.now → Turns l at later others line old new
@@ -17,7 +17,7 @@ turns-as l at later links others line old new t linked = record { now = t.now; s
 
 module _ (l epoch : ℕ) (at : LaneView) (later : CoreLane) (line : DiaryEvent) (old new : NodeState) (t : Turns l at later LinksStay line old new) where
   -- it was linked before, or the place is not known
-  pub turns-unlinked : (link : Option ℕ) → linked_once link epoch (links_of at.containers) ≡ links_of at.containers → Turns l at later (FinishesLinked epoch link) line old new
+  pub turns-unlinked : (link : Option ℕ) → with_link_once link epoch (links_of at.containers) ≡ links_of at.containers → Turns l at later (FinishesLinked epoch link) line old new
   turns-unlinked link same = turns-as l at later LinksStay (FinishesLinked epoch link) line old new t (t.linked.links ∙ sym same)
 
   -- it is linked now

@@ -21,7 +21,7 @@ use Rattle.sb_cascade.specs.declared.telling.Setting.{Setting}
 use Rattle.sb_cascade.specs.Doings.{work_of}
 use Rattle.sb_cascade.specs.Linked.{AreLinked, HasLaneIn, IsDelivered, LeadsRight}
 use Rattle.sb_cascade.specs.SharedNodes.{SharedView}
-use Rattle.sb_cascade.specs.Views.{hands_after_claim, idle_hands, hands_after_put, listed}
+use Rattle.sb_cascade.specs.Views.{hands_after_claim, idle_hands, hands_after_put, as_list}
 use Rattle.sb_cascade.proofs.links.LeftLanes.{of-map, still}
 use Rattle.sb_cascade.proofs.links.LinkedAfter.{keeps-empty, keeps-working}
 
@@ -52,7 +52,7 @@ module _ (a : Setting) (shelf : List (Option Piece)) (states : List SharedView) 
   pub laid-linked : (i : ℕ) (p : Piece) → w.held ≡ Some (work_of p.claim false) → w.link ≡ p.link → AreLinked a (slice_set shelf i (Some p)) states (slice_set views id (hands_after_put w p))
   laid-linked i p held link =
       handed-linked (slice_set shelf i (Some p)) (hands_after_put w p)
-      (keeps-working a shelf states views linked id w (hands_after_put w p) at p.claim.node p.claim.lane p.claim.bundle.epoch p.claim.bundle.floor p.claim.bundle.number p.claim.bundle.records (ap listed held))
+      (keeps-working a shelf states views linked id w (hands_after_put w p) at p.claim.node p.claim.lane p.claim.bundle.epoch p.claim.bundle.floor p.claim.bundle.number p.claim.bundle.records (ap as_list held))
       (λ h is. absurd (nothing-some h is))
       (λ j n e floor number records is. absurd (nothing-some (Work j n e floor number records true) is))
       (λ j q there. ⊎_elim
@@ -64,7 +64,7 @@ module _ (a : Setting) (shelf : List (Option Piece)) (states : List SharedView) 
   pub claimed-linked : (i : ℕ) (p : Piece) → get_elem? shelf i ≡ some (Some p) → w.held ≡ None → AreLinked a (slice_set shelf i None) states (slice_set views id (hands_after_claim w p))
   claimed-linked i p there empty =
       handed-linked (slice_set shelf i None) (hands_after_claim w p)
-      (keeps-empty a shelf states views linked id w (hands_after_claim w p) at (ap listed empty))
+      (keeps-empty a shelf states views linked id w (hands_after_claim w p) at (ap as_list empty))
       (λ h is. subst (λ z. LeadsRight a states z p.link) (same_Some (work_of p.claim false) h is) (linked.on_shelf i p there))
       (λ j n e floor number records is. cc)
       (λ j q is. ⊎_elim (λ t. absurd (nothing-piece q t.1)) (λ t. linked.on_shelf j q t.1) (at_set shelf i j None (Some q) is))

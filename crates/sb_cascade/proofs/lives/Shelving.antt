@@ -15,7 +15,7 @@ use Rattle.sb_cascade.specs.declared.telling.Setting.{Setting}
 use Rattle.sb_cascade.specs.Doings.{Quiet, work_of}
 use Rattle.sb_cascade.specs.SharedNodes.{SharedView}
 use Rattle.sb_cascade.specs.Shown.{AreLater, ShowsMoment, diaries_in}
-use Rattle.sb_cascade.specs.Views.{all_in_hand, hands_after_claim, feed_of, held_by, hands_after_put, listed, work_on}
+use Rattle.sb_cascade.specs.Views.{all_in_hand, hands_after_claim, feed_of, held_by, hands_after_put, as_list, work_on}
 use Rattle.sb_cascade.proofs.leavings.Acting.{IsGood, in_any_order}
 use Rattle.sb_cascade.specs.Linked.{AreLinked}
 use Rattle.sb_cascade.proofs.feeds.FedViews.{IsFed, fed_on}
@@ -79,7 +79,7 @@ module _ (a : Setting) where
   lays_by id w p has link k shelf status states logs views r free at =
       moves shelf (set shelf k (Some p)) status states logs views id w (hands_after_put w p) r at refl
       (laying held_by work_on views shelf id k w (hands_after_put w p) at p free
-      (subst (λ (o : Option Held). IsPermutation (listed o) (work_on p)) (sym has) (IsPermutation-refl (work_on p))))
+      (subst (λ (o : Option Held). IsPermutation (as_list o) (work_on p)) (sym has) (IsPermutation-refl (work_on p))))
       (laid-linked a shelf states views r.linked id w at k p has link)
 
   -- a pass with nothing in hand takes the bundle of a place
@@ -87,5 +87,5 @@ module _ (a : Setting) where
   takes_by id w bare k p shelf status states logs views r there at =
       moves shelf (set shelf k None) status states logs views id w (hands_after_claim w p) r at refl
       (taking held_by work_on views shelf id k w (hands_after_claim w p) at p there
-      (subst (λ (o : Option Held). IsPermutation (listed o ++ work_on p) (work_on p)) (sym bare) (IsPermutation-refl (work_on p))))
+      (subst (λ (o : Option Held). IsPermutation (as_list o ++ work_on p) (work_on p)) (sym bare) (IsPermutation-refl (work_on p))))
       (claimed-linked a shelf states views r.linked id w at k p there bare)

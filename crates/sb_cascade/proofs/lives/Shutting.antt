@@ -22,11 +22,11 @@ use Rattle.sb_cascade.specs.declared.telling.Change.{Change}
 use Rattle.sb_cascade.specs.declared.telling.Hands.{Hands}
 use Rattle.sb_cascade.specs.declared.telling.Piece.{Piece}
 use Rattle.sb_cascade.specs.declared.telling.Setting.{Setting}
-use Rattle.sb_cascade.specs.Doings.{Doing, Quiet, Fresh, Of, Story, doing, is_event, lines_by, part_by, replay}
+use Rattle.sb_cascade.specs.Doings.{Doing, Quiet, Fresh, Of, Story, doing_of, is_event, lines_by, part_by, replay}
 use Rattle.sb_cascade.specs.Ends.{IsShut}
 use Rattle.sb_cascade.specs.SharedNodes.{SharedView, lines_of}
 use Rattle.sb_cascade.specs.Shown.{AreLater, ShowsMoment, beginning_of, diaries_in, moment_of}
-use Rattle.sb_cascade.specs.Views.{all_in_hand, fed_of, feed_of, held_by, idle_hands, listed as listed_in, work_on}
+use Rattle.sb_cascade.specs.Views.{all_in_hand, fed_of, feed_of, held_by, idle_hands, as_list, work_on}
 use Rattle.sb_cascade.proofs.links.LinkedSteps.{are-empty, end-linked}
 use Rattle.sb_cascade.proofs.diaries.Replaying.{next}
 
@@ -44,8 +44,8 @@ few_lines a k [] s t e = let same : length s.lines ≡ length t.lines = ap (λ (
     many None = 0
     many (Some s) = length s.lines
 few_lines a k (c ∷ l) s t e =
-    let b = bind_some (part_by a (doing k c) s.node) (λ p. replay a k l (next a k c s p)) t e in
-    omega (arith, few_lines a k l (next a k c s b.0) t b.2, length-append s.lines (lines_by a (doing k c) s.node), one_line a (doing k c) s.node)
+    let b = bind_some (part_by a (doing_of k c) s.node) (λ p. replay a k l (next a k c s p)) t e in
+    omega (arith, few_lines a k l (next a k c s b.0) t b.2, length-append s.lines (lines_by a (doing_of k c) s.node), one_line a (doing_of k c) s.node)
 
 -- no number stands in an empty list
 none_once : (base n : ℕ) → once_in base 0 n ≡ 0
@@ -75,7 +75,7 @@ module _ (a : Setting) (v : View SharedView Change Hands) (states : List SharedV
       ∙ append-nil (flat held_by views)
       ∙ ap (λ l. held_by v.client ++ l) (flat_none held_by c.3 idle_hands refl)
       ∙ append-nil (held_by v.client)
-      ∙ ap listed_in bare
+      ∙ ap as_list bare
 
   -- the only pass left is the feeder's
   feeder : r.feeder ≡ v.client

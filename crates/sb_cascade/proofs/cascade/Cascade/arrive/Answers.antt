@@ -11,7 +11,7 @@ use Rattle.sb_cascade.specs.Found.{IsFound}
 use Rattle.sb_cascade.specs.Leavings.{IsFull}
 use Rattle.sb_cascade.specs.SharedNodes.{SharedView}
 use Rattle.sb_cascade.specs.Told.{Is}
-use Rattle.sb_cascade.specs.Views.{listed}
+use Rattle.sb_cascade.specs.Views.{as_list}
 use Rattle.sb_cascade.proofs.feeds.FeedOfChanges.{feeds-bundle}
 use Rattle.sb_cascade.proofs.entered.Found.{bundles_fed}
 use Rattle.sb_cascade.proofs.entered.FoundLanes.{source_lane}
@@ -55,7 +55,7 @@ leave-requires-clause-does g c =
       feeds = feeds-bundle w d.node on s c.of-told.result;
       part = arrives_told a w p.me.0.seen d.node x y s c.of-told.result b c.of-told.ensures d at.0 _ _ from refl (c.in-Ok.ensures.number at.0 at.1)
           (may.epoch ∙ sym (epoch_fed a w d.node x f on s d from refl at.0 at.1)) (may.floor ∙ sym (floor_fed a w d.node x f on s d from refl at.0 at.1))
-          may.some may.most may.times came.0 came.1 (ap listed c.requires.pass.2.held);
+          may.some may.most may.times came.0 came.1 (ap as_list c.requires.pass.2.held);
       links = record { lane = d.lane; place_is = from; sets = arrive-sets d.lane b.epoch at.0 _ _ x y came.1 refl (may.epoch ∙ sym (epoch_fed a w d.node x f on s d from refl at.0 at.1)) };
     })
 

@@ -9,7 +9,7 @@ use Rattle.sb_cascade.specs.Doings.{close_of}
 use Rattle.sb_cascade.specs.Shown.{operator_of}
 use Rattle.sb_cascade.specs.SharedNodes.{SharedView, StopsAt, lines_of}
 use Rattle.sb_cascade.specs.Told.{IsBeginning}
-use Rattle.sb_cascade.specs.Views.{after, held_by, listed}
+use Rattle.sb_cascade.specs.Views.{after, held_by, as_list}
 use Rattle.sb_cascade.proofs.leavings.ClosingsTold.{begins_does}
 use Rattle.sb_cascade.proofs.entered.Found.{rises_here}
 use Rattle.sb_cascade.proofs.entered.FoundLanes.{lanes_few, sink_here}
@@ -41,7 +41,7 @@ leave-requires-clause-does g c =
     let r = c.enter-guard.result in
     let q = c.enter-guard.new.pass in
     let turn = c.enter-guard.ensures.turn in
-    let free : held_by w ≡ [] = ap listed c.requires.pass.1.held in
+    let free : held_by w ≡ [] = ap as_list c.requires.pass.1.held in
     let f = found_by a _ w n r.state c.args.self.now.same c.enter-guard.ensures.finds in
     let sink = n == c.transforms.result in
     let is : sink ≡ is_sink (operator_of a n) = sink_here a w n r.state f c.transforms.result c.transforms.ensures.value in

@@ -14,7 +14,7 @@ use Rattle.sb_cascade.specs.Found.{IsFound}
 use Rattle.sb_cascade.specs.Shown.{operator_of}
 use Rattle.sb_cascade.specs.Linked.{SetsLinksAt}
 use Rattle.sb_cascade.specs.SharedNodes.{PutsAt, SharedView}
-use Rattle.sb_cascade.specs.Views.{held_by, listed}
+use Rattle.sb_cascade.specs.Views.{held_by, as_list}
 use Rattle.sb_cascade.proofs.feeds.FeedOfChanges.{does-so}
 use Rattle.sb_cascade.proofs.entered.FoundLanes.{below_lane}
 use Rattle.sb_cascade.proofs.entered.LinkHere.{work-link}
@@ -53,7 +53,7 @@ put-requires-clause-later g c =
     let x : SharedView = c.enter-guard.result.state in
     let same : about c.args.self.now.turns ≡ a = search rules in
     let f : IsFound a w d.node x = found_by a _ w d.node x same c.enter-guard.ensures.finds in
-    let out : held_by w ≡ work_of k false ∷ [] = ap listed c.requires.pass.1.0 in
+    let out : held_by w ≡ work_of k false ∷ [] = ap as_list c.requires.pass.1.0 in
     let some : is_empty (delivery (operator_of a k.node) k.bundle.records) ≡ false =
     ap is_empty (sym c.requires.gives.given_is) ∙ not_empty c.args.records.items c.requires.gives.some in
     work_order a w d.node x f k out d (below-down a.plan k.node d c.down-down.ensures.down) refl some
@@ -74,7 +74,7 @@ leave-requires-clause-does g c =
     let under : below a.plan k.node ≡ Some d = below-down a.plan k.node d c.down-down.ensures.down in
     let at = below_lane a w d.node x f k.node d under refl in
     let put = c.in-Ok.ensures.puts at.0 at.1 in
-    let out : held_by w ≡ work_of k false ∷ [] = ap listed c.requires.pass.1.0 in
+    let out : held_by w ≡ work_of k false ∷ [] = ap as_list c.requires.pass.1.0 in
     let same_records : c.new.result ≡ c.args.records.items = c.new.ensures in
     does_at a p.me.0.client w p.me.0.seen r.node d.node r.found.value x y (Deliver c.of-told.result c.in-Ok.place) turn.0
     (knew c.args.pass.now.seat.me p.me _ _ _ _ turn.2.1) turn.1
@@ -93,5 +93,5 @@ put-requires-clause-here g c =
     let x : SharedView = c.enter-guard.result.state in
     let same : about c.args.self.now.turns ≡ a = search rules in
     let f : IsFound a w d.node x = found_by a _ w d.node x same c.enter-guard.ensures.finds in
-    let out : held_by w ≡ work_of k false ∷ [] = ap listed c.requires.pass.1.0 in
+    let out : held_by w ≡ work_of k false ∷ [] = ap as_list c.requires.pass.1.0 in
     work-link a w d x f k false out (below-down a.plan k.node d c.down-down.ensures.down) c.requires.gives.pardo c.args.pass.now.link (sym c.requires.pass.0.knows.link)

@@ -6,7 +6,7 @@ use Rattle.sb_cascade.specs.Calls.{rows_left}
 use Rattle.sb_cascade.specs.Doings.{close_of}
 use Rattle.sb_cascade.specs.SharedNodes.{lines_of}
 use Rattle.sb_cascade.specs.Told.{AreRows}
-use Rattle.sb_cascade.specs.Views.{after, held_by, listed}
+use Rattle.sb_cascade.specs.Views.{after, held_by, as_list}
 use Rattle.sb_cascade.proofs.leavings.ClosingsTold.{rows_does}
 use Rattle.sb_cascade.proofs.entered.FoundLanes.{below_lane}
 use Rattle.sb_cascade.proofs.links.LanesBelow.{below_is}
@@ -43,7 +43,7 @@ put-requires-clause-later g c =
     let w = p.seat.me.0.client in
     let d = c.down-down.result in
     let x = c.enter-guard.result.state in
-    let has : held_by w ≡ close_of k (rows_left k p) false ∷ [] = ap listed c.requires.pass.1.0 in
+    let has : held_by w ≡ close_of k (rows_left k p) false ∷ [] = ap as_list c.requires.pass.1.0 in
     let f = found_by a _ w d.node x c.args.self.now.same c.enter-guard.ensures.finds in
     λ at in_it room. rows_order a w d.node x f k (rows_left k p) has d (below_is a.plan k.node d c.down-down.ensures.down) refl at in_it
 
@@ -55,7 +55,7 @@ put-requires-clause-here g c =
     let w = p.seat.me.0.client in
     let d = c.down-down.result in
     let x = c.enter-guard.result.state in
-    let has : held_by w ≡ close_of k (rows_left k p) false ∷ [] = ap listed c.requires.pass.1.0 in
+    let has : held_by w ≡ close_of k (rows_left k p) false ∷ [] = ap as_list c.requires.pass.1.0 in
     let f = found_by a _ w d.node x c.args.self.now.same c.enter-guard.ensures.finds in
     close-link a w d x f k (rows_left k p) has (below_is a.plan k.node d c.down-down.ensures.down) p.link (sym c.requires.pass.0.knows.link)
 
@@ -69,7 +69,7 @@ leave-requires-clause-does g c =
     let r = c.enter-guard.result in
     let q = c.enter-guard.new.pass in
     let turn = c.enter-guard.ensures.turn in
-    let has : held_by w ≡ close_of k (rows_left k p) false ∷ [] = ap listed c.requires.pass.1.0 in
+    let has : held_by w ≡ close_of k (rows_left k p) false ∷ [] = ap as_list c.requires.pass.1.0 in
     let f = found_by a _ w d.node r.state c.args.self.now.same c.enter-guard.ensures.finds in
     let under = below_is a.plan k.node d c.down-down.ensures.down in
     let at = below_lane a w d.node r.state f k.node d under refl in

@@ -4,7 +4,7 @@ use Rattle.sb_cascade.specs.Calls.{rows_left}
 use Rattle.sb_cascade.specs.Doings.{close_of}
 use Rattle.sb_cascade.specs.SharedNodes.{lines_of}
 use Rattle.sb_cascade.specs.Told.{IsEnd}
-use Rattle.sb_cascade.specs.Views.{after, held_by, listed}
+use Rattle.sb_cascade.specs.Views.{after, held_by, as_list}
 use Rattle.sb_cascade.proofs.leavings.ClosingsTold.{ends_does}
 use Rattle.sb_cascade.proofs.entered.HeldHere.{closing_here}
 use Rattle.sb_cascade.proofs.leavings.LeftTurns.{does_at, found_by, knew, left_by}
@@ -16,7 +16,7 @@ end-requires g c =
     let k = c.args.closing in
     let w = p.seat.me.0.client in
     let x = c.enter-guard.result.state in
-    let has : held_by w ≡ close_of k (rows_left k p) true ∷ [] = ap listed c.requires.pass.1.0 in
+    let has : held_by w ≡ close_of k (rows_left k p) true ∷ [] = ap as_list c.requires.pass.1.0 in
     let f = found_by c.args.self.now.setting _ w k.node x c.args.self.now.same c.enter-guard.ensures.finds in
     let at = closing_here c.args.self.now.setting w k.node x f k (rows_left k p) true has refl in
     record { lane = (at.0, at.1, at.2, at.3) }
@@ -30,7 +30,7 @@ leave-requires-clause-does g c =
     let r = c.enter-guard.result in
     let q = c.enter-guard.new.pass in
     let turn = c.enter-guard.ensures.turn in
-    let has : held_by w ≡ close_of k (rows_left k p) true ∷ [] = ap listed c.requires.pass.1.0 in
+    let has : held_by w ≡ close_of k (rows_left k p) true ∷ [] = ap as_list c.requires.pass.1.0 in
     let f = found_by a _ w k.node r.state c.args.self.now.same c.enter-guard.ensures.finds in
     let at = closing_here a w k.node r.state f k (rows_left k p) true has refl in
     does_at a q.me.0.client w q.me.0.seen r.node k.node r.found.value r.state c.end.new.self (End c.of-told.result) turn.0 (knew p.seat.me q.me k.node turn.2.0 r.state _ turn.2.1) turn.1

@@ -1,6 +1,6 @@
 use Rattle.std.proofs.Common.{rules, ◌≡◌, [], ◌∷◌, None, Some, inr, sym, ap, refl, subst, ◌∙◌, false}
 use Rattle.sb_turn.specs.declared.turns.Entry.TheVariants as entry
-use Rattle.sb_turn.specs.Turning.{looked_from}
+use Rattle.sb_turn.specs.Turning.{looks_from}
 use Rattle.sb_work.specs.declared.claim.Claim.{Claim}
 use Rattle.sb_cascade.specs.declared.telling.Change.TheVariants as change
 use Rattle.sb_cascade.specs.Calls.{IsSame}
@@ -71,7 +71,7 @@ returns-in-Some-lay-clause-yes g c is_true =
     let taken : EndsWith [] q r = left-take q r c.args.node claim c.in-Some-take.ensures.some.3 in (
       c.in-Some-lay.claim,
       refl,
-      inr (inv.2.kept, ap (λ (v : Claim). v.node) c.in-Some-lay.ensures.laid.0 ∙ c.in-Some-take.ensures.some.0, (look.0, look.1, look.2, ends-then p r c.lay.new.pass (looked_from 0 look.0) (ends-then p q r [] inv.3 taken) look.3)),
+      inr (inv.2.kept, ap (λ (v : Claim). v.node) c.in-Some-lay.ensures.laid.0 ∙ c.in-Some-take.ensures.some.0, (look.0, look.1, look.2, ends-then p r c.lay.new.pass (looks_from 0 look.0) (ends-then p q r [] inv.3 taken) look.3)),
     )
 
 pub loop-preserved : goal.loop-preserved

@@ -10,12 +10,12 @@ use Rattle.sb_work.specs.declared.claim.Claim.{Claim}
 use Rattle.sb_cascade.specs.declared.telling.Change.TheVariants.{Finish}
 use Rattle.sb_cascade.specs.declared.telling.Hands.{Hands}
 use Rattle.sb_cascade.specs.declared.telling.Setting.{Setting}
-use Rattle.sb_cascade.specs.Calls.{given_by}
+use Rattle.sb_cascade.specs.Calls.{given_count}
 use Rattle.sb_cascade.specs.Doings.{work_of}
 use Rattle.sb_cascade.specs.Found.{IsFound}
 use Rattle.sb_cascade.specs.Linked.{SetsLinks, link_left}
 use Rattle.sb_cascade.specs.SharedNodes.{ChangesOwn, FinishesLinked, SharedView}
-use Rattle.sb_cascade.specs.Views.{held_by, listed}
+use Rattle.sb_cascade.specs.Views.{held_by, as_list}
 use Rattle.sb_cascade.proofs.feeds.FeedOfChanges.{does-so}
 use Rattle.sb_cascade.proofs.entered.HeldHere.{lane_is_first, out_here}
 use Rattle.sb_cascade.proofs.leavings.LeftTurns.{does_at, found_by, knew, left_by}
@@ -33,7 +33,7 @@ finish-requires-clause-lane g c =
     let same : about c.args.self.now.turns ≡ a = search rules in
     let f : IsFound a w k.node x = found_by a _ w k.node x same c.enter-guard.ensures.finds in
     let delivered : Bool = c.requires.pass.1.0 in
-    let out : held_by w ≡ work_of k delivered ∷ [] = ap listed c.requires.pass.1.1.0 in
+    let out : held_by w ≡ work_of k delivered ∷ [] = ap as_list c.requires.pass.1.1.0 in
     out_here a w k.node x f k delivered out refl
 
 pub finish-requires-clause-linked : goal.finish-requires-clause-linked
@@ -45,7 +45,7 @@ finish-requires-clause-linked g c =
     let same : about c.args.self.now.turns ≡ a = search rules in
     let f : IsFound a w k.node x = found_by a _ w k.node x same c.enter-guard.ensures.finds in
     let delivered : Bool = c.requires.pass.1.0 in
-    let out : held_by w ≡ work_of k delivered ∷ [] = ap listed c.requires.pass.1.1.0 in
+    let out : held_by w ≡ work_of k delivered ∷ [] = ap as_list c.requires.pass.1.1.0 in
     let at = out_here a w k.node x f k delivered out refl in
     anyway c.args.pass.now.link (lane_is_first a w k.node x f c.requires.pass.1.2.pardo k.lane at.0 at.1)
 
@@ -62,10 +62,10 @@ leave-requires-clause-does g c =
     let same : about c.args.self.now.turns ≡ a = search rules in
     let f : IsFound a w k.node x = found_by a _ w k.node x same c.enter-guard.ensures.finds in
     let delivered : Bool = c.requires.pass.1.0 in
-    let out : held_by w ≡ work_of k delivered ∷ [] = ap listed c.requires.pass.1.1.0 in
+    let out : held_by w ≡ work_of k delivered ∷ [] = ap as_list c.requires.pass.1.1.0 in
     let at = out_here a w k.node x f k delivered out refl in
     let given : Option ℕ = c.args.pass.now.delivered in
-    let known : given ≡ given_by a (Some (work_of k delivered)) = c.requires.pass.0.knows.delivered ∙ ap (given_by a) c.requires.pass.1.1.0 in
+    let known : given ≡ given_count a (Some (work_of k delivered)) = c.requires.pass.0.knows.delivered ∙ ap (given_count a) c.requires.pass.1.1.0 in
     does_at a p.me.0.client w p.me.0.seen r.node k.node r.found.value x y (Finish c.of.result c.is_some.result) turn.0
     (knew c.args.pass.now.seat.me p.me _ _ _ _ turn.2.1) turn.1
     (does-so a w p.me.0.seen k.node x y (Finish c.of.result c.is_some.result) refl
@@ -83,7 +83,7 @@ returns-clause-left g c =
     let a : Setting = c.args.self.now.setting in
     let k = c.args.claim in
     let delivered : Bool = c.requires.pass.1.0 in
-    let known : c.args.pass.now.delivered ≡ given_by a (Some (work_of k delivered)) = c.requires.pass.0.knows.delivered ∙ ap (given_by a) c.requires.pass.1.1.0 in
+    let known : c.args.pass.now.delivered ≡ given_count a (Some (work_of k delivered)) = c.requires.pass.0.knows.delivered ∙ ap (given_count a) c.requires.pass.1.1.0 in
     let says : c.is_some.result ≡ delivered = c.is_some.ensures ∙ ap is_some known ∙ counts_given a k delivered in (
       delivered,
       c.requires.pass.1.1,

@@ -11,7 +11,7 @@ use Rattle.sb_work.specs.declared.claim.Claim.{Claim}
 use Rattle.sb_cascade.proofs.links.LinksOwed.{absorb-sets, finish-stays}
 use Rattle.sb_cascade.proofs.leavings.ToldWorks.{part_gathers}
 use Rattle.sb_cascade.specs.SharedNodes.{FinishesLinked, SharedView}
-use Rattle.sb_cascade.specs.Views.{held_by, listed}
+use Rattle.sb_cascade.specs.Views.{held_by, as_list}
 use Rattle.sb_cascade.proofs.feeds.FeedOfChanges.{does-so}
 use Rattle.sb_cascade.proofs.entered.Found.{part_here}
 use Rattle.sb_cascade.proofs.entered.HeldHere.{out_here}
@@ -28,7 +28,7 @@ absorb-requires-clause-lane g c =
     let x : SharedView = c.enter-guard.result.state in
     let same : about c.args.self.now.turns ≡ a = search rules in
     let f : IsFound a w k.node x = found_by a _ w k.node x same c.enter-guard.ensures.finds in
-    let out : held_by w ≡ work_of k false ∷ [] = ap listed c.requires.pass.1.0 in
+    let out : held_by w ≡ work_of k false ∷ [] = ap as_list c.requires.pass.1.0 in
     out_here a w k.node x f k false out refl
 
 pub absorb-requires-clause-takes : goal.absorb-requires-clause-takes
@@ -39,7 +39,7 @@ absorb-requires-clause-takes g c =
     let x : SharedView = c.enter-guard.result.state in
     let same : about c.args.self.now.turns ≡ a = search rules in
     let f : IsFound a w k.node x = found_by a _ w k.node x same c.enter-guard.ensures.finds in
-    let out : held_by w ≡ work_of k false ∷ [] = ap listed c.requires.pass.1.0 in
+    let out : held_by w ≡ work_of k false ∷ [] = ap as_list c.requires.pass.1.0 in
     λ sane. (k.bundle.records, part_here a w k.node x f sane k out refl c.args.part c.requires.part)
 
 pub leave-requires-clause-does : goal.leave-requires-clause-does
@@ -54,7 +54,7 @@ leave-requires-clause-does g c =
     let y : SharedView = c.absorb.new.self in
     let same : about c.args.self.now.turns ≡ a = search rules in
     let f : IsFound a w k.node x = found_by a _ w k.node x same c.enter-guard.ensures.finds in
-    let out : held_by w ≡ work_of k false ∷ [] = ap listed c.requires.pass.1.0 in
+    let out : held_by w ≡ work_of k false ∷ [] = ap as_list c.requires.pass.1.0 in
     let at = out_here a w k.node x f k false out refl in
     let sane : x.spent ≡ false = c.in-Ok.ensures.was in
     does_at a p.me.0.client w p.me.0.seen r.node k.node r.found.value x y (Finish c.of.result false) turn.0

@@ -1,6 +1,6 @@
 use Rattle.std.proofs.Common.{◌++◌, sym, ap, ◌∙◌, append-nil}
 use Rattle.sb_turn.specs.Passes.{about}
-use Rattle.sb_turn.specs.Turning.{looked_from}
+use Rattle.sb_turn.specs.Turning.{looks_from}
 use Rattle.sb_cascade.specs.declared.telling.Piece.{Piece}
 use Rattle.sb_cascade.proofs.leavings.Handing.{looks-search}
 use Rattle.sb_cascade.proofs.lives.Shelving.{lays_by}
@@ -16,5 +16,5 @@ returns-in-None-clause-laid c =
     let laid = c.in-None.ensures.laid in
     let old = c.args.pass.now.seat.me.0 in (
       record { held = ap (λ v. v.client.held) laid.3; link = ap (λ v. v.client.link) laid.3; kept = c.requires.pass.1.1 },
-      (looked_from 0 laid.0, looks-search 0 laid.0, ap (λ v. v.trace) laid.3 ∙ ap (λ l. old.trace ++ l) (sym (append-nil (looked_from 0 laid.0)))),
+      (looks_from 0 laid.0, looks-search 0 laid.0, ap (λ v. v.trace) laid.3 ∙ ap (λ l. old.trace ++ l) (sym (append-nil (looks_from 0 laid.0)))),
     )

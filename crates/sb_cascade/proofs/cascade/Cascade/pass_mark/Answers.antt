@@ -5,7 +5,7 @@ use Rattle.sb_cascade.specs.Calls.{rows_left}
 use Rattle.sb_cascade.specs.Doings.{close_of}
 use Rattle.sb_cascade.specs.SharedNodes.{lines_of}
 use Rattle.sb_cascade.specs.Told.{IsPassing}
-use Rattle.sb_cascade.specs.Views.{after, held_by, listed}
+use Rattle.sb_cascade.specs.Views.{after, held_by, as_list}
 use Rattle.sb_cascade.proofs.leavings.ClosingsTold.{passes_does}
 use Rattle.sb_cascade.proofs.entered.FoundLanes.{below_lane}
 use Rattle.sb_cascade.proofs.links.LanesBelow.{below_is}
@@ -32,7 +32,7 @@ leave-requires-clause-does g c =
     let r = c.enter-guard.result in
     let q = c.enter-guard.new.pass in
     let turn = c.enter-guard.ensures.turn in
-    let has : held_by w ≡ close_of k (rows_left k p) false ∷ [] = ap listed c.requires.pass.1.0 in
+    let has : held_by w ≡ close_of k (rows_left k p) false ∷ [] = ap as_list c.requires.pass.1.0 in
     let f = found_by a _ w d.node r.state c.args.self.now.same c.enter-guard.ensures.finds in
     let under = below_is a.plan k.node d c.down-down.ensures.down in
     let at = below_lane a w d.node r.state f k.node d under refl in

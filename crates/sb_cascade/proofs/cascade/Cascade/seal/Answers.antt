@@ -6,7 +6,7 @@ use Rattle.sb_cascade.specs.declared.telling.Hands.{Hands}
 use Rattle.sb_cascade.specs.declared.telling.Setting.{Setting}
 use Rattle.sb_cascade.specs.Found.{IsFound}
 use Rattle.sb_cascade.specs.SharedNodes.{SharedView}
-use Rattle.sb_cascade.specs.Views.{listed}
+use Rattle.sb_cascade.specs.Views.{as_list}
 use Rattle.sb_cascade.proofs.feeds.FeedOfChanges.{feeds-mark}
 use Rattle.sb_cascade.proofs.entered.FoundLanes.{source_lane}
 use Rattle.sb_cascade.proofs.leavings.FreshEvents.{seals}
@@ -48,6 +48,6 @@ leave-requires-clause-does g c =
       feeds = feeds-mark w d.node on s mark;
       part = seals a w p.me.0.seen d.node x y s mark d at.0 _ from refl c.requires.mark.bound
           (subst (λ floor. floor ≤ mark) (sym (floor_fed a w d.node x f on s d from refl at.0 at.1)) c.requires.mark.rises)
-          (c.in-Ok.ensures.seals at.0 at.1) (ap listed c.requires.pass.2.held);
+          (c.in-Ok.ensures.seals at.0 at.1) (ap as_list c.requires.pass.2.held);
       links = record { lane = d.lane; place_is = from; sets = seal-sets d.lane mark at.0 _ x y (c.in-Ok.ensures.seals at.0 at.1) };
     })

@@ -6,7 +6,7 @@ use Rattle.sb_cascade.specs.declared.telling.Change.TheVariants.{Take}
 use Rattle.sb_cascade.specs.Doings.{work_of}
 use Rattle.sb_cascade.specs.Found.{IsFound}
 use Rattle.sb_cascade.specs.SharedNodes.{ChangesOwn, SharedView, lines_of}
-use Rattle.sb_cascade.specs.Views.{listed}
+use Rattle.sb_cascade.specs.Views.{as_list}
 use Rattle.sb_cascade.proofs.lives.Claims.{taken}
 use Rattle.sb_cascade.proofs.entered.Taken.{takes-told}
 use Rattle.sb_cascade.proofs.cascade.Cascade.take_under.Goals as goal
@@ -25,7 +25,7 @@ leave-requires-clause-does c =
     c.of-told.ensures (sym c.requires.guard.0)
     (subst (λ (x : SharedView). ChangesOwn (Takes claim.lane took.0 claim.bundle) x y) (sym c.requires.guard.1) own)
     took.3
-    (ap listed c.requires.pass.1.held)
+    (ap as_list c.requires.pass.1.held)
 
 pub returns-in-Some-clause-some : goal.returns-in-Some-clause-some
 returns-in-Some-clause-some c =

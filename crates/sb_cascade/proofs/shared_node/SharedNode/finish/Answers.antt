@@ -10,7 +10,7 @@ use Rattle.sb_core.proofs.exact.Nodes.{slice_get-set_same}
 use Rattle.sb_diary.specs.declared.event.DiaryEvent.TheVariants as line
 use Rattle.sb_lane.specs.Links.{down_of, links_of}
 use Rattle.sb_lane.specs.Taking.{finish_first}
-use Rattle.sb_cascade.specs.SharedNodes.{FinishesLinked, linked_once}
+use Rattle.sb_cascade.specs.SharedNodes.{FinishesLinked, with_link_once}
 use Rattle.sb_cascade.proofs.links.LinkedOnce.{turns-linked, turns-unlinked}
 use Rattle.sb_cascade.proofs.diaries.Promises.{owed-in}
 use Rattle.sb_cascade.proofs.diaries.Rooms.{room-same}
@@ -114,7 +114,7 @@ returns-else-is_none c = λ at has0.
     let first : c.args.lane ≡ 0 = search rules in
     let there = subst (λ l. HasLane l turn.now c.finish.new.self) first here in
     let is : c.down.result ≡ down_of c.args.epoch (links_of at.containers) = c.down.ensures turn.now there ∙ ap (down_of c.args.epoch) turn.linked.links in
-    let same : linked_once c.args.link c.args.epoch (links_of at.containers) ≡ links_of at.containers = search rules in
+    let same : with_link_once c.args.link c.args.epoch (links_of at.containers) ≡ links_of at.containers = search rules in
     let line = line.Finish c.args.lane c.args.number c.args.length in
     let later : CoreLane = record (lane_of at) { conts = finish_first c.args.epoch c.args.number (conts_of at.containers) } in
     let all = turns-unlinked c.args.lane c.args.epoch at later line own c.finish.new.self turn c.args.link same in
@@ -126,7 +126,7 @@ returns-in_default c = λ at has0.
     let has : HasLane c.args.lane at own = search rules in
     let turn = c.finish.ensures at has in
     let none : c.args.link ≡ None = search rules in
-    let same : linked_once c.args.link c.args.epoch (links_of at.containers) ≡ links_of at.containers = ap (λ o. linked_once o c.args.epoch (links_of at.containers)) none in
+    let same : with_link_once c.args.link c.args.epoch (links_of at.containers) ≡ links_of at.containers = ap (λ o. with_link_once o c.args.epoch (links_of at.containers)) none in
     let line = line.Finish c.args.lane c.args.number c.args.length in
     let later : CoreLane = record (lane_of at) { conts = finish_first c.args.epoch c.args.number (conts_of at.containers) } in
     let all = turns-unlinked c.args.lane c.args.epoch at later line own c.finish.new.self turn c.args.link same in

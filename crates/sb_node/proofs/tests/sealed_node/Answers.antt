@@ -1,7 +1,7 @@
 use Rattle.std.proofs.Common.{List, ap, ◌∙◌}
 use Rattle.std.specs.List.{slice_get}
 use Rattle.sb_lane.specs.LaneView.{LaneView, empty_lane}
-use Rattle.sb_node.proofs.tests.sealed.Goals as goal
+use Rattle.sb_node.proofs.tests.sealed_node.Goals as goal
 
 pub seal-requires-clause-lane : goal.seal-requires-clause-lane
 seal-requires-clause-lane c = (empty_lane 1, ap (λ (lanes : List LaneView). slice_get lanes 0) c.in_ok-node.ensures.lanes)
