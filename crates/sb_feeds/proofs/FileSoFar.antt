@@ -21,7 +21,7 @@ use Rattle.sb_feed.specs.Reads.{FaultCause, IsGoing, StopsAt, StopsReading, Take
 use Rattle.sb_feeds.specs.declared.fed.FeedStop.{FeedStop}
 use Rattle.sb_feeds.specs.declared.fed.Fed.{Fed}
 use Rattle.sb_feeds.specs.declared.fed.Fed.TheVariants as fed
-use Rattle.sb_feeds.specs.Fed.{ends_with_stop, fed_by_file, fed_in, fed_of, has_stop, refused_at, stop_from}
+use Rattle.sb_feeds.specs.Fed.{ends_with_stop, fed_by_file, fed_in, fed_of, has_stop, refusal_at, stop_from}
 use Rattle.sb_feeds.proofs.FirstLines.{first_with_more, still_refused}
 use Rattle.sb_feeds.proofs.Stops.{feed_ends, items_have_no_stop}
 
@@ -104,7 +104,7 @@ file_ends new bytes = feed_ends (accepted new.streams new.late new.keys (lines t
 -- reading stopped, so all was fed with the stop
 pub all_fed : (new : Progress) (bytes left left' : List ℕ) (held held' : Held) (p p' : Progress) (values values' : List Fed) (stop : Stop) (why : FeedStop)
     → FileSoFar new bytes left held p values → StopsReading (λ s. Some s) (reading left held) (reading left' held') p p' stop → FaultCause 0 0 stop
-    → why ≡ stop_from (refused_at stop) → values' ≡ values ++ fed.Stop why ∷ []
+    → why ≡ stop_from (refusal_at stop) → values' ≡ values ++ fed.Stop why ∷ []
     → values' ≡ fed_by_file new bytes
 all_fed new bytes left left' held held' p p' values values' stop why t stops cause is sent =
     sent
@@ -112,7 +112,7 @@ all_fed new bytes left left' held held' p p' values values' stop why t stops cau
     ∙ ap fed_of (sym (t.accepts ∙ by_why stop stops.why (never_fails stop cause)))
   where
     by_why : (stop : Stop) → StopsAt p stops.ended (rest_of_lines held.halt held.at_hand stops.ended stops.more) stop → stop ≢ Fault
-        → following new t.items (rest_of_lines held.halt held.at_hand true left) ≡ record { items = t.items; refused = refused_at stop }
+        → following new t.items (rest_of_lines held.halt held.at_hand true left) ≡ record { items = t.items; refused = refusal_at stop }
     by_why (Refused refusal) (line, rest, are, bad) some =
         let (first, others, begin, refused) = refused_line p held.halt held.at_hand stops.more left' line rest stops.ended refusal stops.at_end are bad in
         ap (λ l. following new t.items (rest_of_lines held.halt held.at_hand true l)) stops.given

@@ -44,10 +44,10 @@ stop_from None = feed_stop.End
 stop_from (Some refusal) = feed_stop.Refused refusal
 
 -- the refusal where reading stopped at a refused line
-abbrev pub refused_at : Stop → Option Refusal
-refused_at (Refused refusal) = Some refusal
-refused_at End = None
-refused_at Fault = None
+abbrev pub refusal_at : Stop → Option Refusal
+refusal_at (Refused refusal) = Some refusal
+refusal_at End = None
+refusal_at Fault = None
 
 -- what is fed of accepted lines: their items in order, and then one stop
 abbrev pub fed_of : Accepted → List Fed

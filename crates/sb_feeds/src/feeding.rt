@@ -3,7 +3,7 @@
 ghost use Rattle.std.specs.Prelude.{◌≡◌, ◌≢◌, ◌++◌, ◌∷◌, [], false};
 ghost use Rattle.rtrb.specs.Ring.{SameProducer, sent};
 ghost use Rattle.sb_record.specs.declared.intake.Stop.TheVariants as stop_spec;
-ghost use Rattle.sb_feeds.specs.Fed.{IsNew, fed_by_file, fed_in, has_stop, refused_at, stop_from};
+ghost use Rattle.sb_feeds.specs.Fed.{IsNew, fed_by_file, fed_in, has_stop, refusal_at, stop_from};
 ghost use Rattle.sb_feeds.specs.Ends.{fed_by, ring_of, ring_out, sent_by};
 
 use crate::ends::{FeedDone, FeedOut, Feeding};
@@ -51,7 +51,7 @@ fn send_item<W: Wait>(rt: &W, producer: &mut Producer<Fed, Global, Feeding>, ite
 // Why a file stops, whose bytes are all in memory.
 fn feed_stop(stop: Stop) -> FeedStop
     requires { stop ≢ stop_spec.Fault }
-    ensures { result ≡ stop_from (refused_at stop) }
+    ensures { result ≡ stop_from (refusal_at stop) }
 {
     match stop {
         Stop::End => FeedStop::End,
