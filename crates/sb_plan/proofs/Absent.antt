@@ -19,7 +19,7 @@ use Rattle.sb_plan.specs.Failures.Failure.{Fails, NoFile}
 use Rattle.sb_plan.specs.Keys.{typed_at, word_at}
 use Rattle.sb_plan.specs.Kinds.{file_name, lookup_at, lookup_in, transform_at}
 use Rattle.sb_plan.specs.Entries.{all_keys, entry_at, is_key_of, kind_at, name_at}
-use Rattle.sb_plan.specs.PlanFiles.{element_wired, wired_from}
+use Rattle.sb_plan.specs.PlanFiles.{with_element, with_elements_from}
 
 -- fewer files give the same answer, or that one is not there
 abbrev pub SameOrNoFile : {A E : Type 0} → Result A (Failure E) → Result A (Failure E) → Type 0
@@ -80,23 +80,23 @@ module _ (files : Files) (name : List ℕ) where
       then-fewer (by_text (typed_at as_str key.From table)) _ _ entry (λ left.
       fewer-then (transform_at files keys of table) (transform_at (without name files) keys of table) _ entry (transform-fewer keys of table)))))
 
-  element-fewer : (wiring more : Wiring) (value : Data) → element_wired files wiring value ≡ Ok more → SameOrNoFile (element_wired (without name files) wiring value) (Ok more)
-  unfolding element_wired
+  element-fewer : (wiring more : Wiring) (value : Data) → with_element files wiring value ≡ Ok more → SameOrNoFile (with_element (without name files) wiring value) (Ok more)
+  unfolding with_element
   element-fewer wiring more value =
       then-fewer (by_text (or_fault (cause.WrongType key.Transform) (as_table value))) _ _ more (λ table.
       fewer-then (entry_at files wiring.keys wiring.parts table) (entry_at (without name files) wiring.keys wiring.parts table) _ more (entry-fewer wiring.keys wiring.parts table))
 
   -- one element more, which passes with the file
-  pub wired-fewer : (place : ℕ) (old new : Wiring) (value : Data) (rest : Items) → element_wired files old value ≡ Ok new
-      → SameOrNoFile (wired_from (without name files) place old (item value rest)) (wired_from (without name files) (place + 1) new rest)
-  unfolding wired_from
+  pub wired-fewer : (place : ℕ) (old new : Wiring) (value : Data) (rest : Items) → with_element files old value ≡ Ok new
+      → SameOrNoFile (with_elements_from (without name files) place old (item value rest)) (with_elements_from (without name files) (place + 1) new rest)
+  unfolding with_elements_from
   wired-fewer place old new value rest h = elim (element-fewer old new value h) [
     | inl same ↦ inl (rw same refl)
     | inr none ↦ inr (rw none refl)
   ]
 
 -- an element whose file is not there
-pub wired-absent : (files : Files) (place : ℕ) (wiring : Wiring) (value : Data) (rest : Items) → element_wired files wiring value ≡ Err NoFile
-    → wired_from files place wiring (item value rest) ≡ Err NoFile
-unfolding wired_from
+pub wired-absent : (files : Files) (place : ℕ) (wiring : Wiring) (value : Data) (rest : Items) → with_element files wiring value ≡ Err NoFile
+    → with_elements_from files place wiring (item value rest) ≡ Err NoFile
+unfolding with_elements_from
 wired-absent files place wiring value rest h = rw h refl

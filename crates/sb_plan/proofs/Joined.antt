@@ -22,7 +22,7 @@ use Rattle.sb_plan.proofs.Counting.{count_by-not_any}
 use Rattle.sb_plan.proofs.Passed.{of_text, passed, passed_unless}
 use Rattle.sb_plan.specs.Answers.{ChangesTo}
 use Rattle.sb_plan.specs.Failures.{by_text}
-use Rattle.sb_plan.specs.Wiring.{input_sent, right_sent, inputs_sent, is_second_join, with_part, with_transform}
+use Rattle.sb_plan.specs.Wiring.{with_input, with_right_input, with_inputs, is_second_join, with_part, with_transform}
 use Rattle.sb_plan.specs.Soundness.{IsSound, IsValidEntry, IsLane, lanes_in, goes, fed_by}
 use Rattle.sb_plan.proofs.Sent.{Sent, sent_none, sent_more, new_at, kind_of}
 
@@ -169,10 +169,10 @@ module _ (entry : Entry) (n m : ℕ) (w v : Wiring) (at_end : n ≡ length w.par
       ]
 
 -- all inputs of an entry are sent
-all_sent : (entry : Entry) (n : ℕ) (w v : Wiring) → is_some entry.right ≡ is_join entry.kind → inputs_sent n entry w ≡ Ok v → Sent n (lanes_of (operator_of entry.kind)) w v
-unfolding inputs_sent
+all_sent : (entry : Entry) (n : ℕ) (w v : Wiring) → is_some entry.right ≡ is_join entry.kind → with_inputs n entry w ≡ Ok v → Sent n (lanes_of (operator_of entry.kind)) w v
+unfolding with_inputs
 all_sent entry n w v two h =
-    let left = passed (input_sent key.From entry.left (record { node = n; lane = 0 }) w) _ v h in
+    let left = passed (with_input key.From entry.left (record { node = n; lane = 0 }) w) _ v h in
     by_right left.0 (sent_more n 0 w w (sent_none n w) key.From entry.left left.0 left.1) entry.right refl left.2
   where
     one_lane : (kind : Kind) → is_join kind ≡ false → lanes_of (operator_of kind) ≡ 1
@@ -187,7 +187,7 @@ all_sent entry n w v two h =
     two_lanes (Session agg gap) e = cc
     two_lanes (Join combine windows) e = refl
 
-    by_right : (x : Wiring) → Sent n 1 w x → (right : Option (List ℕ)) → entry.right ≡ right → right_sent right (record { node = n; lane = 1 }) x ≡ Ok v → Sent n (lanes_of (operator_of entry.kind)) w v
+    by_right : (x : Wiring) → Sent n 1 w x → (right : Option (List ℕ)) → entry.right ≡ right → with_right_input right (record { node = n; lane = 1 }) x ≡ Ok v → Sent n (lanes_of (operator_of entry.kind)) w v
     by_right x s None e g =
         let same : x ≡ v = cc in
         let one : lanes_of (operator_of entry.kind) ≡ 1 = one_lane entry.kind (sym two ∙ ap is_some e) in
@@ -201,7 +201,7 @@ pub connected_sound : (entry : Entry) (w u : Wiring) → with_transform entry w 
 unfolding with_transform
 connected_sound entry w u h valid is =
     let single = passed_unless (is_second_join entry.kind w.parts) cause.TwoJoins _ u h in
-    let sent = passed (inputs_sent (length w.parts) entry w) _ u single.1 in
+    let sent = passed (with_inputs (length w.parts) entry w) _ u single.1 in
     let lanes = lanes_of (operator_of entry.kind) in
     let s : Sent (length w.parts) lanes w sent.0 = all_sent entry (length w.parts) w sent.0 valid.1 sent.1 in
     let same : with_part entry sent.0 ≡ u = let is_ok = sent.2 in cc in

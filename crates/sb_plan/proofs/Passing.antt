@@ -32,7 +32,7 @@ use Rattle.sb_plan.specs.Kinds.{transform_at}
 use Rattle.sb_plan.specs.Entries.{all_keys, entry_at, is_key_of, kind_at, name_at, right_at}
 use Rattle.sb_plan.specs.Wiring.{with_transform}
 use Rattle.sb_plan.specs.Soundness.{IsOfKind, IsSound, IsValidEntry, names_join}
-use Rattle.sb_plan.specs.PlanFiles.{at_place, document_of, element_wired, fault_at, finished_plan, first_unused, is_document_key, item_count, plan_of, shape_of, transforms_of, first_wiring, used_by, wired_from}
+use Rattle.sb_plan.specs.PlanFiles.{at_place, document_of, with_element, fault_at, finished_plan, first_unused, is_document_key, item_count, plan_of, shape_of, transforms_of, first_wiring, used_by, with_elements_from}
 use Rattle.sb_plan.proofs.Naming.{kind_at-named}
 use Rattle.sb_plan.proofs.OfKinds.{transform-valid}
 use Rattle.sb_plan.proofs.Passed.{of_text, passed, passed_if, passed_text, passed_unless}
@@ -74,13 +74,13 @@ entry-valid files keys parts table entry h =
     subst IsValidEntry same (of_kind.0, right-valid kind_name.0 table right.0 right.1 ∙ sym of_kind.1)
 
 -- the wiring of elements that pass is sound
-wired_sound : (files : Files) (place : ℕ) (w u : Wiring) (items : Items) → IsSound w → wired_from files place w items ≡ Ok u → IsSound u × (length u.parts ≡ length w.parts + item_count items)
-unfolding wired_from element_wired
+wired_sound : (files : Files) (place : ℕ) (w u : Wiring) (items : Items) → IsSound w → with_elements_from files place w items ≡ Ok u → IsSound u × (length u.parts ≡ length w.parts + item_count items)
+unfolding with_elements_from with_element
 wired_sound files place w u no_items is h =
     let same : w ≡ u = cc in
     subst (λ x. IsSound x × (length x.parts ≡ length w.parts + 0)) same (is, omega arith)
 wired_sound files place w u (item value rest) is h =
-    let more = passed_place place (element_wired files w value) _ u h in
+    let more = passed_place place (with_element files w value) _ u h in
     let table = passed_text (or_fault (cause.WrongType key.Transform) (as_table value)) _ more.0 more.1 in
     let entry = passed (entry_at files w.keys w.parts table.0) _ more.0 table.2 in
     let one = connected_sound entry.0 w more.0 (of_text (with_transform entry.0 w) more.0 entry.2) (entry-valid files w.keys w.parts table.0 entry.0 entry.1) is in
@@ -104,7 +104,7 @@ unfolding transforms_of finished_plan
 elements_plan files late keys items plan h =
     let some = passed_unless (item_count items == 0) (Fails (fault_at 0 (cause.OutOfRange key.Transform))) _ plan h in
     let most = passed_unless (nat_lt MAX_TRANSFORMS (item_count items)) (Fails (fault_at 0 cause.TooMany)) _ plan some.1 in
-    let wired = passed (wired_from files 1 (first_wiring late keys) items) _ plan most.1 in
+    let wired = passed (with_elements_from files 1 (first_wiring late keys) items) _ plan most.1 in
     let sound = wired_sound files 1 (first_wiring late keys) wired.0 items (unwired_sound late keys) wired.1 in
     let one : 1 ≤ item_count items = let e = some.0 in grind (arith, nat_tests) in
     let twelve : item_count items ≤ MAX_TRANSFORMS = ltb-false MAX_TRANSFORMS (item_count items) most.0 in

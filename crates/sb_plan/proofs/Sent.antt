@@ -11,7 +11,7 @@ use Rattle.sb_pipeline.specs.Plans.{is_join}
 use Rattle.sb_plan.specs.declared.wiring.Wiring.{Wiring}
 use Rattle.sb_plan.specs.declared.wiring.Part.{Part}
 use Rattle.sb_plan.specs.declared.fault.PlanKey.{PlanKey}
-use Rattle.sb_plan.specs.Wiring.{part_sent, sent_once, input_sent}
+use Rattle.sb_plan.specs.Wiring.{parts_with_down, place_if_unused, with_input}
 use Rattle.sb_plan.specs.Soundness.{goes, fed_by}
 use Rattle.sb_plan.proofs.Passed.{passed}
 
@@ -29,24 +29,24 @@ pub record OneSent (place : Down) (ps qs : List Part) : Type 0 where
   pub after : qs ≡ front ++ sent place part ∷ back
 
 -- what could be sent had gone nowhere
-sent_once-passed : (k : PlanKey) (place : Down) (o d : Option Down) → sent_once k place o ≡ Ok d → (o ≡ None) × (d ≡ Some place)
-sent_once-passed k place None d h = (refl, cc)
-sent_once-passed k place (Some x) d h = cc
+place_if_unused-passed : (k : PlanKey) (place : Down) (o d : Option Down) → place_if_unused k place o ≡ Ok d → (o ≡ None) × (d ≡ Some place)
+place_if_unused-passed k place None d h = (refl, cc)
+place_if_unused-passed k place (Some x) d h = cc
 
 -- the same behind one part more
 one_later : (place : Down) (p : Part) (ps qs : List Part) → OneSent place ps qs → OneSent place (p ∷ ps) (p ∷ qs)
 one_later place p ps qs s = record { front = p ∷ s.front; part = s.part; back = s.back; nowhere = s.nowhere; before = ap (λ l. p ∷ l) s.before; after = ap (λ l. p ∷ l) s.after }
 
-pub one_sent : (k : PlanKey) (input : List ℕ) (place : Down) (ps qs : List Part) → part_sent k input place ps ≡ Ok qs → OneSent place ps qs
+pub one_sent : (k : PlanKey) (input : List ℕ) (place : Down) (ps qs : List Part) → parts_with_down k input place ps ≡ Ok qs → OneSent place ps qs
 one_sent k input place [] qs h = cc
 one_sent k input place (p ∷ ps) qs h = elim (cases_Bool (bytes_eq p.name input)) [
   | inl named ↦
-      let here = passed (sent_once k place p.down) (λ down. Ok (record p { down = down } ∷ ps)) qs (rw named at h) in
-      let once = sent_once-passed k place p.down here.0 here.1 in
+      let here = passed (place_if_unused k place p.down) (λ down. Ok (record p { down = down } ∷ ps)) qs (rw named at h) in
+      let once = place_if_unused-passed k place p.down here.0 here.1 in
       let same : sent place p ∷ ps ≡ qs = let is_ok = here.2 in let to = once.1 in cc in
       record { front = []; part = p; back = ps; nowhere = once.0; before = refl; after = sym same }
   | inr other ↦
-      let later = passed (part_sent k input place ps) (λ rest. Ok (p ∷ rest)) qs (rw other at h) in
+      let later = passed (parts_with_down k input place ps) (λ rest. Ok (p ∷ rest)) qs (rw other at h) in
       let same : p ∷ later.0 ≡ qs = let is_ok = later.2 in cc in
       subst (OneSent place (p ∷ ps)) same (one_later place p ps later.0 (one_sent k input place ps later.0 later.1))
 ]
@@ -183,22 +183,22 @@ module _ (n m : ℕ) (w v : Wiring) (s : Sent n m w v) where
   }
 
   -- one input more
-  pub sent_more : (k : PlanKey) (input : List ℕ) (u : Wiring) → input_sent k input (record { node = n; lane = m }) v ≡ Ok u → Sent n (m + 1) w u
-  unfolding input_sent
+  pub sent_more : (k : PlanKey) (input : List ℕ) (u : Wiring) → with_input k input (record { node = n; lane = m }) v ≡ Ok u → Sent n (m + 1) w u
+  unfolding with_input
   sent_more k input u h = elim (cases_Bool (bytes_eq input (codes "a"))) [
     | inl a ↦
-        let sent = passed (sent_once k next v.source_a) (λ source. Ok (record v { source_a = source })) u (rw a at h) in
-        let once = sent_once-passed k next v.source_a sent.0 sent.1 in
+        let sent = passed (place_if_unused k next v.source_a) (λ source. Ok (record v { source_a = source })) u (rw a at h) in
+        let once = place_if_unused-passed k next v.source_a sent.0 sent.1 in
         let same : record v { source_a = sent.0 } ≡ u = let is_ok = sent.2 in cc in
         subst (Sent n (m + 1) w) (ap (λ source. record v { source_a = source }) (sym once.1) ∙ same) (with_a once.0)
     | inr not_a ↦ elim (cases_Bool (bytes_eq input (codes "b"))) [
       | inl b ↦
-          let sent = passed (sent_once k next v.source_b) (λ source. Ok (record v { source_b = source })) u (rw (not_a, b) at h) in
-          let once = sent_once-passed k next v.source_b sent.0 sent.1 in
+          let sent = passed (place_if_unused k next v.source_b) (λ source. Ok (record v { source_b = source })) u (rw (not_a, b) at h) in
+          let once = place_if_unused-passed k next v.source_b sent.0 sent.1 in
           let same : record v { source_b = sent.0 } ≡ u = let is_ok = sent.2 in cc in
           subst (Sent n (m + 1) w) (ap (λ source. record v { source_b = source }) (sym once.1) ∙ same) (with_b once.0)
       | inr not_b ↦
-          let sent = passed (part_sent k input next v.parts) (λ parts. Ok (record v { parts = parts })) u (rw (not_a, not_b) at h) in
+          let sent = passed (parts_with_down k input next v.parts) (λ parts. Ok (record v { parts = parts })) u (rw (not_a, not_b) at h) in
           let same : record v { parts = sent.0 } ≡ u = let is_ok = sent.2 in cc in
           subst (Sent n (m + 1) w) same (with_parts sent.0 (one_sent k input next v.parts sent.0 sent.1))
     ]

@@ -10,7 +10,7 @@ use Rattle.sb_plan.specs.declared.wiring.Wiring.{Wiring}
 use Rattle.sb_plan.specs.Failures.{Failure}
 use Rattle.sb_plan.specs.Failures.Failure.{Fails, NoFile}
 use Rattle.sb_plan.specs.declared.TheConstants.{MAX_TABLE_BYTES}
-use Rattle.sb_plan.specs.PlanFiles.{IsPlanStopOf, element_wired, wired_from}
+use Rattle.sb_plan.specs.PlanFiles.{IsPlanStopOf, with_element, with_elements_from}
 
 -- the test that failed is the first that fails; nothing is said if a load failed or memory ran out
 abbrev pub IsStopOf : {A : Type 0} → Result A (Failure PlanCause) → Stop → Type 0
@@ -50,6 +50,6 @@ IsNoFault (Err stop.Memory) = ⊤
 
 -- one element more: it passes, or the tests from it on find its fault, whatever follows it
 abbrev pub TakesElement : {A : Type 0} → Files → ℕ → Wiring → Data → Result A PlanStop → Wiring → Type 0
-TakesElement files place old value (Ok x) new = element_wired files old value ≡ Ok new
+TakesElement files place old value (Ok x) new = with_element files old value ≡ Ok new
 TakesElement files place old value (Err s) new =
-    (rest : Items) → IsPlanStopOf (wired_from files place old (item value rest)) s
+    (rest : Items) → IsPlanStopOf (with_elements_from files place old (item value rest)) s

@@ -47,17 +47,17 @@ at_place place (Err (Fails cause)) next = Err (Fails (fault_at place cause))
 at_place place (Err NoFile) next = Err NoFile
 
 -- one element of the array: a table, whose transform is connected with the earlier ones
-unfoldable pub element_wired : Files → Wiring → Data → Result Wiring (Failure PlanCause)
-element_wired files wiring value =
+unfoldable pub with_element : Files → Wiring → Data → Result Wiring (Failure PlanCause)
+with_element files wiring value =
     then_test (by_text (or_fault (WrongType key.Transform) (as_table value))) (λ table.
     then_test (entry_at files wiring.keys wiring.parts table) (λ entry.
     by_text (with_transform entry wiring)))
 
 -- the elements from this place on, after the earlier ones
-unfoldable pub wired_from : Files → ℕ → Wiring → Items → Result Wiring (Failure PlanFault)
-wired_from files place wiring no_items = Ok wiring
-wired_from files place wiring (item value rest) =
-    at_place place (element_wired files wiring value) (λ more. wired_from files (place + 1) more rest)
+unfoldable pub with_elements_from : Files → ℕ → Wiring → Items → Result Wiring (Failure PlanFault)
+with_elements_from files place wiring no_items = Ok wiring
+with_elements_from files place wiring (item value rest) =
+    at_place place (with_element files wiring value) (λ more. with_elements_from files (place + 1) more rest)
 
 -- no transforms yet, in a plan with this policy on late records and with these keys
 abbrev pub first_wiring : LatePolicy → Keys → Wiring
@@ -106,7 +106,8 @@ unfoldable pub transforms_of : Files → LatePolicy → Keys → Items → Resul
 transforms_of files late keys items =
     if item_count items == 0 then Err (Fails (fault_at 0 (OutOfRange key.Transform)))
     else if nat_lt MAX_TRANSFORMS (item_count items) then Err (Fails (fault_at 0 TooMany))
-    else then_test (wired_from files 1 (first_wiring late keys) items) (λ wiring. by_text (finished_plan wiring))
+    else then_test (with_elements_from files 1 (first_wiring late keys) items) (λ wiring.
+    by_text (finished_plan wiring))
 
 -- the keys of a document
 abbrev pub is_document_key : List ℕ → Bool

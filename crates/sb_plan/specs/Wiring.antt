@@ -14,37 +14,37 @@ use Rattle.sb_plan.specs.declared.fault.PlanCause.{PlanCause}
 use Rattle.sb_plan.specs.declared.fault.PlanCause.TheVariants.{TwoJoins, UnknownFrom, UsedTwice}
 
 -- what has gone nowhere yet goes to the place
-abbrev pub sent_once : PlanKey → Down → Option Down → Result (Option Down) PlanCause
-sent_once k place None = Ok (Some place)
-sent_once k place (Some down) = Err (UsedTwice k)
+abbrev pub place_if_unused : PlanKey → Down → Option Down → Result (Option Down) PlanCause
+place_if_unused k place None = Ok (Some place)
+place_if_unused k place (Some down) = Err (UsedTwice k)
 
 -- what the transform of this name gives goes to the place
-abbrev pub part_sent : PlanKey → List ℕ → Down → List Part → Result (List Part) PlanCause
-part_sent k input place [] = Err (UnknownFrom k)
-part_sent k input place (part ∷ parts) =
+abbrev pub parts_with_down : PlanKey → List ℕ → Down → List Part → Result (List Part) PlanCause
+parts_with_down k input place [] = Err (UnknownFrom k)
+parts_with_down k input place (part ∷ parts) =
     if bytes_eq part.name input
-    then then_test (sent_once k place part.down) (λ down. Ok (record part { down = down } ∷ parts))
-    else then_test (part_sent k input place parts) (λ rest. Ok (part ∷ rest))
+    then then_test (place_if_unused k place part.down) (λ down. Ok (record part { down = down } ∷ parts))
+    else then_test (parts_with_down k input place parts) (λ rest. Ok (part ∷ rest))
 
 -- the input, a stream or a transform, goes to the place
-unfoldable pub input_sent : PlanKey → List ℕ → Down → Wiring → Result Wiring PlanCause
-input_sent k input place wiring =
+unfoldable pub with_input : PlanKey → List ℕ → Down → Wiring → Result Wiring PlanCause
+with_input k input place wiring =
     if bytes_eq input (codes "a")
-    then then_test (sent_once k place wiring.source_a) (λ source. Ok (record wiring { source_a = source }))
+    then then_test (place_if_unused k place wiring.source_a) (λ source. Ok (record wiring { source_a = source }))
     else if bytes_eq input (codes "b")
-    then then_test (sent_once k place wiring.source_b) (λ source. Ok (record wiring { source_b = source }))
-    else then_test (part_sent k input place wiring.parts) (λ parts. Ok (record wiring { parts = parts }))
+    then then_test (place_if_unused k place wiring.source_b) (λ source. Ok (record wiring { source_b = source }))
+    else then_test (parts_with_down k input place wiring.parts) (λ parts. Ok (record wiring { parts = parts }))
 
 -- the right input goes to the place, if there is one
-abbrev pub right_sent : Option (List ℕ) → Down → Wiring → Result Wiring PlanCause
-right_sent None place wiring = Ok wiring
-right_sent (Some input) place wiring = input_sent key.With input place wiring
+abbrev pub with_right_input : Option (List ℕ) → Down → Wiring → Result Wiring PlanCause
+with_right_input None place wiring = Ok wiring
+with_right_input (Some input) place wiring = with_input key.With input place wiring
 
 -- the inputs of an entry go to the lanes of its node
-unfoldable pub inputs_sent : ℕ → Entry → Wiring → Result Wiring PlanCause
-inputs_sent node entry wiring =
-    then_test (input_sent key.From entry.left (record { node = node; lane = 0 }) wiring) (λ left.
-    right_sent entry.right (record { node = node; lane = 1 }) left)
+unfoldable pub with_inputs : ℕ → Entry → Wiring → Result Wiring PlanCause
+with_inputs node entry wiring =
+    then_test (with_input key.From entry.left (record { node = node; lane = 0 }) wiring) (λ left.
+    with_right_input entry.right (record { node = node; lane = 1 }) left)
 
 -- a join after an earlier one
 abbrev pub is_second_join : Kind → List Part → Bool
@@ -59,4 +59,4 @@ with_part entry wiring =
 unfoldable pub with_transform : Entry → Wiring → Result Wiring PlanCause
 with_transform entry wiring =
     if is_second_join entry.kind wiring.parts then Err TwoJoins
-    else then_test (inputs_sent (length wiring.parts) entry wiring) (λ sent. Ok (with_part entry sent))
+    else then_test (with_inputs (length wiring.parts) entry wiring) (λ sent. Ok (with_part entry sent))

@@ -33,7 +33,7 @@ pub(crate) fn take_element<F: Folder>(
     ensures sound { OnOk result (IsSound wiring.new × (length wiring.new.parts ≡ length wiring.old.parts + 1)) }
     ensures same { F.files folder.new ≡ F.files folder.old }
     ensures blames { BlamesLoad
-        (IsWantedIn (F.files folder.old) (λ files. spec.element_wired files wiring.old (view value.now)))
+        (IsWantedIn (F.files folder.old) (λ files. spec.with_element files wiring.old (view value.now)))
         (F.failed folder.old) (F.failed folder.new) result }
 {
     match wire_element(alloc, value, wiring, folder) {
@@ -45,7 +45,7 @@ pub(crate) fn take_element<F: Folder>(
 }
 
 /// Connects the transform of an element with the earlier ones.
-#[tactic(auto, unfolding(crate::specs::PlanFiles::element_wired))]
+#[tactic(auto, unfolding(crate::specs::PlanFiles::with_element))]
 fn wire_element<F: Folder>(
     alloc: Global,
     value: &Value,
@@ -55,11 +55,11 @@ fn wire_element<F: Folder>(
     requires room { length wiring.old.parts < MAX_TRANSFORMS }
     requires sound { IsSound wiring.old }
     ensures exact { (files : Files) → F.files folder.old ≡ Some files
-        → ChangesTo result (spec.element_wired files wiring.old (view value.now)) wiring.new }
+        → ChangesTo result (spec.with_element files wiring.old (view value.now)) wiring.new }
     ensures sound { OnOk result (IsSound wiring.new × (length wiring.new.parts ≡ length wiring.old.parts + 1)) }
     ensures same { F.files folder.new ≡ F.files folder.old }
     ensures blames { BlamesInTests
-        (IsWantedIn (F.files folder.old) (λ files. spec.element_wired files wiring.old (view value.now)))
+        (IsWantedIn (F.files folder.old) (λ files. spec.with_element files wiring.old (view value.now)))
         (F.failed folder.old) (F.failed folder.new) result }
 {
     let Some(table) = value.as_table() else {

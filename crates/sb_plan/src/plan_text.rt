@@ -149,12 +149,12 @@ fn wire_elements<F: Folder>(
 ) -> Result<Wiring, PlanStop>
     requires { length elements.now.items ≤ MAX_TRANSFORMS }
     ensures exact { (files : Files) → F.files folder.old ≡ Some files
-        → AnswersPlan result (spec.wired_from files 1 (spec.first_wiring late keys) (array_view elements.now)) }
+        → AnswersPlan result (spec.with_elements_from files 1 (spec.first_wiring late keys) (array_view elements.now)) }
     ensures sound { IfOk result (λ wiring. IsSound wiring × (length wiring.parts ≡ length elements.now.items)) }
     ensures same { F.files folder.new ≡ F.files folder.old }
     ensures cause { BlamesLoad
         (IsWantedIn (F.files folder.old)
-        (λ files. spec.wired_from files 1 (spec.first_wiring late keys) (array_view elements.now)))
+        (λ files. spec.with_elements_from files 1 (spec.first_wiring late keys) (array_view elements.now)))
         (F.failed folder.old) (F.failed folder.new) result }
 {
     let mut wiring = Wiring {

@@ -93,10 +93,10 @@ fn has_join(parts: &[Part]) -> bool
 }
 
 /// Sends the inputs of an entry to the lanes of its node.
-#[tactic(auto, unfolding(crate::specs::Wiring::inputs_sent))]
+#[tactic(auto, unfolding(crate::specs::Wiring::with_inputs))]
 fn send_inputs(node: u32, entry: &Entry, wiring: &mut Wiring) -> Result<(), PlanCause>
-    ensures { MatchResult result (λ _. spec.inputs_sent node entry.now wiring.old ≡ Ok wiring.new)
-        (λ e. spec.inputs_sent node entry.now wiring.old ≡ Err e) }
+    ensures { MatchResult result (λ _. spec.with_inputs node entry.now wiring.old ≡ Ok wiring.new)
+        (λ e. spec.with_inputs node entry.now wiring.old ≡ Err e) }
 {
     let left = Down { node, lane: 0 };
     let right = Down { node, lane: 1 };
@@ -106,8 +106,8 @@ fn send_inputs(node: u32, entry: &Entry, wiring: &mut Wiring) -> Result<(), Plan
 
 /// Sends the right input to the place, if there is one.
 fn send_right(right: &Option<Name>, place: Down, wiring: &mut Wiring) -> Result<(), PlanCause>
-    ensures { MatchResult result (λ _. spec.right_sent right.now place wiring.old ≡ Ok wiring.new)
-        (λ e. spec.right_sent right.now place wiring.old ≡ Err e) }
+    ensures { MatchResult result (λ _. spec.with_right_input right.now place wiring.old ≡ Ok wiring.new)
+        (λ e. spec.with_right_input right.now place wiring.old ≡ Err e) }
 {
     match right {
         Some(input) => send_input(PlanKey::With, input.as_str(), place, wiring),
@@ -116,14 +116,14 @@ fn send_right(right: &Option<Name>, place: Down, wiring: &mut Wiring) -> Result<
 }
 
 /// Sends the input, a stream or a transform, to the place.
-#[tactic(auto, unfolding(crate::specs::Wiring::input_sent))]
+#[tactic(auto, unfolding(crate::specs::Wiring::with_input))]
 fn send_input(key: PlanKey, input: &str, place: Down, wiring: &mut Wiring) -> Result<(), PlanCause>
-    ensures { MatchResult result (λ _. spec.input_sent key input.now place wiring.old ≡ Ok wiring.new)
-        (λ e. spec.input_sent key input.now place wiring.old ≡ Err e) }
+    ensures { MatchResult result (λ _. spec.with_input key input.now place wiring.old ≡ Ok wiring.new)
+        (λ e. spec.with_input key input.now place wiring.old ≡ Err e) }
 {
     match input {
-        "a" => wiring.source_a = sent_once(key, place, wiring.source_a)?,
-        "b" => wiring.source_b = sent_once(key, place, wiring.source_b)?,
+        "a" => wiring.source_a = place_if_unused(key, place, wiring.source_a)?,
+        "b" => wiring.source_b = place_if_unused(key, place, wiring.source_b)?,
         _ => send_part(key, input, place, &mut wiring.parts)?,
     }
     Ok(())
@@ -136,13 +136,13 @@ fn send_part(
     place: Down,
     parts: &mut Sequence<Part>,
 ) -> Result<(), PlanCause>
-    ensures { MatchResult result (λ _. spec.part_sent key input.now place parts.old ≡ Ok parts.new)
-        (λ e. spec.part_sent key input.now place parts.old ≡ Err e) }
+    ensures { MatchResult result (λ _. spec.parts_with_down key input.now place parts.old ≡ Ok parts.new)
+        (λ e. spec.parts_with_down key input.now place parts.old ≡ Err e) }
 {
     let Some(at) = position_of(input, parts.as_slice()) else {
         return Err(PlanCause::UnknownFrom(key));
     };
-    let down = sent_once(key, place, parts.items[at].down)?;
+    let down = place_if_unused(key, place, parts.items[at].down)?;
     parts.items[at].down = down;
     Ok(())
 }
@@ -154,8 +154,8 @@ fn position_of(input: &str, parts: &[Part]) -> Option<usize>
 }
 
 /// Where something goes that is sent to the place: there, if it has gone nowhere yet.
-fn sent_once(key: PlanKey, place: Down, down: Option<Down>) -> Result<Option<Down>, PlanCause>
-    ensures { result ≡ spec.sent_once key place down }
+fn place_if_unused(key: PlanKey, place: Down, down: Option<Down>) -> Result<Option<Down>, PlanCause>
+    ensures { result ≡ spec.place_if_unused key place down }
 {
     match down {
         None => Ok(Some(place)),

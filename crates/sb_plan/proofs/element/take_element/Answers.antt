@@ -1,7 +1,7 @@
 use Rattle.std.proofs.Common.{subst}
 use Rattle.toml.specs.View.{view}
 use Rattle.sb_plan.specs.Answers.{IsStopOf}
-use Rattle.sb_plan.specs.PlanFiles.{element_wired}
+use Rattle.sb_plan.specs.PlanFiles.{with_element}
 use Rattle.sb_plan.proofs.Elements.{takes_refused}
 use Rattle.sb_plan.proofs.element.take_element.Goals as goal
 
@@ -9,4 +9,4 @@ pub returns-in-Err-Cause-clause-exact : goal.returns-in-Err-Cause-clause-exact
 returns-in-Err-Cause-clause-exact g c = λ files told rest.
     let value = view c.args.value.now in
     takes_refused files c.args.place c.args.wiring.now value rest c.in-Err-Cause.what
-    (subst (IsStopOf (element_wired files c.args.wiring.now value)) c.in-Err-Cause.field-0-is (c.in-Err-Cause.ensures.exact files told))
+    (subst (IsStopOf (with_element files c.args.wiring.now value)) c.in-Err-Cause.field-0-is (c.in-Err-Cause.ensures.exact files told))

@@ -1,9 +1,9 @@
 use Rattle.std.proofs.Common.{◌+◌, ◌∙◌, ap, subst, sym, arith, rules, drop, get_or}
 use Rattle.toml.specs.View.{items_view, view}
 use Rattle.sb_outside.specs.Folders.{without}
-use Rattle.sb_plan.specs.PlanFiles.{IsPlanStopOf, first_wiring, wired_from}
+use Rattle.sb_plan.specs.PlanFiles.{IsPlanStopOf, first_wiring, with_elements_from}
 use Rattle.sb_plan.proofs.Integers.{items_at}
-use Rattle.sb_plan.proofs.Elements.{takes_passed, wired_from-past}
+use Rattle.sb_plan.proofs.Elements.{takes_passed, with_elements_from-past}
 use Rattle.sb_plan.proofs.Absent.{SameOrNoFile, fewer-more, wired-fewer}
 use Rattle.sb_plan.proofs.Blaming.{blames-element}
 use Rattle.sb_plan.proofs.plan_text.wire_elements.Goals as goal
@@ -16,7 +16,7 @@ returns-in-Err-clause-exact g c = λ files told.
     let place = c.loop-value.place + 1 in
     let wiring = c.loop-value.wiring in
     let at = c.value-item.is ∙ ap (λ l. get_or l i v) c.deref-value-items.ensures.value in
-    let from = c.loop-value.invariant.same files told ∙ ap (wired_from files place wiring) (items_at vs i v (omega arith) at) in
+    let from = c.loop-value.invariant.same files told ∙ ap (with_elements_from files place wiring) (items_at vs i v (omega arith) at) in
     subst (λ wanted. IsPlanStopOf wanted c.in-Err.stop) (sym from)
     (c.in-Err.ensures.exact files (c.loop-value.invariant.told ∙ told) (items_view (drop (i + 1) vs)))
 
@@ -47,15 +47,15 @@ loop-value-preserved g c =
       told = c.in-Ok.ensures.same ∙ c.loop-value.invariant.told;
       unlisted = c.in-Ok.ensures.blames ∙ c.loop-value.invariant.unlisted;
       same = λ files told.
-          c.loop-value.invariant.same files told ∙ ap (wired_from files place wiring) items
+          c.loop-value.invariant.same files told ∙ ap (with_elements_from files place wiring) items
           ∙ takes_passed files place wiring c.take_element.new.wiring (view v) rest (c.in-Ok.ensures.exact files (c.loop-value.invariant.told ∙ told));
       fewer = λ files name told.
           fewer-more
-          (subst (λ from. SameOrNoFile (wired_from (without name files) 1 (first_wiring c.args.late c.args.keys) (items_view vs)) (wired_from (without name files) place wiring from)) items (c.loop-value.invariant.fewer files name told))
+          (subst (λ from. SameOrNoFile (with_elements_from (without name files) 1 (first_wiring c.args.late c.args.keys) (items_view vs)) (with_elements_from (without name files) place wiring from)) items (c.loop-value.invariant.fewer files name told))
           (wired-fewer files name place wiring c.take_element.new.wiring (view v) rest (c.in-Ok.ensures.exact files (c.loop-value.invariant.told ∙ told)));
     }
 
 pub returns-clause-exact : goal.returns-clause-exact
 returns-clause-exact g c = λ files told.
     c.loop-value.invariant.same files told
-    ∙ wired_from-past files (c.loop-value.place + 1) c.loop-value.wiring c.args.elements.now.items c.loop-value.value-index (omega arith)
+    ∙ with_elements_from-past files (c.loop-value.place + 1) c.loop-value.wiring c.args.elements.now.items c.loop-value.value-index (omega arith)

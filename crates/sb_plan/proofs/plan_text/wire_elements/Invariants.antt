@@ -1,7 +1,7 @@
 use Rattle.std.proofs.Common.{◌≡◌, ◌≤◌, ◌+◌, ℕ, List, drop, length, Some}
 use Rattle.toml.specs.View.{items_view}
 use Rattle.sb_outside.specs.Folders.{Files, without}
-use Rattle.sb_plan.specs.PlanFiles.{first_wiring, wired_from}
+use Rattle.sb_plan.specs.PlanFiles.{first_wiring, with_elements_from}
 use Rattle.sb_plan.specs.Soundness.{IsSound}
 use Rattle.sb_plan.proofs.Absent.{SameOrNoFile}
 use Rattle.sb_plan.proofs.plan_text.wire_elements.Given as goal
@@ -15,8 +15,8 @@ invariant-loop-value g l = record {
   told : g.F.Folder.files l.folder ≡ g.F.Folder.files l.fn.folder;
   unlisted : g.F.Folder.failed l.folder ≡ g.F.Folder.failed l.fn.folder;
   same : (files : Files) → g.F.Folder.files l.fn.folder ≡ Some files
-      → wired_from files 1 (first_wiring l.fn.late l.fn.keys) (items_view l.elements.items) ≡ wired_from files (l.place + 1) l.wiring (items_view (drop l.value-index l.elements.items));
+      → with_elements_from files 1 (first_wiring l.fn.late l.fn.keys) (items_view l.elements.items) ≡ with_elements_from files (l.place + 1) l.wiring (items_view (drop l.value-index l.elements.items));
   fewer : (files : Files) (name : List ℕ) → g.F.Folder.files l.fn.folder ≡ Some files
-      → SameOrNoFile (wired_from (without name files) 1 (first_wiring l.fn.late l.fn.keys) (items_view l.elements.items))
-      (wired_from (without name files) (l.place + 1) l.wiring (items_view (drop l.value-index l.elements.items)));
+      → SameOrNoFile (with_elements_from (without name files) 1 (first_wiring l.fn.late l.fn.keys) (items_view l.elements.items))
+      (with_elements_from (without name files) (l.place + 1) l.wiring (items_view (drop l.value-index l.elements.items)));
 }
