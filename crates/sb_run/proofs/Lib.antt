@@ -3,7 +3,14 @@ pub mod Behind
 pub mod Coming
 pub mod Ended
 pub mod FedMore
+pub mod FileItems
+pub mod FilesCrossing
+pub mod FilesEnded
+pub mod FilesOpened
+pub mod FilesSoFar
 pub mod Flowing
+pub mod InletPops
+pub mod MergedItems
 pub mod Passes
 pub mod Returned
 pub mod Settings
@@ -12,4 +19,5 @@ pub mod Sharing
 pub mod SoFar
 pub mod Standing
 pub mod Starting
+pub mod TakenItems
 pub mod Through

@@ -43,7 +43,7 @@ use Rattle.sb_feed.proofs.LaterItems.{no_more}
 use Rattle.sb_run.specs.declared.run_end.RunEnd.TheVariants as run
 use Rattle.sb_run.specs.declared.sizes.Sizes.{Sizes}
 use Rattle.sb_run.specs.Ending.{early_by, end_by}
-use Rattle.sb_run.specs.Feeders.{HasFed, IsGivenBack}
+use Rattle.sb_run.specs.Feeders.{ComesBack, HasFed, IsGivenBack}
 use Rattle.sb_run.specs.Rested.{HasSameSetting, IsRested, IsWhole, feed_of}
 use Rattle.sb_run.specs.RunEnds.{AreSizes, Ends, EndsEarly, MayHaveFailed, OutputCause, SharedFeedCause, SharedInputCause}
 use Rattle.sb_run.proofs.Ended.{ends_here}
@@ -137,7 +137,7 @@ module _ {O : Type 0} (after part : O → List Record → O → Type 0) (laws : 
     (o p : O) (taps taps1 : List TapState) (dropped dropped' : List Dropped) (stop : Stop)
     (e : FeedsAll plan size left left' stands after o p taps taps1 dropped dropped' stop) where
   -- behind all that was fed not all rows came out
-  feeds-stopped : (q : O) (taps2 : List TapState) (why : GiveStop) → StopsOut plan part p q taps1 taps2 e.f e.gives.rows why
+  pub feeds-stopped : (q : O) (taps2 : List TapState) (why : GiveStop) → StopsOut plan part p q taps1 taps2 e.f e.gives.rows why
       → FeedsSome plan left left' part o q taps taps2 dropped dropped' why
   feeds-stopped q taps2 why stops =
       let n = stops_then after part laws plan (stands e.f) o p q taps taps1 taps2 e.f [] why e.gives stops in
@@ -225,6 +225,33 @@ ends-back plan sizes c h0 h left left' after part o p taps taps' dropped dropped
     settings
     (subst (λ q. Feeds q sizes.bundle left left' (IsRested h) after part o p taps taps' dropped dropped' fed) shared.plan_is feeds)
 
+same-hand : (h : HandView) → HasSameSetting h h
+same-hand h = record { plan = refl; bundle = refl; pending = refl; stays_spent = λ e. e; settings = λ unspent. refl }
+
+-- ---- a cascade comes back to a hand, which is worked off
+module _ {O : Type 0} (after part : O → List Record → O → Type 0) (laws : AddsUp after part) (c : Cascade) (p : CascadePass) (o : O) (taps : List TapState) (f : Fed) (rows : List Record) (fed : HasFed c p f rows) where
+  pub back-wanting : ComesBack c after part o o taps taps f rows (Err give.Memory)
+  back-wanting = stops_none after part laws (plan_of c) o taps f rows fed.so_far
+
+  module _ (q : O) (taps' : List TapState) (h0 h : HandView) (back : IsGivenBack (setting_of c) h0) (same : HasSameSetting h0 h) where
+    so : AreRowsSoFar h0.plan f rows
+    so = subst (λ u. AreRowsSoFar u f rows) (sym back.plan) fed.so_far
+
+    pub back-done : {T : Type 0} (x : T) → (AreRowsSoFar h0.plan f rows → Gives {T = T} h0.plan (IsRested h f) after part o q taps taps' f rows (Ok x)) → ComesBack c after part o q taps taps' f rows (Ok h)
+    back-done x gives =
+        let came = gives so in (
+          record {
+            plan = same.plan ∙ back.plan;
+            bundle = same.bundle ∙ back.bundle;
+            pending = same.pending ∙ back.pending;
+            settings = same.settings came.stand.whole.unspent ∙ back.settings;
+          },
+          came,
+        )
+
+    pub back-stopped : (T : Type 0) (why : GiveStop) → (AreRowsSoFar h0.plan f rows → Gives {T = T} h0.plan (IsRested h f) after part o q taps taps' f rows (Err why)) → ComesBack c after part o q taps taps' f rows (Err why)
+    back-stopped T why gives = subst (λ u. StopsOut u part o q taps taps' f rows why) back.plan (gives so)
+
 -- all was fed to a shared cascade, or as much as came before the stop
 module _ {O : Type 0} (after part : O → List Record → O → Type 0) (laws : AddsUp after part) (plan : Shape) (sizes : Sizes) (c : Cascade) (pass : CascadePass)
     (shared : IsShared plan sizes.bundle sizes.pending sizes.keeps_diaries (setting_of c)) (left left' : Option (List ℕ)) (o p : O) (taps taps1 : List TapState) (dropped dropped' : List Dropped) where
@@ -240,18 +267,21 @@ module _ {O : Type 0} (after part : O → List Record → O → Type 0) (laws : 
       subst (λ q. Ends q sizes left left' after part o p taps taps1 dropped dropped' run.Memory) shared.plan_is
       (ends-wanting (plan_of c) sizes left left' after part o p taps taps1 dropped dropped' laws sizes.bundle (HasFed c pass) (λ f rows h. h.so_far) fed e)
 
-  -- and the hand that came back was worked off
-  pub shared-done : {T : Type 0} (h0 h : HandView) (q : O) (taps2 : List TapState) (stop : Stop) (result : Result T GiveStop)
-      → ((f : Fed) (rows : List Record) → HasFed c pass f rows → IsWhole h0 f rows) → IsGivenBack (setting_of c) h0 → HasSameSetting h0 h
-      → ((f : Fed) (before : List Record) → IsWhole h0 f before → AreRowsSoFar h0.plan f before → Gives h0.plan (IsRested h f) after part p q taps1 taps2 f before result)
-      → FeedsAll (plan_of c) sizes.bundle left left' (HasFed c pass) after o p taps taps1 dropped dropped' stop
-      → Ends plan sizes left left' after part o q taps taps2 dropped dropped' (end_by h (told stop result))
-  shared-done {T = T} h0 h q taps2 stop result whole back same flows e =
-      let stand = e.gives.stand in
-      let so = subst (λ u. AreRowsSoFar u e.f e.gives.rows) (sym back.plan) stand.so_far in
-      let gives = subst (λ u. Gives {T = T} u (IsRested h e.f) after part p q taps1 taps2 e.f e.gives.rows result) back.plan (flows e.f e.gives.rows (whole e.f e.gives.rows stand) so) in
-      ends-back plan sizes c h0 h left left' after part o q taps taps2 dropped dropped' (told stop result) shared back same
-      (feeds-back after part laws (plan_of c) sizes.bundle left left' (HasFed c pass) o p taps taps1 dropped dropped' stop e (IsRested h) q taps2 result gives)
+  -- and the hand came back, all of it worked off
+  pub shared-done : (h : HandView) (q : O) (taps2 : List TapState) (stop : Stop) (e : FeedsAll (plan_of c) sizes.bundle left left' (HasFed c pass) after o p taps taps1 dropped dropped' stop)
+      → ((f : Fed) (rows : List Record) → HasFed c pass f rows → ComesBack c after part p q taps1 taps2 f rows (Ok h)) → Ends plan sizes left left' after part o q taps taps2 dropped dropped' (end_by h (Ok stop))
+  shared-done h q taps2 stop e comes =
+      let (back, gives) = comes e.f e.gives.rows e.gives.stand in
+      ends-back plan sizes c h h left left' after part o q taps taps2 dropped dropped' (Ok stop) shared back (same-hand h)
+      (feeds-back after part laws (plan_of c) sizes.bundle left left' (HasFed c pass) o p taps taps1 dropped dropped' stop e (IsRested h) q taps2 (Ok (tt {0})) gives)
+
+  -- or not all rows came out
+  pub shared-stopped : (h : HandView) (q : O) (taps2 : List TapState) (stop : Stop) (why : GiveStop) (e : FeedsAll (plan_of c) sizes.bundle left left' (HasFed c pass) after o p taps taps1 dropped dropped' stop)
+      → ((f : Fed) (rows : List Record) → HasFed c pass f rows → ComesBack c after part p q taps1 taps2 f rows (Err why)) → Ends plan sizes left left' after part o q taps taps2 dropped dropped' (early_by why)
+  shared-stopped h q taps2 stop why e comes =
+      subst (λ u. Ends u sizes left left' after part o q taps taps2 dropped dropped' (early_by why)) shared.plan_is
+      (ends-early (plan_of c) sizes left left' after part o q taps taps2 dropped dropped' h why
+      (feeds-stopped after part laws (plan_of c) sizes.bundle left left' (HasFed c pass) o p taps taps1 dropped dropped' stop e q taps2 why (comes e.f e.gives.rows e.gives.stand)))
 
 -- ---- the causes
 pub shared-cause : (before now : ℕ) (fed : Result Stop GiveStop) → SharedFeedCause before now fed → MayHaveFailed before now

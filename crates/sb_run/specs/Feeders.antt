@@ -1,5 +1,5 @@
 -- What the feeder's pass of a shared cascade stands for between two lines of an input.
-use Rattle.std.specs.Prelude.{◌≡◌, ◌≤◌, List, [], length}
+use Rattle.std.specs.Prelude.{◌≡◌, ◌≤◌, List, [], length, Result, Ok, Err}
 use Rattle.std.specs.List.{AllByRecursion}
 use Rattle.sb_record.specs.declared.item.Record.{Record}
 use Rattle.sb_record.specs.declared.item.Stream.{Stream}
@@ -12,11 +12,14 @@ use Rattle.sb_cascade.specs.declared.telling.Setting.{Setting}
 use Rattle.sb_cascade.specs.Calls.{IsEmptyHanded, IsFeeder, IsReady, hands, passes_out, plan_of, setting_of}
 use Rattle.sb_cascade.specs.Lives.{IsShared}
 use Rattle.sb_cascade.specs.Views as view
+use Rattle.sb_emit.specs.Taps.{TapState}
+use Rattle.sb_feed.specs.declared.give.GiveStop.{GiveStop}
 use Rattle.sb_feed.specs.Feeds.{AreRowsSoFar, Fed, floor_in, nothing_fed}
+use Rattle.sb_feed.specs.Gives.{GivesOut, StopsOut}
 use Rattle.sb_hand.specs.Hands.{HandView, settings_at}
 use Rattle.sb_hand.specs.Showing.{settings_of}
 use Rattle.sb_run.specs.declared.sizes.Sizes.{Sizes}
-use Rattle.sb_run.specs.Rested.{feed_of}
+use Rattle.sb_run.specs.Rested.{IsRested, feed_of}
 use Rattle.sb_worker.specs.Helping.{IsFirst, IsHelper}
 
 -- the feeder's pass, with nothing in hand, that was given this to feed, and has drained these rows: they are the plan's
@@ -42,6 +45,13 @@ pub record IsGivenBack (a : Setting) (h : HandView) : Type 0 where
   pub bundle : h.bundle ≡ a.bundle
   pub pending : h.pending ≡ a.pending
   pub settings : settings_of h.nodes ≡ settings_at a.keeps a.pending a.plan
+
+-- the hand that came back has worked off all that was fed, and the rows came out behind those before, or not all did
+abbrev pub ComesBack : {O : Type 0} → Cascade → (O → List Record → O → Type 0) → (O → List Record → O → Type 0)
+    → O → O → List TapState → List TapState → Fed → List Record → Result HandView GiveStop → Type 0
+ComesBack c after part o p taps taps' f rows (Ok h) =
+    IsGivenBack (setting_of c) h × GivesOut (IsRested h f) after o p taps taps' rows
+ComesBack c after part o p taps taps' f rows (Err why) = StopsOut (plan_of c) part o p taps taps' f rows why
 
 -- workers begin to share a cascade of the plan: the feeder has fed nothing, and each helper has a pass
 pub record IsBegun (plan : Shape) (sizes : Sizes) (c : Cascade) (p : CascadePass) (helpers : List CascadePass)

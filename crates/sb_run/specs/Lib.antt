@@ -2,3 +2,9 @@ pub mod Ending
 pub mod Rested
 pub mod RunEnds
 pub mod Feeders
+pub mod Files
+pub mod Pops
+pub mod FilesFed
+pub mod FilesRead
+pub mod FilesEnding
+pub mod TwoEnds

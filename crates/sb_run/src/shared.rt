@@ -3,4 +3,4 @@
 pub(crate) mod feeding;
 pub(crate) mod handing;
 pub(crate) mod helping;
-mod working;
+pub(crate) mod working;

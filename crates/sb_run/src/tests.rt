@@ -3,6 +3,7 @@
 ghost use Rattle.std.specs.Prelude.{◌≤◌, All, IfOk};
 
 mod holding;
+mod two_files;
 
 use crate::{MAX_WORKERS, RunEnd, Sizes, execute, execute_alone};
 use sb_aggregate::Agg;

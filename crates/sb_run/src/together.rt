@@ -14,10 +14,9 @@ ghost use Rattle.sb_worker.specs.Helping.{IsFirst, IsHelper};
 use crate::ending::{early_end, end_of};
 use crate::run_end::RunEnd;
 use crate::shared::feeding::feed;
-use crate::shared::handing::{split_all, take_back};
+use crate::shared::handing::{come_back, split_all};
 use crate::shared::helping::help_all;
 use crate::sizes::Sizes;
-use crate::working::flow;
 use sb_bundle::MAX_BUNDLE;
 use sb_cascade::{Cascade, CascadePass};
 use sb_emit::{RowOut, Tap};
@@ -32,16 +31,20 @@ use std::sync::Wait;
 use std::thread::{Threads, join_mut};
 use std::time::Clock;
 
-// What workers share: the cascade, the feeder's pass, and those of the helpers.
+/// What workers share: the cascade, the feeder's pass, and those of the helpers.
 #[derive(Drop)]
-struct Begun {
-    cascade: Cascade,
-    pass: CascadePass,
-    helpers: Vec<CascadePass>,
+pub(crate) struct Begun {
+    pub(crate) cascade: Cascade,
+    pub(crate) pass: CascadePass,
+    pub(crate) helpers: Vec<CascadePass>,
 }
 
-// A cascade of the plan, for so many workers.
-fn begin(alloc: Global, plan: Plan, sizes: Sizes) -> Result<Begun, NoMemory>
+/// A cascade of the plan, for so many workers.
+///
+/// # Errors
+///
+/// [`NoMemory`].
+pub(crate) fn begin(alloc: Global, plan: Plan, sizes: Sizes) -> Result<Begun, NoMemory>
     requires sizes { AreSizes sizes }
     ensures { IfOk result (λ b. IsBegun plan sizes b.cascade b.pass b.helpers.items) }
 {
@@ -185,12 +188,8 @@ pub fn execute<W: Threads + Wait + Clock + Sync, S: Source, R: RowOut, G: Gate>(
         Ok(stop) => stop,
         Err(why) => return early_end(why),
     };
-    let mut hand = match take_back(rt, alloc, cascade, pass, helpers, gate) {
-        Ok(hand) => hand,
-        Err(NoMemory) => return RunEnd::Memory,
-    };
-    match flow(&mut hand, out, taps) {
-        Ok(()) => end_of(hand, Ok(stop)),
-        Err(why) => end_of(hand, Err(why)),
+    match come_back(rt, alloc, cascade, pass, helpers, gate, out, taps) {
+        Ok(hand) => end_of(hand, Ok(stop)),
+        Err(why) => early_end(why),
     }
 }

@@ -13,7 +13,7 @@ ghost use Rattle.sb_feed.specs.InputFeeds.{Feeds, FeedCause};
 ghost use Rattle.sb_feed.specs.Takes.{MayEnd, MayTake, TakesOrFails};
 ghost use Rattle.sb_run.specs.Feeders.{HasFed, IsStill};
 ghost use Rattle.sb_run.specs.RunEnds.{SharedFeedCause};
-ghost use Rattle.sb_cascade.specs.Calls.{plan_of, setting_of};
+ghost use Rattle.sb_cascade.specs.Calls.{IsEmptyHanded, IsReady, plan_of, setting_of};
 
 use crate::feeding::uses;
 use crate::shared::working::{arrive, seal, settle};
@@ -100,8 +100,12 @@ fn take_mark<W: Wait, G: Gate, R: RowOut>(
     }
 }
 
-// Takes an item of the input: a late record that is dropped is listed.
-fn take_item<W: Wait, G: Gate, R: RowOut>(
+/// Takes an item of the input: a late record that is dropped is listed.
+///
+/// # Errors
+///
+/// The first failure to write or to offer rows, or want of memory, of this worker or another.
+pub(crate) fn take_item<W: Wait, G: Gate, R: RowOut>(
     rt: &W,
     alloc: Global,
     cascade: &Cascade,
@@ -180,8 +184,12 @@ fn end_stream<W: Wait, G: Gate, R: RowOut>(
     )
 }
 
-// Takes the end of the input, if reading stopped there.
-fn end_input<W: Wait, G: Gate, R: RowOut>(
+/// Takes the end of the input, if reading stopped there.
+///
+/// # Errors
+///
+/// Those of [`take_item`].
+pub(crate) fn end_input<W: Wait, G: Gate, R: RowOut>(
     rt: &W,
     alloc: Global,
     cascade: &Cascade,
@@ -309,11 +317,40 @@ fn feed_lines<W: Wait, G: Gate, S: Source, R: RowOut>(
     }
 }
 
-// What the state word says where feeding stopped early.
-fn reason_of(why: GiveStop) -> Reason {
+/// What the state word says where feeding stopped early.
+pub(crate) fn reason_of(why: GiveStop) -> Reason {
     match why {
         GiveStop::Memory => Reason::Memory,
         GiveStop::Output | GiveStop::Tap { .. } => Reason::Fault,
+    }
+}
+
+/// Steps until nothing is left to do, and says in the state word that the run ends.
+///
+/// # Errors
+///
+/// This worker or another found no memory.
+pub(crate) fn end_work<W: Wait, G: Gate>(
+    rt: &W,
+    alloc: Global,
+    cascade: &Cascade,
+    pass: &mut CascadePass,
+    gate: &G,
+) -> Result<(), NoMemory>
+    requires pass { IsReady cascade.now pass.old × IsEmptyHanded pass.old }
+    ensures same { IsStill cascade.now pass.old pass.new }
+    ensures feeder { OnOk result ((f : Fed) (rows : List ARecord) → HasFed cascade.now pass.old f rows
+        → HasFed cascade.now pass.new f rows) }
+{
+    match settle(rt, alloc, cascade, pass, gate) {
+        Ok(()) => {
+            cascade.stop(pass, Reason::Ended);
+            Ok(())
+        }
+        Err(NoMemory) => {
+            cascade.stop(pass, Reason::Memory);
+            Err(NoMemory)
+        }
     }
 }
 
@@ -363,14 +400,8 @@ pub(crate) fn feed<W: Wait, G: Gate, S: Source, R: RowOut>(
             return Err(why);
         }
     };
-    match settle(rt, alloc, cascade, pass, gate) {
-        Ok(()) => {
-            cascade.stop(pass, Reason::Ended);
-            Ok(stop)
-        }
-        Err(NoMemory) => {
-            cascade.stop(pass, Reason::Memory);
-            Err(GiveStop::Memory)
-        }
+    match end_work(rt, alloc, cascade, pass, gate) {
+        Ok(()) => Ok(stop),
+        Err(NoMemory) => Err(GiveStop::Memory),
     }
 }

@@ -1,17 +1,21 @@
 //! A cascade is shared out among the passes of workers, and comes back to one hand.
 
-ghost use Rattle.std.specs.Prelude.{◌≡◌, ◌≤◌, ◌<◌, false, List, length, IfOk, OnOk};
+ghost use Rattle.std.specs.Prelude.{◌≡◌, ◌≤◌, ◌<◌, ◌^◌, false, List, map, length, IfOk, OnOk};
 ghost use Rattle.std.specs.List.{AllByRecursion};
 ghost use Rattle.sb_record.specs.declared.item.Record.{Record as ARecord};
 ghost use Rattle.sb_cascade.specs.Calls.{setting_of};
 ghost use Rattle.sb_feed.specs.Feeds.{Fed};
-ghost use Rattle.sb_run.specs.Feeders.{HasFed, IsGivenBack};
+ghost use Rattle.sb_feed.specs.GiveCauses.{GiveCause};
+ghost use Rattle.sb_run.specs.Feeders.{ComesBack, HasFed, IsGivenBack};
 ghost use Rattle.sb_run.specs.Rested.{IsWhole};
 ghost use Rattle.sb_turn.specs.Passes.{ShowsEmpty};
 ghost use Rattle.sb_turn.specs.Reasons.{number_of};
 ghost use Rattle.sb_worker.specs.Helping.{IsFirst, IsHelper};
 
+use crate::working::flow;
 use sb_cascade::{Cascade, CascadePass};
+use sb_emit::{RowOut, Tap};
+use sb_feed::GiveStop;
 use sb_hand::Hand;
 use sb_record::NoMemory;
 use sb_turn::Reason;
@@ -94,13 +98,9 @@ fn is_want(reason: Reason) -> bool
     }
 }
 
-/// The cascade comes back to one hand, once all helpers have ended: their passes are joined, and what lies on the shelf
-/// is worked off.
-///
-/// # Errors
-///
-/// A worker found no memory.
-pub(crate) fn take_back<W: Wait, G: Gate>(
+// The cascade comes back to one hand, once all helpers have ended: their passes are joined, and what lies on the shelf
+// is worked off. It fails if a worker found no memory.
+fn take_back<W: Wait, G: Gate>(
     rt: &W,
     alloc: Global,
     cascade: Cascade,
@@ -125,4 +125,40 @@ pub(crate) fn take_back<W: Wait, G: Gate>(
         return Err(NoMemory);
     }
     Ok(cascade.shut(pass))
+}
+
+/// The cascade comes back to one hand, once all helpers have ended. The hand works off what is left, and the rows that
+/// were not given out yet come out.
+///
+/// # Errors
+///
+/// The first failure to write or to offer rows, and want of memory, of this worker or another.
+pub(crate) fn come_back<W: Wait, G: Gate, R: RowOut>(
+    rt: &W,
+    alloc: Global,
+    cascade: Cascade,
+    pass: CascadePass,
+    helpers: Vec<CascadePass>,
+    gate: &G,
+    out: &mut R,
+    taps: &mut Vec<Box<dyn Tap>>,
+) -> Result<Hand, GiveStop>
+    requires pass { IsFirst cascade (length helpers.items) pass }
+    requires helpers { AllByRecursion (IsHelper cascade) helpers.items }
+    requires some { 1 ≤ (setting_of cascade).pending }
+    requires feeder { (f : Fed) × (rows : List ARecord) × HasFed cascade pass f rows }
+    requires few { length taps.old.items < 2 ^ 32 }
+    ensures comes { (f : Fed) (rows : List ARecord) → HasFed cascade pass f rows
+        → ComesBack cascade R.after R.part out.old out.new
+        (map (λ t. tap_state t) taps.old.items) (map (λ t. tap_state t) taps.new.items) f rows result }
+    ensures cause { GiveCause (R.row_state out.old) (R.row_state out.new) result }
+{
+    let mut hand = match take_back(rt, alloc, cascade, pass, helpers, gate) {
+        Ok(hand) => hand,
+        Err(NoMemory) => return Err(GiveStop::Memory),
+    };
+    match flow(&mut hand, out, taps) {
+        Ok(()) => Ok(hand),
+        Err(why) => Err(why),
+    }
 }

@@ -102,9 +102,36 @@ fn work_there<W: Wait, G: Gate>(
     }
 }
 
+/// A step of the feeder as a worker. If there is nothing to do, since all is in the hands of others, it leaves the
+/// processor to them.
+///
+/// # Errors
+///
+/// This worker or another found no memory.
+pub(crate) fn step_or_yield<W: Wait, G: Gate>(
+    rt: &W,
+    alloc: Global,
+    cascade: &Cascade,
+    pass: &mut CascadePass,
+    gate: &G,
+) -> Result<(), NoMemory>
+    requires pass { IsReady cascade.now pass.old × IsEmptyHanded pass.old }
+    ensures same { IsStill cascade.now pass.old pass.new }
+    ensures feeder { OnOk result ((f : Fed) (rows : List ARecord) → HasFed cascade.now pass.old f rows
+        → HasFed cascade.now pass.new f rows) }
+{
+    match step_too(rt, alloc, cascade, pass, gate) {
+        Ok(Did::Bundle | Did::Closing) => Ok(()),
+        Ok(Did::Nothing) => {
+            thread::yield_now();
+            Ok(())
+        }
+        Err(NoMemory) => Err(NoMemory),
+    }
+}
+
 // Works off a bundle of the node that takes the stream, and makes a step: so bundles do not gather behind that node
-// while the feeder makes room in it. If there is nothing to do, since all is in the hands of others, it leaves the
-// processor to them.
+// while the feeder makes room in it.
 fn make_room<W: Wait, G: Gate>(
     rt: &W,
     alloc: Global,
@@ -119,15 +146,7 @@ fn make_room<W: Wait, G: Gate>(
         → HasFed cascade.now pass.new f rows) }
 {
     match work_there(rt, alloc, cascade, pass, gate, stream) {
-        Ok(()) => {}
-        Err(NoMemory) => return Err(NoMemory),
-    }
-    match step_too(rt, alloc, cascade, pass, gate) {
-        Ok(Did::Bundle | Did::Closing) => Ok(()),
-        Ok(Did::Nothing) => {
-            thread::yield_now();
-            Ok(())
-        }
+        Ok(()) => step_or_yield(rt, alloc, cascade, pass, gate),
         Err(NoMemory) => Err(NoMemory),
     }
 }

@@ -1,6 +1,6 @@
 use Rattle.std.proofs.Common.{[], true}
 use Rattle.sb_feed.proofs.GivesInTurn.{AddsUp}
-use Rattle.sb_run.proofs.Returned.{output-early, shared-done, shared-early, shared-early_cause, shared-wanting}
+use Rattle.sb_run.proofs.Returned.{output-early, shared-done, shared-early, shared-early_cause, shared-stopped, shared-wanting}
 use Rattle.sb_run.proofs.Starting.{ends_none}
 use Rattle.sb_run.proofs.together.execute.Goals as goal
 
@@ -32,32 +32,20 @@ returns-in-Err-fed-clause-input g c = rw c.early_end.ensures (shared-early_cause
 pub returns-in-Err-fed-clause-output : goal.returns-in-Err-fed-clause-output
 returns-in-Err-fed-clause-output g c = rw c.early_end.ensures (output-early c.args.plan _ _ c.in-Err-fed.why (rw c.in-Err-fed.is at c.work-clear.ensures.cause))
 
-pub returns-in-Err-take_back-clause-ends : goal.returns-in-Err-take_back-clause-ends
-returns-in-Err-take_back-clause-ends g c =
+pub returns-in-Ok-come_back-clause-ends : goal.returns-in-Ok-come_back-clause-ends
+returns-in-Ok-come_back-clause-ends g c =
     let laws = g.met.R.RowOut g.world.𝓛 g.world.𝓜 g.world.𝓡 ((λ s x. x), (λ x. x), (λ x. x), λ x. x) in
     let adds_up : AddsUp g.R.RowOut.after g.R.RowOut.part = record { after_none = laws.after_none; after_more = laws.after_more; part_later = laws.part_later; part_of_all = laws.part_of_all } in
     let b = c.in-Ok.begun in
-    shared-wanting g.R.RowOut.after g.R.RowOut.part adds_up c.args.plan c.args.sizes b.cascade c.work-clear.new.pass c.in-Ok.ensures.setting (g.S.Source.left c.args.input.now) (g.S.Source.left c.work-clear.new.input) c.args.out.now c.work-clear.new.out _ _ c.args.dropped.now.items c.work-clear.new.dropped.items
-    c.work-clear.result.1 c.work-clear.ensures.feeds
-
-pub returns-in-Ok-flow-clause-ends : goal.returns-in-Ok-flow-clause-ends
-returns-in-Ok-flow-clause-ends g c =
-    let laws = g.met.R.RowOut g.world.𝓛 g.world.𝓜 g.world.𝓡 ((λ s x. x), (λ x. x), (λ x. x), λ x. x) in
-    let adds_up : AddsUp g.R.RowOut.after g.R.RowOut.part = record { after_none = laws.after_none; after_more = laws.after_more; part_later = laws.part_later; part_of_all = laws.part_of_all } in
-    let b = c.in-Ok.begun in
-    let back = c.in-Ok-take_back.ensures in
     rw c.end_of.ensures
-    (rw c.in-Ok-flow.is at
     (shared-done g.R.RowOut.after g.R.RowOut.part adds_up c.args.plan c.args.sizes b.cascade c.work-clear.new.pass c.in-Ok.ensures.setting (g.S.Source.left c.args.input.now) (g.S.Source.left c.work-clear.new.input) c.args.out.now c.work-clear.new.out _ _ c.args.dropped.now.items c.work-clear.new.dropped.items
-    c.in-Ok-take_back.hand c.flow.new.hand c.flow.new.out _ c.in-Ok-fed.stop c.flow.result back.whole back.setting c.flow.ensures.same c.flow.ensures.gives (rw c.in-Ok-fed.is at c.work-clear.ensures.feeds)))
+    c.in-Ok-come_back.hand c.come_back.new.out _ c.in-Ok-fed.stop (rw c.in-Ok-fed.is at c.work-clear.ensures.feeds) c.in-Ok-come_back.ensures.comes)
 
-pub returns-in-Err-flow-clause-ends : goal.returns-in-Err-flow-clause-ends
-returns-in-Err-flow-clause-ends g c =
+pub returns-in-Err-come_back-clause-ends : goal.returns-in-Err-come_back-clause-ends
+returns-in-Err-come_back-clause-ends g c =
     let laws = g.met.R.RowOut g.world.𝓛 g.world.𝓜 g.world.𝓡 ((λ s x. x), (λ x. x), (λ x. x), λ x. x) in
     let adds_up : AddsUp g.R.RowOut.after g.R.RowOut.part = record { after_none = laws.after_none; after_more = laws.after_more; part_later = laws.part_later; part_of_all = laws.part_of_all } in
     let b = c.in-Ok.begun in
-    let back = c.in-Ok-take_back.ensures in
-    rw c.end_of-in-Err-flow.ensures
-    (rw c.in-Err-flow.is at
-    (shared-done g.R.RowOut.after g.R.RowOut.part adds_up c.args.plan c.args.sizes b.cascade c.work-clear.new.pass c.in-Ok.ensures.setting (g.S.Source.left c.args.input.now) (g.S.Source.left c.work-clear.new.input) c.args.out.now c.work-clear.new.out _ _ c.args.dropped.now.items c.work-clear.new.dropped.items
-    c.in-Ok-take_back.hand c.flow.new.hand c.flow.new.out _ c.in-Ok-fed.stop c.flow.result back.whole back.setting c.flow.ensures.same c.flow.ensures.gives (rw c.in-Ok-fed.is at c.work-clear.ensures.feeds)))
+    rw c.early_end-in-Err-come_back.ensures
+    (shared-stopped g.R.RowOut.after g.R.RowOut.part adds_up c.args.plan c.args.sizes b.cascade c.work-clear.new.pass c.in-Ok.ensures.setting (g.S.Source.left c.args.input.now) (g.S.Source.left c.work-clear.new.input) c.args.out.now c.work-clear.new.out _ _ c.args.dropped.now.items c.work-clear.new.dropped.items
+    (record { plan = c.args.plan; bundle = 0; pending = 0; nodes = []; tray = []; spent = true }) c.come_back.new.out _ c.in-Ok-fed.stop c.in-Err-come_back.why (rw c.in-Ok-fed.is at c.work-clear.ensures.feeds) c.in-Err-come_back.ensures.comes)

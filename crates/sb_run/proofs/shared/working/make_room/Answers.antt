@@ -1,12 +1,6 @@
-use Rattle.std.proofs.Common.{rules}
+use Rattle.std.proofs.lemmas.Result.{on_ok_weaker}
 use Rattle.sb_run.proofs.shared.working.make_room.Goals as goal
 
-pub returns-in-Ok-Bundle : goal.returns-in-Ok-Bundle
-returns-in-Ok-Bundle g c = record {
-  same = search rules;
-  feeder = λ f rows h. c.in-Ok-Bundle.ensures.feeder f rows (c.in-Ok.ensures.feeder f rows h);
-}
-
-pub returns-in-Ok-Nothing-clause-feeder : goal.returns-in-Ok-Nothing-clause-feeder
-returns-in-Ok-Nothing-clause-feeder g c = λ f rows h.
-    c.in-Ok-Nothing.ensures.feeder f rows (c.in-Ok.ensures.feeder f rows h)
+pub returns-in-Ok-clause-feeder : goal.returns-in-Ok-clause-feeder
+returns-in-Ok-clause-feeder g c =
+    on_ok_weaker c.step_or_yield.result (λ steps f rows h. steps f rows (c.in-Ok.ensures.feeder f rows h)) c.step_or_yield.ensures.feeder

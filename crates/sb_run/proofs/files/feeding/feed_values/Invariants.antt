@@ -1,0 +1,25 @@
+use Rattle.std.proofs.Common.{◌≡◌, ◌≤◌, Ok, length, map}
+use Rattle.sb_pipeline.specs.Shapes.{streams_of}
+use Rattle.sb_cascade.specs.Calls.{plan_of, setting_of}
+use Rattle.sb_feed.specs.GiveCauses.{GiveCause}
+use Rattle.sb_feeds.specs.Ends.{ring_in}
+use Rattle.sb_run.specs.Feeders.{HasFed, IsStill}
+use Rattle.sb_run.specs.Files.{by_stream}
+use Rattle.sb_run.specs.Pops.{AreInlets, values_of}
+use Rattle.sb_run.proofs.FilesSoFar.{FilesSoFar}
+use Rattle.sb_run.proofs.files.feeding.feed_values.Given as goal
+
+abbrev pub invariant-loop : goal.invariant-loop
+invariant-loop g l =
+    record {
+      fed : FilesSoFar g.R.RowOut.after (plan_of l.cascade) (setting_of l.cascade).bundle (HasFed l.cascade l.pass)
+          (record { out = l.fn.out; taps = map (λ t. (goal.Tap-dyn g (t.vtable, t.value)).tap_state t.value) l.fn.taps.items; dropped = by_stream l.fn.dropped_a.items l.fn.dropped_b.items })
+          (record { out = l.out; taps = map (λ t. (goal.Tap-dyn g (t.vtable, t.value)).tap_state t.value) l.taps.items; dropped = by_stream l.dropped_a.items l.dropped_b.items })
+          (values_of l.inlets) l.cutters;
+      inlets_are : AreInlets (streams_of (plan_of l.cascade)) l.inlets;
+      ring_a : ring_in l.inlets.a.inward ≡ ring_in l.fn.inlets.a.inward;
+      ring_b : ring_in l.inlets.b.inward ≡ ring_in l.fn.inlets.b.inward;
+      same : IsStill l.cascade l.fn.pass l.pass;
+      cause : GiveCause {T = Unit {0}} (g.R.RowOut.row_state l.fn.out) (g.R.RowOut.row_state l.out) (Ok tt);
+      fewer : length l.taps.items ≤ length l.fn.taps.items;
+    }
