@@ -5,11 +5,12 @@
 # Of the guide it tries, by `run` and by `slow`, each plan that stands with an input, rows and, if it has any, notes, by
 # `save` each checkpoint that stands there, and by all commands each fault of the tables with a plan and an answer. Three
 # faults have no plan there, since it would be too long: these are made here. Each folder with a plan is run with several
-# numbers of workers and sizes of bundles, too, and its diaries are audited; two of its keys are watched; and its input is
-# cut behind each line (cut/cut.sh). Each plan of the guide is run with several workers. Each folder of runs/ is a run: its
-# words (args), its input, its rows, its note and its exit code. cut/faults.sh tries faulty checkpoint files. `work` prints
-# the same lines with 1, 2 and 8 workers. Not tried are the exit codes 7, 8 and 70, and what the guide says in sentences.
-# The last line counts what was as expected.
+# numbers of workers and sizes of bundles, too, and its diaries are audited; two of its keys are watched; its input is cut
+# behind each line (cut/cut.sh); and it is fed by two files, one of each stream. Each plan of the guide is run with several
+# workers, and by two files. Each folder of runs/ is a run: its words (args), its input, its rows, its note and its exit
+# code. cut/faults.sh tries faulty checkpoint files. Record files that are as long as they may be, and longer, are made here.
+# `work` prints the same lines with 1, 2 and 8 workers. Not tried are the exit codes 7, 8 and 70, and what the guide says in
+# sentences. The last line counts what was as expected.
 # shellcheck disable=SC2016 # Backquotes are those of the guide.
 set -euo pipefail
 shopt -s nullglob
@@ -54,14 +55,14 @@ some() {
   echo "$1 $2: as expected"
 }
 
-# Runs the words of each folder of runs/ there, and those of three commands with 8 workers, too.
+# Runs the words of each folder of runs/ there, and those of four commands with 8 workers, too.
 check_runs() {
   local args words
   runs=0
   for args in runs/*/args; do
     mapfile -t words < "$args"
     check_run "${args%/args}" "${words[@]}"
-    if [[ ${words[0]} =~ ^(watch|part|resume)$ ]]; then check_run "${args%/args}" "${words[@]}" --workers 8; fi
+    if [[ ${words[0]} =~ ^(watch|feeds|part|resume)$ ]]; then check_run "${args%/args}" "${words[@]}" --workers 8; fi
     runs=$((runs + 1))
   done
   some "$runs" 'runs with a note and an exit code'
@@ -103,7 +104,12 @@ check_devices() {
     "$program" sum 0 < first.txt 2> "$notes" || status=$?
     [ "$status" = 1 ] || fail "notes to $notes: exit code $status"
   done
-  devices=6
+  for words in /dev/full /dev/null; do
+    status=0
+    "$program" feeds runs/feeds_two_files/{plan.toml,a.txt,b.txt} 2> "$words" > /dev/full || status=$?
+    [ "$status" = 5 ] || fail "feeds to a full device: exit code $status"
+  done
+  devices=8
   for words in "run $run/plan.toml" "slow $run/plan.toml" "watch $run/plan.toml 1" "part $run/plan.toml" \
     "save $run/plan.toml" "resume $run/plan.toml $run/checkpoint"; do
     status=0
@@ -187,6 +193,45 @@ check_cut() {
   STREAMBOX=$program cut/faults.sh || fail 'a checkpoint file'
 }
 
+# by_two_files PLAN INPUT ROWS NOTES: the lines of each stream in a file of their own, with comments where those of the other
+# stood, give the same rows; and each note of a line begins with its file, those of file a first.
+by_two_files() {
+  local plan=$1 input=$2 rows=$3 notes=$4 workers
+  sed 's/^\(.\),b,.*/#/' "$input" > "$scratch/a.txt"
+  sed 's/^\(.\),a,.*/#/' "$input" > "$scratch/b.txt"
+  awk -F '[ :]' 'NR == FNR { stream[NR] = substr($0, 3, 1); next } { print "file " stream[$2] ": " $0 }' "$input" "$notes" |
+    sort -s -k 1,2 > "$scratch/both"
+  for workers in 1 2 8; do
+    gives "$rows" "$scratch/both" feeds "$plan" "$scratch/a.txt" "$scratch/b.txt" --workers "$workers"
+  done
+}
+
+# The input of each folder with a plan, by two files.
+check_feeds() {
+  local plan
+  feeds=0
+  for plan in */plan.toml; do
+    (cd "${plan%/*}" && by_two_files plan.toml input.txt rows.txt "$(or_empty notes.txt)")
+    feeds=$((feeds + 1))
+  done
+  some "$feeds" 'inputs by two files'
+}
+
+# Record files of one byte more than there may be, which are told in their order: file a before file b is loaded, and the
+# plan before both. A file that is as long as it may be is read, and its first line is too long.
+check_long_files() {
+  local run=runs/feeds_two_files
+  truncate -s 268435457 "$scratch/long"
+  refuses 10 'record file too long' feeds "$run/plan.toml" "$scratch/long" "$scratch/missing"
+  refuses 10 'record file too long' feeds "$run/plan.toml" "$run/a.txt" "$scratch/long"
+  refuses 2 'plan: not TOML' feeds "$run/a.txt" "$scratch/long" "$scratch/long"
+  truncate -s 268435456 "$scratch/long"
+  refuses 3 'file b: line 1: too long' feeds "$run/plan.toml" "$run/a.txt" "$scratch/long"
+  rm "$scratch/long"
+  long=4
+  echo "$long record files that are long: as expected"
+}
+
 # Words that are not understood: none, and those of each line.
 check_words() {
   local words
@@ -206,6 +251,16 @@ watch plan.toml --workers 2 1
 watch plan.toml 1 --workers 0
 watch plan.toml 1 --diary
 watch plan.toml 1 --taps
+feeds
+feeds plan.toml
+feeds plan.toml a
+feeds -p a b
+feeds plan.toml -a b
+feeds plan.toml a -b
+feeds plan.toml a b c
+feeds plan.toml --taps a b
+feeds plan.toml a b --workers 65
+feeds plan.toml a b --diary --diary
 part
 part -p
 part plan.toml 1
@@ -294,6 +349,7 @@ check_plans() {
       gives "${plan%.toml}.rows" "$(or_empty "${plan%.toml}.notes")" \
         run "$plan" --workers "$workers" < "${plan%.toml}.input"
     done
+    by_two_files "$plan" "${plan%.toml}.input" "${plan%.toml}.rows" "$(or_empty "${plan%.toml}.notes")"
     if [ -e "${plan%.toml}.checkpoint" ]; then
       gives "${plan%.toml}.checkpoint" /dev/null save "$plan" < "${plan%.toml}.input"
     fi
@@ -322,7 +378,7 @@ check_faults() {
       printf '%s\n' "$text" > plan.toml
     fi
     for command in $(commands_of "$answer"); do
-      # shellcheck disable=SC2046 # one word, or none
+      # shellcheck disable=SC2046 # two words, one, or none
       refuses 2 "$answer" "$command" plan.toml $(argument_of "$command")
     done
     faults=$((faults + 1))
@@ -334,7 +390,7 @@ check_faults() {
 commands_of() {
   case $1 in
     *': session cannot be saved') echo save resume ;;
-    *) echo run slow watch part save resume ;;
+    *) echo run slow watch feeds part save resume ;;
   esac
 }
 
@@ -342,6 +398,7 @@ commands_of() {
 argument_of() {
   case $1 in
     watch) echo 1 ;;
+    feeds) echo no-file-a no-file-b ;;
     resume) echo no-checkpoint ;;
   esac
 }
@@ -383,7 +440,9 @@ gives first.rows /dev/null sum 10 < first.txt
 check_folders
 check_watch
 check_cut
+check_feeds
 check_runs
+check_long_files
 check_words
 check_devices
 check_work
@@ -394,6 +453,8 @@ cp views/ads.csv "$scratch"
 cd "$scratch"
 check_plans
 check_faults
-echo "All is as expected: $folders folders, $keys keys, $((inputs + 1)) inputs that are cut, checkpoint files, $runs runs, \
-$lists lists of words, $devices devices, work, $reports reports, the tools, $plans plans and $faults faults of the guide."
-echo "$((folders + keys + inputs + 2 + runs + lists + devices + 1 + reports + 1 + plans + faults)) passed, 0 failed"
+echo "All is as expected: $folders folders, $keys keys, $((inputs + 1)) inputs that are cut, checkpoint files, \
+$feeds inputs by two files, $long long files, $runs runs, $lists lists of words, $devices devices, work, $reports reports, \
+the tools, $plans plans and $faults faults of the guide."
+passed=$((folders + keys + inputs + 2 + feeds + long + runs + lists + devices + 1 + reports + 1 + plans + faults))
+echo "$passed passed, 0 failed"

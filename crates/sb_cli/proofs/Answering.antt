@@ -26,10 +26,11 @@ use Rattle.sb_outside.specs.Sinks.{AppendsPrefix}
 use Rattle.sb_outside.specs.Sources.{Rose}
 use Rattle.sb_outside.proofs.Appending.{prefix_of_more}
 use Rattle.sb_cli.specs.declared.ending.Ending.{Ending}
+use Rattle.sb_cli.specs.declared.late.LateRecords.TheVariants.{OfInput}
 use Rattle.sb_cli.specs.declared.status.Status.{Status}
-use Rattle.sb_cli.specs.declared.status.Status.TheVariants.{Done, Words, Plan, Line, Input, Output, Folder, Memory, Tap, Audit, FileTooLong, Checkpoint}
+use Rattle.sb_cli.specs.declared.status.Status.TheVariants.{Done, Words, Plan, Line, Input, Output, Folder, Memory, Tap, Audit, FileTooLong, FileLine, Checkpoint}
 use Rattle.sb_words.specs.Words.{Asked, Asked as ask}
-use Rattle.sb_words.specs.Words.Asked.{Sum, Run, Slow, Work, Watch, Part, Save, Resume}
+use Rattle.sb_words.specs.Words.Asked.{Sum, Run, Slow, Work, Watch, Feeds, Part, Save, Resume}
 use Rattle.sb_words.specs.declared.options.Options.{Options}
 use Rattle.sb_emit.specs.Taps.{TapState}
 use Rattle.sb_feed.specs.Due.{due_mark, due_rows, streams_in}
@@ -39,7 +40,7 @@ use Rattle.sb_cli.specs.Pipelines.{GivesPlan, IsFaultOfCut, IsPlanFor, TellsCutP
 use Rattle.sb_cli.specs.Summaries.{summary_text, work_rows}
 use Rattle.sb_cli.specs.Told.{AreToldIf, TellsDiaries}
 use Rattle.sb_feed.specs.Given.{Given, items_of, lines_of}
-use Rattle.sb_cli.specs.Answers.{ending_of, HasWritten, ListsDropped, WrotePrefix, HasNoPlan, IsAnswer, IsAnswerBy, IsAnswerOf, IsAuditAnswer, IsPlanAnswer, HasAudited, HasPrinted}
+use Rattle.sb_cli.specs.Answers.{ending_of, ending_with, HasWritten, ListsDropped, WrotePrefix, HasNoPlan, IsAnswer, IsAnswerBy, IsAnswerOf, IsAuditAnswer, IsPlanAnswer, HasAudited, HasPrinted}
 use Rattle.sb_cli.specs.Faults.{BlamesFile, Faults, HasCause, IsDoneOrMemory, NothingFails, NothingFailsInAudit}
 
 -- nothing is a prefix of any text
@@ -51,10 +52,10 @@ pub nothing_written : (taken : Option (List ℕ)) (rows : List Record) → Wrote
 nothing_written taken rows = nothing_printed (text_of rows) taken
 
 -- where there is no memory behind some reading, nothing was written, and nothing is listed or told
-pub memory_answer : (plan : Shape) (options : Options) (left left' taken : Option (List ℕ)) (ending : Ending) → Given left left' → ending.status ≡ Memory → ending.dropped ≡ [] → ending.diaries ≡ []
+pub memory_answer : (plan : Shape) (options : Options) (left left' taken : Option (List ℕ)) (ending : Ending) → Given left left' → ending.status ≡ Memory → ending.late ≡ OfInput [] → ending.diaries ≡ []
     → IsAnswerOf plan options left left' taken taken ending
 memory_answer plan options left left' taken ending given is none untold =
-    subst (IsAnswerOf plan options left left' taken taken) (λ i. ending_of (sym is i) (sym none i) (sym untold i))
+    subst (IsAnswerOf plan options left left' taken taken) (λ i. ending_with (sym is i) (sym none i) (sym untold i))
     (record { given = given; written = nothing_written taken (all_rows plan (items_of plan given)); lists = record { rest = dropped_of (items_of plan given); are = refl }; tells = refl })
 
 -- and the taps were offered nothing of which anything is said
@@ -68,10 +69,10 @@ pub unread : (left : Option (List ℕ)) → Given left left
 unread left = record { bytes = []; were_left = Consumes-nil left; ended = false; at_end = λ e. absurd (cc e) }
 
 -- where there is no memory before anything is read, there is no plan, and no line of a diary text
-pub no_memory : (folder : Option Files) (wanted : Asked) (left taken : Option (List ℕ)) (ending : Ending) → ending.status ≡ Memory → ending.dropped ≡ [] → ending.diaries ≡ []
+pub no_memory : (folder : Option Files) (wanted : Asked) (left taken : Option (List ℕ)) (ending : Ending) → ending.status ≡ Memory → ending.late ≡ OfInput [] → ending.diaries ≡ []
     → IsAnswer folder wanted left left taken taken ending
 no_memory folder wanted left taken ending is none untold =
-    subst (IsAnswer folder wanted left left taken taken) (λ i. ending_of (sym is i) (sym none i) (sym untold i)) (for wanted)
+    subst (IsAnswer folder wanted left left taken taken) (λ i. ending_with (sym is i) (sym none i) (sym untold i)) (for wanted)
   where
     for : (wanted : Asked) → IsAnswer folder wanted left left taken taken (ending_of Memory [] [])
     for (Sum size options) = inl (record { no_plan = tt; unread = refl; unwritten = refl; undropped = refl; untold = refl })
@@ -80,6 +81,7 @@ no_memory folder wanted left taken ending is none untold =
     for ask.Audit = record { given = unread left; audited = inl refl; undropped = refl; untold = refl }
     for (Work records options) = record { printed = nothing_printed (summary_text records (work_rows records)) taken; undropped = refl; untold = refl }
     for (Watch name key options) = inl (record { no_plan = tt; unread = refl; unwritten = refl; undropped = refl; untold = refl })
+    for (Feeds name file_a file_b options) = inl (record { no_plan = tt; unread = refl; unwritten = refl; undropped = refl; untold = refl })
     for (Part name options) = inl (record { no_plan = tt; unread = refl; unwritten = refl; undropped = refl; untold = refl })
     for (Save name) = inl (record { no_plan = tt; unread = refl; unwritten = refl; undropped = refl; untold = refl })
     for (Resume name checkpoint options) = inl (record { no_plan = tt; unread = refl; unwritten = refl; undropped = refl; untold = refl })
@@ -89,6 +91,7 @@ pub all_listed : (items : List Item) (dropped : List Dropped) (stop : Stop) (due
     → HasWritten stop due whole taken taken' status → dropped ≡ dropped_of items → ListsDropped items dropped status
 all_listed items dropped stop due whole taken taken' Done written is = is
 all_listed items dropped stop due whole taken taken' (Line refusal) written is = is
+all_listed items dropped stop due whole taken taken' (FileLine stream refusal) written is = absurd written
 all_listed items dropped stop due whole taken taken' Input written is = is
 all_listed items dropped stop due whole taken taken' Output written is = record { rest = []; are = sym is ∙ sym (append-nil dropped) }
 all_listed items dropped stop due whole taken taken' Memory written is = record { rest = []; are = sym is ∙ sym (append-nil dropped) }
@@ -105,6 +108,7 @@ pub due_written : (stop : Stop) (due whole more : List ℕ) (taken taken' : Opti
     → HasWritten stop due due taken taken' status → HasWritten stop due whole taken taken' status
 due_written stop due whole more taken taken' Done is written = written
 due_written stop due whole more taken taken' (Line refusal) is written = written
+due_written stop due whole more taken taken' (FileLine stream refusal) is written = written
 due_written stop due whole more taken taken' Input is written = written
 due_written stop due whole more taken taken' Output is written = subst (AppendsPrefix taken taken') (sym is) (prefix_of_more taken taken' due more written)
 due_written stop due whole more taken taken' Memory is written = subst (AppendsPrefix taken taken') (sym is) (prefix_of_more taken taken' due more written)
@@ -121,6 +125,7 @@ pub none_told : (plan : Shape) (options : Options) (items : List Item) (stop : S
     → options.diary ≡ false → HasWritten stop due whole taken taken' status → TellsDiaries plan options items [] status
 none_told plan options items stop due whole taken taken' Done off written = subst (λ keep. AreToldIf keep plan options.bundle items []) (sym off) refl
 none_told plan options items stop due whole taken taken' (Line refusal) off written = refl
+none_told plan options items stop due whole taken taken' (FileLine stream refusal) off written = absurd written
 none_told plan options items stop due whole taken taken' Input off written = refl
 none_told plan options items stop due whole taken taken' Output off written = refl
 none_told plan options items stop due whole taken taken' Memory off written = refl
@@ -162,6 +167,7 @@ complete_for stop due whole taken taken' before now Done is cause accepted read 
 complete_for stop due whole taken taken' before now Words is cause accepted read wrote tap = absurd is
 complete_for stop due whole taken taken' before now (Plan fault) is cause accepted read wrote tap = absurd is
 complete_for stop due whole taken taken' before now (Line refusal) is cause accepted read wrote tap = absurd (accepted refusal is.0)
+complete_for stop due whole taken taken' before now (FileLine stream refusal) is cause accepted read wrote tap = absurd is
 complete_for stop due whole taken taken' before now Input is cause accepted read wrote tap = absurd (read cause)
 complete_for stop due whole taken taken' before now Output is cause accepted read wrote tap = absurd (wrote cause)
 complete_for stop due whole taken taken' before now Folder is cause accepted read wrote tap = absurd is
@@ -183,12 +189,13 @@ one_plan folder (Slow name) plan told is tells = same_plan folder name plan told
 one_plan folder ask.Audit plan told is tells = absurd is
 one_plan folder (Work records options) plan told is tells = absurd is
 one_plan folder (Watch name key options) plan told is tells = same_plan folder name plan told is.1 tells
+one_plan folder (Feeds name file_a file_b options) plan told is tells = absurd tells
 one_plan folder (Part name options) plan told is tells = same_plan folder name plan told is.1 tells
 one_plan folder (Save name) plan told is tells = same_plan folder name plan told is.1 tells.0
 one_plan folder (Resume name checkpoint options) plan told is tells = absurd tells
 
 -- a file that gives a plan has no fault
-no_fault : (folder : Option Files) (name : List ℕ) (plan : Shape) (fault : PlanFault) → GivesPlan folder name (Err (Fails fault)) → TellsPlanIn folder name plan → ⊥
+pub no_fault : (folder : Option Files) (name : List ℕ) (plan : Shape) (fault : PlanFault) → GivesPlan folder name (Err (Fails fault)) → TellsPlanIn folder name plan → ⊥
 no_fault folder name plan fault fails tells = let same = sym (fails tells.0 tells.1) ∙ tells.2 in cc same
 
 -- a transform that is there among those that gather no records by session gathers none
@@ -211,6 +218,7 @@ plan_is_had folder (Sum size options) plan (Plan fault) none tells no_load = abs
 plan_is_had folder (Run name options) plan (Plan fault) none tells no_load = absurd (no_fault folder name plan fault none tells)
 plan_is_had folder (Slow name) plan (Plan fault) none tells no_load = absurd (no_fault folder name plan fault none tells)
 plan_is_had folder (Watch name key options) plan (Plan fault) none tells no_load = absurd (no_fault folder name plan fault none tells)
+plan_is_had folder (Feeds name file_a file_b options) plan (Plan fault) none tells no_load = absurd tells
 plan_is_had folder (Part name options) plan (Plan fault) none tells no_load = absurd (no_fault folder name plan fault none tells)
 plan_is_had folder (Save name) plan (Plan fault) none tells no_load = absurd (no_fault_of_cut folder name plan fault none tells)
 plan_is_had folder (Resume name checkpoint options) plan (Plan fault) none tells no_load = absurd tells
@@ -219,6 +227,7 @@ plan_is_had folder (Work records options) plan (Plan fault) none tells no_load =
 plan_is_had folder wanted plan Done none tells no_load = absurd none
 plan_is_had folder wanted plan Words none tells no_load = absurd none
 plan_is_had folder wanted plan (Line refusal) none tells no_load = absurd none
+plan_is_had folder wanted plan (FileLine stream refusal) none tells no_load = absurd none
 plan_is_had folder wanted plan Input none tells no_load = absurd none
 plan_is_had folder wanted plan Output none tells no_load = absurd none
 plan_is_had folder wanted plan (Tap place) none tells no_load = absurd none
@@ -229,6 +238,7 @@ plan_is_had folder (Slow name) plan FileTooLong none tells no_load = absurd none
 plan_is_had folder ask.Audit plan FileTooLong none tells no_load = absurd none
 plan_is_had folder (Work records options) plan FileTooLong none tells no_load = absurd none
 plan_is_had folder (Watch name key options) plan FileTooLong none tells no_load = absurd none
+plan_is_had folder (Feeds name file_a file_b options) plan FileTooLong none tells no_load = absurd tells
 plan_is_had folder (Part name options) plan FileTooLong none tells no_load = absurd none
 plan_is_had folder (Save name) plan FileTooLong none tells no_load = absurd none
 plan_is_had folder (Resume name checkpoint options) plan FileTooLong none tells no_load = absurd tells
@@ -238,6 +248,7 @@ plan_is_had folder (Slow name) plan (Checkpoint line) none tells no_load = absur
 plan_is_had folder ask.Audit plan (Checkpoint line) none tells no_load = absurd none
 plan_is_had folder (Work records options) plan (Checkpoint line) none tells no_load = absurd none
 plan_is_had folder (Watch name key options) plan (Checkpoint line) none tells no_load = absurd none
+plan_is_had folder (Feeds name file_a file_b options) plan (Checkpoint line) none tells no_load = absurd tells
 plan_is_had folder (Part name options) plan (Checkpoint line) none tells no_load = absurd none
 plan_is_had folder (Save name) plan (Checkpoint line) none tells no_load = absurd none
 plan_is_had folder (Resume name checkpoint options) plan (Checkpoint line) none tells no_load = absurd tells
@@ -281,6 +292,7 @@ is_complete folder (Save name) plan left left' taken taken' before now taps taps
     by_plan folder (Save name) plan left left' taken taken' before now taps taps' ending is cause blames tap tells fine
 is_complete folder ask.Audit plan left left' taken taken' before now taps taps' ending is cause blames tap tells fine = absurd tells
 is_complete folder (Work records options) plan left left' taken taken' before now taps taps' ending is cause blames tap tells fine = absurd tells
+is_complete folder (Feeds name file_a file_b options) plan left left' taken taken' before now taps taps' ending is cause blames tap tells fine = absurd tells
 is_complete folder (Resume name checkpoint options) plan left left' taken taken' before now taps taps' ending is cause blames tap tells fine = absurd tells
 
 -- an audit in which nothing fails is done
@@ -294,6 +306,7 @@ audit_ends left left' taken taken' before now Output given is cause fine = absur
 audit_ends left left' taken taken' before now Words given is cause fine = absurd is
 audit_ends left left' taken taken' before now (Plan fault) given is cause fine = absurd is
 audit_ends left left' taken taken' before now (Line refusal) given is cause fine = absurd is
+audit_ends left left' taken taken' before now (FileLine stream refusal) given is cause fine = absurd is
 audit_ends left left' taken taken' before now Folder given is cause fine = absurd is
 audit_ends left left' taken taken' before now (Tap place) given is cause fine = absurd is
 audit_ends left left' taken taken' before now FileTooLong given is cause fine = absurd is
@@ -312,6 +325,7 @@ work_is_complete text taken taken' before now Output is cause fine = absurd (fin
 work_is_complete text taken taken' before now Words is cause fine = absurd is
 work_is_complete text taken taken' before now (Plan fault) is cause fine = absurd is
 work_is_complete text taken taken' before now (Line refusal) is cause fine = absurd is
+work_is_complete text taken taken' before now (FileLine stream refusal) is cause fine = absurd is
 work_is_complete text taken taken' before now Input is cause fine = absurd is
 work_is_complete text taken taken' before now Folder is cause fine = absurd is
 work_is_complete text taken taken' before now (Tap place) is cause fine = absurd is

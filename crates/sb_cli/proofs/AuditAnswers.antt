@@ -5,8 +5,9 @@ use Rattle.sb_cli.specs.declared.diary_input.DiaryHalt.{DiaryHalt}
 use Rattle.sb_cli.specs.declared.diary_input.DiaryHalt.TheVariants as halt
 use Rattle.sb_cli.specs.declared.diary_input.DiaryInput.{DiaryInput}
 use Rattle.sb_cli.specs.declared.ending.Ending.{Ending}
+use Rattle.sb_cli.specs.declared.late.LateRecords.TheVariants.{OfInput}
 use Rattle.sb_cli.specs.declared.status.Status.{Status}
-use Rattle.sb_cli.specs.declared.status.Status.TheVariants.{Done, Words, Plan, Line, Input, Output, Folder, Memory, Tap, Audit, FileTooLong, Checkpoint}
+use Rattle.sb_cli.specs.declared.status.Status.TheVariants.{Done, Words, Plan, Line, Input, Output, Folder, Memory, Tap, Audit, FileTooLong, FileLine, Checkpoint}
 use Rattle.sb_cli.specs.Answers.{Audited, HasAudited, HasPrinted, IsAuditAnswer}
 use Rattle.sb_cli.specs.AuditSteps.{AnswersHalt}
 use Rattle.sb_cli.specs.DiaryReads.{IsReadUpTo, ReadsDiary}
@@ -14,7 +15,7 @@ use Rattle.sb_cli.specs.Statuses.{audit_text}
 use Rattle.sb_feed.specs.Given.{lines_of}
 
 pub audit_answer : (left left' taken taken' : Option (List ℕ)) (input : DiaryInput) (why : DiaryHalt) (status : Status) (ending : Ending) → ReadsDiary left left' input
-    → input.halt ≡ why → AnswersHalt input.said taken taken' why status → ending.status ≡ status → ending.dropped ≡ [] → ending.diaries ≡ [] → IsAuditAnswer left left' taken taken' ending
+    → input.halt ≡ why → AnswersHalt input.said taken taken' why status → ending.status ≡ status → ending.late ≡ OfInput [] → ending.diaries ≡ [] → IsAuditAnswer left left' taken taken' ending
 audit_answer left left' taken taken' input why status ending reads is answers status_is none untold = record {
   given = reads.given;
   audited = subst (HasAudited ls reads.given.ended taken taken') (sym status_is) (by_halt why status (subst (λ w. IsReadUpTo reads.text w reads.given.ended ls) is reads.read) (subst (λ s. AnswersHalt s taken taken' why status) reads.said answers));
@@ -33,6 +34,7 @@ audit_answer left left' taken taken' input why status ending reads is answers st
     by_status Words read writes = absurd writes
     by_status (Plan fault) read writes = absurd writes
     by_status (Line refusal) read writes = absurd writes
+    by_status (FileLine stream refusal) read writes = absurd writes
     by_status (Audit fault) read writes = absurd writes
     by_status FileTooLong read writes = absurd writes
     by_status (Checkpoint line) read writes = absurd writes

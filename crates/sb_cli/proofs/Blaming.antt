@@ -2,13 +2,14 @@
 use Rattle.std.proofs.Common.{◌≡◌, ℕ, ◌≤◌, Bool, true, false, cond, Option, List, [], ◌∷◌, ◌++◌, refl, ap, subst, arith}
 use Rattle.std.specs.List.{AllZip, filter}
 use Rattle.sb_record.specs.declared.item.Record.{Record}
+use Rattle.sb_record.specs.declared.item.Stream.{Stream}
 use Rattle.sb_outside.specs.Sources.{Rose}
 use Rattle.sb_emit.specs.Taps.{TapState}
 use Rattle.sb_feed.specs.TapLists.{SawRows, StopsIn, stays_for}
 use Rattle.sb_pipeline.specs.Shapes.{Shape}
 use Rattle.sb_cli.specs.declared.status.Status.{Status}
-use Rattle.sb_cli.specs.declared.status.Status.TheVariants.{Done, Words, Plan, Line, Input, Output, Folder, Memory, Tap, Audit, FileTooLong, Checkpoint}
-use Rattle.sb_cli.specs.Offered.{BlamesTap, IsNoTap, IsOfferedOf}
+use Rattle.sb_cli.specs.declared.status.Status.TheVariants.{Done, Words, Plan, Line, Input, Output, Folder, Memory, Tap, Audit, FileTooLong, FileLine, Checkpoint}
+use Rattle.sb_cli.specs.Offered.{BlamesTap, HasOfferedOfFiles, IsNoTap, IsOfferedOf}
 
 -- x is in the list, between these
 record Split {X : Type 0} (xs : List X) (x : X) : Type 0 where
@@ -79,6 +80,7 @@ no_tap plan left left' taken taken' taps' Done is = tt
 no_tap plan left left' taken taken' taps' Words is = tt
 no_tap plan left left' taken taken' taps' (Plan fault) is = tt
 no_tap plan left left' taken taken' taps' (Line refusal) is = tt
+no_tap plan left left' taken taken' taps' (FileLine stream refusal) is = tt
 no_tap plan left left' taken taken' taps' Input is = tt
 no_tap plan left left' taken taken' taps' Output is = tt
 no_tap plan left left' taken taken' taps' Folder is = tt
@@ -86,6 +88,23 @@ no_tap plan left left' taken taken' taps' Memory is = tt
 no_tap plan left left' taken taken' taps' (Audit fault) is = tt
 no_tap plan left left' taken taken' taps' FileTooLong is = tt
 no_tap plan left left' taken taken' taps' (Checkpoint line) is = tt
+
+-- the same of a run over two files
+pub no_tap_of_files : (plan : Shape) (files : Stream → List ℕ) (taken taken' : Option (List ℕ)) (taps' : List TapState) (status : Status) → HasOfferedOfFiles plan files taken taken' [] taps' status
+    → IsNoTap status
+no_tap_of_files plan files taken taken' taps' (Tap place) is = absurd (none_stops is.rows place taps' is.stops)
+no_tap_of_files plan files taken taken' taps' Done is = tt
+no_tap_of_files plan files taken taken' taps' Words is = tt
+no_tap_of_files plan files taken taken' taps' (Plan fault) is = tt
+no_tap_of_files plan files taken taken' taps' (Line refusal) is = tt
+no_tap_of_files plan files taken taken' taps' (FileLine stream refusal) is = tt
+no_tap_of_files plan files taken taken' taps' Input is = tt
+no_tap_of_files plan files taken taken' taps' Output is = tt
+no_tap_of_files plan files taken taken' taps' Folder is = tt
+no_tap_of_files plan files taken taken' taps' Memory is = tt
+no_tap_of_files plan files taken taken' taps' (Audit fault) is = tt
+no_tap_of_files plan files taken taken' taps' FileTooLong is = tt
+no_tap_of_files plan files taken taken' taps' (Checkpoint line) is = tt
 
 -- where no status tells of a tap, none is to blame
 pub none_to_blame : (place : ℕ) (status : Status) → IsNoTap status → status ≡ Tap place → ⊥

@@ -7,15 +7,15 @@ use Rattle.sb_pipeline.specs.Shapes.{Shape}
 use Rattle.sb_checkpoint.specs.Texts.{IsFaultAt, IsRead, pieces}
 use Rattle.sb_cli.specs.declared.resuming.TheConstants.{MAX_CHECKPOINT_BYTES}
 use Rattle.sb_cli.specs.declared.status.Status.{Status}
-use Rattle.sb_cli.specs.declared.status.Status.TheVariants.{Done, Words, Plan, Line, Input, Output, Folder, Memory, Tap, Audit, FileTooLong, Checkpoint}
+use Rattle.sb_cli.specs.declared.status.Status.TheVariants.{Done, Words, Plan, Line, Input, Output, Folder, Memory, Tap, Audit, FileTooLong, FileLine, Checkpoint}
 use Rattle.sb_cli.specs.CheckpointFiles.{GivesCheckpoint, Said}
 use Rattle.sb_cli.specs.RestSteps.{HasNoCheckpoint, IsNoneIn, IsSaidIn}
 
 -- the least of two numbers is one of them
-shorter : (most n : ℕ) → min (most + 1) n ≤ most → n ≤ most
+pub shorter : (most n : ℕ) → min (most + 1) n ≤ most → n ≤ most
 shorter most n h = omega (arith, h)
 
-longer : (most n : ℕ) → most < min (most + 1) n → most < n
+pub longer : (most n : ℕ) → most < min (most + 1) n → most < n
 longer most n h = omega (arith, h)
 
 module _ (folder : Option Files) (name bytes text : List ℕ) (file : IsFile folder name bytes) (is : text ≡ take (MAX_CHECKPOINT_BYTES + 1) bytes) where
@@ -44,6 +44,7 @@ module _ (folder : Option Files) (name bytes text : List ℕ) (file : IsFile fol
   gives_none plan Words none = absurd none
   gives_none plan (Plan fault) none = absurd none
   gives_none plan (Line refusal) none = absurd none
+  gives_none plan (FileLine stream refusal) none = absurd none
   gives_none plan Input none = absurd none
   gives_none plan Output none = absurd none
   gives_none plan (Tap place) none = absurd none

@@ -6,6 +6,8 @@ pub mod Wanting
 pub mod DiaryReading
 pub mod AuditAnswers
 pub mod Blaming
+pub mod Offering
+pub mod DoneHands
 pub mod RunAnswers
 pub mod RunFaults
 pub mod Tellings
@@ -17,6 +19,11 @@ pub mod WatchAnswers
 pub mod RestAnswers
 pub mod RestEnds
 pub mod CheckpointLoads
+pub mod FileLoads
+pub mod FilesAnswers
+pub mod FilesFaults
+pub mod FilesThrough
+pub mod FeedsAnswers
 pub mod SaveAnswers
 pub mod Sessions
 pub mod CutLaws

@@ -14,7 +14,7 @@ use Rattle.sb_words.specs.declared.options.Options.{Options}
 use Rattle.sb_cli.specs.declared.ending.Ending.{Ending}
 use Rattle.sb_cli.specs.declared.resuming.TheConstants.{MAX_CHECKPOINT_BYTES}
 use Rattle.sb_cli.specs.declared.status.Status.{Status}
-use Rattle.sb_cli.specs.declared.status.Status.TheVariants.{Done, Words, Plan, Line, Input, Output, Folder, Memory, Tap, Audit, FileTooLong, Checkpoint}
+use Rattle.sb_cli.specs.declared.status.Status.TheVariants.{Done, Words, Plan, Line, Input, Output, Folder, Memory, Tap, Audit, FileTooLong, FileLine, Checkpoint}
 use Rattle.sb_cli.specs.Answers.{HasNoPlan, IsAnswer}
 use Rattle.sb_cli.specs.CheckpointFiles.{GivesCheckpoint, HasFaultyLine, IsTooLong, Said, TellsCheckpoint}
 use Rattle.sb_cli.specs.Courses.{rest_course}
@@ -69,6 +69,7 @@ module _ (folder : Option Files) (name checkpoint : List ℕ) (options : Options
   begins Done none no_load = absurd none
   begins Words none no_load = absurd none
   begins (Line refusal) none no_load = absurd none
+  begins (FileLine stream refusal) none no_load = absurd none
   begins Input none no_load = absurd none
   begins Output none no_load = absurd none
   begins (Tap place) none no_load = absurd none

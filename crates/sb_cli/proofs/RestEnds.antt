@@ -15,7 +15,7 @@ use Rattle.sb_run.specs.declared.run_end.RunEnd.TheVariants as run
 use Rattle.sb_run.specs.RunEnds.{Ends}
 use Rattle.sb_words.specs.declared.options.Options.{Options}
 use Rattle.sb_cli.specs.declared.status.Status.{Status}
-use Rattle.sb_cli.specs.declared.status.Status.TheVariants.{Done, Words, Plan, Line, Input, Output, Folder, Memory, Tap, Audit, FileTooLong, Checkpoint}
+use Rattle.sb_cli.specs.declared.status.Status.TheVariants.{Done, Words, Plan, Line, Input, Output, Folder, Memory, Tap, Audit, FileTooLong, FileLine, Checkpoint}
 use Rattle.sb_cli.specs.Answers.{IsAnswerBy, IsRestAnswer, Wrote, WrotePrefix, ending_of}
 use Rattle.sb_cli.specs.CheckpointFiles.{Said}
 use Rattle.sb_cli.specs.Courses.{rest_course}
@@ -30,6 +30,7 @@ none_kept end Done = refl
 none_kept end Words = refl
 none_kept end (Plan fault) = refl
 none_kept end (Line refusal) = refl
+none_kept end (FileLine stream refusal) = refl
 none_kept end Input = refl
 none_kept end Output = refl
 none_kept end Folder = refl

@@ -37,7 +37,7 @@ use Rattle.sb_run.specs.declared.run_end.RunEnd.TheVariants as run
 use Rattle.sb_run.specs.RunEnds.{Ends, EndsAt, EndsEarly, IsDoneHand}
 use Rattle.sb_words.specs.declared.options.Options.{Options}
 use Rattle.sb_cli.specs.declared.status.Status.{Status}
-use Rattle.sb_cli.specs.declared.status.Status.TheVariants.{Done, Words, Plan, Line, Input, Output, Folder, Memory, Tap, Audit, FileTooLong, Checkpoint}
+use Rattle.sb_cli.specs.declared.status.Status.TheVariants.{Done, Words, Plan, Line, Input, Output, Folder, Memory, Tap, Audit, FileTooLong, FileLine, Checkpoint}
 use Rattle.sb_cli.specs.Answers.{IsAnswerBy, Wrote, WrotePrefix, ending_of}
 use Rattle.sb_cli.specs.Courses.{Course, shown_course}
 use Rattle.sb_cli.specs.Offered.{BlamesTap, IsOfferedOf}
@@ -46,6 +46,7 @@ use Rattle.sb_cli.specs.RunSteps.{CanTellAt, diaries_told, kept_at, sizes_from, 
 use Rattle.sb_cli.specs.Telling.{diaries_of_hand}
 use Rattle.sb_cli.specs.Told.{AreDiaries, AreToldIf, node_diaries}
 use Rattle.sb_cli.proofs.Blaming.{stops_blames}
+use Rattle.sb_cli.proofs.DoneHands.{can_tell_if, other_ends, told_if}
 
 -- what was written stays
 pub prefix_kept : (a b c : Option (List ℕ)) (rows : List Record) → WrotePrefix a b rows → Keeps b c → WrotePrefix a c rows
@@ -83,6 +84,7 @@ AnswersSome Done = ⊥
 AnswersSome Words = ⊥
 AnswersSome (Plan fault) = ⊥
 AnswersSome (Line refusal) = ⊥
+AnswersSome (FileLine stream refusal) = ⊥
 AnswersSome Input = ⊥
 AnswersSome Folder = ⊥
 AnswersSome (Audit fault) = ⊥
@@ -104,6 +106,7 @@ answers_some plan options left left' taken taken' course dropped Done is w = abs
 answers_some plan options left left' taken taken' course dropped Words is w = absurd is
 answers_some plan options left left' taken taken' course dropped (Plan fault) is w = absurd is
 answers_some plan options left left' taken taken' course dropped (Line refusal) is w = absurd is
+answers_some plan options left left' taken taken' course dropped (FileLine stream refusal) is w = absurd is
 answers_some plan options left left' taken taken' course dropped Input is w = absurd is
 answers_some plan options left left' taken taken' course dropped Folder is w = absurd is
 answers_some plan options left left' taken taken' course dropped (Audit fault) is w = absurd is
@@ -170,35 +173,12 @@ module _ (shown : List Record → List Record) (are : AreShown shown) (plan : Sh
       subst (λ s. Appends taken taken2 (text_of (shown (due_rows plan s (items_of plan e.given))))) (sym e.stopped)
       (appends_kept taken taken1 taken2 (text_of (shown (due_rows plan at (items_of plan e.given)))) e.wrote keeps)
 
-  -- the diaries of a hand that is done
-  nodes_of_done : (items : List Item) (h : HandView) → IsDoneHand plan (sizes_from options) items h → length h.nodes ≡ length plan.steps + 1
-  nodes_of_done items h done =
-      sym (length-map h.nodes _)
-      ∙ ap length done.settings
-      ∙ length-append (map (λ s. settings_for options.diary options.pending (operator_of s.kind)) plan.steps) (settings_for options.diary options.pending Sink ∷ [])
-      ∙ ap (λ n. n + 1) (length-map plan.steps _)
-
-  done_tells : (items : List Item) (h : HandView) → IsDoneHand plan (sizes_from options) items h → AreDiaries plan options.bundle items (diaries_of_hand h)
-  done_tells items h done =
-      record {
-        lines = diaries_of h.nodes;
-        one_each = length-map h.nodes _ ∙ nodes_of_done items h done;
-        are = ap (λ (p : Shape). node_diaries p 0 (diaries_of h.nodes)) done.plan_is;
-        legal = done.legal;
-        settled = done.settled;
-        tallies = done.tallies;
-      }
-
-  told_if : (keep : Bool) (items : List Item) (h : HandView) → IsDoneHand plan (sizes_from options) items h → AreToldIf keep plan options.bundle items (kept_at keep (run.Done h))
-  told_if true items h done = done_tells items h done
-  told_if false items h done = refl
-
   pub run_answer : (end : RunEnd) (passed : Result (Unit {0}) SinkFault) → EndsSo end
       → IsAnswerBy plan options left left' taken taken2 course (ending_of (status_after end passed) dropped (diaries_told options.diary end (status_after end passed)))
   run_answer end (Err fault.Failed) e = some_answer Output tt (some end e)
   run_answer end (Err fault.Memory) e = some_answer Memory tt (some end e)
   run_answer (run.Done hand) (Ok x) e =
-      record { given = e.0.given; written = (e.0.stopped, due_written _ e.0); lists = e.0.listed; tells = told_if options.diary _ hand e.1 }
+      record { given = e.0.given; written = (e.0.stopped, due_written _ e.0); lists = e.0.listed; tells = told_if plan options options.diary _ hand e.1 }
   run_answer (run.Refused refusal) (Ok x) e = record { given = e.given; written = (e.stopped, due_written _ e); lists = e.listed; tells = refl }
   run_answer run.Input (Ok x) e = record { given = e.given; written = (e.stopped, due_written _ e); lists = e.listed; tells = refl }
   run_answer run.Output (Ok x) e = some_answer Output tt (some_early _ e)
@@ -249,35 +229,8 @@ module _ (plan : Shape) (options : Options) (left left' taken taken1 taken2 : Op
   run_blames (run.Tap p) (Ok x) place e is = let same : p ≡ place = cc is in subst (λ n. BlamesTap n taps taps') same (stops_blames e.rows p taps taps' e.offered)
   run_blames run.Memory (Ok x) place e is = cc is
 
-  -- the diaries are kept if they are asked for
-  keeps_at : (steps : List Step) (k : ℕ) (s : Settings) → slice_get (map (λ s. settings_for true options.pending (operator_of s.kind)) steps ++ settings_for true options.pending Sink ∷ []) k ≡ Some s → s.keeps ≡ true
-  keeps_at [] zero s is = sym (ap (λ (x : Settings). x.keeps) (same_Some _ s is))
-  keeps_at [] (suc k) s is = cc is
-  keeps_at (step ∷ steps) zero s is = sym (ap (λ (x : Settings). x.keeps) (same_Some _ s is))
-  keeps_at (step ∷ steps) (suc k) s is = keeps_at steps k s is
-
-  can_tell_if : (keep : Bool) → options.diary ≡ keep → (items : List Item) (h : HandView) → IsDoneHand plan (sizes_from options) items h → CanTellAt keep (run.Done h)
-  can_tell_if false is items h done = tt
-  can_tell_if true is items h done =
-      record {
-        unspent = done.unspent;
-        nodes = nodes_of_done (λ rows. rows) (λ rows more. refl) plan options left left' taken taken1 taken2 taps taps' dropped keeps items h done ∙ ap (λ (p : Shape). length p.steps + 1) (sym done.plan_is);
-        keep = λ k own there.
-            keeps_at plan.steps k _
-            (ap (λ l. slice_get l k) (sym (done.settings ∙ ap (λ b. settings_at b options.pending plan) is)) ∙ slice_get-map _ h.nodes k ∙ ap (option_map _) there);
-      }
-
-  other_ends : (keep : Bool) (end : RunEnd) → ((hand : HandView) → end ≡ run.Done hand → CanTellAt keep end) → CanTellAt keep end
-  other_ends false end done = tt
-  other_ends true (run.Done hand) done = done hand refl
-  other_ends true (run.Refused refusal) done = tt
-  other_ends true run.Input done = tt
-  other_ends true run.Output done = tt
-  other_ends true (run.Tap place) done = tt
-  other_ends true run.Memory done = tt
-
   pub run_can_tell : (end : RunEnd) → EndsPast end → CanTellAt options.diary end
-  run_can_tell (run.Done hand) e = can_tell_if options.diary refl _ hand e.1
+  run_can_tell (run.Done hand) e = can_tell_if plan options options.diary refl _ hand e.1
   run_can_tell (run.Refused refusal) e = other_ends options.diary _ (λ h is. cc is)
   run_can_tell run.Input e = other_ends options.diary _ (λ h is. cc is)
   run_can_tell run.Output e = other_ends options.diary _ (λ h is. cc is)

@@ -47,7 +47,7 @@ module _ (reads reads' : ℕ) (sink sink1 sink2 : SinkState) where
   run_cause (run.Tap place) (Ok x) loads input output cause = tt
   run_cause run.Memory (Ok x) loads input output cause = tt
 
-  writes_same : (end : RunEnd) (x : Unit {0}) → OutputCause sink sink1 end → SinkCause sink1 sink2 (Ok x) → (IsWritten end → sink2.refuses ≡ false) → IsWritten end → sink2.faults ≡ sink.faults
+  pub writes_same : (end : RunEnd) (x : Unit {0}) → OutputCause sink sink1 end → SinkCause sink1 sink2 (Ok x) → (IsWritten end → sink2.refuses ≡ false) → IsWritten end → sink2.faults ≡ sink.faults
   writes_same end x output cause told written =
       cause.passed (told written) ∙ output.passed written (still_open sink1.refuses sink2.refuses cause.keeps_refusing (told written))
 

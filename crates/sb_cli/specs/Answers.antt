@@ -6,19 +6,24 @@ use Rattle.sb_record.specs.declared.intake.Stop.TheVariants.{End, Refused, Fault
 use Rattle.sb_record.specs.declared.item.Dropped.{Dropped}
 use Rattle.sb_record.specs.declared.item.Item.{Item}
 use Rattle.sb_record.specs.declared.item.Record.{Record}
+use Rattle.sb_record.specs.declared.item.Stream.{Stream}
+use Rattle.sb_record.specs.declared.item.Stream.TheVariants.{A, B}
 use Rattle.sb_record.specs.Rows.{text_of}
 use Rattle.sb_record.specs.Streams.{dropped_of}
 use Rattle.sb_pipeline.specs.Shapes.{Shape}
 use Rattle.sb_outside.specs.Sinks.{AppendsPrefix}
 use Rattle.sb_cli.specs.declared.ending.Ending.{Ending}
+use Rattle.sb_cli.specs.declared.late.LateRecords.{LateRecords}
+use Rattle.sb_cli.specs.declared.late.LateRecords.TheVariants.{OfInput, OfFiles}
 use Rattle.sb_cli.specs.declared.status.Status.{Status}
-use Rattle.sb_cli.specs.declared.status.Status.TheVariants.{Done, Words, Plan, Line, Input, Output, Folder, Memory, Tap, Audit, FileTooLong, Checkpoint}
-use Rattle.sb_feed.specs.Due.{AreFirstDropped}
+use Rattle.sb_cli.specs.declared.status.Status.TheVariants.{Done, Words, Plan, Line, Input, Output, Folder, Memory, Tap, Audit, FileTooLong, FileLine, Checkpoint}
+use Rattle.sb_feed.specs.Due.{AreFirstDropped, due_rows}
 use Rattle.sb_feed.specs.Given.{Given, lines_of}
 use Rattle.sb_outside.specs.Folders.{Files}
 use Rattle.sb_words.specs.Words.{Asked}
 use Rattle.sb_words.specs.Words.{Asked as ask}
-use Rattle.sb_words.specs.Words.Asked.{Sum, Run, Slow, Work, Watch, Part, Save, Resume}
+use Rattle.sb_run.specs.Files.{IsFirstRefused, NoneRefused, items_of_file, items_of_files}
+use Rattle.sb_words.specs.Words.Asked.{Sum, Run, Slow, Work, Watch, Feeds, Part, Save, Resume}
 use Rattle.sb_words.specs.declared.options.Options.{Options}
 use Rattle.sb_cli.specs.DiaryReads.{IsRefusedAmong}
 use Rattle.sb_cli.specs.Statuses.{audit_text}
@@ -29,12 +34,17 @@ use Rattle.sb_checkpoint.specs.Checkpoints.{with_comments}
 use Rattle.sb_checkpoint.specs.Texts.{items_text}
 use Rattle.sb_cli.specs.CheckpointFiles.{GivesCheckpoint, HasFaultyLine, IsTooLong, Said}
 use Rattle.sb_cli.specs.Courses.{Course, course_in, rest_course, run_course}
-use Rattle.sb_cli.specs.Pipelines.{HasCutPlan, IsCutPlan, IsPlanFor, IsFaultFor, AsksForFile, options_in}
+use Rattle.sb_cli.specs.Pipelines.{HasCutPlan, HasPlan, IsCutPlan, IsPlanFor, IsFaultFor, AsksForFile, all_rows, options_in}
+use Rattle.sb_cli.specs.RecordFiles.{HasLongFile, HaveBytes}
 use Rattle.sb_cli.specs.Summaries.{summary_text, work_rows}
 
 -- a run that ended so, lists these late records, and tells these diaries
+abbrev pub ending_with : Status → LateRecords → List NodeDiary → Ending
+ending_with status late diaries = record { status = status; late = late; diaries = diaries }
+
+-- the same of a run over one input
 abbrev pub ending_of : Status → List Dropped → List NodeDiary → Ending
-ending_of status dropped diaries = record { status = status; dropped = dropped; diaries = diaries }
+ending_of status dropped diaries = ending_with status (OfInput dropped) diaries
 
 -- a sink took the text of these rows, and nothing else
 abbrev pub Wrote : Option (List ℕ) → Option (List ℕ) → List Record → Type 0
@@ -48,6 +58,7 @@ WrotePrefix taken taken' rows = AppendsPrefix taken taken' (text_of rows)
 abbrev pub HasWritten : Stop → List ℕ → List ℕ → Option (List ℕ) → Option (List ℕ) → Status → Type 0
 HasWritten stop due whole taken taken' Done = (stop ≡ End) × Appends taken taken' due
 HasWritten stop due whole taken taken' (Line refusal) = (stop ≡ Refused refusal) × Appends taken taken' due
+HasWritten stop due whole taken taken' (FileLine stream refusal) = ⊥
 HasWritten stop due whole taken taken' Input = (stop ≡ Fault) × Appends taken taken' due
 HasWritten stop due whole taken taken' Output = AppendsPrefix taken taken' whole
 HasWritten stop due whole taken taken' (Tap place) = AppendsPrefix taken taken' whole
@@ -63,6 +74,7 @@ HasWritten stop due whole taken taken' (Checkpoint line) = ⊥
 abbrev pub ListsDropped : List Item → List Dropped → Status → Type 0
 ListsDropped items dropped Done = dropped ≡ dropped_of items
 ListsDropped items dropped (Line refusal) = dropped ≡ dropped_of items
+ListsDropped items dropped (FileLine stream refusal) = dropped ≡ dropped_of items
 ListsDropped items dropped Input = dropped ≡ dropped_of items
 ListsDropped items dropped Output = AreFirstDropped items dropped
 ListsDropped items dropped (Tap place) = AreFirstDropped items dropped
@@ -74,6 +86,16 @@ ListsDropped items dropped (Audit fault) = ⊥
 ListsDropped items dropped FileTooLong = ⊥
 ListsDropped items dropped (Checkpoint line) = ⊥
 
+-- those of a run over one input
+abbrev pub ListsOfInput : List Item → LateRecords → Status → Type 0
+ListsOfInput items (OfInput dropped) status = ListsDropped items dropped status
+ListsOfInput items (OfFiles a b) status = ⊥
+
+-- those of a run over two files: of each file those of its own items
+abbrev pub ListsOfFiles : (Stream → List Item) → LateRecords → Status → Type 0
+ListsOfFiles items (OfFiles a b) status = ListsDropped (items A) a status × ListsDropped (items B) b status
+ListsOfFiles items (OfInput dropped) status = ⊥
+
 -- the answer to what the source gave, for a plan and what has to be written: what was written, the late records that
 -- are listed, and the diaries that are told
 pub record IsAnswerBy
@@ -81,7 +103,7 @@ pub record IsAnswerBy
     (ending : Ending) : Type 0 where
   pub given : Given left left'
   pub written : HasWritten (course given).stop (course given).due (course given).whole taken taken' ending.status
-  pub lists : ListsDropped (course given).items ending.dropped ending.status
+  pub lists : ListsOfInput (course given).items ending.late ending.status
   pub tells : TellsDiaries plan options (course given).items ending.diaries ending.status
 
 -- the answer with the rows of the plan
@@ -90,7 +112,37 @@ abbrev pub IsAnswerOf
 IsAnswerOf plan options left left' taken taken' ending =
     IsAnswerBy plan options left left' taken taken' (λ given. run_course plan given) ending
 
--- why no run begins behind a checkpoint, if there is a plan: its file is too long
+-- what was written of two files, by how the run ended: the rows that are due if writing went well, else a prefix of
+-- all rows
+abbrev pub HasWrittenOfFiles : Shape → (Stream → List ℕ) → Option (List ℕ) → Option (List ℕ) → Status → Type 0
+HasWrittenOfFiles plan files taken taken' Done =
+    NoneRefused plan files × Wrote taken taken' (due_rows plan End (items_of_files plan files))
+HasWrittenOfFiles plan files taken taken' (FileLine stream refusal) =
+    IsFirstRefused plan files stream refusal
+    × Wrote taken taken' (due_rows plan (Refused refusal) (items_of_files plan files))
+HasWrittenOfFiles plan files taken taken' Output = WrotePrefix taken taken' (all_rows plan (items_of_files plan files))
+HasWrittenOfFiles plan files taken taken' (Tap place) =
+    WrotePrefix taken taken' (all_rows plan (items_of_files plan files))
+HasWrittenOfFiles plan files taken taken' Memory = WrotePrefix taken taken' (all_rows plan (items_of_files plan files))
+HasWrittenOfFiles plan files taken taken' Words = ⊥
+HasWrittenOfFiles plan files taken taken' (Plan fault) = ⊥
+HasWrittenOfFiles plan files taken taken' (Line refusal) = ⊥
+HasWrittenOfFiles plan files taken taken' Input = ⊥
+HasWrittenOfFiles plan files taken taken' Folder = ⊥
+HasWrittenOfFiles plan files taken taken' (Audit fault) = ⊥
+HasWrittenOfFiles plan files taken taken' FileTooLong = ⊥
+HasWrittenOfFiles plan files taken taken' (Checkpoint line) = ⊥
+
+-- the answer to two files with these bytes, one of each stream, for a plan: what was written, the late records that are
+-- listed, and the diaries that are told
+pub record IsAnswerToTwo
+    (plan : Shape) (options : Options) (files : Stream → List ℕ) (taken taken' : Option (List ℕ)) (ending : Ending)
+    : Type 0 where
+  pub written : HasWrittenOfFiles plan files taken taken' ending.status
+  pub lists : ListsOfFiles (λ s. items_of_file plan s (files s)) ending.late ending.status
+  pub tells : TellsDiaries plan options (items_of_files plan files) ending.diaries ending.status
+
+-- why no run begins, if there is a plan: the file of a checkpoint is too long, or one of two record files
 abbrev pub IsTooLongFor : Option Files → Asked → Type 0
 IsTooLongFor folder (Resume name checkpoint options) = HasCutPlan folder name × IsTooLong folder checkpoint
 IsTooLongFor folder (Sum size options) = ⊥
@@ -99,10 +151,11 @@ IsTooLongFor folder (Slow name) = ⊥
 IsTooLongFor folder ask.Audit = ⊥
 IsTooLongFor folder (Work records options) = ⊥
 IsTooLongFor folder (Watch name key options) = ⊥
+IsTooLongFor folder (Feeds name file_a file_b options) = HasPlan folder name × HasLongFile folder file_a file_b
 IsTooLongFor folder (Part name options) = ⊥
 IsTooLongFor folder (Save name) = ⊥
 
--- or a line of it is faulty
+-- or a line of a checkpoint is faulty
 abbrev pub IsFaultyFor : Option Files → Asked → ℕ → Type 0
 IsFaultyFor folder (Resume name checkpoint options) line =
     (plan : Shape) × IsCutPlan folder name plan × HasFaultyLine folder checkpoint plan line
@@ -112,6 +165,7 @@ IsFaultyFor folder (Slow name) line = ⊥
 IsFaultyFor folder ask.Audit line = ⊥
 IsFaultyFor folder (Work records options) line = ⊥
 IsFaultyFor folder (Watch name key options) line = ⊥
+IsFaultyFor folder (Feeds name file_a file_b options) line = ⊥
 IsFaultyFor folder (Part name options) line = ⊥
 IsFaultyFor folder (Save name) line = ⊥
 
@@ -123,6 +177,7 @@ HasNoPlan folder wanted Memory = ⊤
 HasNoPlan folder wanted Done = ⊥
 HasNoPlan folder wanted Words = ⊥
 HasNoPlan folder wanted (Line refusal) = ⊥
+HasNoPlan folder wanted (FileLine stream refusal) = ⊥
 HasNoPlan folder wanted Input = ⊥
 HasNoPlan folder wanted Output = ⊥
 HasNoPlan folder wanted (Tap place) = ⊥
@@ -137,7 +192,7 @@ pub record IsAnswerOfNoPlan
   pub no_plan : HasNoPlan folder wanted ending.status
   pub unread : left' ≡ left
   pub unwritten : taken' ≡ taken
-  pub undropped : ending.dropped ≡ []
+  pub undropped : ending.late ≡ OfInput []
   pub untold : ending.diaries ≡ []
 
 -- the answer where a plan is asked for: there is none, or it is the answer for the plan
@@ -166,6 +221,17 @@ IsResumeAnswer folder wanted checkpoint left left' taken taken' ending =
     ⊎ ((plan : Shape) × IsPlanFor folder wanted plan × (said : Said) × GivesCheckpoint folder checkpoint plan said
     × IsRestAnswer plan (options_in wanted) said left left' taken taken' ending)
 
+-- the answer of `feeds`: no run begins, or it is the answer for the plan and the bytes of both files. The input is not
+-- read
+abbrev pub IsFeedsAnswer
+    : Option Files → Asked → List ℕ → List ℕ → Option (List ℕ) → Option (List ℕ) → Option (List ℕ) → Option (List ℕ)
+    → Ending → Type 0
+IsFeedsAnswer folder wanted file_a file_b left left' taken taken' ending =
+    IsAnswerOfNoPlan folder wanted left left' taken taken' ending
+    ⊎ ((plan : Shape) × IsPlanFor folder wanted plan
+    × (files : Stream → List ℕ) × HaveBytes folder file_a file_b files × (left' ≡ left)
+    × IsAnswerToTwo plan (options_in wanted) files taken taken' ending)
+
 -- a diary text was read to its end and is legal, and this is what an audit says of it
 pub record Audited (lines : List (List ℕ)) (ended : Bool) (text : TextAudit) : Type 0 where
   pub legal : AreLegalTexts first_text_audit lines text
@@ -187,6 +253,7 @@ HasAudited lines ended taken taken' (Audit fault) = IsRefusedAmong lines fault �
 HasAudited lines ended taken taken' Words = ⊥
 HasAudited lines ended taken taken' (Plan fault) = ⊥
 HasAudited lines ended taken taken' (Line refusal) = ⊥
+HasAudited lines ended taken taken' (FileLine stream refusal) = ⊥
 HasAudited lines ended taken taken' Folder = ⊥
 HasAudited lines ended taken taken' (Tap place) = ⊥
 HasAudited lines ended taken taken' FileTooLong = ⊥
@@ -196,7 +263,7 @@ HasAudited lines ended taken taken' (Checkpoint line) = ⊥
 pub record IsAuditAnswer (left left' taken taken' : Option (List ℕ)) (ending : Ending) : Type 0 where
   pub given : Given left left'
   pub audited : HasAudited (lines_of given) given.ended taken taken' ending.status
-  pub undropped : ending.dropped ≡ []
+  pub undropped : ending.late ≡ OfInput []
   pub untold : ending.diaries ≡ []
 
 -- what became of one text, by how the run ended: all of it was written, or a prefix of it if writing failed or there
@@ -208,6 +275,7 @@ HasPrinted text taken taken' Memory = AppendsPrefix taken taken' text
 HasPrinted text taken taken' Words = ⊥
 HasPrinted text taken taken' (Plan fault) = ⊥
 HasPrinted text taken taken' (Line refusal) = ⊥
+HasPrinted text taken taken' (FileLine stream refusal) = ⊥
 HasPrinted text taken taken' Input = ⊥
 HasPrinted text taken taken' Folder = ⊥
 HasPrinted text taken taken' (Tap place) = ⊥
@@ -218,7 +286,7 @@ HasPrinted text taken taken' (Checkpoint line) = ⊥
 -- the answer of `work`: the summary of the rows over the records that are made
 pub record IsWorkAnswer (records : ℕ) (taken taken' : Option (List ℕ)) (ending : Ending) : Type 0 where
   pub printed : HasPrinted (summary_text records (work_rows records)) taken taken' ending.status
-  pub undropped : ending.dropped ≡ []
+  pub undropped : ending.late ≡ OfInput []
   pub untold : ending.diaries ≡ []
 
 -- the answer to what is asked for
@@ -234,6 +302,8 @@ IsAnswer folder ask.Audit left left' taken taken' ending = IsAuditAnswer left le
 IsAnswer folder (Work records options) left left' taken taken' ending = IsWorkAnswer records taken taken' ending
 IsAnswer folder (Watch name key options) left left' taken taken' ending =
     IsPlanAnswer folder (Watch name key options) left left' taken taken' ending
+IsAnswer folder (Feeds name file_a file_b options) left left' taken taken' ending =
+    IsFeedsAnswer folder (Feeds name file_a file_b options) file_a file_b left left' taken taken' ending
 IsAnswer folder (Part name options) left left' taken taken' ending =
     IsPlanAnswer folder (Part name options) left left' taken taken' ending
 IsAnswer folder (Save name) left left' taken taken' ending =
@@ -248,6 +318,7 @@ IsUnread (Plan fault) = ⊤
 IsUnread Folder = ⊤
 IsUnread Done = ⊥
 IsUnread (Line refusal) = ⊥
+IsUnread (FileLine stream refusal) = ⊥
 IsUnread Input = ⊥
 IsUnread Output = ⊥
 IsUnread Memory = ⊥
@@ -263,6 +334,7 @@ IsRead (Plan fault) = ⊥
 IsRead Folder = ⊥
 IsRead Done = ⊤
 IsRead (Line refusal) = ⊤
+IsRead (FileLine stream refusal) = ⊤
 IsRead Input = ⊤
 IsRead Output = ⊤
 IsRead Memory = ⊤
@@ -275,6 +347,7 @@ IsRead (Checkpoint line) = ⊥
 abbrev pub IsWritten : Status → Type 0
 IsWritten Done = ⊤
 IsWritten (Line refusal) = ⊤
+IsWritten (FileLine stream refusal) = ⊤
 IsWritten Input = ⊤
 IsWritten Words = ⊥
 IsWritten (Plan fault) = ⊥

@@ -16,7 +16,7 @@ use Rattle.sb_checkpoint.specs.Checkpoints.{low_of, saved_items}
 use Rattle.sb_checkpoint.specs.Texts.{checkpoint_text}
 use Rattle.sb_cut.specs.Parts.{part_accepted, part_items}
 use Rattle.sb_words.specs.Words.{Asked}
-use Rattle.sb_words.specs.Words.Asked.{Sum, Run, Slow, Audit, Work, Watch, Part, Save, Resume}
+use Rattle.sb_words.specs.Words.Asked.{Sum, Run, Slow, Audit, Work, Watch, Feeds, Part, Save, Resume}
 use Rattle.sb_cli.specs.Pipelines.{all_rows}
 
 -- where reading stopped, the accepted items, the text that is due there, and the text of which a prefix is written if
@@ -91,7 +91,7 @@ save_course plan given = record {
   whole = saved_text plan (part_items plan given);
 }
 
--- what is asked for of a plan's input; `resume` asks for more than a plan
+-- what is asked for of a plan's input; `resume` asks for more than a plan, and `feeds` reads no input
 abbrev pub course_in : {left left' : Option (List ℕ)} → Asked → Shape → Given left left' → Course
 course_in (Sum size options) plan given = run_course plan given
 course_in (Run name options) plan given = run_course plan given
@@ -99,6 +99,7 @@ course_in (Slow name) plan given = run_course plan given
 course_in Audit plan given = run_course plan given
 course_in (Work records options) plan given = run_course plan given
 course_in (Watch name key options) plan given = watch_course key plan given
+course_in (Feeds name file_a file_b options) plan given = run_course plan given
 course_in (Part name options) plan given = part_course plan given
 course_in (Save name) plan given = save_course plan given
 course_in (Resume name checkpoint options) plan given = run_course plan given

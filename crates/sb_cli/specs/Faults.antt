@@ -10,7 +10,7 @@ use Rattle.sb_plan.specs.Failures.Failure.{NoFile}
 use Rattle.sb_plan.specs.PlanFiles.{plan_of}
 use Rattle.sb_plan.specs.declared.TheConstants.{MAX_PLAN_BYTES, MAX_TABLE_BYTES}
 use Rattle.sb_cli.specs.declared.status.Status.{Status}
-use Rattle.sb_cli.specs.declared.status.Status.TheVariants.{Done, Words, Plan, Line, Input, Output, Folder, Memory, Tap, Audit, FileTooLong, Checkpoint}
+use Rattle.sb_cli.specs.declared.status.Status.TheVariants.{Done, Words, Plan, Line, Input, Output, Folder, Memory, Tap, Audit, FileTooLong, FileLine, Checkpoint}
 use Rattle.sb_diary.specs.declared.audit.AuditFault.{AuditFault}
 use Rattle.sb_emit.specs.Taps.{TapState}
 use Rattle.std.specs.Io.KnownBytes.{prepend_known}
@@ -20,11 +20,14 @@ use Rattle.sb_cli.specs.CheckpointFiles.{Said, checkpoint_load}
 use Rattle.sb_cli.specs.Courses.{Course}
 use Rattle.sb_cli.specs.DiaryReads.{IsRefusedAmong}
 use Rattle.sb_cli.specs.Offered.{BlamesTap}
-use Rattle.sb_cli.specs.Pipelines.{HasCutPlan}
+use Rattle.sb_cli.specs.Pipelines.{HasCutPlan, HasPlan}
+use Rattle.sb_cli.specs.RecordFiles.{IsLoadOfFile}
 use Rattle.sb_feed.specs.Given.{Given, lines_of, stop_at}
+use Rattle.sb_record.specs.declared.item.Stream.{Stream}
+use Rattle.sb_run.specs.Files.{NoneRefused}
 use Rattle.sb_words.specs.Words.{Asked}
 use Rattle.sb_words.specs.Words.{Asked as ask}
-use Rattle.sb_words.specs.Words.Asked.{Sum, Run, Slow, Work, Watch, Part, Save, Resume}
+use Rattle.sb_words.specs.Words.Asked.{Sum, Run, Slow, Work, Watch, Feeds, Part, Save, Resume}
 
 -- how many reads and writes have failed, and which loads
 pub record Faults : Type 0 where
@@ -45,6 +48,7 @@ HasCause before now Done = ⊤
 HasCause before now Words = ⊤
 HasCause before now (Plan fault) = ⊤
 HasCause before now (Line refusal) = ⊤
+HasCause before now (FileLine stream refusal) = ⊤
 HasCause before now Memory = ⊤
 HasCause before now (Tap place) = ⊤
 HasCause before now (Audit fault) = ⊤
@@ -67,7 +71,7 @@ IsTableOf folder name load =
 unfoldable pub IsWantedFor : Option Files → List ℕ → Load → Type 0
 IsWantedFor folder name load = (load ≡ plan_load name) ⊎ IsTableOf folder name load
 
--- the load is wanted for what is asked for: that of a checkpoint once there is a plan
+-- the load is wanted for what is asked for: that of a checkpoint or of a record file once there is a plan
 abbrev pub IsWanted : Option Files → Asked → Load → Type 0
 IsWanted folder (Sum size options) load = ⊥
 IsWanted folder (Run name options) load = IsWantedFor folder name load
@@ -75,6 +79,8 @@ IsWanted folder (Slow name) load = IsWantedFor folder name load
 IsWanted folder ask.Audit load = ⊥
 IsWanted folder (Work records options) load = ⊥
 IsWanted folder (Watch name key options) load = IsWantedFor folder name load
+IsWanted folder (Feeds name file_a file_b options) load =
+    IsWantedFor folder name load ⊎ (IsLoadOfFile folder file_a file_b load × HasPlan folder name)
 IsWanted folder (Part name options) load = IsWantedFor folder name load
 IsWanted folder (Save name) load = IsWantedFor folder name load
 IsWanted folder (Resume name checkpoint options) load =
@@ -91,6 +97,7 @@ HidesNoFault before now Done = now ≡ before
 HidesNoFault before now Words = now ≡ before
 HidesNoFault before now (Plan fault) = now ≡ before
 HidesNoFault before now (Line refusal) = now ≡ before
+HidesNoFault before now (FileLine stream refusal) = now ≡ before
 HidesNoFault before now Input = (now.writes ≡ before.writes) × (now.loads ≡ before.loads)
 HidesNoFault before now Output = now.loads ≡ before.loads
 HidesNoFault before now Folder = (now.reads ≡ before.reads) × (now.writes ≡ before.writes)
@@ -117,6 +124,14 @@ pub record NothingFails
     : Type 0 where
   pub no_refusal : (given : Given left left') (refusal : Refusal) → (course given).stop ≡ Refused refusal → ⊥
   pub no_read_failed : Rose before.reads now.reads → ⊥
+  pub no_write_failed : Rose before.writes now.writes → ⊥
+  pub no_load_failed : now.loads ≡ before.loads
+  pub no_tap_failed : (place : ℕ) → BlamesTap place taps taps' → ⊥
+
+-- no line of two files with these bytes is refused, and nothing failed
+pub record NothingFailsInFiles
+    (plan : Shape) (files : Stream → List ℕ) (before now : Faults) (taps taps' : List TapState) : Type 0 where
+  pub no_refusal : NoneRefused plan files
   pub no_write_failed : Rose before.writes now.writes → ⊥
   pub no_load_failed : now.loads ≡ before.loads
   pub no_tap_failed : (place : ℕ) → BlamesTap place taps taps' → ⊥

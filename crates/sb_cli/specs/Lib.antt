@@ -6,6 +6,7 @@ pub mod Batches
 pub mod Pipelines
 pub mod Courses
 pub mod CheckpointFiles
+pub mod RecordFiles
 pub mod Told
 pub mod Summaries
 pub mod Answers
@@ -19,3 +20,4 @@ pub mod Telling
 pub mod RunSteps
 pub mod CutSteps
 pub mod RestSteps
+pub mod FileSteps

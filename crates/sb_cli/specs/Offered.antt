@@ -4,6 +4,7 @@ use Rattle.sb_record.specs.declared.intake.Stop.{Stop}
 use Rattle.sb_record.specs.declared.intake.Stop.TheVariants.{End, Refused, Fault}
 use Rattle.sb_record.specs.declared.item.Item.{Item}
 use Rattle.sb_record.specs.declared.item.Record.{Record}
+use Rattle.sb_record.specs.declared.item.Stream.{Stream}
 use Rattle.sb_record.specs.Rows.{text_of}
 use Rattle.sb_outside.specs.Folders.{Files}
 use Rattle.sb_outside.specs.Sinks.{AppendsPrefix}
@@ -13,11 +14,14 @@ use Rattle.sb_emit.specs.Taps.{TapState}
 use Rattle.sb_feed.specs.Due.{AreFirstRows, due_rows}
 use Rattle.sb_feed.specs.Given.{Given, items_of, stop_at}
 use Rattle.sb_feed.specs.TapLists.{LeavesThoseThatStay, SawRows, StopsIn}
-use Rattle.sb_words.specs.Words.{Asked}
+use Rattle.sb_run.specs.Files.{IsFirstRefused, NoneRefused, items_of_files}
+use Rattle.sb_words.specs.Words.{Asked, Asked as ask}
+use Rattle.sb_words.specs.Words.Asked.{Sum, Run, Slow, Work, Watch, Feeds, Part, Save, Resume}
 use Rattle.sb_cli.specs.declared.status.Status.{Status}
-use Rattle.sb_cli.specs.declared.status.Status.TheVariants.{Done, Words, Plan, Line, Input, Output, Folder, Memory, Tap, Audit, FileTooLong, Checkpoint}
+use Rattle.sb_cli.specs.declared.status.Status.TheVariants.{Done, Words, Plan, Line, Input, Output, Folder, Memory, Tap, Audit, FileTooLong, FileLine, Checkpoint}
 use Rattle.sb_cli.specs.Answers.{HasNoPlan}
 use Rattle.sb_cli.specs.Pipelines.{IsPlanFor}
+use Rattle.sb_cli.specs.RecordFiles.{HaveBytes}
 
 -- the first rows were written, or a part of them, and were offered up to the one at which the tap at this place failed
 pub record StoppedAt (plan : Shape) (items : List Item) (taken taken' : Option (List ℕ)) (place : ℕ)
@@ -35,6 +39,7 @@ HasOffered plan stop items taken taken' taps taps' Done =
     (stop ≡ End) × LeavesThoseThatStay (due_rows plan stop items) taps taps'
 HasOffered plan stop items taken taken' taps taps' (Line refusal) =
     (stop ≡ Refused refusal) × LeavesThoseThatStay (due_rows plan stop items) taps taps'
+HasOffered plan stop items taken taken' taps taps' (FileLine stream refusal) = ⊥
 HasOffered plan stop items taken taken' taps taps' Input =
     (stop ≡ Fault) × LeavesThoseThatStay (due_rows plan stop items) taps taps'
 HasOffered plan stop items taken taken' taps taps' (Tap place) = StoppedAt plan items taken taken' place taps taps'
@@ -53,12 +58,65 @@ pub record IsOfferedOf (plan : Shape) (left left' taken taken' : Option (List �
   pub given : Given left left'
   pub offered : HasOffered plan (stop_at plan given) (items_of plan given) taken taken' taps taps' status
 
+-- what the taps were offered of two files, by how the run ended
+abbrev pub HasOfferedOfFiles : Shape → (Stream → List ℕ) → Option (List ℕ) → Option (List ℕ)
+    → List TapState → List TapState → Status → Type 0
+HasOfferedOfFiles plan files taken taken' taps taps' Done =
+    NoneRefused plan files × LeavesThoseThatStay (due_rows plan End (items_of_files plan files)) taps taps'
+HasOfferedOfFiles plan files taken taken' taps taps' (FileLine stream refusal) =
+    IsFirstRefused plan files stream refusal
+    × LeavesThoseThatStay (due_rows plan (Refused refusal) (items_of_files plan files)) taps taps'
+HasOfferedOfFiles plan files taken taken' taps taps' (Tap place) =
+    StoppedAt plan (items_of_files plan files) taken taken' place taps taps'
+HasOfferedOfFiles plan files taken taken' taps taps' Output = ⊤
+HasOfferedOfFiles plan files taken taken' taps taps' Memory = ⊤
+HasOfferedOfFiles plan files taken taken' taps taps' Words = ⊥
+HasOfferedOfFiles plan files taken taken' taps taps' (Plan fault) = ⊥
+HasOfferedOfFiles plan files taken taken' taps taps' (Line refusal) = ⊥
+HasOfferedOfFiles plan files taken taken' taps taps' Input = ⊥
+HasOfferedOfFiles plan files taken taken' taps taps' Folder = ⊥
+HasOfferedOfFiles plan files taken taken' taps taps' (Audit fault) = ⊥
+HasOfferedOfFiles plan files taken taken' taps taps' FileTooLong = ⊥
+HasOfferedOfFiles plan files taken taken' taps taps' (Checkpoint line) = ⊥
+
+-- what they were offered of the files of these names, for a plan
+abbrev pub IsOfferedOfFiles : Shape → Option Files → List ℕ → List ℕ → Option (List ℕ) → Option (List ℕ)
+    → List TapState → List TapState → Status → Type 0
+IsOfferedOfFiles plan folder file_a file_b taken taken' taps taps' status =
+    (files : Stream → List ℕ) × HaveBytes folder file_a file_b files
+    × HasOfferedOfFiles plan files taken taken' taps taps' status
+
+-- what they were offered for a plan: of what the source gave, or of two files
+abbrev pub IsOfferedFor : Option Files → Asked → Shape → Option (List ℕ) → Option (List ℕ) → Option (List ℕ)
+    → Option (List ℕ) → List TapState → List TapState → Status → Type 0
+IsOfferedFor folder (Feeds name file_a file_b options) plan left left' taken taken' taps taps' status =
+    IsOfferedOfFiles plan folder file_a file_b taken taken' taps taps' status
+IsOfferedFor folder (Sum size options) plan left left' taken taken' taps taps' status =
+    IsOfferedOf plan left left' taken taken' taps taps' status
+IsOfferedFor folder (Run name options) plan left left' taken taken' taps taps' status =
+    IsOfferedOf plan left left' taken taken' taps taps' status
+IsOfferedFor folder (Slow name) plan left left' taken taken' taps taps' status =
+    IsOfferedOf plan left left' taken taken' taps taps' status
+IsOfferedFor folder ask.Audit plan left left' taken taken' taps taps' status =
+    IsOfferedOf plan left left' taken taken' taps taps' status
+IsOfferedFor folder (Work records options) plan left left' taken taken' taps taps' status =
+    IsOfferedOf plan left left' taken taken' taps taps' status
+IsOfferedFor folder (Watch name key options) plan left left' taken taken' taps taps' status =
+    IsOfferedOf plan left left' taken taken' taps taps' status
+IsOfferedFor folder (Part name options) plan left left' taken taken' taps taps' status =
+    IsOfferedOf plan left left' taken taken' taps taps' status
+IsOfferedFor folder (Save name) plan left left' taken taken' taps taps' status =
+    IsOfferedOf plan left left' taken taken' taps taps' status
+IsOfferedFor folder (Resume name checkpoint options) plan left left' taken taken' taps taps' status =
+    IsOfferedOf plan left left' taken taken' taps taps' status
+
 -- what the taps were offered where a plan is asked for: nothing if there is none
 abbrev pub IsOffered : Option Files → Asked → Option (List ℕ) → Option (List ℕ) → Option (List ℕ) → Option (List ℕ)
     → List TapState → List TapState → Status → Type 0
 IsOffered folder wanted left left' taken taken' taps taps' status =
     (HasNoPlan folder wanted status × (taps' ≡ taps))
-    ⊎ ((plan : Shape) × IsPlanFor folder wanted plan × IsOfferedOf plan left left' taken taken' taps taps' status)
+    ⊎ ((plan : Shape) × IsPlanFor folder wanted plan
+    × IsOfferedFor folder wanted plan left left' taken taken' taps taps' status)
 
 -- the tap at this place of the list, as a row was offered, has failed: it is one of those that were handed in, and its
 -- count is above the one that it had then
@@ -79,6 +137,7 @@ IsNoTap Done = ⊤
 IsNoTap Words = ⊤
 IsNoTap (Plan fault) = ⊤
 IsNoTap (Line refusal) = ⊤
+IsNoTap (FileLine stream refusal) = ⊤
 IsNoTap Input = ⊤
 IsNoTap Output = ⊤
 IsNoTap Folder = ⊤

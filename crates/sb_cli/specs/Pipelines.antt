@@ -16,7 +16,7 @@ use Rattle.sb_plan.specs.Failures.Failure.{Fails}
 use Rattle.sb_plan.specs.PlanFiles.{plan_of}
 use Rattle.sb_words.specs.Options.{defaults}
 use Rattle.sb_words.specs.Words.{Asked}
-use Rattle.sb_words.specs.Words.Asked.{Sum, Run, Slow, Audit, Work, Watch, Part, Save, Resume}
+use Rattle.sb_words.specs.Words.Asked.{Sum, Run, Slow, Audit, Work, Watch, Feeds, Part, Save, Resume}
 use Rattle.sb_words.specs.declared.options.Options.{Options}
 
 -- the options that are given: the plain program, an audit and the saving of a checkpoint have none
@@ -27,6 +27,7 @@ options_in (Slow name) = defaults
 options_in Audit = defaults
 options_in (Work records options) = options
 options_in (Watch name key options) = options
+options_in (Feeds name file_a file_b options) = options
 options_in (Part name options) = options
 options_in (Save name) = defaults
 options_in (Resume name checkpoint options) = options
@@ -39,6 +40,7 @@ HasOneWorker (Slow name) = ⊥
 HasOneWorker Audit = ⊥
 HasOneWorker (Work records options) = options.workers ≡ 1
 HasOneWorker (Watch name key options) = options.workers ≡ 1
+HasOneWorker (Feeds name file_a file_b options) = options.workers ≡ 1
 HasOneWorker (Part name options) = options.workers ≡ 1
 HasOneWorker (Save name) = ⊥
 HasOneWorker (Resume name checkpoint options) = options.workers ≡ 1
@@ -51,6 +53,10 @@ plan_in files name = in_file (λ bytes. plan_of files (take (MAX_PLAN_BYTES + 1)
 -- the file is where the folder tells its files; in one that tells nothing it may be any
 abbrev pub GivesPlan : Option Files → List ℕ → Result Shape (Failure PlanFault) → Type 0
 GivesPlan folder name found = (files : Files) → folder ≡ Some files → plan_in files name ≡ found
+
+-- there is a file with a plan
+abbrev pub HasPlan : Option Files → List ℕ → Type 0
+HasPlan folder name = (plan : Shape) × IsPlan plan × GivesPlan folder name (Ok plan)
 
 -- a file with this plan, whose runs can be cut in two
 abbrev pub IsCutPlan : Option Files → List ℕ → Shape → Type 0
@@ -81,6 +87,7 @@ IsPlanFor folder (Slow name) plan = IsPlan plan × GivesPlan folder name (Ok pla
 IsPlanFor folder Audit plan = ⊥
 IsPlanFor folder (Work records options) plan = ⊥
 IsPlanFor folder (Watch name key options) plan = IsPlan plan × GivesPlan folder name (Ok plan)
+IsPlanFor folder (Feeds name file_a file_b options) plan = IsPlan plan × GivesPlan folder name (Ok plan)
 IsPlanFor folder (Part name options) plan = IsPlan plan × GivesPlan folder name (Ok plan)
 IsPlanFor folder (Save name) plan = IsCutPlan folder name plan
 IsPlanFor folder (Resume name checkpoint options) plan = IsCutPlan folder name plan
@@ -93,6 +100,7 @@ IsFaultFor folder (Slow name) fault = GivesPlan folder name (Err (Fails fault))
 IsFaultFor folder Audit fault = ⊥
 IsFaultFor folder (Work records options) fault = ⊥
 IsFaultFor folder (Watch name key options) fault = GivesPlan folder name (Err (Fails fault))
+IsFaultFor folder (Feeds name file_a file_b options) fault = GivesPlan folder name (Err (Fails fault))
 IsFaultFor folder (Part name options) fault = GivesPlan folder name (Err (Fails fault))
 IsFaultFor folder (Save name) fault = IsFaultOfCut folder name fault
 IsFaultFor folder (Resume name checkpoint options) fault = IsFaultOfCut folder name fault
@@ -105,6 +113,7 @@ AsksForFile (Slow name) = Unit {0}
 AsksForFile Audit = ⊥
 AsksForFile (Work records options) = ⊥
 AsksForFile (Watch name key options) = Unit {0}
+AsksForFile (Feeds name file_a file_b options) = Unit {0}
 AsksForFile (Part name options) = Unit {0}
 AsksForFile (Save name) = Unit {0}
 AsksForFile (Resume name checkpoint options) = Unit {0}
@@ -117,7 +126,8 @@ TellsPlanIn folder name plan = (files : Files) × (folder ≡ Some files) × (pl
 abbrev pub TellsCutPlan : Option Files → List ℕ → Shape → Type 0
 TellsCutPlan folder name plan = TellsPlanIn folder name plan × HasNoSession plan
 
--- the folder tells its files, where one is asked for, and that gives this plan; `resume` asks for a checkpoint, too
+-- the folder tells its files, where one is asked for, and that gives this plan; `resume` asks for a checkpoint, too,
+-- and `feeds` for two files more
 abbrev pub TellsPlan : Option Files → Asked → Shape → Type 0
 TellsPlan folder (Sum size options) plan = plan ≡ sum_shape size
 TellsPlan folder (Run name options) plan = TellsPlanIn folder name plan
@@ -125,6 +135,7 @@ TellsPlan folder (Slow name) plan = TellsPlanIn folder name plan
 TellsPlan folder Audit plan = ⊥
 TellsPlan folder (Work records options) plan = ⊥
 TellsPlan folder (Watch name key options) plan = TellsPlanIn folder name plan
+TellsPlan folder (Feeds name file_a file_b options) plan = ⊥
 TellsPlan folder (Part name options) plan = TellsPlanIn folder name plan
 TellsPlan folder (Save name) plan = TellsCutPlan folder name plan
 TellsPlan folder (Resume name checkpoint options) plan = ⊥

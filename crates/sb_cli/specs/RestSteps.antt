@@ -7,7 +7,7 @@ use Rattle.sb_checkpoint.specs.Saved.{items_in}
 use Rattle.sb_checkpoint.specs.Texts.{IsFaultAt, IsRead, pieces}
 use Rattle.sb_cli.specs.declared.resuming.TheConstants.{MAX_CHECKPOINT_BYTES}
 use Rattle.sb_cli.specs.declared.status.Status.{Status}
-use Rattle.sb_cli.specs.declared.status.Status.TheVariants.{Done, Words, Plan, Line, Input, Output, Folder, Memory, Tap, Audit, FileTooLong, Checkpoint as Faulty}
+use Rattle.sb_cli.specs.declared.status.Status.TheVariants.{Done, Words, Plan, Line, Input, Output, Folder, Memory, Tap, Audit, FileTooLong, FileLine, Checkpoint as Faulty}
 use Rattle.sb_cli.specs.CheckpointFiles.{HasFaultyLine, IsTooLong, Said}
 
 -- what a checkpoint says
@@ -29,6 +29,7 @@ IsNoneIn plan text Done = ⊥
 IsNoneIn plan text Words = ⊥
 IsNoneIn plan text (Plan fault) = ⊥
 IsNoneIn plan text (Line refusal) = ⊥
+IsNoneIn plan text (FileLine stream refusal) = ⊥
 IsNoneIn plan text Input = ⊥
 IsNoneIn plan text Output = ⊥
 IsNoneIn plan text (Tap place) = ⊥
@@ -44,6 +45,7 @@ HasNoCheckpoint folder name plan Done = ⊥
 HasNoCheckpoint folder name plan Words = ⊥
 HasNoCheckpoint folder name plan (Plan fault) = ⊥
 HasNoCheckpoint folder name plan (Line refusal) = ⊥
+HasNoCheckpoint folder name plan (FileLine stream refusal) = ⊥
 HasNoCheckpoint folder name plan Input = ⊥
 HasNoCheckpoint folder name plan Output = ⊥
 HasNoCheckpoint folder name plan (Tap place) = ⊥

@@ -8,7 +8,7 @@ use Rattle.sb_run.specs.declared.run_end.RunEnd.TheVariants as run
 use Rattle.sb_run.specs.declared.sizes.Sizes.{Sizes}
 use Rattle.sb_words.specs.declared.options.Options.{Options}
 use Rattle.sb_cli.specs.declared.status.Status.{Status}
-use Rattle.sb_cli.specs.declared.status.Status.TheVariants.{Done, Words, Plan, Line, Input, Output, Folder, Memory, Tap, Audit, FileTooLong, Checkpoint}
+use Rattle.sb_cli.specs.declared.status.Status.TheVariants.{Done, Words, Plan, Line, Input, Output, Folder, Memory, Tap, Audit, FileTooLong, FileLine, Checkpoint}
 use Rattle.sb_cli.specs.Telling.{CanTell, diaries_of_hand}
 
 -- the sizes that options give
@@ -61,6 +61,7 @@ diaries_told keeps end Done = kept_at keeps end
 diaries_told keeps end Words = []
 diaries_told keeps end (Plan fault) = []
 diaries_told keeps end (Line refusal) = []
+diaries_told keeps end (FileLine stream refusal) = []
 diaries_told keeps end Input = []
 diaries_told keeps end Output = []
 diaries_told keeps end Folder = []

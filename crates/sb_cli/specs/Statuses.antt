@@ -1,5 +1,5 @@
 -- What each status is for a caller of the program, and for its user.
-use Rattle.std.specs.Prelude.{ℕ, Bool, ◌==◌, if◌then◌else◌, List, [], ◌∷◌, ◌++◌, flat_map, decimal, codes}
+use Rattle.std.specs.Prelude.{ℕ, Bool, ◌==◌, if◌then◌else◌, List, [], ◌∷◌, ◌++◌, Option, Some, None, flat_map, decimal, codes}
 use Rattle.sb_diary.specs.declared.audit.AuditEnd.{AuditEnd}
 use Rattle.sb_diary.specs.declared.audit.AuditFault.{AuditFault}
 use Rattle.sb_diary.specs.declared.audit.AuditFault.TheVariants as audit
@@ -7,6 +7,8 @@ use Rattle.sb_diary.specs.Texts.{NodeDiary, diary_text}
 use Rattle.sb_record.specs.declared.item.Dropped.{Dropped}
 use Rattle.sb_record.specs.declared.intake.Refusal.{Refusal}
 use Rattle.sb_record.specs.declared.intake.Refusal.TheVariants.{TooMany, TooLong, Malformed, WrongStream, Late, Back}
+use Rattle.sb_record.specs.declared.item.Stream.{Stream}
+use Rattle.sb_record.specs.declared.item.Stream.TheVariants.{A, B}
 use Rattle.sb_record.specs.declared.intake.Stop.{Stop}
 use Rattle.sb_record.specs.declared.intake.Stop.TheVariants.{End, Refused, Fault}
 use Rattle.sb_pardo.specs.declared.table_file.RowFault.{RowFault}
@@ -15,8 +17,10 @@ use Rattle.sb_plan.specs.declared.fault.PlanCause.{PlanCause}
 use Rattle.sb_plan.specs.declared.fault.PlanCause.TheVariants as cause
 use Rattle.sb_plan.specs.declared.fault.PlanFault.{PlanFault}
 use Rattle.sb_plan.specs.Keys.{key_text}
+use Rattle.sb_cli.specs.declared.late.LateRecords.{LateRecords}
+use Rattle.sb_cli.specs.declared.late.LateRecords.TheVariants.{OfInput, OfFiles}
 use Rattle.sb_cli.specs.declared.status.Status.{Status}
-use Rattle.sb_cli.specs.declared.status.Status.TheVariants.{Done, Words, Plan, Line, Input, Output, Folder, Memory, Tap, Audit, FileTooLong, Checkpoint}
+use Rattle.sb_cli.specs.declared.status.Status.TheVariants.{Done, Words, Plan, Line, Input, Output, Folder, Memory, Tap, Audit, FileTooLong, FileLine, Checkpoint}
 
 -- the exit code
 abbrev pub code_of : Status → ℕ
@@ -24,6 +28,7 @@ code_of Done = 0
 code_of Words = 1
 code_of (Plan fault) = 2
 code_of (Line refusal) = 3
+code_of (FileLine stream refusal) = 3
 code_of Input = 4
 code_of Output = 5
 code_of Folder = 6
@@ -46,6 +51,11 @@ at_line line = codes "line " ++ decimal line ++ codes ": "
 -- a text with `, time T, watermark W` behind it
 abbrev pub with_times : List ℕ → ℕ → ℕ → List ℕ
 with_times text time mark = text ++ codes ", time " ++ decimal time ++ codes ", watermark " ++ decimal mark
+
+-- the beginning of what a user is told of the record file of a stream
+abbrev pub file_text : Stream → List ℕ
+file_text A = codes "file a: "
+file_text B = codes "file b: "
 
 -- what a user is told of a refused line
 abbrev pub refusal_text : Refusal → List ℕ
@@ -106,6 +116,7 @@ note_text Done = []
 note_text Words = codes "words not understood" ++ 10 ∷ []
 note_text (Plan fault) = plan_text fault ++ 10 ∷ []
 note_text (Line refusal) = refusal_text refusal ++ 10 ∷ []
+note_text (FileLine stream refusal) = file_text stream ++ refusal_text refusal ++ 10 ∷ []
 note_text Input = codes "input failed" ++ 10 ∷ []
 note_text Output = codes "output failed" ++ 10 ∷ []
 note_text Folder = codes "file failed" ++ 10 ∷ []
@@ -119,9 +130,19 @@ note_text (Checkpoint line) = codes "checkpoint: " ++ at_line line ++ codes "mal
 abbrev pub dropped_text : Dropped → List ℕ
 dropped_text d = with_times (at_line d.line ++ codes "dropped") d.time d.mark ++ 10 ∷ []
 
--- what a user is told: of each late record that was dropped, in order, then the diaries, and then how the run ended
-abbrev pub notes_text : List Dropped → List NodeDiary → Status → List ℕ
-notes_text dropped diaries status = flat_map dropped_text dropped ++ diary_text diaries ++ note_text status
+-- the same of a record of an input, or of the file of a stream
+abbrev pub late_line : Option Stream → Dropped → List ℕ
+late_line None d = dropped_text d
+late_line (Some stream) d = file_text stream ++ dropped_text d
+
+-- what a user is told of each late record that was dropped, in order; of two files first those of file a
+abbrev pub late_text : LateRecords → List ℕ
+late_text (OfInput dropped) = flat_map (late_line None) dropped
+late_text (OfFiles a b) = flat_map (late_line (Some A)) a ++ flat_map (late_line (Some B)) b
+
+-- what a user is told: of the late records that were dropped, then the diaries, and then how the run ended
+abbrev pub notes_text : LateRecords → List NodeDiary → Status → List ℕ
+notes_text late diaries status = late_text late ++ diary_text diaries ++ note_text status
 
 -- `settled` if nothing in the diaries is left open, else `running`
 abbrev pub settled_text : Bool → List ℕ

@@ -11,7 +11,7 @@ use Rattle.sb_tally.specs.Written.{diary_at}
 use Rattle.sb_feed.specs.Calls.{calls_of}
 use Rattle.sb_words.specs.declared.options.Options.{Options}
 use Rattle.sb_cli.specs.declared.status.Status.{Status}
-use Rattle.sb_cli.specs.declared.status.Status.TheVariants.{Done, Words, Plan, Line, Input, Output, Folder, Memory, Tap, Audit, FileTooLong, Checkpoint}
+use Rattle.sb_cli.specs.declared.status.Status.TheVariants.{Done, Words, Plan, Line, Input, Output, Folder, Memory, Tap, Audit, FileTooLong, FileLine, Checkpoint}
 
 -- the lines of the nodes of a plan from this one on, each with how many lanes its node has
 abbrev pub node_diaries : Shape → ℕ → List (List DiaryEvent) → List NodeDiary
@@ -41,6 +41,7 @@ AreToldIf false plan bundle items diaries = diaries ≡ []
 abbrev pub TellsDiaries : Shape → Options → List Item → List NodeDiary → Status → Type 0
 TellsDiaries plan options items diaries Done = AreToldIf options.diary plan options.bundle items diaries
 TellsDiaries plan options items diaries (Line refusal) = diaries ≡ []
+TellsDiaries plan options items diaries (FileLine stream refusal) = diaries ≡ []
 TellsDiaries plan options items diaries Input = diaries ≡ []
 TellsDiaries plan options items diaries Output = diaries ≡ []
 TellsDiaries plan options items diaries Memory = diaries ≡ []

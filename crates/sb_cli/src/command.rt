@@ -1,31 +1,34 @@
 //! The one call that the program makes.
 
 ghost use Rattle.std.specs.Prelude.{◌≡◌, ◌<◌, ◌^◌, false, IsTrue, ℕ, List, [], length, map};
-ghost use Rattle.sb_record.specs.declared.item.Dropped.{Dropped};
+ghost use Rattle.sb_record.specs.declared.item.Stream.{Stream as AStream};
 ghost use Rattle.sb_outside.specs.Sinks.{SinkCause, WritesAll};
 ghost use Rattle.sb_outside.specs.Sources.{Rose};
 ghost use Rattle.sb_diary.specs.Texts.{NodeDiary};
 ghost use Rattle.sb_pipeline.specs.Shapes.{Shape};
-ghost use Rattle.sb_cli.specs.Answers.{IsAnswer, IsUnread, ending_of};
+ghost use Rattle.sb_cli.specs.declared.late.LateRecords.{LateRecords};
+ghost use Rattle.sb_cli.specs.declared.late.LateRecords.TheVariants.{OfInput};
+ghost use Rattle.sb_cli.specs.Answers.{IsAnswer, IsUnread, ending_with};
 ghost use Rattle.sb_cli.specs.CheckpointFiles.{Said, TellsCheckpoint};
 ghost use Rattle.sb_cli.specs.Courses.{course_in};
 ghost use Rattle.sb_cli.specs.Faults.{BlamesFile, HasCause, HidesNoFault, IsDoneOrMemory, NothingFails};
-ghost use Rattle.sb_cli.specs.Faults.{NothingFailsBehind, NothingFailsInAudit, faults_of};
+ghost use Rattle.sb_cli.specs.Faults.{NothingFailsBehind, NothingFailsInAudit, NothingFailsInFiles, faults_of};
 ghost use Rattle.sb_cli.specs.Notes.{HasNoted};
 ghost use Rattle.sb_cli.specs.Offered.{BlamesTap, IsNoTap, IsOffered};
-ghost use Rattle.sb_cli.specs.Pipelines.{HasOneWorker, TellsCutPlan, TellsPlan, options_in};
+ghost use Rattle.sb_cli.specs.Pipelines.{HasOneWorker, TellsCutPlan, TellsPlan, TellsPlanIn, options_in};
+ghost use Rattle.sb_cli.specs.RecordFiles.{TellsBoth};
 ghost use Rattle.sb_cli.specs.Statuses.{note_text, notes_text};
 ghost use Rattle.sb_words.specs.declared.options.Options.{Options};
 ghost use Rattle.sb_words.specs.Texts.{texts};
 ghost use Rattle.sb_words.specs.Words.{Asked, IsCommand, IsNoCommand};
-ghost use Rattle.sb_words.specs.Words.Asked.{Sum, Audit, Work, Resume};
+ghost use Rattle.sb_words.specs.Words.Asked.{Sum, Audit, Work, Feeds, Resume};
 
 use crate::answer::{answer_file, answer_slow, answer_sum};
 use crate::audit::answer_audit;
 use crate::cutting::{answer_part, answer_save};
 use crate::ending::Ending;
+use crate::feeds::answer_feeds;
 use crate::note::note_of;
-use crate::output::write_dropped;
 use crate::resuming::answer_resume;
 use crate::status::Status;
 use crate::watching::answer_watch;
@@ -43,8 +46,9 @@ use std::time::Clock;
 /// from `input`, and writes rows to `out`, and to `notes` a line for each late record that the plan drops, the diaries
 /// of a run that is done if they are asked for, and at most one line more. With `--taps` each row that was written is
 /// offered to `taps`, fewer than 2^32, and those that have enough are dropped. `work` makes its records itself: it
-/// reads nothing, calls no tap, and writes a summary of their rows to `out`. `watch` writes one row, and `part`, `save`
-/// and `resume` are a run that is cut in two: the rows of a first part, its checkpoint, and the rows of the rest.
+/// reads nothing, calls no tap, and writes a summary of their rows to `out`. `watch` writes one row. `feeds` reads no
+/// input: it has the lines of stream a from one file and those of stream b from another. `part`, `save` and `resume`
+/// are a run that is cut in two: the rows of a first part, its checkpoint, and the rows of the rest.
 ///
 /// What is said of bytes holds of sources and sinks whose bytes are known, and what is said of files of a folder whose
 /// files are known. The words come first, then the plan, then the input: if the words are no command, or the plan is
@@ -52,7 +56,8 @@ use std::time::Clock;
 /// input to the end, and `out` has taken exactly the rows of the pipeline over all accepted records, and has passed
 /// them on, whatever `--workers`, `--bundle` and `--pending` say. What becomes of the notes does not change the status.
 ///
-/// With one worker it waits for nobody and starts no thread. With more, whether it returns is not said.
+/// With one worker it waits for nobody and starts no thread, but for `feeds`, which reads each file in a thread of its
+/// own. With more, or for `feeds`, whether it returns is not said.
 pub fn streambox<W: Threads + Wait + Clock + Sync, S: Source, K: Sink, N: Sink, F: Folder>(
     rt: &W,
     alloc: Global,
@@ -67,11 +72,11 @@ pub fn streambox<W: Threads + Wait + Clock + Sync, S: Source, K: Sink, N: Sink, 
 
     // What was written and what the user was told, by how the run ended, over the items that were accepted.
     ensures answer { (wanted : Asked) → IsCommand wanted (texts words.now)
-        → (dropped : List Dropped) × (diaries : List NodeDiary)
+        → (late : LateRecords) × (diaries : List NodeDiary)
         × IsAnswer (F.files folder.old) wanted (S.left input.old) (S.left input.new)
-        (K.taken out.old) (K.taken out.new) (ending_of result dropped diaries)
+        (K.taken out.old) (K.taken out.new) (ending_with result late diaries)
         × HasNoted (N.taken notes.old) (N.taken notes.new)
-        (N.sink_state notes.old) (N.sink_state notes.new) (notes_text dropped diaries result) }
+        (N.sink_state notes.old) (N.sink_state notes.new) (notes_text late diaries result) }
 
     // What the taps were offered with `--taps`; without it they are not called.
     ensures offered { (wanted : Asked) → IsCommand wanted (texts words.now) → IsTrue (options_in wanted).taps
@@ -98,6 +103,10 @@ pub fn streambox<W: Threads + Wait + Clock + Sync, S: Source, K: Sink, N: Sink, 
     ensures sum_loads_nothing { (size : ℕ) (options : Options)
         → IsCommand (Sum size options) (texts words.now) → folder.new ≡ folder.old }
     ensures audit_loads_nothing { IsCommand Audit (texts words.now) → folder.new ≡ folder.old }
+
+    // The lines of `feeds` are those of its files.
+    ensures feeds_reads_no_input { (name file_a file_b : List ℕ) (options : Options)
+        → IsCommand (Feeds name file_a file_b options) (texts words.now) → input.new ≡ input.old }
 
     // The records of `work` are made: of all that it was handed it uses `out` alone.
     ensures work_uses_out_alone { (records : ℕ) (options : Options)
@@ -135,6 +144,14 @@ pub fn streambox<W: Threads + Wait + Clock + Sync, S: Source, K: Sink, N: Sink, 
         (faults_of (S.faults input.old) (K.sink_state out.old) (F.failed folder.old))
         (faults_of (S.faults input.new) (K.sink_state out.new) (F.failed folder.new))
         → IsDoneOrMemory result }
+    ensures feeds_complete { (name file_a file_b : List ℕ) (options : Options) (plan : Shape)
+        (files : AStream → List ℕ) → IsCommand (Feeds name file_a file_b options) (texts words.now)
+        → TellsPlanIn (F.files folder.old) name plan → TellsBoth (F.files folder.old) file_a file_b files
+        → NothingFailsInFiles plan files
+        (faults_of (S.faults input.old) (K.sink_state out.old) (F.failed folder.old))
+        (faults_of (S.faults input.new) (K.sink_state out.new) (F.failed folder.new))
+        (map (λ t. tap_state t) taps.old.items) (map (λ t. tap_state t) taps.new.items)
+        → IsDoneOrMemory result }
     ensures audit_complete { IsCommand Audit (texts words.now)
         → NothingFailsInAudit (S.left input.old) (S.left input.new)
         (faults_of (S.faults input.old) (K.sink_state out.old) (F.failed folder.old))
@@ -170,7 +187,7 @@ fn respond<W: Threads + Wait + Clock + Sync, S: Source, K: Sink, F: Folder>(
     ensures unoffered { (wanted : Asked) → IsCommand wanted (texts words.now) → (options_in wanted).taps ≡ false
         → (taps.new ≡ taps.old) × IsNoTap result.status }
     ensures no_command { IsNoCommand (texts words.now)
-        → (result.status ≡ Status.Words) × (result.dropped ≡ []) × (result.diaries ≡ [])
+        → (result.status ≡ Status.Words) × (result.late ≡ OfInput []) × (result.diaries ≡ [])
         × (input.new ≡ input.old) × (out.new ≡ out.old) × (folder.new ≡ folder.old) × (taps.new ≡ taps.old) }
     ensures unread { IsUnread result.status
         → (input.new ≡ input.old) × (out.new ≡ out.old) × (taps.new ≡ taps.old) }
@@ -180,6 +197,8 @@ fn respond<W: Threads + Wait + Clock + Sync, S: Source, K: Sink, F: Folder>(
     ensures sum_loads_nothing { (size : ℕ) (options : Options)
         → IsCommand (Sum size options) (texts words.now) → folder.new ≡ folder.old }
     ensures audit_loads_nothing { IsCommand Audit (texts words.now) → folder.new ≡ folder.old }
+    ensures feeds_reads_no_input { (name file_a file_b : List ℕ) (options : Options)
+        → IsCommand (Feeds name file_a file_b options) (texts words.now) → input.new ≡ input.old }
     ensures work_uses_out_alone { (records : ℕ) (options : Options)
         → IsCommand (Work records options) (texts words.now)
         → (input.new ≡ input.old) × (folder.new ≡ folder.old) × (taps.new ≡ taps.old) }
@@ -211,6 +230,9 @@ fn respond<W: Threads + Wait + Clock + Sync, S: Source, K: Sink, F: Folder>(
         Ok(Some(Request::Watch(name, key, options))) => {
             answer_watch(rt, alloc, name, key, options, input, out, folder)
         }
+        Ok(Some(Request::Feeds(name, file_a, file_b, options))) => answer_feeds(
+            rt, alloc, name, file_a, file_b, options, out, folder, taps,
+        ),
         Ok(Some(Request::Part(name, options))) => {
             answer_part(rt, alloc, name, options, input, out, folder)
         }
@@ -226,7 +248,7 @@ fn respond<W: Threads + Wait + Clock + Sync, S: Source, K: Sink, F: Folder>(
 /// Tells the user what was dropped, the diaries and how the run ended, as far as the notes take it.
 fn tell<N: Sink>(notes: &mut N, ending: &Ending)
     ensures { HasNoted (N.taken notes.old) (N.taken notes.new) (N.sink_state notes.old) (N.sink_state notes.new)
-        (notes_text ending.now.dropped ending.now.diaries ending.now.status) }
+        (notes_text ending.now.late ending.now.diaries ending.now.status) }
 {
     let _ = write_notes(notes, ending);
 }
@@ -234,10 +256,10 @@ fn tell<N: Sink>(notes: &mut N, ending: &Ending)
 /// Writes a line for each late record that was dropped, then the diaries, and then one for how the run ended.
 fn write_notes<N: Sink>(notes: &mut N, ending: &Ending) -> Result<(), SinkFault>
     ensures bytes { WritesAll (N.taken notes.old) (N.taken notes.new)
-        (notes_text ending.now.dropped ending.now.diaries ending.now.status) result }
+        (notes_text ending.now.late ending.now.diaries ending.now.status) result }
     ensures cause { SinkCause (N.sink_state notes.old) (N.sink_state notes.new) result }
 {
-    write_dropped(notes, ending.dropped.as_slice())?;
+    ending.late.write(notes)?;
     ending.diaries.write(notes)?;
     write_all_of(notes, note_of(ending.status).as_slice())
 }

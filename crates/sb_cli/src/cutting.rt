@@ -24,6 +24,7 @@ use crate::answer::load_plan;
 use crate::diaries::Diaries;
 use crate::ending::Ending;
 use crate::engine::sizes_of;
+use crate::late::LateRecords;
 use crate::status::Status;
 use sb_checkpoint::{Checkpoint, first_session, write_checkpoint};
 use sb_cut::{CutEnd, Saved, run_part, save};
@@ -108,7 +109,7 @@ fn answer_part_of<W: Threads + Wait + Clock + Sync, S: Source, K: Sink>(
     let status = cut_status(end, finish_cut(out, end));
     Ending {
         status,
-        dropped: Sequence::new(dropped),
+        late: LateRecords::OfInput(Sequence::new(dropped)),
         diaries: Diaries::none(),
     }
 }
@@ -237,7 +238,7 @@ fn answer_saved<S: Source, K: Sink>(
     };
     Ending {
         status,
-        dropped: Sequence::new(dropped),
+        late: LateRecords::OfInput(Sequence::new(dropped)),
         diaries: Diaries::none(),
     }
 }

@@ -1,17 +1,18 @@
-//! How a run ended, with the late records that it dropped and the diaries that it tells.
+//! How a run ended, with the late records that it lists and the diaries that it tells.
 
 ghost use Rattle.std.specs.Prelude.{◌≡◌, []};
+ghost use Rattle.sb_cli.specs.declared.late.LateRecords.TheVariants.{OfInput};
 
 use crate::diaries::Diaries;
+use crate::late::LateRecords;
 use crate::status::Status;
-use sb_record::{Dropped, Sequence};
 use std::alloc::Global;
 
-/// How a run ended, the late records that it lists, in the order of their lines, and the diaries that it tells.
+/// How a run ended, the late records that it lists, and the diaries that it tells.
 #[derive(Drop)]
 pub(crate) struct Ending {
     pub status: Status,
-    pub dropped: Sequence<Dropped>,
+    pub late: LateRecords,
     pub diaries: Diaries,
 }
 
@@ -19,12 +20,12 @@ impl Ending {
     /// The end of a run that dropped nothing, or does not know what it dropped, and tells no diary.
     pub fn of(alloc: Global, status: Status) -> Ending
         ensures status { result.status ≡ status }
-        ensures dropped { result.dropped ≡ [] }
+        ensures dropped { result.late ≡ OfInput [] }
         ensures diaries { result.diaries ≡ [] }
     {
         Ending {
             status,
-            dropped: Sequence::new(Vec::new(alloc)),
+            late: LateRecords::none(alloc),
             diaries: Diaries::none(),
         }
     }

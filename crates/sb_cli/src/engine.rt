@@ -13,6 +13,7 @@ ghost use Rattle.sb_cli.specs.RunSteps.{CanTellAt, sizes_from, diaries_told, sta
 
 use crate::diaries::Diaries;
 use crate::ending::Ending;
+use crate::late::LateRecords;
 use crate::status::Status;
 use sb_emit::{Lent, Tap};
 use sb_outside::{Sink, SinkFault, Source};
@@ -105,7 +106,7 @@ fn answer_past<W: Threads + Wait + Clock + Sync, S: Source, K: Sink>(
     let status = status_behind(&end, finish_after(out, &end));
     Ending {
         status,
-        dropped: Sequence::new(dropped),
+        late: LateRecords::OfInput(Sequence::new(dropped)),
         diaries: tell(end, status, options.diary),
     }
 }

@@ -8,7 +8,7 @@ use crate::status::Status;
 use sb_diary::{AuditEnd, AuditFault};
 use sb_pardo::{RowFault, TableFault};
 use sb_plan::{PlanCause, PlanFault, PlanKey};
-use sb_record::{Dropped, Refusal, TextBuf};
+use sb_record::{Dropped, Refusal, Stream, TextBuf};
 
 /// The text of a note: it takes no memory.
 pub(crate) type Note = TextBuf<128>;
@@ -37,10 +37,25 @@ fn push_times(note: &mut Note, time: u64, mark: u64)
     note.push_number(mark);
 }
 
+/// `file a: ` or `file b: `, and a text behind it.
+fn in_file(file: Stream, text: &[u8]) -> Note
+    requires { length text.now ≤ 119 }
+    ensures text { result ≡ spec.file_text file ++ text.now }
+    ensures short { length result ≤ length text.now + 8 }
+{
+    let mut note = Note::new();
+    match file {
+        Stream::A => note.push(b"file a: "),
+        Stream::B => note.push(b"file b: "),
+    }
+    note.push(text);
+    note
+}
+
 /// What is wrong with a refused line.
 fn refusal_note(refusal: Refusal) -> Note
     ensures text { result ≡ spec.refusal_text refusal }
-    ensures short { length result ≤ 127 }
+    ensures short { length result ≤ 119 }
 {
     match refusal {
         Refusal::TooMany => {
@@ -217,6 +232,9 @@ pub(crate) fn note_of(status: Status) -> Note
     let mut note = match status {
         Status::Done => return Note::new(),
         Status::Line(refusal) => refusal_note(refusal),
+        Status::FileLine { stream, refusal } => {
+            in_file(stream, refusal_note(refusal).as_slice())
+        }
         Status::Plan(fault) => plan_note(fault),
         Status::Audit(fault) => audit_note(fault),
         Status::Tap { place } => tap_note(place),
@@ -236,9 +254,20 @@ pub(crate) fn note_of(status: Status) -> Note
     note
 }
 
-/// The line that a user is told of a late record that was dropped.
-pub(crate) fn dropped_note(dropped: &Dropped) -> Note
-    ensures { result ≡ spec.dropped_text dropped.now }
+/// The line that a user is told of a late record that was dropped, of an input or of the file of a stream.
+pub(crate) fn late_note(file: Option<Stream>, dropped: &Dropped) -> Note
+    ensures { result ≡ spec.late_line file dropped.now }
+{
+    match file {
+        Some(stream) => in_file(stream, dropped_note(dropped).as_slice()),
+        None => dropped_note(dropped),
+    }
+}
+
+/// The line that a user is told of a late record of an input.
+fn dropped_note(dropped: &Dropped) -> Note
+    ensures text { result ≡ spec.dropped_text dropped.now }
+    ensures short { length result ≤ 119 }
 {
     let mut note = at_line(dropped.line);
     note.push(b"dropped");

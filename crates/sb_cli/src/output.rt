@@ -7,12 +7,12 @@ ghost use Rattle.sb_outside.specs.Sources.{Rose};
 ghost use Rattle.sb_cli.specs.Answers.{HasPrinted, IsWritten};
 ghost use Rattle.sb_cli.specs.Batches.{Moves};
 ghost use Rattle.sb_cli.specs.Offered.{IsNoTap};
-ghost use Rattle.sb_cli.specs.Statuses.{dropped_text};
+ghost use Rattle.sb_cli.specs.Statuses.{late_line};
 
-use crate::note::dropped_note;
+use crate::note::late_note;
 use crate::status::Status;
 use sb_outside::{Sink, SinkFault, write_all_of};
-use sb_record::{Dropped, END_MARK, Record, TextBuf, row_bytes};
+use sb_record::{Dropped, END_MARK, Record, Stream, TextBuf, row_bytes};
 
 /// How many bytes of text are gathered before they are written.
 pub(crate) const BATCH: usize = 8192;
@@ -85,15 +85,20 @@ pub(crate) fn print<K: Sink>(out: &mut K, text: &[u8]) -> Status
     }
 }
 
-/// Writes the lines of late records that were dropped, and takes no memory for it.
-pub(crate) fn write_dropped<N: Sink>(notes: &mut N, dropped: &[Dropped]) -> Result<(), SinkFault>
-    ensures bytes { WritesAll (N.taken notes.old) (N.taken notes.new) (flat_map dropped_text dropped.now) result }
+/// Writes the lines of late records that were dropped, of an input or of the file of a stream, and takes no memory for
+/// it.
+pub(crate) fn write_dropped<N: Sink>(
+    notes: &mut N,
+    file: Option<Stream>,
+    dropped: &[Dropped],
+) -> Result<(), SinkFault>
+    ensures bytes { WritesAll (N.taken notes.old) (N.taken notes.new) (flat_map (late_line file) dropped.now) result }
     ensures cause { SinkCause (N.sink_state notes.old) (N.sink_state notes.new) result }
 {
     let mut batch = TextBuf::<BATCH>::new();
     'dropped: for late in dropped {
         make_room(notes, &mut batch)?;
-        batch.push(dropped_note(late).as_slice());
+        batch.push(late_note(file, late).as_slice());
     }
     write_all_of(notes, batch.as_slice())
 }

@@ -14,6 +14,7 @@ use crate::diaries::Diaries;
 use crate::ending::Ending;
 use crate::input::{Input, read_input};
 use crate::kept::Kept;
+use crate::late::LateRecords;
 use crate::output::write_rows;
 use crate::status::Status;
 use sb_outside::{Sink, SinkFault, Source};
@@ -52,7 +53,7 @@ pub(crate) fn answer_plain<S: Source, K: Sink>(
     };
     Ending {
         status,
-        dropped,
+        late: LateRecords::OfInput(dropped),
         diaries: Diaries::none(),
     }
 }

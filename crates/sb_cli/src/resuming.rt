@@ -21,6 +21,7 @@ use crate::cutting::plan_to_cut;
 use crate::diaries::Diaries;
 use crate::ending::Ending;
 use crate::engine::{finish_after, sizes_of, status_behind};
+use crate::late::LateRecords;
 use crate::status::Status;
 use sb_checkpoint::{Checkpoint, CheckpointStop, RowsFrom, read_checkpoint};
 use sb_cut::run_rest;
@@ -156,7 +157,7 @@ fn answer_rest<W: Threads + Wait + Clock + Sync, S: Source, K: Sink>(
     let status = status_behind(&end, finish_after(out, &end));
     Ending {
         status,
-        dropped: Sequence::new(dropped),
+        late: LateRecords::OfInput(Sequence::new(dropped)),
         diaries: Diaries::none(),
     }
 }

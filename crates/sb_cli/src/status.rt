@@ -2,14 +2,15 @@
 
 ghost use Rattle.std.specs.Prelude.{◌≡◌};
 ghost use Rattle.sb_cli.specs.CutSteps.{status_of_cut};
+ghost use Rattle.sb_cli.specs.FileSteps.{status_of_two};
 ghost use Rattle.sb_cli.specs.RunSteps.{status_at};
 ghost use Rattle.sb_cli.specs.Statuses as spec;
 
 use sb_cut::CutEnd;
 use sb_diary::AuditFault;
 use sb_plan::PlanFault;
-use sb_record::{Refusal, Stop};
-use sb_run::RunEnd;
+use sb_record::{Refusal, Stop, Stream};
+use sb_run::{RunEnd, TwoEnd};
 
 /// How a run ends.
 #[derive(Clone, Copy, Debug, PartialEq, Eq)]
@@ -26,7 +27,7 @@ pub enum Status {
     Input,
     /// Writing the rows failed.
     Output,
-    /// The plan file, a table that it names, or a checkpoint file could not be loaded.
+    /// The plan file, a table that it names, a record file or a checkpoint file could not be loaded.
     Folder,
     /// There was no memory.
     Memory,
@@ -34,8 +35,12 @@ pub enum Status {
     Tap { place: u32 },
     /// A line of a diary text is refused: the first one that is.
     Audit(AuditFault),
-    /// A checkpoint file is longer than [`MAX_CHECKPOINT_BYTES`](crate::MAX_CHECKPOINT_BYTES).
+    /// A record file is longer than [`MAX_FILE_LENGTH`](sb_run::MAX_FILE_LENGTH), or a checkpoint file is longer than
+    /// [`MAX_CHECKPOINT_BYTES`](crate::MAX_CHECKPOINT_BYTES).
     FileTooLong,
+    /// A line of a record file is refused: the first one of the file of stream a that is, or else the first one of that
+    /// of stream b.
+    FileLine { stream: Stream, refusal: Refusal },
     /// A line of a checkpoint is refused: the first one that is, from 1.
     Checkpoint { line: u64 },
 }
@@ -57,6 +62,7 @@ impl Status {
             Status::Tap { .. } => 8,
             Status::Audit(_) => 9,
             Status::FileTooLong => 10,
+            Status::FileLine { .. } => 3,
             Status::Checkpoint { .. } => 11,
         }
     }
@@ -82,6 +88,22 @@ impl Status {
             CutEnd::Input => Status::Input,
             CutEnd::Output => Status::Output,
             CutEnd::Memory => Status::Memory,
+        }
+    }
+
+    /// How a run over two files ends whose rows were passed on.
+    pub(crate) fn of_two(end: &TwoEnd) -> Status
+        ensures { result ≡ status_of_two end.now }
+    {
+        match end {
+            TwoEnd::Done(_) => Status::Done,
+            TwoEnd::Refused { stream, refusal } => Status::FileLine {
+                stream: *stream,
+                refusal: *refusal,
+            },
+            TwoEnd::Output => Status::Output,
+            TwoEnd::Tap { place } => Status::Tap { place: *place },
+            TwoEnd::Memory => Status::Memory,
         }
     }
 

@@ -15,6 +15,7 @@ use crate::answer::load_plan;
 use crate::diaries::Diaries;
 use crate::ending::Ending;
 use crate::engine::sizes_of;
+use crate::late::LateRecords;
 use crate::plain::write_due;
 use crate::status::Status;
 use sb_outside::{Folder, Sink, Source};
@@ -101,7 +102,7 @@ fn answer_watched<W: Threads + Wait + Clock + Sync, S: Source, K: Sink>(
     };
     Ending {
         status,
-        dropped: Sequence::new(dropped),
+        late: LateRecords::OfInput(Sequence::new(dropped)),
         diaries: Diaries::none(),
     }
 }

@@ -7,7 +7,7 @@ use Rattle.std.proofs.lemmas.Option.{same_Some}
 use Rattle.sb_words.specs.declared.options.Options.{Options}
 use Rattle.sb_words.specs.declared.request.Request.{Request}
 use Rattle.sb_words.specs.Words.{Asked, IsAmount, IsCommand, IsFileName, IsKeyWord, IsNoCommand, IsSize, IsValid, asked_of}
-use Rattle.sb_words.specs.Words.Asked.{Sum, Run, Slow, Audit, Work, Watch, Part, Save, Resume}
+use Rattle.sb_words.specs.Words.Asked.{Sum, Run, Slow, Audit, Work, Watch, Feeds, Part, Save, Resume}
 use Rattle.sb_words.proofs.Sizes.{AreAnswered, AreSizesAnswered}
 
 -- the answer is what these words ask for
@@ -37,6 +37,7 @@ word_of (Slow name) = codes "slow"
 word_of Audit = codes "audit"
 word_of (Work records options) = codes "work"
 word_of (Watch name key options) = codes "watch"
+word_of (Feeds name file_a file_b options) = codes "feeds"
 word_of (Part name options) = codes "part"
 word_of (Save name) = codes "save"
 word_of (Resume name checkpoint options) = codes "resume"
@@ -49,6 +50,7 @@ begins (Slow name) command (argument ∷ []) is = is.0
 begins Audit command [] is = is
 begins (Work records options) command (argument ∷ words) is = is.0
 begins (Watch name key options) command (argument ∷ second ∷ words) is = is.0
+begins (Feeds name file_a file_b options) command (argument ∷ second ∷ third ∷ words) is = is.0
 begins (Part name options) command (argument ∷ words) is = is.0
 begins (Save name) command (argument ∷ []) is = is.0
 begins (Resume name checkpoint options) command (argument ∷ second ∷ words) is = is.0
@@ -160,6 +162,33 @@ no_watch name key words others are none wanted is =
     silent : (wanted : Asked) → IsCommand wanted (codes "watch" ∷ name ∷ key ∷ others) → ⊥
     silent (Watch plan word options) command = cc ((none options).1 (command.5, command.6))
     silent wanted command = let same = begins wanted (codes "watch") (name ∷ key ∷ others) command in search rules
+
+-- a plan, two files and options
+pub is_feeds : (name file_a file_b : List ℕ) (words others : List (List ℕ)) → words ≡ file_a ∷ file_b ∷ others
+    → IsFileName name → IsFileName file_a → IsFileName file_b
+    → (options : Options) → AreAnswered (Some options) others
+    → Answers (Some (Feeds name file_a file_b options)) (codes "feeds" ∷ name ∷ words)
+is_feeds name file_a file_b words others are is is_a is_b options exact =
+    subst (λ ws. Answers (Some (Feeds name file_a file_b options)) (codes "feeds" ∷ name ∷ ws)) (sym are)
+    (only (Feeds name file_a file_b options) (codes "feeds" ∷ name ∷ file_a ∷ file_b ∷ others) (refl, refl, is, refl, is_a, refl, is_b, (exact options).0 refl) one)
+  where
+    one : (wanted : Asked) → IsCommand wanted (codes "feeds" ∷ name ∷ file_a ∷ file_b ∷ others) → Feeds name file_a file_b options ≡ wanted
+    one (Feeds plan a b given) command =
+        let plans = command.1 in
+        let firsts = command.3 in
+        let seconds = command.5 in
+        let same = same_Some options given ((exact given).1 command.7) in
+        cc
+    one wanted command = let same = begins wanted (codes "feeds") (name ∷ file_a ∷ file_b ∷ others) command in search rules
+
+pub no_feeds : (name file_a file_b : List ℕ) (words others : List (List ℕ)) → words ≡ file_a ∷ file_b ∷ others → AreAnswered None others
+    → IsNoCommand (codes "feeds" ∷ name ∷ words)
+no_feeds name file_a file_b words others are none wanted is =
+    silent wanted (subst (λ ws. IsCommand wanted (codes "feeds" ∷ name ∷ ws)) are is)
+  where
+    silent : (wanted : Asked) → IsCommand wanted (codes "feeds" ∷ name ∷ file_a ∷ file_b ∷ others) → ⊥
+    silent (Feeds plan a b options) command = cc ((none options).1 command.7)
+    silent wanted command = let same = begins wanted (codes "feeds") (name ∷ file_a ∷ file_b ∷ others) command in search rules
 
 -- a plan, a checkpoint and options
 pub is_resume : (name checkpoint : List ℕ) (words others : List (List ℕ)) → words ≡ checkpoint ∷ others → IsFileName name → IsFileName checkpoint

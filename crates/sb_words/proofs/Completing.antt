@@ -17,7 +17,7 @@ use Rattle.sb_words.specs.Options.{AreInRange, IsSetting, options_of}
 use Rattle.sb_words.specs.Readings.{AreRead, IsFlag, IsRead}
 use Rattle.sb_words.proofs.Rows.{any_found, default_given, default_new, default_other, found, no_default, row}
 use Rattle.sb_words.proofs.Taking.{Arguments, rows_of_words, rules, setting_row}
-use Rattle.sb_words.proofs.Taking.Arguments.{one, two}
+use Rattle.sb_words.proofs.Taking.Arguments.{one, two, three}
 
 abbrev of_flag : Text → Rule
 of_flag name = with_index 2 (filled (flag name))
@@ -51,10 +51,17 @@ first = of_argument 1 (codes "argument")
 abbrev second : Rule
 second = of_argument 2 (codes "second")
 
+abbrev third : Rule
+third = of_argument 3 (codes "third")
+
 complete_is : (arguments : Arguments) (base : List Row) → complete arguments base ≡ with_flags base
 complete_is (one a) base = ap with_flags (options_add_none (with_default base first) ∙ no_default first base refl)
 complete_is (two a b) base = ap with_flags
     (options_add_none (with_default (with_default base first) second) ∙ no_default second (with_default base first) refl ∙ no_default first base refl)
+complete_is (three a b d) base = ap with_flags
+    (options_add_none (with_default (with_default (with_default base first) second) third)
+    ∙ no_default third (with_default (with_default base first) second) refl
+    ∙ no_default second (with_default base first) refl ∙ no_default first base refl)
 
 -- an argument that is no flag keeps its row
 kept : (arguments : Arguments) (id : Text) → bytes_eq (codes "diary") id ≡ false → bytes_eq (codes "taps") id ≡ false
@@ -154,6 +161,7 @@ record AreApart (arguments : Arguments) (settings : List Setting) : Type 0 where
 apart : (arguments : Arguments) (settings : List Setting) → AreApart arguments settings
 apart (one a) settings = record { workers = refl; bundle = refl; pending = refl; diary = refl; taps = refl }
 apart (two a b) settings = record { workers = refl; bundle = refl; pending = refl; diary = refl; taps = refl }
+apart (three a b d) settings = record { workers = refl; bundle = refl; pending = refl; diary = refl; taps = refl }
 
 -- the rows of arguments and options say the options
 pub are_read : (arguments : Arguments) (settings : List Setting) → AreInRange (options_of settings)
@@ -175,6 +183,8 @@ are_read arguments settings range =
 abbrev pub HasArguments : Arguments → List Row → Type 0
 HasArguments (one argument) rows = first_of (codes "argument") rows ≡ Some argument
 HasArguments (two argument second) rows = (first_of (codes "argument") rows ≡ Some argument) × (first_of (codes "second") rows ≡ Some second)
+HasArguments (three argument second third) rows =
+    (first_of (codes "argument") rows ≡ Some argument) × (first_of (codes "second") rows ≡ Some second) × (first_of (codes "third") rows ≡ Some third)
 
 pub arguments_read : (arguments : Arguments) (settings : List Setting) → HasArguments arguments (complete arguments (rows_of_words arguments settings))
 arguments_read (one argument) settings = ap first_in (kept (one argument) (codes "argument") refl refl (rows_of_words (one argument) settings))
@@ -182,6 +192,13 @@ arguments_read (two argument second) settings =
     let arguments = two argument second in
     let base = rows_of_words arguments settings in
     (ap first_in (kept arguments (codes "argument") refl refl base), ap first_in (kept arguments (codes "second") refl refl base))
+arguments_read (three argument second third) settings =
+    let arguments = three argument second third in
+    let base = rows_of_words arguments settings in (
+      ap first_in (kept arguments (codes "argument") refl refl base),
+      ap first_in (kept arguments (codes "second") refl refl base),
+      ap first_in (kept arguments (codes "third") refl refl base),
+    )
 
 -- an argument that has a row of the command line is given
 given_by : (id : Text) (values : List Text) (rows : List Row) → found id rows ≡ Some (row id values) → is_given id rows ≡ true
@@ -202,6 +219,18 @@ both_given argument second settings =
     let rows = complete (two argument second) base in (
       given_by (codes "argument") (argument ∷ []) rows (kept (two argument second) (codes "argument") refl refl base),
       given_by (codes "second") (second ∷ []) rows (kept (two argument second) (codes "second") refl refl base),
+    )
+
+pub all_given : (argument second third : Text) (settings : List Setting)
+    → let rows = complete (three argument second third) (rows_of_words (three argument second third) settings) in
+    (is_given (codes "argument") rows ≡ true) × (is_given (codes "second") rows ≡ true) × (is_given (codes "third") rows ≡ true)
+all_given argument second third settings =
+    let arguments = three argument second third in
+    let base = rows_of_words arguments settings in
+    let rows = complete arguments base in (
+      given_by (codes "argument") (argument ∷ []) rows (kept arguments (codes "argument") refl refl base),
+      given_by (codes "second") (second ∷ []) rows (kept arguments (codes "second") refl refl base),
+      given_by (codes "third") (third ∷ []) rows (kept arguments (codes "third") refl refl base),
     )
 
 -- options in their ranges

@@ -13,10 +13,10 @@ use Rattle.sb_words.specs.declared.options.Options.{Options}
 use Rattle.sb_words.specs.declared.setting.Setting.{Setting}
 use Rattle.sb_words.specs.Readings.{AreRead, IsReadAs}
 use Rattle.sb_words.specs.Words.{Asked, IsCommand, IsFileName, IsKeyWord}
-use Rattle.sb_words.specs.Words.Asked.{Sum, Run, Slow, Audit, Work, Watch, Part, Save, Resume}
+use Rattle.sb_words.specs.Words.Asked.{Sum, Run, Slow, Audit, Work, Watch, Feeds, Part, Save, Resume}
 use Rattle.sb_words.proofs.Taking.{ArePlain, Arguments, IsPlainWord, built_of, is_plain, number_is_plain, rows_of_words, rules, texts_of, words_taken}
-use Rattle.sb_words.proofs.Taking.Arguments.{one, two}
-use Rattle.sb_words.proofs.Completing.{HasArguments, are_read, argument_given, arguments_read, both_given, complete, in_range}
+use Rattle.sb_words.proofs.Taking.Arguments.{one, two, three}
+use Rattle.sb_words.proofs.Completing.{HasArguments, all_given, are_read, argument_given, arguments_read, both_given, complete, in_range}
 
 abbrev top : App
 top = built program
@@ -83,6 +83,10 @@ watch_named : (argument second : Text) → IsNamed (codes "watch") (built_of (tw
 unfolding clap_on_literals
 watch_named argument second = record { passes = refl; next = refl; found = refl }
 
+feeds_named : (argument second third : Text) → IsNamed (codes "feeds") (built_of (three argument second third) (codes "feeds"))
+unfolding clap_on_literals
+feeds_named argument second third = record { passes = refl; next = refl; found = refl }
+
 part_named : (argument : Text) → IsNamed (codes "part") (built_of (one argument) (codes "part"))
 unfolding clap_on_literals
 part_named argument = record { passes = refl; next = refl; found = refl }
@@ -146,6 +150,20 @@ level_taken (two argument second) name is settings range once =
     let other : is_given (codes "second") (complete arguments (settled (rules arguments) (fold (walked (rules arguments) []) (walk_from nothing_held) words).held).rows) ≡ true =
     ap (λ rows. is_given (codes "second") (complete arguments rows)) taken.rows ∙ both.1 in
     rw (a, b, given, other) refl
+level_taken (three argument second third) name is settings range once =
+    let arguments = three argument second third in
+    let words = argument ∷ second ∷ third ∷ flat_map words_of_option settings in
+    let taken = words_taken arguments name is settings range once in
+    let a = taken.passes in
+    let b = taken.settles in
+    let all = all_given argument second third settings in
+    let given : is_given (codes "argument") (complete arguments (settled (rules arguments) (fold (walked (rules arguments) []) (walk_from nothing_held) words).held).rows) ≡ true =
+    ap (λ rows. is_given (codes "argument") (complete arguments rows)) taken.rows ∙ all.0 in
+    let other : is_given (codes "second") (complete arguments (settled (rules arguments) (fold (walked (rules arguments) []) (walk_from nothing_held) words).held).rows) ≡ true =
+    ap (λ rows. is_given (codes "second") (complete arguments rows)) taken.rows ∙ all.1 in
+    let last : is_given (codes "third") (complete arguments (settled (rules arguments) (fold (walked (rules arguments) []) (walk_from nothing_held) words).held).rows) ≡ true =
+    ap (λ rows. is_given (codes "third") (complete arguments rows)) taken.rows ∙ all.2 in
+    rw (a, b, given, other, last) refl
 
 -- and has these rows
 level_rows : (arguments : Arguments) (name : Text) → ArePlain arguments → (settings : List Setting) → AllByRecursion IsSetting settings → IsDistinct bytes_eq (map name_of settings)
@@ -183,6 +201,9 @@ command_taken (Work records options) (command ∷ argument ∷ words) is =
     options_taken (one argument) (codes "work") (work_named argument) (size_is_plain records argument is.1 (omega (arith, is.2.1))) command is.0 options words is.3
 command_taken (Watch name key options) (command ∷ argument ∷ second ∷ words) is =
     options_taken (two argument second) (codes "watch") (watch_named argument second) (name_is_plain name argument is.1 is.2, key_is_plain key second is.3 is.4) command is.0 options words is.5
+command_taken (Feeds name file_a file_b options) (command ∷ argument ∷ second ∷ third ∷ words) is =
+    options_taken (three argument second third) (codes "feeds") (feeds_named argument second third)
+    (name_is_plain name argument is.1 is.2, name_is_plain file_a second is.3 is.4, name_is_plain file_b third is.5 is.6) command is.0 options words is.7
 command_taken (Part name options) (command ∷ argument ∷ words) is =
     options_taken (one argument) (codes "part") (part_named argument) (name_is_plain name argument is.1 is.2) command is.0 options words is.3
 command_taken (Save name) (command ∷ argument ∷ []) is =
@@ -241,6 +262,11 @@ command_read (Watch name key options) (command ∷ argument ∷ second ∷ words
     let read = options_read (two argument second) (codes "watch") (watch_named argument second) (name_is_plain name argument is.1 is.2, key_is_plain key second is.3 is.4) command is.0 options words is.5 in
     subst (IsReadAs (Watch name key options)) (sym read.entered)
     (refl, read.given.0 ∙ ap (λ t. Some t) is.1, read.given.1 ∙ ap (λ t. Some t) is.3, read.set)
+command_read (Feeds name file_a file_b options) (command ∷ argument ∷ second ∷ third ∷ words) is =
+    let read = options_read (three argument second third) (codes "feeds") (feeds_named argument second third)
+    (name_is_plain name argument is.1 is.2, name_is_plain file_a second is.3 is.4, name_is_plain file_b third is.5 is.6) command is.0 options words is.7 in
+    subst (IsReadAs (Feeds name file_a file_b options)) (sym read.entered)
+    (refl, read.given.0 ∙ ap (λ t. Some t) is.1, read.given.1 ∙ ap (λ t. Some t) is.3, read.given.2 ∙ ap (λ t. Some t) is.5, read.set)
 command_read (Part name options) (command ∷ argument ∷ words) is =
     let read = options_read (one argument) (codes "part") (part_named argument) (name_is_plain name argument is.1 is.2) command is.0 options words is.3 in
     subst (IsReadAs (Part name options)) (sym read.entered) (refl, read.given ∙ ap (λ t. Some t) is.1, read.set)

@@ -14,7 +14,7 @@ use Rattle.clap.specs.Walk.Waiting.{idle, option}
 use Rattle.clap.proofs.OnLiterals.{clap_on_literals}
 use Rattle.sb_words.specs.declared.setting.Setting.{Setting}
 use Rattle.sb_words.specs.declared.setting.Setting.TheVariants.{Workers, Bundle, Pending, Diary, Taps}
-use Rattle.sb_words.specs.Clapped.{bare, of_one, of_two, with_options}
+use Rattle.sb_words.specs.Clapped.{bare, of_one, of_two, of_three, with_options}
 use Rattle.sb_words.specs.Options.{IsSetting, name_of, words_of_option}
 use Rattle.sb_words.proofs.Naming.{decimal_begins}
 use Rattle.sb_words.proofs.Rows.{row, used_new}
@@ -23,11 +23,13 @@ use Rattle.sb_words.proofs.Rows.{row, used_new}
 pub data Arguments : Type 0 where
   one : (argument : Text) → Arguments
   two : (argument second : Text) → Arguments
+  three : (argument second third : Text) → Arguments
 
 -- a command with arguments and options, as clap has built it
 abbrev with_arguments : Arguments → App
 with_arguments (one argument) = of_one []
 with_arguments (two argument second) = of_two []
+with_arguments (three argument second third) = of_three []
 
 abbrev unnamed : Arguments → Shape
 unnamed arguments = built_leaf (inherited bare.top (with_options (with_arguments arguments)).top)
@@ -42,6 +44,7 @@ rules arguments = (unnamed arguments).rules
 abbrev pub place : Arguments → ℕ
 place (one argument) = 2
 place (two argument second) = 3
+place (three argument second third) = 4
 
 abbrev Awaited : Type 0
 Awaited = Option (Text × List Text)
@@ -125,6 +128,8 @@ flag_passes (one a) diary name rows held skip settles new = use_of (settle_passe
 flag_passes (one a) taps name rows held skip settles new = use_of (settle_passes (rules (one a)) false (between (one a) rows held skip).held) (has_row (codes "taps") (rows_at (one a) rows held skip)) settles new
 flag_passes (two a b) diary name rows held skip settles new = use_of (settle_passes (rules (two a b)) false (between (two a b) rows held skip).held) (has_row (codes "diary") (rows_at (two a b) rows held skip)) settles new
 flag_passes (two a b) taps name rows held skip settles new = use_of (settle_passes (rules (two a b)) false (between (two a b) rows held skip).held) (has_row (codes "taps") (rows_at (two a b) rows held skip)) settles new
+flag_passes (three a b d) diary name rows held skip settles new = use_of (settle_passes (rules (three a b d)) false (between (three a b d) rows held skip).held) (has_row (codes "diary") (rows_at (three a b d) rows held skip)) settles new
+flag_passes (three a b d) taps name rows held skip settles new = use_of (settle_passes (rules (three a b d)) false (between (three a b d) rows held skip).held) (has_row (codes "taps") (rows_at (three a b d) rows held skip)) settles new
 
 abbrev flag_rows : Flag → List Row → List Row
 flag_rows flag base = with_values (flag_id flag) AsWritten CommandLine (codes "true" ∷ []) (without (flag_id flag) base)
@@ -136,6 +141,8 @@ flag_next (one a) diary rows held skip = refl
 flag_next (one a) taps rows held skip = refl
 flag_next (two a b) diary rows held skip = refl
 flag_next (two a b) taps rows held skip = refl
+flag_next (three a b d) diary rows held skip = refl
+flag_next (three a b d) taps rows held skip = refl
 
 name_passes : (arguments : Arguments) (kind : Kind) (name : Text) (rows : List Row) (held : Awaited) (skip : ℕ) → Settles arguments rows held skip
     → turn_passes (built_of arguments name) [] (between arguments rows held skip) (kind_word kind) ≡ true
@@ -146,6 +153,9 @@ name_passes (one a) pending name rows held skip settles = and_true (settle_passe
 name_passes (two a b) workers name rows held skip settles = and_true (settle_passes (rules (two a b)) false (between (two a b) rows held skip).held) settles
 name_passes (two a b) bundle name rows held skip settles = and_true (settle_passes (rules (two a b)) false (between (two a b) rows held skip).held) settles
 name_passes (two a b) pending name rows held skip settles = and_true (settle_passes (rules (two a b)) false (between (two a b) rows held skip).held) settles
+name_passes (three a b d) workers name rows held skip settles = and_true (settle_passes (rules (three a b d)) false (between (three a b d) rows held skip).held) settles
+name_passes (three a b d) bundle name rows held skip settles = and_true (settle_passes (rules (three a b d)) false (between (three a b d) rows held skip).held) settles
+name_passes (three a b d) pending name rows held skip settles = and_true (settle_passes (rules (three a b d)) false (between (three a b d) rows held skip).held) settles
 
 name_next : (arguments : Arguments) (kind : Kind) (rows : List Row) (held : Awaited) (skip : ℕ)
     → walked (rules arguments) [] (between arguments rows held skip) (kind_word kind) ≡ behind arguments (kind_id kind) (rows_at arguments rows held skip) skip
@@ -156,6 +166,9 @@ name_next (one a) pending rows held skip = refl
 name_next (two a b) workers rows held skip = refl
 name_next (two a b) bundle rows held skip = refl
 name_next (two a b) pending rows held skip = refl
+name_next (three a b d) workers rows held skip = refl
+name_next (three a b d) bundle rows held skip = refl
+name_next (three a b d) pending rows held skip = refl
 
 value_passes : (arguments : Arguments) (kind : Kind) (name : Text) (rows : List Row) (skip : ℕ) (value : Text) → IsPlainWord value
     → turn_passes (built_of arguments name) [] (behind arguments (kind_id kind) rows skip) value ≡ true
@@ -166,6 +179,9 @@ value_passes (one a) pending name rows skip value is = let x = is.long in let y 
 value_passes (two a b) workers name rows skip value is = let x = is.long in let y = is.short in let z = is.dashes in simp (x, y, z)
 value_passes (two a b) bundle name rows skip value is = let x = is.long in let y = is.short in let z = is.dashes in simp (x, y, z)
 value_passes (two a b) pending name rows skip value is = let x = is.long in let y = is.short in let z = is.dashes in simp (x, y, z)
+value_passes (three a b d) workers name rows skip value is = let x = is.long in let y = is.short in let z = is.dashes in simp (x, y, z)
+value_passes (three a b d) bundle name rows skip value is = let x = is.long in let y = is.short in let z = is.dashes in simp (x, y, z)
+value_passes (three a b d) pending name rows skip value is = let x = is.long in let y = is.short in let z = is.dashes in simp (x, y, z)
 
 value_next : (arguments : Arguments) (kind : Kind) (rows : List Row) (skip : ℕ) (value : Text) → IsPlainWord value
     → walked (rules arguments) [] (behind arguments (kind_id kind) rows skip) value ≡ between arguments rows (Some (kind_id kind, value ∷ [])) skip
@@ -176,6 +192,9 @@ value_next (one a) pending rows skip value is = let x = is.long in let y = is.sh
 value_next (two a b) workers rows skip value is = let x = is.long in let y = is.short in let z = is.dashes in simp (x, y, z)
 value_next (two a b) bundle rows skip value is = let x = is.long in let y = is.short in let z = is.dashes in simp (x, y, z)
 value_next (two a b) pending rows skip value is = let x = is.long in let y = is.short in let z = is.dashes in simp (x, y, z)
+value_next (three a b d) workers rows skip value is = let x = is.long in let y = is.short in let z = is.dashes in simp (x, y, z)
+value_next (three a b d) bundle rows skip value is = let x = is.long in let y = is.short in let z = is.dashes in simp (x, y, z)
+value_next (three a b d) pending rows skip value is = let x = is.long in let y = is.short in let z = is.dashes in simp (x, y, z)
 
 value_settles : (arguments : Arguments) (kind : Kind) (rows : List Row) (skip : ℕ) (value : Text) → has_row (kind_id kind) rows ≡ false
     → Settles arguments rows (Some (kind_id kind, value ∷ [])) skip
@@ -185,6 +204,9 @@ value_settles (one a) pending rows skip value new = new_use (has_row (codes "pen
 value_settles (two a b) workers rows skip value new = new_use (has_row (codes "workers") rows) new
 value_settles (two a b) bundle rows skip value new = new_use (has_row (codes "bundle") rows) new
 value_settles (two a b) pending rows skip value new = new_use (has_row (codes "pending") rows) new
+value_settles (three a b d) workers rows skip value new = new_use (has_row (codes "workers") rows) new
+value_settles (three a b d) bundle rows skip value new = new_use (has_row (codes "bundle") rows) new
+value_settles (three a b d) pending rows skip value new = new_use (has_row (codes "pending") rows) new
 
 value_rows : (arguments : Arguments) (kind : Kind) (rows : List Row) (skip : ℕ) (value : Text)
     → rows_at arguments rows (Some (kind_id kind, value ∷ [])) skip ≡ with_values (kind_id kind) AsWritten CommandLine (value ∷ []) (without (kind_id kind) rows)
@@ -194,6 +216,9 @@ value_rows (one a) pending rows skip value = refl
 value_rows (two a b) workers rows skip value = refl
 value_rows (two a b) bundle rows skip value = refl
 value_rows (two a b) pending rows skip value = refl
+value_rows (three a b d) workers rows skip value = refl
+value_rows (three a b d) bundle rows skip value = refl
+value_rows (three a b d) pending rows skip value = refl
 
 -- the words come to where another walk stands before the rest of them
 pub record Comes (s : Shape) (names : Names) (w : Walk) (words : List Text) (after : Walk) (rest : List Text) : Type 0 where
@@ -343,14 +368,18 @@ settings_taken arguments name (setting ∷ settings) range once rows held skip s
 abbrev pub texts_of : Arguments → List Text
 texts_of (one argument) = argument ∷ []
 texts_of (two argument second) = argument ∷ second ∷ []
+texts_of (three argument second third) = argument ∷ second ∷ third ∷ []
 
 abbrev pub ArePlain : Arguments → Type 0
 ArePlain (one argument) = IsPlainWord argument
 ArePlain (two argument second) = IsPlainWord argument × IsPlainWord second
+ArePlain (three argument second third) = IsPlainWord argument × IsPlainWord second × IsPlainWord third
 
 abbrev pub rows_of_arguments : Arguments → List Row
 rows_of_arguments (one argument) = row (codes "argument") (argument ∷ []) ∷ []
 rows_of_arguments (two argument second) = row (codes "argument") (argument ∷ []) ∷ row (codes "second") (second ∷ []) ∷ []
+rows_of_arguments (three argument second third) =
+    row (codes "argument") (argument ∷ []) ∷ row (codes "second") (second ∷ []) ∷ row (codes "third") (third ∷ []) ∷ []
 
 -- the rows of arguments and options
 abbrev pub rows_of_words : Arguments → List Setting → List Row
@@ -375,11 +404,21 @@ all_new (two a b) settings = two_new settings
     two_new (Pending n ∷ settings) = (refl, two_new settings)
     two_new (Diary ∷ settings) = (refl, two_new settings)
     two_new (Taps ∷ settings) = (refl, two_new settings)
+all_new (three a b d) settings = three_new settings
+  where
+    three_new : (settings : List Setting) → AreNew (rows_of_arguments (three a b d)) settings
+    three_new [] = tt
+    three_new (Workers n ∷ settings) = (refl, three_new settings)
+    three_new (Bundle n ∷ settings) = (refl, three_new settings)
+    three_new (Pending n ∷ settings) = (refl, three_new settings)
+    three_new (Diary ∷ settings) = (refl, three_new settings)
+    three_new (Taps ∷ settings) = (refl, three_new settings)
 
 argument_passes : (arguments : Arguments) (name argument : Text) → IsPlainWord argument → turn_passes (built_of arguments name) [] (walk_from nothing_held) argument ≡ true
 unfolding clap_on_literals
 argument_passes (one a) name argument is = let x = is.long in let y = is.short in let z = is.dashes in simp (x, y, z)
 argument_passes (two a b) name argument is = let x = is.long in let y = is.short in let z = is.dashes in simp (x, y, z)
+argument_passes (three a b d) name argument is = let x = is.long in let y = is.short in let z = is.dashes in simp (x, y, z)
 
 -- behind the first argument
 abbrev behind_first : Text → Walk
@@ -395,6 +434,7 @@ argument_next : (arguments : Arguments) (argument : Text) → IsPlainWord argume
 unfolding clap_on_literals
 argument_next (one a) argument is = let x = is.long in let y = is.short in let z = is.dashes in simp (x, y, z)
 argument_next (two a b) argument is = let x = is.long in let y = is.short in let z = is.dashes in simp (x, y, z)
+argument_next (three a b d) argument is = let x = is.long in let y = is.short in let z = is.dashes in simp (x, y, z)
 
 second_passes : (name argument second : Text) → IsPlainWord second → turn_passes (built_of (two argument second) name) [] (behind_first argument) second ≡ true
 unfolding clap_on_literals
@@ -405,6 +445,38 @@ second_next : (argument second : Text) → IsPlainWord second
     ≡ between (two argument second) (row (codes "argument") (argument ∷ []) ∷ []) (Some (codes "second", second ∷ [])) 0
 unfolding clap_on_literals
 second_next argument second is = let x = is.long in let y = is.short in let z = is.dashes in simp (x, y, z)
+
+-- behind the second of three arguments
+abbrev behind_second : Text → Text → Walk
+behind_second argument second = record {
+  held = record { rows = row (codes "argument") (argument ∷ []) ∷ []; pending = Some (codes "second", second ∷ []); skip = 0 };
+  waiting = idle;
+  position = 3;
+  is_trailing = false;
+  stopped = None;
+}
+
+middle_passes : (name argument second third : Text) → IsPlainWord second
+    → turn_passes (built_of (three argument second third) name) [] (behind_first argument) second ≡ true
+unfolding clap_on_literals
+middle_passes name argument second third is = let x = is.long in let y = is.short in let z = is.dashes in simp (x, y, z)
+
+middle_next : (argument second third : Text) → IsPlainWord second
+    → walked (rules (three argument second third)) [] (behind_first argument) second ≡ behind_second argument second
+unfolding clap_on_literals
+middle_next argument second third is = let x = is.long in let y = is.short in let z = is.dashes in simp (x, y, z)
+
+third_passes : (name argument second third : Text) → IsPlainWord third
+    → turn_passes (built_of (three argument second third) name) [] (behind_second argument second) third ≡ true
+unfolding clap_on_literals
+third_passes name argument second third is = let x = is.long in let y = is.short in let z = is.dashes in simp (x, y, z)
+
+third_next : (argument second third : Text) → IsPlainWord third
+    → walked (rules (three argument second third)) [] (behind_second argument second) third
+    ≡ between (three argument second third) (row (codes "argument") (argument ∷ []) ∷ row (codes "second") (second ∷ []) ∷ [])
+    (Some (codes "third", third ∷ [])) 0
+unfolding clap_on_literals
+third_next argument second third is = let x = is.long in let y = is.short in let z = is.dashes in simp (x, y, z)
 
 -- clap takes the words of arguments and options, and has their rows
 pub words_taken : (arguments : Arguments) (name : Text) → ArePlain arguments → (settings : List Setting) → AllByRecursion IsSetting settings → IsDistinct bytes_eq (map name_of settings)
@@ -421,3 +493,14 @@ words_taken (two argument second) name is settings range once =
     (one_word (built_of arguments name) [] (walk_from nothing_held) argument _ (second ∷ rest) (argument_passes arguments name argument is.0) (argument_next arguments argument is.0))
     (one_word (built_of arguments name) [] (behind_first argument) second _ rest (second_passes name argument second is.1) (second_next argument second is.1)))
     (settings_taken arguments name settings range once (row (codes "argument") (argument ∷ []) ∷ []) (Some (codes "second", second ∷ [])) 0 refl (rows_of_arguments arguments) refl (all_new arguments settings))
+words_taken (three argument second third) name is settings range once =
+    let arguments = three argument second third in
+    let rest = flat_map words_of_option settings in
+    comes_taken arguments name (rows_of_words arguments settings) (walk_from nothing_held) _ (argument ∷ second ∷ third ∷ rest) rest
+    (then (built_of arguments name) [] (walk_from nothing_held) (behind_second argument second) _ (argument ∷ second ∷ third ∷ rest) (third ∷ rest) rest
+    (then (built_of arguments name) [] (walk_from nothing_held) _ _ (argument ∷ second ∷ third ∷ rest) (second ∷ third ∷ rest) (third ∷ rest)
+    (one_word (built_of arguments name) [] (walk_from nothing_held) argument _ (second ∷ third ∷ rest) (argument_passes arguments name argument is.0) (argument_next arguments argument is.0))
+    (one_word (built_of arguments name) [] (behind_first argument) second _ (third ∷ rest) (middle_passes name argument second third is.1) (middle_next argument second third is.1)))
+    (one_word (built_of arguments name) [] (behind_second argument second) third _ rest (third_passes name argument second third is.2) (third_next argument second third is.2)))
+    (settings_taken arguments name settings range once (row (codes "argument") (argument ∷ []) ∷ row (codes "second") (second ∷ []) ∷ [])
+    (Some (codes "third", third ∷ [])) 0 refl (rows_of_arguments arguments) refl (all_new arguments settings))

@@ -21,12 +21,15 @@ flag name = record (new_rule name) { long = Some name; action = Some SetTrue }
 abbrev pub with_argument : Text → App → App
 with_argument name app = with_rule app (record (new_rule name) { required = true })
 
--- the command of this name with one argument, and with two
+-- the command of this name with one argument, with two, and with three
 abbrev pub of_one : Text → App
 of_one name = with_argument (codes "argument") (new_app name)
 
 abbrev pub of_two : Text → App
 of_two name = with_argument (codes "second") (of_one name)
+
+abbrev pub of_three : Text → App
+of_three name = with_argument (codes "third") (of_two name)
 
 -- the command with the options of `sum` and `run`. Commands that take fewer have them for clap, too: what words they
 -- take of them is said of commands
@@ -55,8 +58,8 @@ with_numbers app =
 -- the command with the subcommands over a plan and its whole input
 abbrev pub with_plans : App → App
 with_plans app =
-    with_subcommand (with_subcommand (with_subcommand app (with_options (of_one (codes "run"))).top)
-    (of_one (codes "slow")).top) (with_options (of_two (codes "watch"))).top
+    with_subcommand (with_subcommand (with_subcommand (with_subcommand app (with_options (of_one (codes "run"))).top)
+    (of_one (codes "slow")).top) (with_options (of_two (codes "watch"))).top) (with_options (of_three (codes "feeds"))).top
 
 -- the command with the subcommands over a plan and a part of its input
 abbrev pub with_parts : App → App

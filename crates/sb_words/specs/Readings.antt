@@ -7,7 +7,7 @@ use Rattle.sb_words.specs.declared.options.TheConstants.{DEFAULT_WORKERS, DEFAUL
 use Rattle.sb_words.specs.declared.request.Request.{Request}
 use Rattle.sb_words.specs.Options.{AreInRange}
 use Rattle.sb_words.specs.Words.{Asked, IsAmount, IsSize, asked_of}
-use Rattle.sb_words.specs.Words.Asked.{Sum, Run, Slow, Audit, Work, Watch, Part, Save, Resume}
+use Rattle.sb_words.specs.Words.Asked.{Sum, Run, Slow, Audit, Work, Watch, Feeds, Part, Save, Resume}
 
 -- a number that is spelled, or the default if none is
 abbrev pub IsRead : ℕ → ℕ → Option Text → Type 0
@@ -42,6 +42,10 @@ IsReadAs (Work records options) (Some (name, rows)) =
 IsReadAs (Watch plan key options) (Some (name, rows)) =
     (name ≡ codes "watch") × (first_of (codes "argument") rows ≡ Some plan)
     × (first_of (codes "second") rows ≡ Some key) × AreRead options rows
+IsReadAs (Feeds plan file_a file_b options) (Some (name, rows)) =
+    (name ≡ codes "feeds") × (first_of (codes "argument") rows ≡ Some plan)
+    × (first_of (codes "second") rows ≡ Some file_a) × (first_of (codes "third") rows ≡ Some file_b)
+    × AreRead options rows
 IsReadAs (Part plan options) (Some (name, rows)) =
     (name ≡ codes "part") × (first_of (codes "argument") rows ≡ Some plan) × AreRead options rows
 IsReadAs (Save plan) (Some (name, rows)) = (name ≡ codes "save") × (first_of (codes "argument") rows ≡ Some plan)

@@ -10,8 +10,8 @@ use Rattle.sb_words.specs.Options.{AreOptions, AreInRange}
 
 -- what users may ask for: sums over windows of a size; the rows of a plan from a file, by the engine or by the plain
 -- program; the audit of a diary text; the summary of sums over so many records that are made; the last row of a key
--- over the rows of a plan; the rows of a first part of an input, or its checkpoint; or the rows of the rest, from a
--- checkpoint
+-- over the rows of a plan; the rows of a plan over two files, one of each stream; the rows of a first part of an input,
+-- or its checkpoint; or the rows of the rest, from a checkpoint
 pub data Asked : Type 0 where
   Sum : (size : ℕ) → (options : Options) → Asked
   Run : (name : List ℕ) → (options : Options) → Asked
@@ -19,6 +19,7 @@ pub data Asked : Type 0 where
   Audit : Asked
   Work : (records : ℕ) → (options : Options) → Asked
   Watch : (name key : List ℕ) → (options : Options) → Asked
+  Feeds : (name file_a file_b : List ℕ) → (options : Options) → Asked
   Part : (name : List ℕ) → (options : Options) → Asked
   Save : (name : List ℕ) → Asked
   Resume : (name checkpoint : List ℕ) → (options : Options) → Asked
@@ -30,6 +31,7 @@ asked_of (request.Slow name) = Slow name.now
 asked_of request.Audit = Audit
 asked_of (request.Work records options) = Work records options
 asked_of (request.Watch name key options) = Watch name.now key.now options
+asked_of (request.Feeds name file_a file_b options) = Feeds name.now file_a.now file_b.now options
 asked_of (request.Part name options) = Part name.now options
 asked_of (request.Save name) = Save name.now
 asked_of (request.Resume name checkpoint options) = Resume name.now checkpoint.now options
@@ -65,6 +67,8 @@ IsValid (Slow name) = IsFileName name
 IsValid Audit = Unit {0}
 IsValid (Work records options) = IsAmount records × AreInRange options × AreSizesAlone options
 IsValid (Watch name key options) = IsFileName name × IsKeyWord key × AreInRange options × AreSizesAlone options
+IsValid (Feeds name file_a file_b options) =
+    IsFileName name × IsFileName file_a × IsFileName file_b × AreInRange options
 IsValid (Part name options) = IsFileName name × AreInRange options × AreSizesAlone options
 IsValid (Save name) = IsFileName name
 IsValid (Resume name checkpoint options) =
@@ -85,6 +89,9 @@ IsCommand (Work records options) (command ∷ argument ∷ words) =
 IsCommand (Watch name key options) (command ∷ argument ∷ second ∷ words) =
     (command ≡ codes "watch") × (argument ≡ name) × IsFileName name × (second ≡ key) × IsKeyWord key
     × AreOptions options words × AreSizesAlone options
+IsCommand (Feeds name file_a file_b options) (command ∷ argument ∷ second ∷ third ∷ words) =
+    (command ≡ codes "feeds") × (argument ≡ name) × IsFileName name × (second ≡ file_a) × IsFileName file_a
+    × (third ≡ file_b) × IsFileName file_b × AreOptions options words
 IsCommand (Part name options) (command ∷ argument ∷ words) =
     (command ≡ codes "part") × (argument ≡ name) × IsFileName name × AreOptions options words × AreSizesAlone options
 IsCommand (Save name) (command ∷ argument ∷ []) =

@@ -45,6 +45,13 @@ fn of_two<'a>(alloc: Global, name: &'a str) -> Result<Command<'a>, AllocError>
     of_one(alloc, name)?.arg(Arg::new(alloc, "second").required(true))
 }
 
+/// A command with three arguments.
+fn of_three<'a>(alloc: Global, name: &'a str) -> Result<Command<'a>, AllocError>
+    ensures { IfOk result (λ command. IsAs command (spec.of_three name.entry.now)) }
+{
+    of_two(alloc, name)?.arg(Arg::new(alloc, "third").required(true))
+}
+
 /// The command with the options of `sum` and `run`. Commands that take fewer have them here, too.
 fn with_options<'a>(alloc: Global, command: Command<'a>) -> Result<Command<'a>, AllocError>
     ensures { (app : App) → IsAs command.entry app → IfOk result (λ changed. IsAs changed (spec.with_options app)) }
@@ -82,6 +89,13 @@ fn of_two_with_options<'a>(alloc: Global, name: &'a str) -> Result<Command<'a>, 
     with_options(alloc, of_two(alloc, name)?)
 }
 
+/// A command with three arguments and options.
+fn of_three_with_options<'a>(alloc: Global, name: &'a str) -> Result<Command<'a>, AllocError>
+    ensures { IfOk result (λ command. IsAs command (spec.with_options (spec.of_three name.entry.now))) }
+{
+    with_options(alloc, of_three(alloc, name)?)
+}
+
 /// The command with the subcommands over a number.
 fn with_numbers<'a>(alloc: Global, command: Command<'a>) -> Result<Command<'a>, AllocError>
     ensures { (app : App) → IsAs command.entry app → IfOk result (λ changed. IsAs changed (spec.with_numbers app)) }
@@ -98,7 +112,12 @@ fn with_plans<'a>(alloc: Global, command: Command<'a>) -> Result<Command<'a>, Al
     let run = of_one_with_options(alloc, "run")?;
     let slow = of_one(alloc, "slow")?;
     let watch = of_two_with_options(alloc, "watch")?;
-    command.subcommand(run)?.subcommand(slow)?.subcommand(watch)
+    let feeds = of_three_with_options(alloc, "feeds")?;
+    command
+        .subcommand(run)?
+        .subcommand(slow)?
+        .subcommand(watch)?
+        .subcommand(feeds)
 }
 
 /// The command with the subcommands over a plan and a part of its input.

@@ -8,13 +8,14 @@
 //! | `audit` | what the diary text on the input says, if it is legal |
 //! | `work N`, then options | the summary of sums over N records that are made, 1 to [`sb_generator::MAX_RECORDS`] |
 //! | `watch PLAN KEY`, then options | the last row of a key over the plan's rows |
+//! | `feeds PLAN FILE_A FILE_B`, then options | the rows of the plan over two files, one of each stream |
 //! | `part PLAN`, then options | the rows of a first part of an input |
 //! | `save PLAN` | the checkpoint of a first part of an input |
 //! | `resume PLAN CHECKPOINT`, then options | the rows of the rest of an input |
 //!
-//! PLAN and CHECKPOINT are names of files: such a name has at least one byte and does not begin with `-`. A KEY is a
-//! [`sb_record::Word`] of 1 to 24 bytes that does not begin with `-`. The options stand behind the arguments in any
-//! order, each at most once. An option and its value are two words.
+//! PLAN, FILE_A, FILE_B and CHECKPOINT are names of files: such a name has at least one byte and does not begin with
+//! `-`. A KEY is a [`sb_record::Word`] of 1 to 24 bytes that does not begin with `-`. The options stand behind the
+//! arguments in any order, each at most once. An option and its value are two words.
 //!
 //! | Option | Range | Without it | What it sets |
 //! |---|---|---|---|

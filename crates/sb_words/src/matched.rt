@@ -104,6 +104,17 @@ fn watch_of<'a>(matches: &ArgMatches<'a>) -> Option<Request<'a>>
     Some(Request::Watch(plan, key, options))
 }
 
+/// What the matches of `feeds` ask for.
+fn feeds_of<'a>(matches: &ArgMatches<'a>) -> Option<Request<'a>>
+    ensures { IsReading result (codes "feeds") (rows_of (found_of matches.now)) }
+{
+    let plan = text_of(matches, "argument")?;
+    let file_a = text_of(matches, "second")?;
+    let file_b = text_of(matches, "third")?;
+    let options = options_of(matches)?;
+    Some(Request::Feeds(plan, file_a, file_b, options))
+}
+
 /// What the matches of `part` ask for.
 fn part_of<'a>(matches: &ArgMatches<'a>) -> Option<Request<'a>>
     ensures { IsReading result (codes "part") (rows_of (found_of matches.now)) }
@@ -149,6 +160,9 @@ fn asked_by<'a>(name: &str, matches: &ArgMatches<'a>) -> Option<Request<'a>>
     }
     if name == "watch" {
         return watch_of(matches);
+    }
+    if name == "feeds" {
+        return feeds_of(matches);
     }
     if name == "part" {
         return part_of(matches);

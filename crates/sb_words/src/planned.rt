@@ -33,6 +33,9 @@ pub(crate) fn read_planned<'a>(
     if command == "watch" {
         return read_watch(argument, rest);
     }
+    if command == "feeds" {
+        return read_feeds(argument, rest);
+    }
     if command == "part" {
         return read_part(argument, rest);
     }
@@ -84,6 +87,24 @@ fn read_watch<'a>(plan: &'a str, rest: &'a [String]) -> Option<Request<'a>>
     }
     let options = read_sizes(others)?;
     Some(Request::Watch(plan, key, options))
+}
+
+/// What the plan of `feeds` and the words behind it ask for.
+fn read_feeds<'a>(plan: &'a str, rest: &'a [String]) -> Option<Request<'a>>
+    requires { IsFileName plan.now }
+    ensures exact { (wanted : Asked) → (option_map asked_of result ≡ Some wanted)
+        ↔ IsCommand wanted (codes "feeds" ∷ plan.now ∷ texts rest.now) }
+    ensures valid { IfSome result (λ request. IsValid (asked_of request)) }
+{
+    let (first, behind) = rest.split_first()?;
+    let (second, others) = behind.split_first()?;
+    let file_a = first.as_str();
+    let file_b = second.as_str();
+    if !is_file_name(file_a) || !is_file_name(file_b) {
+        return None;
+    }
+    let options = read_options(others)?;
+    Some(Request::Feeds(plan, file_a, file_b, options))
 }
 
 /// What the plan of `part` and the words behind it ask for.

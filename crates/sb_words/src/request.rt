@@ -30,6 +30,9 @@ pub enum Request<'a> {
     /// The last row of a key over the rows of a plan: the name of the plan's file, and the key. The options have no
     /// diary and no taps.
     Watch(&'a str, &'a str, Options),
+    /// The rows of a plan over two files of lines: the names of the plan's file, of the file of stream a and of that of
+    /// stream b.
+    Feeds(&'a str, &'a str, &'a str, Options),
     /// The rows of a first part of an input, by the plan in the file of this name. The options have no diary and no
     /// taps.
     Part(&'a str, Options),

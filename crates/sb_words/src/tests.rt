@@ -186,6 +186,11 @@ fn commands_over_a_plan_ask_for_what_they_say(rt: HostRuntime) -> Result<(), Fai
         workers: 4,
         ..options(3, 2, false, false)
     };
+    let all = Options {
+        diary: true,
+        taps: true,
+        ..some
+    };
     let longest = "abcdefghijklmnopqrstuvwx";
     let taken = [
         ("watch p.toml k", Request::Watch("p.toml", "k", none)),
@@ -196,6 +201,12 @@ fn commands_over_a_plan_ask_for_what_they_say(rt: HostRuntime) -> Result<(), Fai
         (
             "watch p k --workers 4 --bundle 3 --pending 2",
             Request::Watch("p", "k", some),
+        ),
+        ("feeds p.toml a b", Request::Feeds("p.toml", "a", "b", none)),
+        ("feeds p p p", Request::Feeds("p", "p", "p", none)),
+        (
+            "feeds p a b --bundle 3 --taps --pending 2 --diary --workers 4",
+            Request::Feeds("p", "a", "b", all),
         ),
         ("part p.toml", Request::Part("p.toml", none)),
         (
@@ -233,6 +244,18 @@ fn other_words_over_a_plan_ask_for_nothing(rt: HostRuntime) -> Result<(), Fail> 
         "watch p k --diary",
         "watch p k --taps",
         "watch p --workers 2 k",
+        "feeds",
+        "feeds p",
+        "feeds p a",
+        "feeds -p a b",
+        "feeds p -a b",
+        "feeds p a -b",
+        "feeds p a b c",
+        "feeds p a b --diary --diary",
+        "feeds p a b --workers 65",
+        "feeds p a --workers 2",
+        "feeds p a --workers 2 b",
+        "feeds p --taps a b",
         "part",
         "part -p",
         "part p x",
@@ -263,7 +286,7 @@ fn other_words_over_a_plan_ask_for_nothing(rt: HostRuntime) -> Result<(), Fail> 
 
 #[test]
 fn empty_words_ask_for_nothing(rt: HostRuntime) -> Result<(), Fail> {
-    for text in ["run", "watch p", "resume p"] {
+    for text in ["run", "watch p", "feeds p a", "resume p"] {
         let mut words = words_of(rt.alloc(), text)?;
         words.push(String::new(rt.alloc()))?;
         assert_eq!(rt;

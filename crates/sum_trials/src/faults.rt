@@ -10,8 +10,8 @@ const FIRST_ROWS: &str = "10,1,7\n20,1,4\n";
 /// The sums of the first text.
 const SUM_FIRST: Trial = Trial { text: FIRST, ..SUM };
 
-/// One fault, with each number of workers.
-const FAULTS: [Trial; 12] = [
+/// A read or a write that fails.
+const READS_AND_WRITES: [Trial; 6] = [
     Trial {
         reads: Calls {
             most: 0,
@@ -73,6 +73,10 @@ const FAULTS: [Trial; 12] = [
         notes: "output failed\n",
         ..SUM_FIRST
     },
+];
+
+/// A note, a load or a tap that fails, and a write before a read.
+const OTHER_FAULTS: [Trial; 6] = [
     Trial {
         text: b"r,a,3,1,5\nw,a,10\nr,a,12,1,4\nr,a,9,1,1\n",
         tells: Calls {
@@ -138,8 +142,16 @@ const FAULTS: [Trial; 12] = [
 ];
 
 #[test]
-fn one_fault_is_told(rt: HostRuntime) -> Result<(), Fail> {
-    for trial in &FAULTS {
+fn a_failed_read_or_write_is_told(rt: HostRuntime) -> Result<(), Fail> {
+    for trial in &READS_AND_WRITES {
+        try_by_workers(&rt, trial)?;
+    }
+    Ok(())
+}
+
+#[test]
+fn one_other_fault_is_told(rt: HostRuntime) -> Result<(), Fail> {
+    for trial in &OTHER_FAULTS {
         try_by_workers(&rt, trial)?;
     }
     Ok(())

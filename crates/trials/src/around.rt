@@ -40,11 +40,12 @@ pub(crate) fn sink_of(alloc: Global, calls: Calls) -> Result<MemSink, AllocError
     Ok(MemSink::new(alloc, limits(alloc, calls.most)?, failing))
 }
 
+/// The folder of a trial, with this plan and this table.
 pub(crate) fn folder_of(
     alloc: Global,
     plan: &[u8],
     table: &[u8],
-    failing: &[u64],
+    trial: &Trial,
 ) -> Result<MemFolder, AllocError> {
     let mut files = BTreeMap::new(alloc);
     files.insert(
@@ -55,7 +56,14 @@ pub(crate) fn folder_of(
         String::from_str(alloc, "ads.csv")?,
         Vec::from_slice(alloc, table)?,
     )?;
-    Ok(MemFolder::new(alloc, files, Vec::from_slice(alloc, failing)?))
+    for (name, bytes) in trial.files {
+        files.insert(
+            String::from_str(alloc, name)?,
+            Vec::from_slice(alloc, bytes)?,
+        )?;
+    }
+    let failing = Vec::from_slice(alloc, trial.unloaded)?;
+    Ok(MemFolder::new(alloc, files, failing))
 }
 
 pub(crate) fn around_of(alloc: Global, trial: &Trial) -> Result<Around, AllocError> {
@@ -63,7 +71,7 @@ pub(crate) fn around_of(alloc: Global, trial: &Trial) -> Result<Around, AllocErr
         input: source_of(alloc, trial.text, trial.reads)?,
         out: sink_of(alloc, trial.writes)?,
         notes: sink_of(alloc, trial.tells)?,
-        folder: folder_of(alloc, trial.plan, trial.table, trial.unloaded)?,
+        folder: folder_of(alloc, trial.plan, trial.table, trial)?,
     })
 }
 

@@ -33,6 +33,8 @@ pub struct Trial {
     pub plan: &'static [u8],
     /// The file `ads.csv` of the folder.
     pub table: &'static [u8],
+    /// The names and the bytes of more files of the folder.
+    pub files: &'static [(&'static str, &'static [u8])],
     /// The numbers of the loads that fail, from 1.
     pub unloaded: &'static [u64],
     /// The input.
@@ -88,6 +90,7 @@ pub const SUM: Trial = Trial {
     words: &["sum", "10"],
     plan: b"",
     table: b"",
+    files: &[],
     unloaded: &[],
     text: b"",
     reads: WELL,

@@ -144,6 +144,6 @@ pub fn try_plan(
     let alloc = rt.alloc();
     let mut taps: Taps = Vec::new(alloc);
     let mut around = around_of(alloc, trial)?;
-    around.folder = folder_of(alloc, plan, table, trial.unloaded)?;
+    around.folder = folder_of(alloc, plan, table, trial)?;
     run_and_check(rt, trial, rows, workers, &mut around, &mut taps)
 }

@@ -4,7 +4,6 @@ use Rattle.std.specs.Io.KnownBytes.{Consumes, IsAtEnd}
 use Rattle.sb_record.specs.declared.intake.Refusal.{Refusal}
 use Rattle.sb_record.specs.declared.intake.Stop.TheVariants.{End}
 use Rattle.sb_record.specs.Inputs.{stop_of}
-use Rattle.sb_record.specs.declared.item.Dropped.{Dropped}
 use Rattle.sb_record.specs.Rows.{text_of}
 use Rattle.sb_outside.specs.Folders.{Files}
 use Rattle.sb_outside.specs.Lines.{lines}
@@ -13,7 +12,7 @@ use Rattle.sb_diary.specs.Texts.{NodeDiary}
 use Rattle.sb_feed.specs.Due.{due_rows}
 use Rattle.sb_feed.specs.Given.{items_of}
 use Rattle.sb_words.specs.declared.options.Options.{Options}
-use Rattle.sb_cli.specs.Answers.{IsAnswer, IsAnswerOf, ending_of}
+use Rattle.sb_cli.specs.Answers.{IsAnswer, IsAnswerOf, ending_with}
 use Rattle.sb_cli.specs.Pipelines.{all_rows}
 use Rattle.sb_words.specs.Words.Asked.{Sum}
 use Rattle.sb_cli.specs.declared.status.Status.{Status}
@@ -32,13 +31,13 @@ all_given None text bytes given end = absurd given
 all_given (Some rest) text bytes given end = sym (given ∙ ap (λ l. bytes ++ l) end ∙ append-nil bytes)
 
 -- a sink that was empty has the text of the sums where the run is done
-sums_at_done : (size : ℕ) (options : Options) (text : List ℕ) (folder : Option Files) (left' : Option (List ℕ)) (taken' : List ℕ) (dropped : List Dropped) (diaries : List NodeDiary)
-    → IsAnswer folder (Sum size options) (Some text) left' (Some []) (Some taken') (ending_of Done dropped diaries) → taken' ≡ text_of (sums_of size text)
-sums_at_done size options text folder left' taken' dropped diaries (inl none) = absurd none.no_plan
-sums_at_done size options text folder left' taken' dropped diaries (inr found) =
+sums_at_done : (size : ℕ) (options : Options) (text : List ℕ) (folder : Option Files) (left' : Option (List ℕ)) (taken' : List ℕ) (late : _) (diaries : List NodeDiary)
+    → IsAnswer folder (Sum size options) (Some text) left' (Some []) (Some taken') (ending_with Done late diaries) → taken' ≡ text_of (sums_of size text)
+sums_at_done size options text folder left' taken' late diaries (inl none) = absurd none.no_plan
+sums_at_done size options text folder left' taken' late diaries (inr found) =
     let plan = sum_shape size in
-    let answer : IsAnswerOf plan options (Some text) left' (Some []) (Some taken') (ending_of Done dropped diaries) =
-    subst (λ p. IsAnswerOf p options (Some text) left' (Some []) (Some taken') (ending_of Done dropped diaries)) found.1 found.2 in
+    let answer : IsAnswerOf plan options (Some text) left' (Some []) (Some taken') (ending_with Done late diaries) =
+    subst (λ p. IsAnswerOf p options (Some text) left' (Some []) (Some taken') (ending_with Done late diaries)) found.1 found.2 in
     let given = answer.given in
     let at_end : given.ended ≡ true = ended_at_end given.ended (accepted_by plan (lines given.ended given.bytes)).refused answer.written.0 in
     let all : given.bytes ≡ text = all_given left' text given.bytes given.were_left (given.at_end at_end) in
@@ -47,10 +46,10 @@ sums_at_done size options text folder left' taken' dropped diaries (inr found) =
     ∙ ap (λ ended. text_of (all_rows plan (accepted_by plan (lines ended given.bytes)).items)) at_end
     ∙ ap (λ bytes. text_of (sums_of size bytes)) all
 
-pub sums_written : (size : ℕ) (options : Options) (text : List ℕ) (folder : Option Files) (left left' : Option (List ℕ)) (taken taken' : List ℕ) (status : Status) (dropped : List Dropped) (diaries : List NodeDiary)
-    → IsAnswer folder (Sum size options) left left' (Some taken) (Some taken') (ending_of status dropped diaries)
+pub sums_written : (size : ℕ) (options : Options) (text : List ℕ) (folder : Option Files) (left left' : Option (List ℕ)) (taken taken' : List ℕ) (status : Status) (late : _) (diaries : List NodeDiary)
+    → IsAnswer folder (Sum size options) left left' (Some taken) (Some taken') (ending_with status late diaries)
     → left ≡ Some text → taken ≡ [] → status ≡ Done → taken' ≡ text_of (sums_of size text)
-sums_written size options text folder left left' taken taken' status dropped diaries is told empty done =
-    let at_done = subst (λ s. IsAnswer folder (Sum size options) left left' (Some taken) (Some taken') (ending_of s dropped diaries)) done is in
-    let from_empty = subst (λ t. IsAnswer folder (Sum size options) left left' (Some t) (Some taken') (ending_of Done dropped diaries)) empty at_done in
-    sums_at_done size options text folder left' taken' dropped diaries (subst (λ l. IsAnswer folder (Sum size options) l left' (Some []) (Some taken') (ending_of Done dropped diaries)) told from_empty)
+sums_written size options text folder left left' taken taken' status late diaries is told empty done =
+    let at_done = subst (λ s. IsAnswer folder (Sum size options) left left' (Some taken) (Some taken') (ending_with s late diaries)) done is in
+    let from_empty = subst (λ t. IsAnswer folder (Sum size options) left left' (Some t) (Some taken') (ending_with Done late diaries)) empty at_done in
+    sums_at_done size options text folder left' taken' late diaries (subst (λ l. IsAnswer folder (Sum size options) l left' (Some []) (Some taken') (ending_with Done late diaries)) told from_empty)

@@ -2,9 +2,10 @@ use Rattle.std.proofs.Common.{◌≡◌, inr, refl, sym, ap, ◌∙◌, subst}
 use Rattle.std.proofs.lemmas.Option.{same_Some}
 use Rattle.sb_pipeline.specs.Shapes.{sum_shape}
 use Rattle.sb_words.specs.Words.{asked_of}
-use Rattle.sb_words.specs.Words.Asked.{Sum, Work}
+use Rattle.sb_words.specs.Words.Asked.{Sum, Run, Work, Feeds}
 use Rattle.sb_cli.specs.Answers.{IsAnswer}
 use Rattle.sb_cli.proofs.Answering.{no_memory}
+use Rattle.sb_cli.proofs.Offering.{offered_for}
 use Rattle.sb_cli.proofs.command.respond.Goals as goal
 
 pub returns-in-Ok-Some-Sum-clause-answer : goal.returns-in-Ok-Some-Sum-clause-answer
@@ -43,3 +44,44 @@ returns-in-Ok-Some-Work-clause-cause g c = c.answer_work.ensures.cause (g.S.Sour
 
 pub returns-in-Ok-Some-Work-clause-no_fault_hidden : goal.returns-in-Ok-Some-Work-clause-no_fault_hidden
 returns-in-Ok-Some-Work-clause-no_fault_hidden g c = c.answer_work.ensures.no_fault_hidden (g.S.Source.faults c.args.input.now) (g.F.Folder.failed c.args.folder.now)
+
+pub returns-in-Ok-Some-Feeds-clause-answer : goal.returns-in-Ok-Some-Feeds-clause-answer
+returns-in-Ok-Some-Feeds-clause-answer g c = λ wanted is.
+    let exact = rw c.in-Ok-Some-Feeds.field-0-is at c.in-Ok-Some-Feeds.ensures.exact wanted in
+    let same : Feeds c.in-Ok-Some-Feeds.name.now c.in-Ok-Some-Feeds.file_a.now c.in-Ok-Some-Feeds.file_b.now c.in-Ok-Some-Feeds.options ≡ wanted =
+    sym (ap asked_of c.in-Ok-Some-Feeds.field-0-0-is) ∙ same_Some _ wanted (exact.1 is) in
+    let left = g.S.Source.left c.args.input.now in
+    subst (λ w. IsAnswer (g.F.Folder.files c.args.folder.now) w left left (g.K.Sink.taken c.args.out.now) (g.K.Sink.taken c.answer_feeds.new.out) c.answer_feeds.result) same
+    (c.answer_feeds.ensures.answer left)
+
+pub returns-in-Ok-Some-Feeds-clause-cause : goal.returns-in-Ok-Some-Feeds-clause-cause
+returns-in-Ok-Some-Feeds-clause-cause g c = c.answer_feeds.ensures.cause (g.S.Source.faults c.args.input.now)
+
+pub returns-in-Ok-Some-Feeds-clause-no_fault_hidden : goal.returns-in-Ok-Some-Feeds-clause-no_fault_hidden
+returns-in-Ok-Some-Feeds-clause-no_fault_hidden g c = c.answer_feeds.ensures.no_fault_hidden (g.S.Source.faults c.args.input.now)
+
+pub returns-in-Ok-Some-Sum-clause-offered : goal.returns-in-Ok-Some-Sum-clause-offered
+returns-in-Ok-Some-Sum-clause-offered g c = λ wanted is.
+    let exact = rw c.in-Ok-Some-Sum.field-0-is at c.in-Ok-Some-Sum.ensures.exact wanted in
+    let asked = Sum c.in-Ok-Some-Sum.size c.in-Ok-Some-Sum.options in
+    let same : asked ≡ wanted = sym (ap asked_of c.in-Ok-Some-Sum.field-0-0-is) ∙ same_Some _ wanted (exact.1 is) in
+    offered_for (g.F.Folder.files c.args.folder.now) asked wanted same (g.S.Source.left c.args.input.now) (g.S.Source.left c.answer_sum.new.source)
+    (g.K.Sink.taken c.args.out.now) (g.K.Sink.taken c.answer_sum.new.out) _ _ c.answer_sum.result.status
+    (λ on. inr (sum_shape c.in-Ok-Some-Sum.size, refl, c.answer_sum.ensures.offered on))
+
+pub returns-in-Ok-Some-Run-clause-offered : goal.returns-in-Ok-Some-Run-clause-offered
+returns-in-Ok-Some-Run-clause-offered g c = λ wanted is.
+    let exact = rw c.in-Ok-Some-Run.field-0-is at c.in-Ok-Some-Run.ensures.exact wanted in
+    let asked = Run c.in-Ok-Some-Run.name.now c.in-Ok-Some-Run.options in
+    let same : asked ≡ wanted = sym (ap asked_of c.in-Ok-Some-Run.field-0-0-is) ∙ same_Some _ wanted (exact.1 is) in
+    offered_for (g.F.Folder.files c.args.folder.now) asked wanted same (g.S.Source.left c.args.input.now) (g.S.Source.left c.answer_file.new.source)
+    (g.K.Sink.taken c.args.out.now) (g.K.Sink.taken c.answer_file.new.out) _ _ c.answer_file.result.status c.answer_file.ensures.offered
+
+pub returns-in-Ok-Some-Feeds-clause-offered : goal.returns-in-Ok-Some-Feeds-clause-offered
+returns-in-Ok-Some-Feeds-clause-offered g c = λ wanted is.
+    let exact = rw c.in-Ok-Some-Feeds.field-0-is at c.in-Ok-Some-Feeds.ensures.exact wanted in
+    let asked = Feeds c.in-Ok-Some-Feeds.name.now c.in-Ok-Some-Feeds.file_a.now c.in-Ok-Some-Feeds.file_b.now c.in-Ok-Some-Feeds.options in
+    let same : asked ≡ wanted = sym (ap asked_of c.in-Ok-Some-Feeds.field-0-0-is) ∙ same_Some _ wanted (exact.1 is) in
+    let left = g.S.Source.left c.args.input.now in
+    offered_for (g.F.Folder.files c.args.folder.now) asked wanted same left left
+    (g.K.Sink.taken c.args.out.now) (g.K.Sink.taken c.answer_feeds.new.out) _ _ c.answer_feeds.result.status (c.answer_feeds.ensures.offered left)

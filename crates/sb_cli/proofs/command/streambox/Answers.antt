@@ -1,7 +1,8 @@
 use Rattle.sb_cli.specs.Faults.{faults_of}
-use Rattle.sb_words.specs.Words.Asked.{Audit, Work, Resume}
+use Rattle.sb_words.specs.Words.Asked.{Audit, Work, Feeds, Resume}
 use Rattle.sb_cli.specs.Summaries.{summary_text, work_rows}
 use Rattle.sb_cli.proofs.Answering.{audit_is_complete, is_complete, work_is_complete}
+use Rattle.sb_cli.proofs.FeedsAnswers.{feeds_is_complete}
 use Rattle.sb_cli.proofs.RestAnswers.{rest_is_complete}
 use Rattle.sb_cli.proofs.command.streambox.Goals as goal
 
@@ -37,3 +38,13 @@ returns-clause-resume_complete g c = λ name checkpoint options plan said is tel
     (faults_of (g.S.Source.faults c.respond-ending.new.input) (g.K.Sink.sink_state c.respond-ending.new.out) (g.F.Folder.failed c.respond-ending.new.folder))
     c.respond-ending.result (c.respond-ending.ensures.answer (Resume name checkpoint options) is) c.respond-ending.ensures.cause (c.respond-ending.ensures.blames (Resume name checkpoint options) is)
     (c.respond-ending.ensures.resume_calls_no_tap name checkpoint options is) fine
+
+pub returns-clause-feeds_complete : goal.returns-clause-feeds_complete
+returns-clause-feeds_complete g c = λ name file_a file_b options plan files is tells_plan tells fine.
+    feeds_is_complete (g.F.Folder.files c.args.folder.now) name file_a file_b options plan files tells_plan tells (g.S.Source.left c.args.input.now) (g.S.Source.left c.respond-ending.new.input)
+    (g.K.Sink.taken c.args.out.now) (g.K.Sink.taken c.respond-ending.new.out)
+    (faults_of (g.S.Source.faults c.args.input.now) (g.K.Sink.sink_state c.args.out.now) (g.F.Folder.failed c.args.folder.now))
+    (faults_of (g.S.Source.faults c.respond-ending.new.input) (g.K.Sink.sink_state c.respond-ending.new.out) (g.F.Folder.failed c.respond-ending.new.folder))
+    _ _
+    c.respond-ending.result (c.respond-ending.ensures.answer (Feeds name file_a file_b options) is) c.respond-ending.ensures.cause (c.respond-ending.ensures.blames (Feeds name file_a file_b options) is)
+    c.respond-ending.ensures.blames_tap fine

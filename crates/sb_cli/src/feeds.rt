@@ -1,0 +1,280 @@
+//! The answer to two record files: each gives the lines of one stream.
+
+ghost use Rattle.std.specs.Prelude.{◌≡◌, ◌≢◌, ◌≤◌, ◌<◌, ◌^◌, ◌∷◌, ◌++◌, [], false, IsTrue, List, ℕ, length, map, Option, Err, IfErr, IfOk, OnOk};
+ghost use Rattle.std.specs.Io.KnownBytes.{Keeps};
+ghost use Rattle.sb_outside.specs.Folders.{Load};
+ghost use Rattle.sb_outside.specs.Sinks.{SinkCause};
+ghost use Rattle.sb_run.specs.Files.{by_stream};
+ghost use Rattle.sb_run.specs.RunEnds as ends;
+ghost use Rattle.sb_run.specs.TwoEnds.{TwoEnds, as_run};
+ghost use Rattle.sb_words.specs.Options.{AreInRange};
+ghost use Rattle.sb_words.specs.Words.Asked.{Feeds};
+ghost use Rattle.sb_cli.specs.Answers.{IsAnswer, IsAnswerToTwo, IsRead, IsUnread, Wrote, WrotePrefix};
+ghost use Rattle.sb_cli.specs.Faults.{BlamesFile, HasCause, HidesNoFault, faults_of};
+ghost use Rattle.sb_cli.specs.FileSteps.{HasNoBytes, HaveNoBytes, status_after_two};
+ghost use Rattle.sb_cli.specs.Offered.{BlamesTap, HasOfferedOfFiles, IsNoTap, IsOffered};
+ghost use Rattle.sb_cli.specs.RecordFiles.{HasBytes, HaveBytes, IsLoadOfFile, record_load};
+ghost use Rattle.sb_cli.specs.RunSteps.{CanTellAt, diaries_told};
+
+use crate::answer::load_plan;
+use crate::diaries::Diaries;
+use crate::ending::Ending;
+use crate::engine::sizes_of;
+use crate::late::LateRecords;
+use crate::status::Status;
+use sb_emit::{Lent, Tap};
+use sb_outside::{Folder, FolderFault, Sink, SinkFault};
+use sb_pipeline::Plan;
+use sb_plan::PlanStop;
+use sb_record::{Dropped, Sequence};
+use sb_run::{MAX_FILE_LENGTH, Sizes, TwoEnd, execute_two};
+use sb_words::Options;
+use sb_work::OpenGate;
+use std::alloc::Global;
+use std::sync::Wait;
+use std::thread::Threads;
+use std::time::Clock;
+
+/// The bytes of the file of stream a, and of that of stream b.
+type Files = (Vec<u8>, Vec<u8>);
+
+/// Answers with the rows of the plan in a file over the lines of two more files, one of each stream. The plan is loaded
+/// first, then file a, and then, if that is not too long, file b.
+pub(crate) fn answer_feeds<W: Threads + Wait + Clock + Sync, K: Sink, F: Folder>(
+    rt: &W,
+    alloc: Global,
+    name: &str,
+    file_a: &str,
+    file_b: &str,
+    options: Options,
+    out: &mut K,
+    folder: &mut F,
+    taps: &mut Vec<Box<dyn Tap>>,
+) -> Ending
+    requires range { AreInRange options }
+    requires few { length taps.old.items < 2 ^ 32 }
+    ensures answer { (left : Option (List ℕ)) → IsAnswer (F.files folder.old)
+        (Feeds name.now file_a.now file_b.now options) left left (K.taken out.old) (K.taken out.new) result }
+    ensures offered { (left : Option (List ℕ)) → IsTrue options.taps → IsOffered (F.files folder.old)
+        (Feeds name.now file_a.now file_b.now options) left left (K.taken out.old) (K.taken out.new)
+        (map (λ t. tap_state t) taps.old.items) (map (λ t. tap_state t) taps.new.items) result.status }
+    ensures unoffered { options.taps ≡ false → (taps.new ≡ taps.old) × IsNoTap result.status }
+    ensures unread { IsUnread result.status → (out.new ≡ out.old) × (taps.new ≡ taps.old) }
+    ensures same { F.files folder.new ≡ F.files folder.old }
+    ensures cause { (reads : ℕ) → HasCause
+        (faults_of reads (K.sink_state out.old) (F.failed folder.old))
+        (faults_of reads (K.sink_state out.new) (F.failed folder.new)) result.status }
+    ensures blames { result.status ≡ Status.Folder → BlamesFile (F.files folder.old)
+        (Feeds name.now file_a.now file_b.now options) (F.failed folder.old) (F.failed folder.new) }
+    ensures blames_tap { (place : ℕ) → result.status ≡ Status.Tap place → BlamesTap place
+        (map (λ t. tap_state t) taps.old.items) (map (λ t. tap_state t) taps.new.items) }
+    ensures no_fault_hidden { (reads : ℕ) → HidesNoFault
+        (faults_of reads (K.sink_state out.old) (F.failed folder.old))
+        (faults_of reads (K.sink_state out.new) (F.failed folder.new)) result.status }
+{
+    match load_plan(alloc, name, folder) {
+        Ok(plan) => match load_both(alloc, file_a, file_b, folder) {
+            Ok(files) => answer_files(rt, alloc, plan, options, files, out, taps),
+            Err(status) => Ending::of(alloc, status),
+        },
+        Err(PlanStop::Fault(fault)) => Ending::of(alloc, Status::Plan(fault)),
+        Err(PlanStop::Folder) => Ending::of(alloc, Status::Folder),
+        Err(PlanStop::Memory) => Ending::of(alloc, Status::Memory),
+    }
+}
+
+/// The bytes of two record files, or the status that says why there are none. A file that is too long is told before
+/// the next is loaded.
+fn load_both<F: Folder>(
+    alloc: Global,
+    file_a: &str,
+    file_b: &str,
+    folder: &mut F,
+) -> Result<Files, Status>
+    ensures bytes { IfOk result (λ files. HaveBytes (F.files folder.old) file_a.now file_b.now
+        (by_stream files.0.items files.1.items)) }
+    ensures none { IfErr result (λ status. HaveNoBytes (F.files folder.old) file_a.now file_b.now status) }
+    ensures same { F.files folder.new ≡ F.files folder.old }
+    ensures loaded { result ≢ Err Status.Folder → F.failed folder.new ≡ F.failed folder.old }
+    ensures failed { result ≡ Err Status.Folder → (load : Load)
+        × IsLoadOfFile (F.files folder.old) file_a.now file_b.now load
+        × (F.failed folder.new ≡ F.failed folder.old ++ load ∷ []) }
+{
+    let a = load_file(alloc, file_a, folder)?;
+    let b = load_file(alloc, file_b, folder)?;
+    Ok((a, b))
+}
+
+/// The bytes of a record file, or the status that says why there are none.
+fn load_file<F: Folder>(alloc: Global, name: &str, folder: &mut F) -> Result<Vec<u8>, Status>
+    ensures bytes { IfOk result (λ bytes. HasBytes (F.files folder.old) name.now bytes.items) }
+    ensures none { IfErr result (λ status. HasNoBytes (F.files folder.old) name.now status) }
+    ensures same { F.files folder.new ≡ F.files folder.old }
+    ensures loaded { result ≢ Err Status.Folder → F.failed folder.new ≡ F.failed folder.old }
+    ensures failed { result ≡ Err Status.Folder
+        → F.failed folder.new ≡ F.failed folder.old ++ record_load name.now ∷ [] }
+{
+    let mut bytes = Vec::new(alloc);
+    match folder.load(name, MAX_FILE_LENGTH + 1, &mut bytes) {
+        Ok(()) => {
+            if bytes.len() > MAX_FILE_LENGTH {
+                return Err(Status::FileTooLong);
+            }
+            Ok(bytes)
+        }
+        Err(FolderFault::Failed) => Err(Status::Folder),
+        Err(FolderFault::Memory) => Err(Status::Memory),
+    }
+}
+
+/// Answers with the rows of a plan over two files, and offers each to the taps if the options say so.
+fn answer_files<W: Threads + Wait + Clock + Sync, K: Sink>(
+    rt: &W,
+    alloc: Global,
+    plan: Plan,
+    options: Options,
+    files: Files,
+    out: &mut K,
+    taps: &mut Vec<Box<dyn Tap>>,
+) -> Ending
+    requires range { AreInRange options }
+    requires few { length taps.old.items < 2 ^ 32 }
+    requires short_a { length files.0.items ≤ MAX_FILE_LENGTH }
+    requires short_b { length files.1.items ≤ MAX_FILE_LENGTH }
+    ensures answer { IsAnswerToTwo plan options (by_stream files.0.items files.1.items)
+        (K.taken out.old) (K.taken out.new) result }
+    ensures offered { IsTrue options.taps → HasOfferedOfFiles plan (by_stream files.0.items files.1.items)
+        (K.taken out.old) (K.taken out.new)
+        (map (λ t. tap_state t) taps.old.items) (map (λ t. tap_state t) taps.new.items) result.status }
+    ensures unoffered { options.taps ≡ false → (taps.new ≡ taps.old) × IsNoTap result.status }
+    ensures read { IsRead result.status }
+    ensures cause { (reads : ℕ) (loads : List Load) → HasCause
+        (faults_of reads (K.sink_state out.old) loads)
+        (faults_of reads (K.sink_state out.new) loads) result.status }
+    ensures blames_tap { (place : ℕ) → result.status ≡ Status.Tap place → BlamesTap place
+        (map (λ t. tap_state t) taps.old.items) (map (λ t. tap_state t) taps.new.items) }
+    ensures no_fault_hidden { (reads : ℕ) (loads : List Load) → HidesNoFault
+        (faults_of reads (K.sink_state out.old) loads)
+        (faults_of reads (K.sink_state out.new) loads) result.status }
+{
+    if options.taps {
+        answer_past(rt, alloc, plan, options, files, out, taps)
+    } else {
+        let mut none = Vec::new(alloc);
+        answer_past(rt, alloc, plan, options, files, out, &mut none)
+    }
+}
+
+/// Answers with the rows of a plan over two files, past the taps.
+fn answer_past<W: Threads + Wait + Clock + Sync, K: Sink>(
+    rt: &W,
+    alloc: Global,
+    plan: Plan,
+    options: Options,
+    files: Files,
+    out: &mut K,
+    taps: &mut Vec<Box<dyn Tap>>,
+) -> Ending
+    requires range { AreInRange options }
+    requires few { length taps.old.items < 2 ^ 32 }
+    requires short_a { length files.0.items ≤ MAX_FILE_LENGTH }
+    requires short_b { length files.1.items ≤ MAX_FILE_LENGTH }
+    ensures answer { IsAnswerToTwo plan options (by_stream files.0.items files.1.items)
+        (K.taken out.old) (K.taken out.new) result }
+    ensures offered { HasOfferedOfFiles plan (by_stream files.0.items files.1.items) (K.taken out.old) (K.taken out.new)
+        (map (λ t. tap_state t) taps.old.items) (map (λ t. tap_state t) taps.new.items) result.status }
+    ensures read { IsRead result.status }
+    ensures cause { (reads : ℕ) (loads : List Load) → HasCause
+        (faults_of reads (K.sink_state out.old) loads)
+        (faults_of reads (K.sink_state out.new) loads) result.status }
+    ensures blames_tap { (place : ℕ) → result.status ≡ Status.Tap place → BlamesTap place
+        (map (λ t. tap_state t) taps.old.items) (map (λ t. tap_state t) taps.new.items) }
+    ensures no_fault_hidden { (reads : ℕ) (loads : List Load) → HidesNoFault
+        (faults_of reads (K.sink_state out.old) loads)
+        (faults_of reads (K.sink_state out.new) loads) result.status }
+{
+    let mut dropped_a = Vec::new(alloc);
+    let mut dropped_b = Vec::new(alloc);
+    let sizes = sizes_of(&options);
+    let end = files_to(
+        rt,
+        alloc,
+        plan,
+        sizes,
+        files,
+        out,
+        taps,
+        &mut dropped_a,
+        &mut dropped_b,
+    );
+    let status = status_behind(&end, finish_after(out, &end));
+    Ending {
+        status,
+        late: LateRecords::OfFiles(Sequence::new(dropped_a), Sequence::new(dropped_b)),
+        diaries: tell(end, status, options.diary),
+    }
+}
+
+/// Runs a plan over two files, and writes its rows to a sink.
+fn files_to<W: Threads + Wait + Clock + Sync, K: Sink>(
+    rt: &W,
+    alloc: Global,
+    plan: Plan,
+    sizes: Sizes,
+    files: Files,
+    out: &mut K,
+    taps: &mut Vec<Box<dyn Tap>>,
+    dropped_a: &mut Vec<Dropped>,
+    dropped_b: &mut Vec<Dropped>,
+) -> TwoEnd
+    requires sizes { ends.AreSizes sizes }
+    requires few { length taps.old.items < 2 ^ 32 }
+    requires short_a { length files.0.items ≤ MAX_FILE_LENGTH }
+    requires short_b { length files.1.items ≤ MAX_FILE_LENGTH }
+    ensures ends { TwoEnds plan sizes (by_stream files.0.items files.1.items)
+        (λ taken rows taken'. Wrote taken taken' rows) (λ taken rows taken'. WrotePrefix taken taken' rows)
+        (K.taken out.old) (K.taken out.new)
+        (map (λ t. tap_state t) taps.old.items) (map (λ t. tap_state t) taps.new.items)
+        (by_stream dropped_a.old.items dropped_b.old.items) (by_stream dropped_a.new.items dropped_b.new.items) result }
+    ensures output { ends.OutputCause (K.sink_state out.old) (K.sink_state out.new) (as_run result) }
+{
+    let (a, b) = files;
+    let mut lent = Lent { sink: &mut *out };
+    execute_two(
+        rt, alloc, plan, sizes, a, b, &mut lent, taps, &OpenGate, dropped_a, dropped_b,
+    )
+}
+
+/// Has the sink pass on all rows, unless writing failed or there was no memory.
+fn finish_after<K: Sink>(out: &mut K, end: &TwoEnd) -> Result<(), SinkFault>
+    ensures bytes { Keeps (K.taken out.old) (K.taken out.new) }
+    ensures cause { SinkCause (K.sink_state out.old) (K.sink_state out.new) result }
+    ensures told { OnOk result (ends.IsWritten (as_run end.now) → (K.sink_state out.new).refuses ≡ false) }
+{
+    match end {
+        TwoEnd::Done(_) | TwoEnd::Refused { .. } | TwoEnd::Tap { .. } => out.finish(),
+        TwoEnd::Output | TwoEnd::Memory => Ok(()),
+    }
+}
+
+/// How a run over two files ends, once its sink was asked to pass on all rows.
+fn status_behind(end: &TwoEnd, passed: Result<(), SinkFault>) -> Status
+    ensures { result ≡ status_after_two end.now passed }
+{
+    match passed {
+        Ok(()) => Status::of_two(end),
+        Err(SinkFault::Failed) => Status::Output,
+        Err(SinkFault::Memory) => Status::Memory,
+    }
+}
+
+/// The diaries that are told of a run over two files that ended so.
+fn tell(end: TwoEnd, status: Status, keeps: bool) -> Diaries
+    requires { CanTellAt keeps (as_run end) }
+    ensures { result ≡ diaries_told keeps (as_run end) status }
+{
+    match (status, end) {
+        (Status::Done, TwoEnd::Done(hand)) if keeps => Diaries::of(hand),
+        _ => Diaries::none(),
+    }
+}
