@@ -17,11 +17,11 @@ use Rattle.sb_cascade.specs.declared.telling.Change.{Change}
 use Rattle.sb_cascade.specs.declared.telling.Change.TheVariants as change
 use Rattle.sb_cascade.specs.Calls.{LeftBy, hands, plan_of, setting_of}
 use Rattle.sb_cascade.specs.Told.{Is}
-use Rattle.sb_cascade.specs.Views.{fed_on}
+use Rattle.sb_cascade.specs.Views.{stream_feed}
 
 -- a lane that was sealed with the marks that the feeder brought of a stream
-abbrev pub sealed_by : Stream → CascadePass → CoreLane
-sealed_by stream p = record empty_lane { marks = (fed_on stream (hands p).feed).marks }
+abbrev pub sealed_lane : Stream → CascadePass → CoreLane
+sealed_lane stream p = record empty_lane { marks = (stream_feed stream (hands p).feed).marks }
 
 -- a bundle of the stream's next epoch, with records, but no more than a bundle has, and all in time
 pub record MayArrive (c : Cascade) (p : CascadePass) (stream : Stream) (bundle : Bundle) : Type 0 where
@@ -29,8 +29,8 @@ pub record MayArrive (c : Cascade) (p : CascadePass) (stream : Stream) (bundle :
   pub goes : source (plan_of c) stream ≡ Some place
   pub some : 1 ≤ length bundle.records
   pub most : length bundle.records ≤ (setting_of c).bundle
-  pub epoch : bundle.epoch ≡ next_epoch (sealed_by stream p)
-  pub floor : bundle.floor ≡ next_floor (sealed_by stream p)
+  pub epoch : bundle.epoch ≡ next_epoch (sealed_lane stream p)
+  pub floor : bundle.floor ≡ next_floor (sealed_lane stream p)
   pub times : AllByRecursion (λ r. (bundle.floor ≤ r.time) × (r.time ≤ MAX_TIME)) bundle.records
 
 -- a watermark of the stream that does not go back
@@ -38,7 +38,7 @@ pub record MaySeal (c : Cascade) (p : CascadePass) (stream : Stream) (mark : ℕ
   pub place : Down
   pub goes : source (plan_of c) stream ≡ Some place
   pub bound : mark ≤ END_MARK
-  pub rises : next_floor (sealed_by stream p) ≤ mark
+  pub rises : next_floor (sealed_lane stream p) ≤ mark
 
 -- the pass left the node that takes the stream with such a change
 abbrev pub LeftSource : Cascade → Stream → (Change → Type 0) → CascadePass → CascadePass → Type 0

@@ -18,7 +18,7 @@ use Rattle.sb_cascade.specs.declared.telling.Setting.{Setting}
 use Rattle.sb_cascade.specs.Doings.{is_event, replay}
 use Rattle.sb_cascade.specs.SharedNodes.{SharedView}
 use Rattle.sb_cascade.specs.Shown.{AreLater, ShowsPart, beginning_of, diaries_in, moment_of, operator_of, settings_in}
-use Rattle.sb_cascade.specs.Views.{fed_of, feed_of}
+use Rattle.sb_cascade.specs.Views.{records_of_feed, feed_of}
 
 -- what lies under the turn of a new node
 abbrev pub fresh_state : NodeState → SharedView
@@ -42,7 +42,7 @@ pub record IsShut (a : Setting) (v : View SharedView Change Hands) (states : Lis
   pub listed : Listed is_event (λ k. 0) logs v.trace × Listed is_event (λ k. 0) logs v.joined
   pub once : (k number : ℕ) → events is_event k number v ≡ once_in 0 (length (log_of logs k)) number
   pub sound : IsSound a.plan (moment_of a.bundle parts [] rows)
-  pub exact : IsExact a.plan (moment_of a.bundle parts [] rows) (fed_of v.client.feed)
+  pub exact : IsExact a.plan (moment_of a.bundle parts [] rows) (records_of_feed v.client.feed)
   pub tallied : IsTallied a.plan (moment_of a.bundle parts [] rows) (diaries_in states) (feed_of v.client.feed)
   -- if the state word is known not to say that there was no memory, it is known what each node keeps
   pub sane : (n : ℕ) → v.exact ≡ Some n → n < 3

@@ -18,7 +18,7 @@ use Rattle.sb_cascade.specs.declared.telling.Setting.{Setting}
 use Rattle.sb_cascade.specs.Linked.{IsPlaceHere}
 use Rattle.sb_cascade.specs.SharedNodes.{SharedView}
 use Rattle.sb_cascade.specs.Shown.{AreLater, ShowsPart, operator_of}
-use Rattle.sb_cascade.specs.Views.{fed_of, feed_of, held_by, work_on}
+use Rattle.sb_cascade.specs.Views.{records_of_feed, feed_of, held_by, work_on}
 
 -- A pass that knows this enters node k, and finds this state: a sound moment, which tallies with the diaries, shows it,
 -- and in the moment the pass has in hand what it has. To the feeder it shows that no row of the tray is earlier than
@@ -37,7 +37,7 @@ pub record IsFound (a : Setting) (w : Hands) (k : ℕ) (x : SharedView) : Type 0
   pub shown : ShowsPart (operator_of a k) x part
   pub held : moment.held ≡ held_by w ++ rest
   pub feed_is : w.feed.on ≡ true → feed ≡ feed_of w.feed
-  pub exact : w.feed.on ≡ true → IsExact a.plan moment (fed_of w.feed)
+  pub exact : w.feed.on ≡ true → IsExact a.plan moment (records_of_feed w.feed)
   pub rows : w.feed.on ≡ true → k ≡ length a.plan.steps → moment.rows ≡ w.feed.drained ++ x.tray
   pub later : w.feed.on ≡ true → k ≡ length a.plan.steps → AreLater w.feed.drained x.tray
   pub place : IsPlaceHere a w k x
@@ -61,7 +61,7 @@ pub record IsDrained (a : Setting) (f : Feed) : Type 0 where
   pub moment : Moment
   pub diaries : List (List DiaryEvent)
   pub sound : IsSound a.plan moment
-  pub exact : IsExact a.plan moment (fed_of f)
+  pub exact : IsExact a.plan moment (records_of_feed f)
   pub tallied : IsTallied a.plan moment diaries (feed_of f)
   pub rows : moment.rows ≡ f.drained
 
@@ -73,5 +73,5 @@ pub record IsShown (a : Setting) (w : Hands) : Type 0 where
   pub diaries : List (List DiaryEvent)
   pub sound : IsSound a.plan moment
   pub held : moment.held ≡ held_by w ++ rest
-  pub exact : w.feed.on ≡ true → IsExact a.plan moment (fed_of w.feed)
+  pub exact : w.feed.on ≡ true → IsExact a.plan moment (records_of_feed w.feed)
   pub tallied : w.feed.on ≡ true → IsTallied a.plan moment diaries (feed_of w.feed)

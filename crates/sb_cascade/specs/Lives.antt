@@ -16,7 +16,7 @@ use Rattle.sb_cascade.specs.declared.telling.Setting.{Setting}
 use Rattle.sb_cascade.specs.Doings.{is_event, replay}
 use Rattle.sb_cascade.specs.SharedNodes.{SharedView}
 use Rattle.sb_cascade.specs.Shown.{AreLater, beginning_of}
-use Rattle.sb_cascade.specs.Views.{fed_of, feed_of}
+use Rattle.sb_cascade.specs.Views.{records_of_feed, feed_of}
 
 -- it is made with what the hand was made with
 pub record IsShared (plan : Shape) (bundle pending : ℕ) (keeps : Bool) (a : Setting) : Type 0 where
@@ -39,7 +39,7 @@ pub record IsToldBy (a : Setting) (v : View SharedView Change Hands) (nodes : Li
 pub record ShowsAll (a : Setting) (v : View SharedView Change Hands) (h : HandView) : Type 0 where
   pub moment : Moment
   pub shows : Shows h v.client.feed.drained moment
-  pub exact : IsExact a.plan moment (fed_of v.client.feed)
+  pub exact : IsExact a.plan moment (records_of_feed v.client.feed)
   pub tallied : IsTallied a.plan moment (diaries_of h.nodes) (feed_of v.client.feed)
   pub told : IsToldBy a v h.nodes moment
 

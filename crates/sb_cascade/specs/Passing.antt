@@ -20,7 +20,7 @@ use Rattle.sb_cascade.specs.declared.telling.Hands.{Hands}
 use Rattle.sb_cascade.specs.declared.telling.Piece.{Piece}
 use Rattle.sb_cascade.specs.declared.telling.Setting.{Setting}
 use Rattle.sb_cascade.specs.SharedNodes.{SharedView}
-use Rattle.sb_cascade.specs.Views.{all_in_hand, fed_of, feed_of, held_by, idle_hands, no_feed, work_on}
+use Rattle.sb_cascade.specs.Views.{all_in_hand, records_of_feed, feed_of, held_by, idle_hands, no_feed, work_on}
 use Rattle.sb_cascade.specs.Found.{IsFound, IsLaid}
 use Rattle.sb_cascade.specs.LinkedPassing.{place-here, splits-linked}
 use Rattle.sb_cascade.specs.Shown.{AreLater, ShowsMoment, diaries_in, moment_of}
@@ -84,8 +84,8 @@ found a shelf status states logs views id k w x r here at =
       held = refl;
       feed_is = λ on. ap (λ (u : Hands). feed_of u.feed) (is_feeder views r.feeder w id r.first r.others at on);
       exact = λ on. subst (λ (u : Hands). IsExact a.plan (moment_of a.bundle r.parts (held_by w ++ o.0) r.rows)
-          (fed_of u.feed)) (is_feeder views r.feeder w id r.first r.others at on)
-          ((held-in_any_order a.plan m (held_by w ++ o.0) o.1 r.sound).1 (fed_of r.feeder.feed) r.exact);
+          (records_of_feed u.feed)) (is_feeder views r.feeder w id r.first r.others at on)
+          ((held-in_any_order a.plan m (held_by w ++ o.0) o.1 r.sound).1 (records_of_feed r.feeder.feed) r.exact);
       rows = λ on sink. r.tray x (ap (get_elem? states) (sym sink) ∙ here)
           ∙ ap (λ (u : Hands). u.feed.drained ++ x.tray) (is_feeder views r.feeder w id r.first r.others at on);
       later = λ on sink. subst (λ (u : Hands). AreLater u.feed.drained x.tray)
@@ -128,8 +128,8 @@ splits a shelf status states logs views r =
       others = λ j w e. ⊎_elim (λ t. r.others j w t) (λ t. ap (λ (w : Hands). w.feed) (sym t))
           (at_snoc views idle_hands w (suc j) e);
       sound = subst (λ (l : List Held). IsSound a.plan (moment_of a.bundle r.parts l r.rows)) (sym same) r.sound;
-      exact = subst (λ (l : List Held). IsExact a.plan (moment_of a.bundle r.parts l r.rows) (fed_of r.feeder.feed))
-          (sym same) r.exact;
+      exact = subst (λ (l : List Held). IsExact a.plan (moment_of a.bundle r.parts l r.rows)
+          (records_of_feed r.feeder.feed)) (sym same) r.exact;
       tallied = subst (λ (l : List Held). IsTallied a.plan (moment_of a.bundle r.parts l r.rows) (diaries_in states)
           (feed_of r.feeder.feed)) (sym same) r.tallied;
       tray = r.tray;

@@ -25,7 +25,7 @@ use Rattle.sb_cascade.specs.declared.telling.Setting.{Setting}
 use Rattle.sb_cascade.specs.Doings.{Story, replay}
 use Rattle.sb_cascade.specs.Linked.{AreLinked}
 use Rattle.sb_cascade.specs.SharedNodes.{SharedView}
-use Rattle.sb_cascade.specs.Views.{all_in_hand, fed_of, feed_of, no_feed}
+use Rattle.sb_cascade.specs.Views.{all_in_hand, records_of_feed, feed_of, no_feed}
 
 abbrev pub moment_of : ℕ → List Node → List Held → List Record → Moment
 moment_of bundle nodes held rows = record { bundle = bundle; nodes = nodes; held = held; rows = rows }
@@ -80,7 +80,7 @@ pub record ShowsMoment (a : Setting) (shelf : List (Option Piece)) (status : ℕ
   pub feeds : feeder.feed.on ≡ true
   pub others : (j : ℕ) (w : Hands) → get_elem? views (suc j) ≡ some w → w.feed ≡ no_feed
   pub sound : IsSound a.plan (moment_of a.bundle parts (all_in_hand views shelf) rows)
-  pub exact : IsExact a.plan (moment_of a.bundle parts (all_in_hand views shelf) rows) (fed_of feeder.feed)
+  pub exact : IsExact a.plan (moment_of a.bundle parts (all_in_hand views shelf) rows) (records_of_feed feeder.feed)
   pub tallied : IsTallied a.plan (moment_of a.bundle parts (all_in_hand views shelf) rows) (diaries_in states)
       (feed_of feeder.feed)
   pub tray : (x : SharedView) → get_elem? states (length a.plan.steps) ≡ some x

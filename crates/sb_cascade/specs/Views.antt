@@ -101,22 +101,22 @@ abbrev pub all_in_hand : List Hands → List (Option Piece) → List Held
 all_in_hand views shelf = all_held held_by work_on views shelf
 
 -- what was fed of a stream
-abbrev pub fed_on : Stream → Feed → StreamFeed
-fed_on A f = f.a
-fed_on B f = f.b
+abbrev pub stream_feed : Stream → Feed → StreamFeed
+stream_feed A f = f.a
+stream_feed B f = f.b
 
 -- a bundle that was fed, as the tally has it
-abbrev pub as_fed : FedBundle → tally.Fed
-as_fed b = record { epoch = b.epoch; records = b.records }
+abbrev pub fed_bundle : FedBundle → tally.Fed
+fed_bundle b = record { epoch = b.epoch; records = b.records }
 
 -- what was fed, as the tally has it; the rows that are shown have the drained ones too
 abbrev pub feed_of : Feed → tally.Feed
 feed_of f = record {
-  bundles = λ s. map as_fed (fed_on s f).bundles;
-  marks = λ s. (fed_on s f).marks;
+  bundles = λ s. map fed_bundle (stream_feed s f).bundles;
+  marks = λ s. (stream_feed s f).marks;
   drained = 0;
 }
 
 -- the records that were fed of each stream
-abbrev pub fed_of : Feed → Stream → List Record
-fed_of f = tally.fed_of (feed_of f)
+abbrev pub records_of_feed : Feed → Stream → List Record
+records_of_feed f = tally.records_of_feed (feed_of f)

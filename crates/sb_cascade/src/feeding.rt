@@ -7,7 +7,7 @@ ghost use Rattle.sb_cascade.specs.Calls.{hands, passes_out, plan_of, setting_of}
 ghost use Rattle.sb_cascade.specs.Found.{IsDrained};
 ghost use Rattle.sb_cascade.specs.Shown.{AreLater};
 ghost use Rattle.sb_cascade.specs.Told.{Is, IsArrival, IsDrain};
-ghost use Rattle.sb_cascade.specs.Views.{fed_on, with_bundle, with_drained, with_mark};
+ghost use Rattle.sb_cascade.specs.Views.{stream_feed, with_bundle, with_drained, with_mark};
 ghost use Rattle.sb_cascade.specs.declared.telling.Change.TheVariants as change;
 
 use crate::cascade::Cascade;
@@ -41,7 +41,7 @@ impl Cascade {
         ensures fed { OnOk result (hands pass.new ≡ record (hands pass.old) {
           feed = with_bundle stream bundle.records (hands pass.old).feed;
         }) }
-        ensures number { IfOk result (λ n. n ≡ length (fed_on stream (hands pass.old).feed).bundles + 1) }
+        ensures number { IfOk result (λ n. n ≡ length (stream_feed stream (hands pass.old).feed).bundles + 1) }
         ensures left { OnOk result (LeftSource self.now stream (IsArrival stream bundle.records) pass.old pass.new) }
         ensures same { OnErr result (HasSame pass.old pass.new) }
         ensures back { IfErr result (λ e. IsTurnedBack self.now stream bundle pass.old pass.new e) }

@@ -26,28 +26,28 @@ use Rattle.sb_core.specs.declared.moment.CoreLane.{CoreLane}
 use Rattle.sb_bundle.specs.declared.bundle.TheConstants.{MAX_BUNDLE}
 
 -- what was fed, and what the event feeds
-abbrev pub fed_after : Event → (Stream → List Record) → Stream → List Record
-fed_after (Arrive A records) fed A = fed A ++ records
-fed_after (Arrive A records) fed B = fed B
-fed_after (Arrive B records) fed A = fed A
-fed_after (Arrive B records) fed B = fed B ++ records
-fed_after (Seal stream mark) fed s = fed s
-fed_after (Take node lane number) fed s = fed s
-fed_after (Deliver node lane number) fed s = fed s
-fed_after (Finish node lane number) fed s = fed s
-fed_after (Begin node lane) fed s = fed s
-fed_after (Pass node) fed s = fed s
-fed_after (End node) fed s = fed s
+abbrev pub records_fed_after : Event → (Stream → List Record) → Stream → List Record
+records_fed_after (Arrive A records) fed A = fed A ++ records
+records_fed_after (Arrive A records) fed B = fed B
+records_fed_after (Arrive B records) fed A = fed A
+records_fed_after (Arrive B records) fed B = fed B ++ records
+records_fed_after (Seal stream mark) fed s = fed s
+records_fed_after (Take node lane number) fed s = fed s
+records_fed_after (Deliver node lane number) fed s = fed s
+records_fed_after (Finish node lane number) fed s = fed s
+records_fed_after (Begin node lane) fed s = fed s
+records_fed_after (Pass node) fed s = fed s
+records_fed_after (End node) fed s = fed s
 
 -- what a list of events feeds
-abbrev pub fed_by : List Event → (Stream → List Record) → Stream → List Record
-fed_by [] fed = fed
-fed_by (e ∷ es) fed = fed_by es (fed_after e fed)
+abbrev pub records_fed_by : List Event → (Stream → List Record) → Stream → List Record
+records_fed_by [] fed = fed
+records_fed_by (e ∷ es) fed = records_fed_by es (records_fed_after e fed)
 
 -- what was exact before the events is exact after them, for what was fed with what they feed
 abbrev pub KeepsExact : Shape → Moment → Moment → List Event → Type 0
 KeepsExact plan old new events =
-    (fed : Stream → List Record) → IsExact plan old fed → IsExact plan new (fed_by events fed)
+    (fed : Stream → List Record) → IsExact plan old fed → IsExact plan new (records_fed_by events fed)
 
 -- each single event whose condition holds keeps a moment sound, and whole for what was fed with what the event feeds
 abbrev pub EventsKeepSound : Type 0
@@ -60,7 +60,7 @@ abbrev pub RunsAreSound : Type 0
 RunsAreSound =
     (plan : Shape) → IsPlan plan → (bundle : ℕ) → 1 ≤ bundle → bundle ≤ MAX_BUNDLE
     → (events : List Event) (m : Moment) → run plan events (first plan bundle) ≡ Some m
-    → IsSound plan m × IsExact plan m (fed_by events (λ s. []))
+    → IsSound plan m × IsExact plan m (records_fed_by events (λ s. []))
 
 -- the mark up to which the sink has closed
 abbrev pub written_to : Shape → Moment → ℕ
@@ -158,5 +158,5 @@ RunsGiveTheRows =
     (plan : Shape) → IsPlan plan → (bundle : ℕ) → 1 ≤ bundle → bundle ≤ MAX_BUNDLE
     → (events : List Event) (m : Moment) → run plan events (first plan bundle) ≡ Some m
     → ((coming : Stream → List Record) → IsAdmissible plan m coming
-    → m.rows ≡ rows_below (written_to plan m) plan (λ s. fed_by events (λ s. []) s ++ coming s))
-    × (IsDone plan m → m.rows ≡ rows_below END_MARK plan (fed_by events (λ s. [])))
+    → m.rows ≡ rows_below (written_to plan m) plan (λ s. records_fed_by events (λ s. []) s ++ coming s))
+    × (IsDone plan m → m.rows ≡ rows_below END_MARK plan (records_fed_by events (λ s. [])))

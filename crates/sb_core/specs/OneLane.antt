@@ -29,14 +29,14 @@ held_lane plan (End node) (Close k l epoch serial floor mark rows passed) = Some
 held_lane plan event h = None
 
 -- the marks that it adds: a Seal its own
-abbrev pub sealed_by : Event → List ℕ
-sealed_by (Seal stream mark) = mark ∷ []
-sealed_by event = []
+abbrev pub marks_sealed_by : Event → List ℕ
+marks_sealed_by (Seal stream mark) = mark ∷ []
+marks_sealed_by event = []
 
 -- and a Pass that of the Close
-abbrev pub passed_by : Event → Held → List ℕ
-passed_by (Pass node) (Close k l epoch serial floor mark rows passed) = mark ∷ []
-passed_by event h = []
+abbrev pub marks_passed_by : Event → Held → List ℕ
+marks_passed_by (Pass node) (Close k l epoch serial floor mark rows passed) = mark ∷ []
+marks_passed_by event h = []
 
 -- the lane at l is another, with these marks more, and the other lanes are as they were
 pub record ChangesLane (l : ℕ) (more : List ℕ) (old new : Node) : Type 0 where
@@ -52,7 +52,7 @@ OneLaneChanges =
     (plan : Shape) (bundle k : ℕ) (event : Event) (node : Node) (p : Part)
     → place_of plan event ≡ Some k → part_after plan bundle event node ≡ Some p
     → (l : ℕ) × (lane_of plan event ≡ Some (record { node = k; lane = l }))
-    × ChangesLane l (sealed_by event) node p.node
+    × ChangesLane l (marks_sealed_by event) node p.node
 
 -- and so does an event of a Work or a Close
 abbrev pub HeldOneLaneChanges : Type 0
@@ -60,4 +60,4 @@ HeldOneLaneChanges =
     (plan : Shape) (bundle k : ℕ) (event : Event) (h : Held) (node : Node) (p : Part)
     → concerns event h ≡ true → place_of plan event ≡ Some k → held_after plan bundle event h node ≡ Some p
     → (l : ℕ) × (held_lane plan event h ≡ Some (record { node = k; lane = l }))
-    × ChangesLane l (passed_by event h) node p.node
+    × ChangesLane l (marks_passed_by event h) node p.node

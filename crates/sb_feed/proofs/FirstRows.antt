@@ -19,7 +19,7 @@ use Rattle.sb_bundle.proofs.Runs.{new_keeps}
 use Rattle.sb_pipeline.specs.Shapes.{Shape}
 use Rattle.sb_pipeline.specs.Flow.{sent_from, arrivals_at, from_stream}
 use Rattle.sb_pipeline.specs.Results.{rows_below, output_of, output_at}
-use Rattle.sb_feed.specs.Feeds.{Fed, IsFrom, AreRowsSoFar, fed_of, floor_in, marks_in}
+use Rattle.sb_feed.specs.Feeds.{Fed, IsFrom, AreRowsSoFar, records_of_feed, floor_in, marks_in}
 use Rattle.sb_feed.specs.Calls.{calls_of}
 use Rattle.sb_feed.specs.Due.{AreFirstRows, streams_in}
 use Rattle.sb_feed.specs.FedByItems.{Covers, IsFedBy, IsStreamFedBy, cutter_of}
@@ -33,10 +33,10 @@ rows_same w plan x y same = ap (λ l. of_two l (x B)) (same A) ∙ ap (λ l. of_
     of_two : List Record → List Record → List Record
     of_two a b = sorted_records (before w (output_at plan (length plan.steps) (arrivals_at (length plan.steps) (sent_from (output_at plan) 0 plan.steps (from_stream plan.source_a a ++ from_stream plan.source_b b)))))
 
-pub covers_later : (items all : List Item) (f : Fed) → Covers items f → GoesOnTo items all → (rest : Stream → List Record) × ((s : Stream) → fed_of f s ++ rest s ≡ records_of s all) × ((s : Stream) → AllByRecursion (IsFrom (floor_in f s)) (rest s))
+pub covers_later : (items all : List Item) (f : Fed) → Covers items f → GoesOnTo items all → (rest : Stream → List Record) × ((s : Stream) → records_of_feed f s ++ rest s ≡ records_of s all) × ((s : Stream) → AllByRecursion (IsFrom (floor_in f s)) (rest s))
 covers_later items all f c g = (
   λ s. c.rest s ++ records_of s g.later,
-  λ s. sym (append_assoc (fed_of f s) (c.rest s) (records_of s g.later)) ∙ ap (λ l. l ++ records_of s g.later) (c.are s) ∙ sym (flat_map-append (record_in s) items g.later) ∙ ap (records_of s) (sym g.are),
+  λ s. sym (append_assoc (records_of_feed f s) (c.rest s) (records_of s g.later)) ∙ ap (λ l. l ++ records_of s g.later) (c.are s) ∙ sym (flat_map-append (record_in s) items g.later) ∙ ap (records_of s) (sym g.are),
   λ s. All-join (IsFrom (floor_in f s)) (c.rest s) (records_of s g.later) (c.coming s) (from_later (floor_in f s) (last_watermark s items) (records_of s g.later) (c.floors s) (g.timely s)),
 )
 
@@ -44,7 +44,7 @@ covers_later items all f c g = (
 pub rows_are_first : (plan : Shape) (items all : List Item) (f : Fed) (rows : List Record) → Covers items f → GoesOnTo items all → AreRowsSoFar plan f rows → AreFirstRows plan all rows
 rows_are_first plan items all f rows c g so_far =
     let (rest, are, coming) = covers_later items all f c g in
-    let these : rows ≡ rows_below so_far.mark plan (streams_in all) = so_far.are rest coming ∙ rows_same so_far.mark plan (λ s. fed_of f s ++ rest s) (streams_in all) are in
+    let these : rows ≡ rows_below so_far.mark plan (streams_in all) = so_far.are rest coming ∙ rows_same so_far.mark plan (λ s. records_of_feed f s ++ rest s) (streams_in all) are in
     let more = sorted_records (at_least so_far.mark (before END_MARK (output_of plan (streams_in all)))) in
     record { rest = more; are = sorted_before-front so_far.mark END_MARK (output_of plan (streams_in all)) so_far.bound ∙ ap (λ l. l ++ more) (sym these) }
 
@@ -69,7 +69,7 @@ pushed A (Late n t m ∷ items) = pushed A items
 pushed B (Late n t m ∷ items) = pushed B items
 
 stream_covers : (size : ℕ) (s : Stream) (items : List Item) (f : Fed) (c : Cutters) → IsStreamFedBy size s items f (cutter_of c s)
-    → (fed_of f s ++ (cutter_of c s).held ≡ records_of s items) × AllByRecursion (IsFrom (floor_in f s)) (cutter_of c s).held × (floor_in f s ≤ last_watermark s items)
+    → (records_of_feed f s ++ (cutter_of c s).held ≡ records_of s items) × AllByRecursion (IsFrom (floor_in f s)) (cutter_of c s).held × (floor_in f s ≤ last_watermark s items)
 stream_covers size s items f c fed = (
   ap (λ l. records_in_order (parts_of l) ++ (cutter_of c s).held) fed.bundles ∙ ap (λ d. records_in_order (parts_of (bundles_of size (calls_of s items))) ++ d.held) fed.cut ∙ new_keeps size (calls_of s items) ∙ pushed s items,
   subst (λ x. AllByRecursion (IsFrom x) (cutter_of c s).held) fed.floor fed.held,
@@ -90,6 +90,6 @@ fed_covers size items f c fed = record {
   floors = λ s. (of_each s).2;
 }
   where
-    of_each : (s : Stream) → (fed_of f s ++ (cutter_of c s).held ≡ records_of s items) × AllByRecursion (IsFrom (floor_in f s)) (cutter_of c s).held × (floor_in f s ≤ last_watermark s items)
+    of_each : (s : Stream) → (records_of_feed f s ++ (cutter_of c s).held ≡ records_of s items) × AllByRecursion (IsFrom (floor_in f s)) (cutter_of c s).held × (floor_in f s ≤ last_watermark s items)
     of_each A = stream_covers size A items f c fed.of_a
     of_each B = stream_covers size B items f c fed.of_b

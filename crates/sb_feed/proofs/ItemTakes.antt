@@ -20,7 +20,7 @@ use Rattle.sb_feed.specs.declared.give.GiveStop.{GiveStop}
 use Rattle.sb_feed.specs.declared.give.GiveStop.TheVariants as stop
 use Rattle.sb_feed.specs.Calls.{call_in}
 use Rattle.sb_feed.specs.FedByItems.{Covers, IsFedBy, IsTimely, cutter_of, with_cutter}
-use Rattle.sb_feed.specs.Feeds.{Fed, AreRowsSoFar, IsFrom, MayArrive, MaySeal, fed_of, floor_in, with_bundle, with_mark}
+use Rattle.sb_feed.specs.Feeds.{Fed, AreRowsSoFar, IsFrom, MayArrive, MaySeal, records_of_feed, floor_in, with_bundle, with_mark}
 use Rattle.sb_feed.specs.Gives.{GivesOut, StopsOut, Gives}
 use Rattle.sb_feed.specs.Takes.{MayTake, Takes, Fails, TakesOrFails}
 use Rattle.sb_feed.proofs.FirstRows.{fed_covers}
@@ -42,7 +42,7 @@ from_floor plan size items f c s r fed t = subst (λ x. IsFrom x r) (sym (floor_
 with_one : (plan : Shape) (items : List Item) (s : Stream) (r : Record) (f : Fed) → Covers items f → IsTimely (streams_of plan) items (item.Rec s r) → Covers (items ++ item.Rec s r ∷ []) f
 with_one plan items s r f covers t = record {
   rest = λ u. covers.rest u ++ records_of u (item.Rec s r ∷ []);
-  are = λ u. sym (append_assoc (fed_of f u) (covers.rest u) (records_of u (item.Rec s r ∷ []))) ∙ ap (λ l. l ++ records_of u (item.Rec s r ∷ [])) (covers.are u) ∙ sym (flat_map-append (record_in u) items (item.Rec s r ∷ []));
+  are = λ u. sym (append_assoc (records_of_feed f u) (covers.rest u) (records_of u (item.Rec s r ∷ []))) ∙ ap (λ l. l ++ records_of u (item.Rec s r ∷ [])) (covers.are u) ∙ sym (flat_map-append (record_in u) items (item.Rec s r ∷ []));
   coming = λ u. All-join (IsFrom (floor_in f u)) (covers.rest u) (records_of u (item.Rec s r ∷ [])) (covers.coming u) (subst (AllByRecursion (IsFrom (floor_in f u))) (sym (append-nil (record_in u (item.Rec s r)))) (only_from s u t));
   floors = λ u. let a = covers.floors u in let b = mark_rises plan items (item.Rec s r) u t in omega (arith, a, b);
 }

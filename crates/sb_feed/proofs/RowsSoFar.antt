@@ -11,7 +11,7 @@ use Rattle.sb_record.proofs.Elements.{All-join}
 use Rattle.sb_bundle.specs.declared.bundle.Bundle.{Bundle}
 use Rattle.sb_bundle.specs.Calls.{records_in_order, parts_of}
 use Rattle.sb_pipeline.specs.Shapes.{Shape}
-use Rattle.sb_feed.specs.Feeds.{Fed, AreRowsSoFar, IsFrom, MayArrive, fed_of, floor_in, with_bundle, with_mark}
+use Rattle.sb_feed.specs.Feeds.{Fed, AreRowsSoFar, IsFrom, MayArrive, records_of_feed, floor_in, with_bundle, with_mark}
 use Rattle.sb_feed.proofs.FirstRows.{rows_same}
 use Rattle.sb_feed.proofs.LaterItems.{from_later}
 
@@ -23,7 +23,7 @@ pub so_far_bundle : (plan : Shape) (size : ℕ) (s : Stream) (b : Bundle) (f : F
 so_far_bundle plan size s b f rows may h = record {
   mark = h.mark;
   bound = h.bound;
-  are = λ coming is. h.are (λ u. new_of s u ++ coming u) (λ u. All-join (IsFrom (floor_in f u)) (new_of s u) (coming u) (new_from s u may.timely) (same_floor s u (coming u) (is u))) ∙ rows_same h.mark plan (λ u. fed_of f u ++ (new_of s u ++ coming u)) (λ u. fed_of (with_bundle s b f) u ++ coming u) (λ u. sym (append_assoc (fed_of f u) (new_of s u) (coming u)) ∙ ap (λ l. l ++ coming u) (fed_more s u));
+  are = λ coming is. h.are (λ u. new_of s u ++ coming u) (λ u. All-join (IsFrom (floor_in f u)) (new_of s u) (coming u) (new_from s u may.timely) (same_floor s u (coming u) (is u))) ∙ rows_same h.mark plan (λ u. records_of_feed f u ++ (new_of s u ++ coming u)) (λ u. records_of_feed (with_bundle s b f) u ++ coming u) (λ u. sym (append_assoc (records_of_feed f u) (new_of s u) (coming u)) ∙ ap (λ l. l ++ coming u) (fed_more s u));
 }
   where
     new_of : Stream → Stream → List Record
@@ -47,11 +47,11 @@ so_far_bundle plan size s b f rows may h = record {
     one_more : (l : List Bundle) → records_in_order (parts_of l) ++ b.records ≡ records_in_order (parts_of (l ++ b ∷ []))
     one_more l = ap (λ x. records_in_order (parts_of l) ++ x) (sym (append-nil b.records)) ∙ sym (ap records_in_order (map-append (λ (c : Bundle). c.records) l (b ∷ [])) ∙ joined-append (parts_of l) (b.records ∷ []))
 
-    fed_more : (s u : Stream) → fed_of f u ++ new_of s u ≡ fed_of (with_bundle s b f) u
+    fed_more : (s u : Stream) → records_of_feed f u ++ new_of s u ≡ records_of_feed (with_bundle s b f) u
     fed_more A A = one_more f.bundles_a
     fed_more B B = one_more f.bundles_b
-    fed_more A B = append-nil (fed_of f B)
-    fed_more B A = append-nil (fed_of f A)
+    fed_more A B = append-nil (records_of_feed f B)
+    fed_more B A = append-nil (records_of_feed f A)
 
 last_mark : (n t : ℕ) (xs : List ℕ) → last_or n (xs ++ t ∷ []) ≡ t
 last_mark n t [] = refl
@@ -59,7 +59,7 @@ last_mark n t (x ∷ xs) = last_mark x t xs
 
 -- a mark leaves less to come
 pub so_far_mark : (plan : Shape) (s : Stream) (t : ℕ) (f : Fed) (rows : List Record) → floor_in f s ≤ t → AreRowsSoFar plan f rows → AreRowsSoFar plan (with_mark s t f) rows
-so_far_mark plan s t f rows le h = record { mark = h.mark; bound = h.bound; are = λ coming is. h.are coming (λ u. less s u le (coming u) (is u)) ∙ rows_same h.mark plan (λ u. fed_of f u ++ coming u) (λ u. fed_of (with_mark s t f) u ++ coming u) (λ u. ap (λ l. l ++ coming u) (fed_same s u)) }
+so_far_mark plan s t f rows le h = record { mark = h.mark; bound = h.bound; are = λ coming is. h.are coming (λ u. less s u le (coming u) (is u)) ∙ rows_same h.mark plan (λ u. records_of_feed f u ++ coming u) (λ u. records_of_feed (with_mark s t f) u ++ coming u) (λ u. ap (λ l. l ++ coming u) (fed_same s u)) }
   where
     less : (s u : Stream) → floor_in f s ≤ t → (l : List Record) → AllByRecursion (IsFrom (floor_in (with_mark s t f) u)) l → AllByRecursion (IsFrom (floor_in f u)) l
     less A A le l all = from_later (floor_in f A) t l le (subst (λ x. AllByRecursion (IsFrom x) l) (last_mark 0 t f.marks_a) all)
@@ -67,7 +67,7 @@ so_far_mark plan s t f rows le h = record { mark = h.mark; bound = h.bound; are 
     less B A le l all = all
     less B B le l all = from_later (floor_in f B) t l le (subst (λ x. AllByRecursion (IsFrom x) l) (last_mark 0 t f.marks_b) all)
 
-    fed_same : (s u : Stream) → fed_of f u ≡ fed_of (with_mark s t f) u
+    fed_same : (s u : Stream) → records_of_feed f u ≡ records_of_feed (with_mark s t f) u
     fed_same A A = refl
     fed_same A B = refl
     fed_same B A = refl

@@ -16,7 +16,7 @@ use Rattle.sb_bundle.specs.Cutting.{Cutting}
 use Rattle.sb_bundle.specs.Laws.{bundles_of, cutting_after}
 use Rattle.sb_feed.specs.declared.cutters.Cutters.{Cutters}
 use Rattle.sb_feed.specs.Calls.{calls_of}
-use Rattle.sb_feed.specs.Feeds.{Fed, bundles_in, marks_in, floor_in, fed_of, IsFrom}
+use Rattle.sb_feed.specs.Feeds.{Fed, bundles_in, marks_in, floor_in, records_of_feed, IsFrom}
 
 -- before the first record
 abbrev pub new_cutters : ℕ → Cutters
@@ -51,7 +51,7 @@ pub record IsFedBy (size : ℕ) (items : List Item) (f : Fed) (c : Cutters) : Ty
 -- what was fed of the records of these items, and what was not yet
 pub record Covers (items : List Item) (f : Fed) : Type 0 where
   pub rest : Stream → List Record
-  pub are : (s : Stream) → fed_of f s ++ rest s ≡ records_of s items
+  pub are : (s : Stream) → records_of_feed f s ++ rest s ≡ records_of s items
   pub coming : (s : Stream) → AllByRecursion (IsFrom (floor_in f s)) (rest s)
   pub floors : (s : Stream) → floor_in f s ≤ last_watermark s items
 

@@ -39,8 +39,8 @@ with_mark A t f = record f { marks_a = f.marks_a ++ t ∷ [] }
 with_mark B t f = record f { marks_b = f.marks_b ++ t ∷ [] }
 
 -- the records of the stream that were fed
-abbrev pub fed_of : Fed → Stream → List Record
-fed_of f s = records_in_order (parts_of (bundles_in f s))
+abbrev pub records_of_feed : Fed → Stream → List Record
+records_of_feed f s = records_in_order (parts_of (bundles_in f s))
 
 -- the last watermark of the stream, 0 before the first
 abbrev pub floor_in : Fed → Stream → ℕ
@@ -59,7 +59,7 @@ pub record AreRowsSoFar (plan : Shape) (f : Fed) (rows : List Record) : Type 0 w
   pub mark : ℕ
   pub bound : mark ≤ END_MARK
   pub are : (coming : Stream → List Record) → IsComing f coming
-      → rows ≡ rows_below mark plan (λ s. fed_of f s ++ coming s)
+      → rows ≡ rows_below mark plan (λ s. records_of_feed f s ++ coming s)
 
 -- the bundle may arrive: it is of the next epoch of a stream of the plan, and has at least one record, but no more than
 -- a bundle has, all in time

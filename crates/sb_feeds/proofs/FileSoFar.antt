@@ -21,7 +21,7 @@ use Rattle.sb_feed.specs.Reads.{FaultCause, IsGoing, StopsAt, StopsReading, Take
 use Rattle.sb_feeds.specs.declared.fed.FeedStop.{FeedStop}
 use Rattle.sb_feeds.specs.declared.fed.Fed.{Fed}
 use Rattle.sb_feeds.specs.declared.fed.Fed.TheVariants as fed
-use Rattle.sb_feeds.specs.Fed.{ends_with_stop, fed_by_file, fed_in, fed_of, has_stop, refusal_at, stop_from}
+use Rattle.sb_feeds.specs.Fed.{ends_with_stop, values_of_file, values_of_item, values_of_accepted, has_stop, refusal_at, stop_from}
 use Rattle.sb_feeds.proofs.FirstLines.{first_with_more, still_refused}
 use Rattle.sb_feeds.proofs.Stops.{feed_ends, items_have_no_stop}
 
@@ -35,7 +35,7 @@ pub record FileSoFar (new : Progress) (bytes left : List ℕ) (held : Held) (p :
   pub going : IsGoing held.halt (Some left)
   pub accepts : following new [] (lines true bytes) ≡ following new items (rest_of_lines held.halt held.at_hand true left)
   pub progress : p ≡ progress_of new.streams new.late new.keys items
-  pub are : values ≡ flat_map fed_in items
+  pub are : values ≡ flat_map values_of_item items
   pub room : p.lines ≤ MAX_LINES
 
 -- none of the values is a stop
@@ -67,7 +67,7 @@ at_refused new items line rest refusal bad = ap (λ r. accepted_if r items (λ m
 
 -- one item more
 pub item_read : (new : Progress) (bytes left left' : List ℕ) (held held' : Held) (p p' : Progress) (values values' : List Fed) (i : Item)
-    → FileSoFar new bytes left held p values → TakesItem (λ s. Some s) (reading left held) (reading left' held') p p' i → p.lines < MAX_LINES → values' ≡ values ++ fed_in i
+    → FileSoFar new bytes left held p values → TakesItem (λ s. Some s) (reading left held) (reading left' held') p p' i → p.lines < MAX_LINES → values' ≡ values ++ values_of_item i
     → FileSoFar new bytes left' held' p' values'
 item_read new bytes left left' held held' p p' values values' i t takes room sent = record {
   items = t.items ++ i ∷ [];
@@ -78,7 +78,7 @@ item_read new bytes left left' held held' p p' values values' i t takes room sen
       ∙ ap (following new t.items) (takes.first true left' (may_come held'.halt left' takes.going)).1
       ∙ behind_accepted new t.items takes.line (rest_of_lines held'.halt held'.at_hand true left') i (ap (λ q. answer_to q takes.line) (sym t.progress) ∙ takes.tests);
   progress = takes.progress ∙ ap (after i) t.progress ∙ sym (progress-more new.streams new.late new.keys t.items i);
-  are = sent ∙ ap (λ l. l ++ fed_in i) t.are ∙ ap (λ l. flat_map fed_in t.items ++ l) (sym (append-nil (fed_in i))) ∙ sym (flat_map-append fed_in t.items (i ∷ []));
+  are = sent ∙ ap (λ l. l ++ values_of_item i) t.are ∙ ap (λ l. flat_map values_of_item t.items ++ l) (sym (append-nil (values_of_item i))) ∙ sym (flat_map-append values_of_item t.items (i ∷ []));
   room = let one = ap (λ (q : Progress). q.lines) takes.progress ∙ lines-after i p in omega (arith, one, room);
 }
 
@@ -98,18 +98,18 @@ refused_line p None at_hand more later line rest false refusal at_end are bad =
     (begins.first, begins.others, ap (lines true) (sym (append_assoc at_hand more later)) ∙ begins.are, still_refused p line _ refusal bad begins)
 
 -- what a file feeds ends with its one stop
-pub file_ends : (new : Progress) (bytes : List ℕ) → ends_with_stop (fed_by_file new bytes) ≡ true
+pub file_ends : (new : Progress) (bytes : List ℕ) → ends_with_stop (values_of_file new bytes) ≡ true
 file_ends new bytes = feed_ends (accepted new.streams new.late new.keys (lines true bytes))
 
 -- reading stopped, so all was fed with the stop
 pub all_fed : (new : Progress) (bytes left left' : List ℕ) (held held' : Held) (p p' : Progress) (values values' : List Fed) (stop : Stop) (why : FeedStop)
     → FileSoFar new bytes left held p values → StopsReading (λ s. Some s) (reading left held) (reading left' held') p p' stop → FaultCause 0 0 stop
     → why ≡ stop_from (refusal_at stop) → values' ≡ values ++ fed.Stop why ∷ []
-    → values' ≡ fed_by_file new bytes
+    → values' ≡ values_of_file new bytes
 all_fed new bytes left left' held held' p p' values values' stop why t stops cause is sent =
     sent
     ∙ (λ j. t.are j ++ fed.Stop (is j) ∷ [])
-    ∙ ap fed_of (sym (t.accepts ∙ by_why stop stops.why (never_fails stop cause)))
+    ∙ ap values_of_accepted (sym (t.accepts ∙ by_why stop stops.why (never_fails stop cause)))
   where
     by_why : (stop : Stop) → StopsAt p stops.ended (rest_of_lines held.halt held.at_hand stops.ended stops.more) stop → stop ≢ Fault
         → following new t.items (rest_of_lines held.halt held.at_hand true left) ≡ record { items = t.items; refused = refusal_at stop }

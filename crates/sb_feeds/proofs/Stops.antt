@@ -7,10 +7,10 @@ use Rattle.sb_record.specs.declared.item.Item.TheVariants as item
 use Rattle.sb_record.specs.Inputs.{Accepted}
 use Rattle.sb_feeds.specs.declared.fed.Fed.{Fed}
 use Rattle.sb_feeds.specs.declared.fed.Fed.TheVariants as fed
-use Rattle.sb_feeds.specs.Fed.{ends_with_stop, fed_in, fed_of, has_stop, is_stop, stop_from}
+use Rattle.sb_feeds.specs.Fed.{ends_with_stop, values_of_item, values_of_accepted, has_stop, is_stop, stop_from}
 
 -- items are no stops
-pub items_have_no_stop : (items : List Item) → has_stop (flat_map fed_in items) ≡ false
+pub items_have_no_stop : (items : List Item) → has_stop (flat_map values_of_item items) ≡ false
 items_have_no_stop [] = refl
 items_have_no_stop (item.Rec s r ∷ items) = items_have_no_stop items
 items_have_no_stop (item.Mark s t ∷ items) = items_have_no_stop items
@@ -25,10 +25,10 @@ stop_last (fed.Item i ∷ values) next none = stop_last values next none
 stop_last (fed.Stop s ∷ values) next none = cc none
 
 -- what is fed of accepted lines ends with the one stop
-pub feed_ends : (a : Accepted) → ends_with_stop (fed_of a) ≡ true
+pub feed_ends : (a : Accepted) → ends_with_stop (values_of_accepted a) ≡ true
 feed_ends a = behind a.items
   where
-    behind : (items : List Item) → ends_with_stop (flat_map fed_in items ++ fed.Stop (stop_from a.refused) ∷ []) ≡ true
+    behind : (items : List Item) → ends_with_stop (flat_map values_of_item items ++ fed.Stop (stop_from a.refused) ∷ []) ≡ true
     behind [] = refl
     behind (item.Rec s r ∷ items) = behind items
     behind (item.Mark s t ∷ items) = behind items

@@ -35,16 +35,16 @@ abbrev pub places_of : FeedOut → ℕ
 places_of out = producer_capacity out.producer
 
 -- all that was sent, oldest first
-abbrev pub sent_by : FeedOut → List Fed
-sent_by out = sent out.producer
+abbrev pub values_sent : FeedOut → List Fed
+values_sent out = sent out.producer
 
 -- all that was sent of a whole file
-abbrev pub fed_by : FeedDone → List Fed
-fed_by done = sent done.producer
+abbrev pub values_fed : FeedDone → List Fed
+values_fed done = sent done.producer
 
 -- all that was received, oldest first
-abbrev pub received_by : FeedIn → List Fed
-received_by inward = received inward.consumer
+abbrev pub values_received : FeedIn → List Fed
+values_received inward = received inward.consumer
 
 -- the values in the ring that the receiving end knows of
 abbrev pub known_to : FeedIn → List Fed

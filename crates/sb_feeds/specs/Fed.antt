@@ -32,11 +32,11 @@ ends_with_stop (fed.Item i ∷ values) = ends_with_stop values
 ends_with_stop (fed.Stop s ∷ values) = length values == 0
 
 -- what an item feeds: itself, but nothing for a comment
-abbrev pub fed_in : Item → List Fed
-fed_in item.Skip = []
-fed_in (item.Rec s r) = fed.Item (item.Rec s r) ∷ []
-fed_in (item.Mark s t) = fed.Item (item.Mark s t) ∷ []
-fed_in (item.Late n t m) = fed.Item (item.Late n t m) ∷ []
+abbrev pub values_of_item : Item → List Fed
+values_of_item item.Skip = []
+values_of_item (item.Rec s r) = fed.Item (item.Rec s r) ∷ []
+values_of_item (item.Mark s t) = fed.Item (item.Mark s t) ∷ []
+values_of_item (item.Late n t m) = fed.Item (item.Late n t m) ∷ []
 
 -- why a file stops: at its end, where no line is refused
 abbrev pub stop_from : Option Refusal → FeedStop
@@ -50,13 +50,13 @@ refusal_at End = None
 refusal_at Fault = None
 
 -- what is fed of accepted lines: their items in order, and then one stop
-abbrev pub fed_of : Accepted → List Fed
-fed_of a = flat_map fed_in a.items ++ fed.Stop (stop_from a.refused) ∷ []
+abbrev pub values_of_accepted : Accepted → List Fed
+values_of_accepted a = flat_map values_of_item a.items ++ fed.Stop (stop_from a.refused) ∷ []
 
 -- nothing was accepted yet, so that the next line is the first
 abbrev pub IsNew : Progress → Type 0
 IsNew p = p ≡ first_progress p.streams 0 p.late p.keys
 
 -- what the bytes of a file feed, where the intake says which streams, late records and keys are accepted
-abbrev pub fed_by_file : Progress → List ℕ → List Fed
-fed_by_file p bytes = fed_of (accepted p.streams p.late p.keys (lines true bytes))
+abbrev pub values_of_file : Progress → List ℕ → List Fed
+values_of_file p bytes = values_of_accepted (accepted p.streams p.late p.keys (lines true bytes))

@@ -3,8 +3,8 @@
 ghost use Rattle.std.specs.Prelude.{◌≡◌, ◌≢◌, ◌++◌, ◌∷◌, [], false};
 ghost use Rattle.rtrb.specs.Ring.{SameProducer, sent};
 ghost use Rattle.sb_record.specs.declared.intake.Stop.TheVariants as stop_spec;
-ghost use Rattle.sb_feeds.specs.Fed.{IsNew, fed_by_file, fed_in, has_stop, refusal_at, stop_from};
-ghost use Rattle.sb_feeds.specs.Ends.{fed_by, ring_of, ring_out, sent_by};
+ghost use Rattle.sb_feeds.specs.Fed.{IsNew, values_of_file, values_of_item, has_stop, refusal_at, stop_from};
+ghost use Rattle.sb_feeds.specs.Ends.{values_fed, ring_of, ring_out, values_sent};
 
 use crate::ends::{FeedDone, FeedOut, Feeding};
 use crate::fed::{Fed, FeedStop};
@@ -38,7 +38,7 @@ fn send<W: Wait>(rt: &W, producer: &mut Producer<Fed, Global, Feeding>, next: Fe
 fn send_item<W: Wait>(rt: &W, producer: &mut Producer<Fed, Global, Feeding>, item: Item)
     requires { has_stop (sent producer.old) ≡ false }
     ensures ring { SameProducer producer.old producer.new }
-    ensures sent { sent producer.new ≡ sent producer.old ++ fed_in item }
+    ensures sent { sent producer.new ≡ sent producer.old ++ values_of_item item }
 {
     match item {
         Item::Skip => {}
@@ -64,9 +64,9 @@ fn feed_stop(stop: Stop) -> FeedStop
 /// stopped. It waits while the ring is full, and takes no memory.
 pub fn feed<W: Wait>(rt: &W, bytes: Vec<u8>, intake: Intake, out: FeedOut) -> FeedDone
     requires new { IsNew intake }
-    requires nothing_sent { sent_by out ≡ [] }
+    requires nothing_sent { values_sent out ≡ [] }
     ensures ring { ring_of result ≡ ring_out out }
-    ensures fed { fed_by result ≡ fed_by_file intake bytes.items }
+    ensures fed { values_fed result ≡ values_of_file intake bytes.items }
 {
     let FeedOut { mut producer } = out;
     let mut intake = intake;

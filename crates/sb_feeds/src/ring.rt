@@ -3,7 +3,7 @@
 ghost use Rattle.std.specs.Prelude.{◌≡◌, ◌++◌, ◌∷◌, [], true, false, IfOk, IfSome, IfNone};
 ghost use mathlib.Core.List.{IsPrefix};
 ghost use Rattle.sb_feeds.specs.Fed.{has_stop, is_stop};
-ghost use Rattle.sb_feeds.specs.Ends.{fed_by, known_to, places_of, received_by, ring_in, ring_of, ring_out, sent_by};
+ghost use Rattle.sb_feeds.specs.Ends.{values_fed, known_to, places_of, values_received, ring_in, ring_of, ring_out, values_sent};
 
 use crate::ends::{FeedDone, FeedIn, FeedOut, Feeding};
 use crate::fed::Fed;
@@ -22,8 +22,8 @@ pub const RING_PLACES: usize = 256;
 pub fn feed_pair(alloc: Global) -> Result<(FeedOut, FeedIn), NoMemory>
     ensures ring { IfOk result (λ r. ring_in r.1 ≡ ring_out r.0) }
     ensures places { IfOk result (λ r. places_of r.0 ≡ RING_PLACES) }
-    ensures nothing_sent { IfOk result (λ r. sent_by r.0 ≡ []) }
-    ensures nothing_received { IfOk result (λ r. received_by r.1 ≡ []) }
+    ensures nothing_sent { IfOk result (λ r. values_sent r.0 ≡ []) }
+    ensures nothing_received { IfOk result (λ r. values_received r.1 ≡ []) }
 {
     match RingBuffer::with_protocol::<Global, Feeding>(alloc, RING_PLACES) {
         Ok((producer, consumer)) => Ok((FeedOut { producer }, FeedIn { consumer })),
@@ -36,11 +36,11 @@ impl FeedIn {
     #[tactic(auto, using(crate::proofs::Stops::stop_last))]
     pub fn pop(&mut self) -> Option<Fed>
         ensures ring { ring_in self.new ≡ ring_in self.old }
-        ensures some { IfSome result (λ next. received_by self.new ≡ received_by self.old ++ next ∷ []) }
+        ensures some { IfSome result (λ next. values_received self.new ≡ values_received self.old ++ next ∷ []) }
         ensures known { IfSome result (λ next. IsPrefix (known_to self.old) (next ∷ known_to self.new)) }
-        ensures no_stop_before { IfSome result (λ _. has_stop (received_by self.old) ≡ false) }
-        ensures stop { IfSome result (λ next. has_stop (received_by self.new) ≡ is_stop next) }
-        ensures none { IfNone result (received_by self.new ≡ received_by self.old) }
+        ensures no_stop_before { IfSome result (λ _. has_stop (values_received self.old) ≡ false) }
+        ensures stop { IfSome result (λ next. has_stop (values_received self.new) ≡ is_stop next) }
+        ensures none { IfNone result (values_received self.new ≡ values_received self.old) }
         ensures none_known { IfNone result (known_to self.old ≡ []) }
     {
         match self.consumer.pop() {
@@ -53,8 +53,8 @@ impl FeedIn {
     /// of those sent, and all of them if a stop was received.
     pub fn tie(self, done: FeedDone)
         requires { ring_in self ≡ ring_of done }
-        ensures first { IsPrefix (received_by self) (fed_by done) }
-        ensures all { has_stop (received_by self) ≡ true → received_by self ≡ fed_by done }
+        ensures first { IsPrefix (values_received self) (values_fed done) }
+        ensures all { has_stop (values_received self) ≡ true → values_received self ≡ values_fed done }
     {
         let FeedIn { mut consumer } = self;
         let FeedDone { mut producer } = done;

@@ -1,7 +1,7 @@
 //! Feeding a file by a thread of its own, by example.
 
 ghost use Rattle.std.specs.Prelude.{◌≡◌, []};
-ghost use Rattle.sb_feeds.specs.Ends.{ring_in, ring_of, ring_out, sent_by};
+ghost use Rattle.sb_feeds.specs.Ends.{ring_in, ring_of, ring_out, values_sent};
 ghost use Rattle.sb_feeds.specs.Fed.{IsNew};
 
 use crate::{Fed, FeedIn, FeedStop, feed, feed_pair};
@@ -71,7 +71,7 @@ fn values_across<R: Threads + Wait + Sync>(
     let (done, (inward, values)) = thread::join(
         rt,
         move ||
-            requires { IsNew intake × (sent_by out ≡ []) }
+            requires { IsNew intake × (values_sent out ≡ []) }
             ensures { ring_of result ≡ ring_out out }
         { feed(rt, bytes, intake, out) },
         move ||

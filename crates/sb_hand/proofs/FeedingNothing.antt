@@ -4,7 +4,7 @@ use Rattle.sb_record.specs.declared.item.Record.{Record}
 use Rattle.sb_record.specs.declared.item.Stream.{Stream}
 use Rattle.sb_core.specs.declared.event.Event.{Event}
 use Rattle.sb_core.specs.declared.event.Event.TheVariants.{Take, Deliver, Finish, Begin, Pass, End}
-use Rattle.sb_core.specs.Laws.{fed_after}
+use Rattle.sb_core.specs.Laws.{records_fed_after}
 use Rattle.sb_tally.specs.Keeping.{feed_after}
 use Rattle.sb_tally.specs.Tally.{Feed}
 use Rattle.sb_hand.specs.HandLaws.{FeedNothing, BundlesFeedNothing, ClosingsFeedNothing}
@@ -13,13 +13,13 @@ use Rattle.sb_hand.specs.Runs.IsClosingRun.{OfTransform, OfSink}
 
 -- one event that brings nothing
 abbrev Brings : Event → Type 0
-Brings e = ((fed : Stream → List Record) → fed_after e fed ≡ fed) × ((feed : Feed) → feed_after e feed ≡ feed)
+Brings e = ((fed : Stream → List Record) → records_fed_after e fed ≡ fed) × ((feed : Feed) → feed_after e feed ≡ feed)
 
 none : FeedNothing []
 none = record { fed = λ fed. refl; feed = λ feed. refl }
 
 after : (e : Event) (es : List Event) → Brings e → FeedNothing es → FeedNothing (e ∷ es)
-after e es b f = record { fed = λ fed. f.fed (fed_after e fed) ∙ b.0 fed; feed = λ feed. f.feed (feed_after e feed) ∙ b.1 feed }
+after e es b f = record { fed = λ fed. f.fed (records_fed_after e fed) ∙ b.0 fed; feed = λ feed. f.feed (feed_after e feed) ∙ b.1 feed }
 
 take : (k l n : ℕ) → Brings (Take k l n)
 take k l n = (λ fed. λ i s. fed s, λ feed. refl)

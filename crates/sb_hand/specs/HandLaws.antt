@@ -9,7 +9,7 @@ use Rattle.sb_pipeline.specs.Plans.{IsPlan}
 use Rattle.sb_core.specs.declared.event.Event.{Event}
 use Rattle.sb_core.specs.declared.held.Held.{Held}
 use Rattle.sb_core.specs.declared.moment.Moment.{Moment}
-use Rattle.sb_core.specs.Laws.{IsDone, fed_by}
+use Rattle.sb_core.specs.Laws.{IsDone, records_fed_by}
 use Rattle.sb_core.specs.Moments.{lane_at}
 use Rattle.sb_core.specs.Rest.{IsAtRest}
 use Rattle.sb_lane.specs.LaneView.{LaneView, lane_of}
@@ -44,7 +44,7 @@ IdleIsFinished =
 
 -- the events bring no records and no watermarks of a stream
 pub record FeedNothing (events : List Event) : Type 0 where
-  pub fed : (fed : Stream → List Record) → fed_by events fed ≡ fed
+  pub fed : (fed : Stream → List Record) → records_fed_by events fed ≡ fed
   pub feed : (feed : Feed) → feed_by events feed ≡ feed
 
 -- so it is with those of a bundle that is worked off

@@ -18,7 +18,7 @@ use Rattle.sb_pipeline.specs.Plans.{IsPlace, IsPlan, IsValidKind, has_windows, i
 use Rattle.sb_pipeline.specs.Shapes.{feeds, if_any, is_same_place}
 use Rattle.sb_plan.specs.declared.wiring.Part.{Part}
 use Rattle.sb_plan.specs.declared.wiring.Wiring.{Wiring}
-use Rattle.sb_plan.specs.Soundness.{IsSound, IsLane, lanes_in, goes, fed_by}
+use Rattle.sb_plan.specs.Soundness.{IsSound, IsLane, lanes_in, goes, feed_count}
 use Rattle.sb_plan.specs.PlanFiles.{first_unused, shape_of, step_of}
 
 abbrev goes_nowhere : Part → Bool
@@ -135,7 +135,7 @@ module _ (w : Wiring) (some : 1 ≤ length w.parts) (most : length w.parts ≤ M
       by_down None e = e
       by_down (Some d) e = let was = is.downs (length w.parts - 1) p d at e in absurd (omega (arith, was.0, inside d was.1, some))
 
-  fed_by_steps : (d : Down) → feeds (shape_of w) d ≡ fed_by w d + goes d (Some sink)
+  fed_by_steps : (d : Down) → feeds (shape_of w) d ≡ feed_count w d + goes d (Some sink)
   fed_by_steps d =
       let one : count_by goes_nowhere w.parts ≡ 1 = one_nowhere w.parts some used last_nowhere in
       let times : goes d (Some sink) * count_by goes_nowhere w.parts ≡ goes d (Some sink) = ap (λ m. goes d (Some sink) * m) one ∙ omega arith in

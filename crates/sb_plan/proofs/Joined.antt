@@ -23,7 +23,7 @@ use Rattle.sb_plan.proofs.Passed.{of_text, passed, passed_unless}
 use Rattle.sb_plan.specs.Answers.{ChangesTo}
 use Rattle.sb_plan.specs.Failures.{by_text}
 use Rattle.sb_plan.specs.Wiring.{with_input, with_right_input, with_inputs, is_second_join, with_part, with_transform}
-use Rattle.sb_plan.specs.Soundness.{IsSound, IsValidEntry, IsLane, lanes_in, goes, fed_by}
+use Rattle.sb_plan.specs.Soundness.{IsSound, IsValidEntry, IsLane, lanes_in, goes, feed_count}
 use Rattle.sb_plan.proofs.Sent.{Sent, sent_none, sent_more, new_at, kind_of}
 
 -- the element at a place of a list with one more at its end: an old one, the new one, or none
@@ -96,8 +96,8 @@ module _ (entry : Entry) (n m : ℕ) (w v : Wiring) (at_end : n ≡ length w.par
   fresh d e low = omega (arith, low, ap (λ i. lanes_in (slice_get u.parts i)) e, lanes_here)
 
   -- what goes to a place
-  fed_after : (d : Down) → fed_by u d ≡ fed_by w d + new_at n m d
-  fed_after d =
+  counts_after : (d : Down) → feed_count u d ≡ feed_count w d + new_at n m d
+  counts_after d =
       let pushed = sum_by-append (λ p. goes d p.down) v.parts (new ∷ []) in
       let one = sum_by-cons (λ p. goes d p.down) new [] in
       omega (arith, pushed, one, s.fed d)
@@ -151,20 +151,20 @@ module _ (entry : Entry) (n m : ℕ) (w v : Wiring) (at_end : n ≡ length w.par
     none_beyond = λ d past.
         let long : length u.parts ≡ n + 1 = omega (arith, length-append v.parts (new ∷ []), size) in
         let none : new_at n m d ≡ 0 = none_new d (λ e. omega (arith, e, past, long)) in
-        omega (arith, fed_after d, none, is.none_beyond d (omega (arith, past, long, at_end)));
+        omega (arith, counts_after d, none, is.none_beyond d (omega (arith, past, long, at_end)));
   }
     where
-      fed_at : (d : Down) → IsLane u.parts d → fed_by u d ≡ 1
+      fed_at : (d : Down) → IsLane u.parts d → feed_count u d ≡ 1
       fed_at d lane = elim (cases_lt d.node n) [
         | inl low ↦
             let none : new_at n m d ≡ 0 = none_new d (λ e. omega (arith, e, low)) in
-            omega (arith, fed_after d, none, is.fed_once d (omega (arith, lane, lanes_below d.node low)))
+            omega (arith, counts_after d, none, is.fed_once d (omega (arith, lane, lanes_below d.node low)))
         | inr high ↦ elim (cases_lt n d.node) [
           | inl past ↦ absurd (omega (arith, lane, lanes_past d.node past))
           | inr most ↦
               let e : d.node ≡ n = omega arith in
               let one : new_at n m d ≡ 1 = one_new d e (omega (arith, lane, ap (λ i. lanes_in (slice_get u.parts i)) e, lanes_here)) in
-              omega (arith, fed_after d, one, is.none_beyond d (omega (arith, high, at_end)))
+              omega (arith, counts_after d, one, is.none_beyond d (omega (arith, high, at_end)))
         ]
       ]
 

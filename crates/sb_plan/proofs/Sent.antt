@@ -12,7 +12,7 @@ use Rattle.sb_plan.specs.declared.wiring.Wiring.{Wiring}
 use Rattle.sb_plan.specs.declared.wiring.Part.{Part}
 use Rattle.sb_plan.specs.declared.fault.PlanKey.{PlanKey}
 use Rattle.sb_plan.specs.Wiring.{parts_with_down, place_if_unused, with_input}
-use Rattle.sb_plan.specs.Soundness.{goes, fed_by}
+use Rattle.sb_plan.specs.Soundness.{goes, feed_count}
 use Rattle.sb_plan.proofs.Passed.{passed}
 
 -- the part, sent to the place
@@ -113,7 +113,7 @@ pub record Sent (n m : ℕ) (w v : Wiring) : Type 0 where
   pub downs : (i : ℕ) (q : Part) (d : Down) → slice_get v.parts i ≡ Some q → q.down ≡ Some d → ((p : Part) × (slice_get w.parts i ≡ Some p) × (p.down ≡ Some d)) ⊎ ((d.node ≡ n) × (d.lane < m))
   pub source_a : (d : Down) → v.source_a ≡ Some d → (w.source_a ≡ Some d) ⊎ ((d.node ≡ n) × (d.lane < m))
   pub source_b : (d : Down) → v.source_b ≡ Some d → (w.source_b ≡ Some d) ⊎ ((d.node ≡ n) × (d.lane < m))
-  pub fed : (d : Down) → fed_by v d ≡ fed_by w d + new_at n m d
+  pub fed : (d : Down) → feed_count v d ≡ feed_count w d + new_at n m d
 
 -- none have
 pub sent_none : (n : ℕ) (w : Wiring) → Sent n 0 w w
@@ -127,7 +127,7 @@ sent_none n w = record {
   fed = λ d. none_new d;
 }
   where
-    none_new : (d : Down) → fed_by w d ≡ fed_by w d + new_at n 0 d
+    none_new : (d : Down) → feed_count w d ≡ feed_count w d + new_at n 0 d
     none_new d = let zero_new : new_at n 0 d ≡ 0 = grind (arith, nat_tests) in omega (arith, zero_new)
 
 widened : {A : Type 0} (n m : ℕ) (d : Down) → A ⊎ ((d.node ≡ n) × (d.lane < m)) → A ⊎ ((d.node ≡ n) × (d.lane < m + 1))

@@ -40,8 +40,8 @@ goes place None = 0
 goes place (Some down) = cond (is_same_place place down) 1 0
 
 -- how many transforms and streams go to the place
-abbrev pub fed_by : Wiring → Down → ℕ
-fed_by wiring place =
+abbrev pub feed_count : Wiring → Down → ℕ
+feed_count wiring place =
     sum_by (λ part. goes place part.down) wiring.parts + (goes place wiring.source_a + goes place wiring.source_b)
 
 -- each transform may be in a plan, and what goes anywhere goes to a lane of a later transform; each lane is fed once
@@ -52,5 +52,5 @@ pub record IsSound (wiring : Wiring) : Type 0 where
       → slice_get wiring.parts k ≡ Some part → part.down ≡ Some down → (k < down.node) × IsLane wiring.parts down
   pub source_a : (down : Down) → wiring.source_a ≡ Some down → IsLane wiring.parts down
   pub source_b : (down : Down) → wiring.source_b ≡ Some down → IsLane wiring.parts down
-  pub fed_once : (place : Down) → IsLane wiring.parts place → fed_by wiring place ≡ 1
-  pub none_beyond : (place : Down) → length wiring.parts ≤ place.node → fed_by wiring place ≡ 0
+  pub fed_once : (place : Down) → IsLane wiring.parts place → feed_count wiring place ≡ 1
+  pub none_beyond : (place : Down) → length wiring.parts ≤ place.node → feed_count wiring place ≡ 0

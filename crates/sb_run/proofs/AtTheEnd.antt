@@ -27,7 +27,7 @@ use Rattle.sb_tally.proofs.Cutters.{cutter-records}
 use Rattle.sb_feed.specs.declared.cutters.Cutters.{Cutters}
 use Rattle.sb_feed.specs.Calls.{call_in, calls_of}
 use Rattle.sb_feed.specs.FedByItems.{IsFedBy, IsStreamFedBy, IsTimely, cutter_of, end_items}
-use Rattle.sb_feed.specs.Feeds.{Fed, bundles_in, fed_of, floor_in, marks_in}
+use Rattle.sb_feed.specs.Feeds.{Fed, bundles_in, records_of_feed, floor_in, marks_in}
 use Rattle.sb_feed.specs.Given.{Given, items_of}
 use Rattle.sb_feed.proofs.FirstRows.{pushed}
 use Rattle.sb_feed.proofs.ItemSteps.{fed_stream}
@@ -148,11 +148,11 @@ module _ (plan : Shape) (size : ℕ) (items : List Item) (f : Fed) (c : Cutters)
           ∙ ap (λ l. bundles_of size (l ++ Mark END_MARK ∷ [])) (sym (quiet s is))
 
   -- all records were fed
-  pub pushed_at_end : (s : Stream) → fed_of f s ≡ calls.records_of (calls_of s items)
+  pub pushed_at_end : (s : Stream) → records_of_feed f s ≡ calls.records_of (calls_of s items)
   pushed_at_end s =
       ap (λ l. records_in_order (parts_of l)) (bundles_at_end s)
       ∙ joined_is (bundles_of size (calls_of s items ++ Mark END_MARK ∷ []))
       ∙ cutter-records (calls_of s items) (first_cutting size) END_MARK
 
-  pub fed_at_end : (s : Stream) → fed_of f s ≡ records_of s items
+  pub fed_at_end : (s : Stream) → records_of_feed f s ≡ records_of s items
   fed_at_end s = pushed_at_end s ∙ pushed s items

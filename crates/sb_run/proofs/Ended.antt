@@ -20,7 +20,7 @@ use Rattle.sb_core.specs.Laws.{IsDone}
 use Rattle.sb_core.specs.Rest.{AreAtTheEnd}
 use Rattle.sb_core.proofs.ends.NoneLeft.{settles-all}
 use Rattle.sb_core.proofs.ends.SoundRows.{rows-at_the_end}
-use Rattle.sb_tally.specs.Whole.{Tallies, as_fed}
+use Rattle.sb_tally.specs.Whole.{Tallies, fed_bundle}
 use Rattle.sb_tally.proofs.Ends.{end-is_tallied}
 use Rattle.sb_tally.proofs.Settling.{end-is_settled}
 use Rattle.sb_tally.proofs.Telling.{diaries-tell}
@@ -34,7 +34,7 @@ use Rattle.sb_feed.specs.declared.give.GiveStop.TheVariants as stop
 use Rattle.sb_feed.specs.Calls.{calls_of}
 use Rattle.sb_feed.specs.Due.{due_rows, rows_below, streams_in}
 use Rattle.sb_feed.specs.FedByItems.{IsFedBy, end_items}
-use Rattle.sb_feed.specs.Feeds.{Fed, bundles_in, fed_of}
+use Rattle.sb_feed.specs.Feeds.{Fed, bundles_in, records_of_feed}
 use Rattle.sb_feed.specs.Given.{items_of}
 use Rattle.sb_feed.specs.InputFeeds.{Feeds, FeedsAll, FeedsSome}
 use Rattle.sb_feed.specs.TapLists.{LeavesThoseThatStay, StopsIn}
@@ -52,7 +52,7 @@ pub due_low : (h : HandView) (size : ℕ) (items : List Item) (f : Fed) (c : Cut
 due_low h size items f c rows r fed =
     let covers = fed_covers size items f c fed in
     rested_rows h f rows r covers.rest covers.coming
-    ∙ rows_same (low_of h.plan f) h.plan (λ s. fed_of f s ++ covers.rest s) (streams_in items) covers.are
+    ∙ rows_same (low_of h.plan f) h.plan (λ s. records_of_feed f s ++ covers.rest s) (streams_in items) covers.are
     ∙ (λ i. rows_below (least_of (streams_of h.plan) (ap (last_or 0) fed.of_a.marks i) (ap (last_or 0) fed.of_b.marks i)) h.plan items)
 
 -- ---- at the end
@@ -68,11 +68,11 @@ module _ (h : HandView) (size : ℕ) (items : List Item) (f : Fed) (c : Cutters)
   rows_are : r.whole.moment.rows ≡ rows
   rows_are = r.whole.shows.rows_is ∙ ap (λ l. rows ++ l) r.none_ready ∙ append-nil rows
 
-  fed_rows : r.whole.moment.rows ≡ result.rows_below END_MARK h.plan (fed_of f)
-  fed_rows = rows-at_the_end h.plan r.whole.is_plan r.whole.moment (fed_of f) r.whole.shows.sound r.whole.exact (at_rest h f rows r.whole r.idle) ends_are
+  fed_rows : r.whole.moment.rows ≡ result.rows_below END_MARK h.plan (records_of_feed f)
+  fed_rows = rows-at_the_end h.plan r.whole.is_plan r.whole.moment (records_of_feed f) r.whole.shows.sound r.whole.exact (at_rest h f rows r.whole r.idle) ends_are
 
   pub due_all : rows ≡ rows_below END_MARK h.plan items
-  due_all = sym rows_are ∙ fed_rows ∙ rows_same END_MARK h.plan (fed_of f) (streams_in items) (fed_at_end h.plan size items f c fed quiet)
+  due_all = sym rows_are ∙ fed_rows ∙ rows_same END_MARK h.plan (records_of_feed f) (streams_in items) (fed_at_end h.plan size items f c fed quiet)
 
   done : IsDone h.plan r.whole.moment
   done = settles-all h.plan r.whole.is_plan r.whole.moment r.whole.shows.sound (at_rest h f rows r.whole r.idle) ends_are
@@ -82,10 +82,10 @@ module _ (h : HandView) (size : ℕ) (items : List Item) (f : Fed) (c : Cutters)
       subst (λ n. Tallies h.plan n (λ s. calls_of s items) (diaries_of h.nodes)) is
       (end-is_tallied h.plan r.whole.is_plan r.whole.moment (diaries_of h.nodes) (feed_of f) (λ s. calls_of s items) r.whole.shows.sound r.whole.tallied done r.whole.shows.held_is
       (record {
-        bundles = λ s. ap (map as_fed) (subst (λ x. bundles_in f s ≡ bundles_of x (calls_of s items ++ Mark END_MARK ∷ [])) (sym (is ∙ same)) (bundles_at_end h.plan size items f c fed quiet s));
+        bundles = λ s. ap (map fed_bundle) (subst (λ x. bundles_in f s ≡ bundles_of x (calls_of s items ++ Mark END_MARK ∷ [])) (sym (is ∙ same)) (bundles_at_end h.plan size items f c fed quiet s));
         marks = λ s d is. marks_at_end h.plan size items f c fed quiet s (used_by h.plan s d is);
       })
-      (let e = ap length (fed_rows ∙ rows_same END_MARK h.plan (fed_of f) (λ s. calls.records_of (calls_of s items)) (pushed_at_end h.plan size items f c fed quiet)) in omega (arith, e)))
+      (let e = ap length (fed_rows ∙ rows_same END_MARK h.plan (records_of_feed f) (λ s. calls.records_of (calls_of s items)) (pushed_at_end h.plan size items f c fed quiet)) in omega (arith, e)))
 
   pub done_hand : (sizes : Sizes) → h.bundle ≡ sizes.bundle → sizes.bundle ≡ size → settings_of h.nodes ≡ settings_at sizes.keeps_diaries sizes.pending h.plan → IsDoneHand h.plan sizes items h
   done_hand sizes bundle same settings = record {

@@ -15,17 +15,17 @@ use Rattle.sb_core.specs.Lanes.{next_floor}
 use Rattle.sb_tally.specs.Keeping.{feed_after}
 use Rattle.sb_tally.specs.Tally as tally
 use Rattle.sb_tally.specs.Tally.{IsTallied}
-use Rattle.sb_tally.specs.Whole.{as_fed}
+use Rattle.sb_tally.specs.Whole.{fed_bundle}
 use Rattle.sb_cascade.specs.declared.cascade.Cascade.{Cascade}
 use Rattle.sb_cascade.specs.declared.pass.CascadePass.{CascadePass}
 use Rattle.sb_cascade.specs.declared.telling.Hands.{Hands}
 use Rattle.sb_cascade.specs.Bringing as bring
-use Rattle.sb_cascade.specs.Bringing.{sealed_by}
+use Rattle.sb_cascade.specs.Bringing.{sealed_lane}
 use Rattle.sb_cascade.specs.Calls.{IsEmptyHanded, IsFeeder, IsReady, IsSame, hands, plan_of, setting_of}
 use Rattle.sb_cascade.specs.Found.{IsDrained}
 use Rattle.sb_cascade.specs.Views as view
 use Rattle.sb_cascade.proofs.feeds.FeedOfChanges.{bundle-dry, bundle-fed, drained-fed, mark-dry, mark-fed}
-use Rattle.sb_feed.specs.Feeds.{AreRowsSoFar, Fed, MayArrive, MaySeal, bundles_in, fed_of, floor_in, marks_in, with_bundle, with_mark}
+use Rattle.sb_feed.specs.Feeds.{AreRowsSoFar, Fed, MayArrive, MaySeal, bundles_in, records_of_feed, floor_in, marks_in, with_bundle, with_mark}
 use Rattle.sb_feed.proofs.RowsSoFar.{so_far_bundle, so_far_mark}
 use Rattle.sb_run.specs.Feeders.{HasFed, IsStill}
 use Rattle.sb_run.specs.Rested.{feed_of}
@@ -41,11 +41,11 @@ pub still_then : (c : Cascade) (p q r : CascadePass) → IsStill c p q → IsSti
 still_then c p q r first then = record { ready = then.ready; out = then.out ∙ first.out }
 
 -- the records that were fed, as the tally has them
-records-are : (bs : List Bundle) → flat_map (λ (b : tally.Fed). b.records) (map as_fed bs) ≡ records_in_order (parts_of bs)
+records-are : (bs : List Bundle) → flat_map (λ (b : tally.Fed). b.records) (map fed_bundle bs) ≡ records_in_order (parts_of bs)
 records-are [] = refl
 records-are (b ∷ bs) = ap (λ l. b.records ++ l) (records-are bs)
 
-pub fed-are : (f : Fed) (s : Stream) → tally.fed_of (feed_of f) s ≡ fed_of f s
+pub fed-are : (f : Fed) (s : Stream) → tally.records_of_feed (feed_of f) s ≡ records_of_feed f s
 fed-are f s = records-are (bundles_in f s)
 
 module _ (c : Cascade) (p q : CascadePass) (f : Fed) (rows : List Record) (h : HasFed c p f rows) where
@@ -102,10 +102,10 @@ module _ (c : Cascade) (p q : CascadePass) (f : Fed) (rows : List Record) (h : H
     drained-now : (hands q).feed.drained ≡ rows ++ new
     drained-now = ap (λ (w : Hands). w.feed.drained) knows ∙ ap (λ l. l ++ new) h.drained
 
-    exact-now : IsExact (plan_of c) all.moment (fed_of f)
+    exact-now : IsExact (plan_of c) all.moment (records_of_feed f)
     exact-now =
         subst (IsExact (plan_of c) all.moment) (λ i s. fed-are f s i)
-        (subst (λ (g : tally.Feed). IsExact (plan_of c) all.moment (tally.fed_of g)) fed-now all.exact)
+        (subst (λ (g : tally.Feed). IsExact (plan_of c) all.moment (tally.records_of_feed g)) fed-now all.exact)
 
     tallied-now : IsTallied (plan_of c) all.moment all.diaries (feed_of f)
     tallied-now = subst (IsTallied (plan_of c) all.moment all.diaries) fed-now all.tallied
@@ -136,11 +136,11 @@ module _ (c : Cascade) (p q : CascadePass) (f : Fed) (rows : List Record) (h : H
 
 -- what the feeder may bring, by what the cascade says was fed
 module _ (c : Cascade) (p : CascadePass) (f : Fed) (rows : List Record) (h : HasFed c p f rows) where
-  marks-are : (s : Stream) → (view.fed_on s (hands p).feed).marks ≡ marks_in f s
+  marks-are : (s : Stream) → (view.stream_feed s (hands p).feed).marks ≡ marks_in f s
   marks-are s = ap (λ (g : tally.Feed). g.marks s) h.fed
 
-  floors-are : (s : Stream) → next_floor (sealed_by s p) ≡ floor_in f s
-  floors-are s = sym (floor_is (view.fed_on s (hands p).feed).marks) ∙ ap (last_or 0) (marks-are s)
+  floors-are : (s : Stream) → next_floor (sealed_lane s p) ≡ floor_in f s
+  floors-are s = sym (floor_is (view.stream_feed s (hands p).feed).marks) ∙ ap (last_or 0) (marks-are s)
 
   pub may-bring : (s : Stream) (b : Bundle) → MayArrive (plan_of c) (setting_of c).bundle f s b → bring.MayArrive c p s b
   may-bring s b may =

@@ -26,7 +26,7 @@ use Rattle.sb_feed.proofs.LaterItems.{following, from_later, mark_rises, said_by
 use Rattle.sb_feeds.specs.declared.fed.Fed.{Fed}
 use Rattle.sb_feeds.specs.declared.fed.Fed.TheVariants as fed
 use Rattle.sb_feeds.specs.declared.fed.FeedStop.{FeedStop}
-use Rattle.sb_feeds.specs.Fed.{fed_in, fed_of, has_stop, stop_from}
+use Rattle.sb_feeds.specs.Fed.{values_of_item, values_of_accepted, has_stop, stop_from}
 use Rattle.sb_feeds.proofs.Stops.{feed_ends, first_with_stop}
 use Rattle.sb_run.specs.declared.files.TheConstants.{MAX_FILE_LENGTH}
 use Rattle.sb_run.specs.Files.{accepted_of_file, items_of_file, stream_alone}
@@ -206,7 +206,7 @@ taken_next streams s so_far i used mark count same_use same_mark same_count is =
     ap (λ b. if b then so_far ++ i ∷ [] else so_far) ((λ j. is_next s (sym same_use j) (sym same_mark j) (sym same_count j) i) ∙ is)
 
 pub taken_told : (streams : Streams) (s : Stream) (items later : List Item) → AreTimely (stream_alone s streams) items later → length items + length later ≤ MAX_FILE_LENGTH
-    → items_after streams s (without_comments items) (flat_map fed_in later) ≡ without_comments (items ++ later)
+    → items_after streams s (without_comments items) (flat_map values_of_item later) ≡ without_comments (items ++ later)
 taken_told streams s items [] all few = ap without_comments (sym (append-nil items))
 taken_told streams s items (i ∷ later) all few = by_item i all.0 (taken_told streams s (items ++ i ∷ []) later all.1 (let l = length-append items (i ∷ []) in omega (arith, few, l)))
   where
@@ -216,24 +216,24 @@ taken_told streams s items (i ∷ later) all few = by_item i all.0 (taken_told s
     more : (i : Item) → without_comments (items ++ i ∷ []) ≡ without_comments items ++ unless_comment i
     more i = flat_map-append unless_comment items (i ∷ []) ∙ ap (λ l. without_comments items ++ l) (append-nil (unless_comment i))
 
-    behind : (i : Item) → items_after streams s (without_comments (items ++ i ∷ [])) (flat_map fed_in later) ≡ without_comments ((items ++ i ∷ []) ++ later)
-        → items_after streams s (without_comments items ++ unless_comment i) (flat_map fed_in later) ≡ without_comments (items ++ i ∷ later)
-    behind i rest = ap (λ l. items_after streams s l (flat_map fed_in later)) (sym (more i)) ∙ rest ∙ ap without_comments (append_assoc items (i ∷ []) later)
+    behind : (i : Item) → items_after streams s (without_comments (items ++ i ∷ [])) (flat_map values_of_item later) ≡ without_comments ((items ++ i ∷ []) ++ later)
+        → items_after streams s (without_comments items ++ unless_comment i) (flat_map values_of_item later) ≡ without_comments (items ++ i ∷ later)
+    behind i rest = ap (λ l. items_after streams s l (flat_map values_of_item later)) (sym (more i)) ∙ rest ∙ ap without_comments (append_assoc items (i ∷ []) later)
 
-    by_item : (i : Item) → IsTimely (stream_alone s streams) items i → items_after streams s (without_comments (items ++ i ∷ [])) (flat_map fed_in later) ≡ without_comments ((items ++ i ∷ []) ++ later)
-        → items_after streams s (without_comments items) (fed_in i ++ flat_map fed_in later) ≡ without_comments (items ++ i ∷ later)
-    by_item item.Skip timely rest = ap (λ l. items_after streams s l (flat_map fed_in later)) (sym (append-nil (without_comments items))) ∙ behind item.Skip rest
+    by_item : (i : Item) → IsTimely (stream_alone s streams) items i → items_after streams s (without_comments (items ++ i ∷ [])) (flat_map values_of_item later) ≡ without_comments ((items ++ i ∷ []) ++ later)
+        → items_after streams s (without_comments items) (values_of_item i ++ flat_map values_of_item later) ≡ without_comments (items ++ i ∷ later)
+    by_item item.Skip timely rest = ap (λ l. items_after streams s l (flat_map values_of_item later)) (sym (append-nil (without_comments items))) ∙ behind item.Skip rest
     by_item (item.Late n t m) timely rest =
-        ap (λ l. items_after streams s l (flat_map fed_in later)) (taken_next streams s (without_comments items) (item.Late n t m) (uses streams s) (last_watermark s (without_comments items)) (length (without_comments items)) refl refl refl (below (length (without_comments items)) MAX_FILE_LENGTH room))
+        ap (λ l. items_after streams s l (flat_map values_of_item later)) (taken_next streams s (without_comments items) (item.Late n t m) (uses streams s) (last_watermark s (without_comments items)) (length (without_comments items)) refl refl refl (below (length (without_comments items)) MAX_FILE_LENGTH room))
         ∙ behind (item.Late n t m) rest
     by_item (item.Rec t r) timely rest =
-        ap (λ l. items_after streams s l (flat_map fed_in later))
+        ap (λ l. items_after streams s l (flat_map values_of_item later))
         (taken_next streams s (without_comments items) (item.Rec t r) (uses streams s) (last_watermark s items) (length (without_comments items)) refl (sym (told_mark s items)) refl
         (passes streams s t (last_watermark s items) (length (without_comments items)) r.time MAX_TIME room timely.0
         (subst (λ u. last_watermark u items ≤ r.time) (sym (only_own streams s t timely.0)) timely.1.0) timely.1.1))
         ∙ behind (item.Rec t r) rest
     by_item (item.Mark t m) timely rest =
-        ap (λ l. items_after streams s l (flat_map fed_in later))
+        ap (λ l. items_after streams s l (flat_map values_of_item later))
         (taken_next streams s (without_comments items) (item.Mark t m) (uses streams s) (last_watermark s items) (length (without_comments items)) refl (sym (told_mark s items)) refl
         (passes streams s t (last_watermark s items) (length (without_comments items)) m END_MARK room timely.0
         (subst (λ u. last_watermark u items ≤ m) (sym (only_own streams s t timely.0)) timely.1) timely.2))
@@ -245,21 +245,21 @@ record IsFedOfFirst (items : List Item) (values : List Fed) : Type 0 where
   pub front : List Item
   pub back : List Item
   pub are : items ≡ front ++ back
-  pub feed : values ≡ flat_map fed_in front
+  pub feed : values ≡ flat_map values_of_item front
 
 behind_first : (v : Fed) (values : List Fed) → has_stop (v ∷ values) ≡ false → has_stop values ≡ false
 behind_first (fed.Item i) values none = none
 behind_first (fed.Stop stop) values none = absurd (true≢false none)
 
-fed_one : (i : Item) (items : List Item) (v : Fed) (values : List Fed) → v ≡ fed.Item i → fed_in i ≡ fed.Item i ∷ [] → IsFedOfFirst items values → IsFedOfFirst (i ∷ items) (v ∷ values)
+fed_one : (i : Item) (items : List Item) (v : Fed) (values : List Fed) → v ≡ fed.Item i → values_of_item i ≡ fed.Item i ∷ [] → IsFedOfFirst items values → IsFedOfFirst (i ∷ items) (v ∷ values)
 fed_one i items v values same feeds rest = record {
   front = i ∷ rest.front;
   back = rest.back;
   are = ap (λ l. i ∷ l) rest.are;
-  feed = (λ j. same j ∷ rest.feed j) ∙ ap (λ l. l ++ flat_map fed_in rest.front) (sym feeds);
+  feed = (λ j. same j ∷ rest.feed j) ∙ ap (λ l. l ++ flat_map values_of_item rest.front) (sym feeds);
 }
 
-fed_first : (stop : FeedStop) (items : List Item) (values more : List Fed) → values ++ more ≡ flat_map fed_in items ++ fed.Stop stop ∷ [] → has_stop values ≡ false → IsFedOfFirst items values
+fed_first : (stop : FeedStop) (items : List Item) (values more : List Fed) → values ++ more ≡ flat_map values_of_item items ++ fed.Stop stop ∷ [] → has_stop values ≡ false → IsFedOfFirst items values
 fed_first stop items [] more e none = record { front = []; back = items; are = refl; feed = refl }
 fed_first stop [] (v ∷ values) more e none =
     let same : v ≡ fed.Stop stop = cc e in
@@ -275,7 +275,7 @@ fed_first stop (item.Late n t m ∷ items) (v ∷ values) more e none =
     fed_one (item.Late n t m) items v values (cc e) refl (fed_first stop items values more (cc e) (behind_first v values none))
 
 -- the stop that a file feeds says which line was refused
-stop_of_fed : (items : List Item) (stop : FeedStop) → stop_among (flat_map fed_in items ++ fed.Stop stop ∷ []) ≡ Some stop
+stop_of_fed : (items : List Item) (stop : FeedStop) → stop_among (flat_map values_of_item items ++ fed.Stop stop ∷ []) ≡ Some stop
 stop_of_fed [] stop = refl
 stop_of_fed (item.Skip ∷ items) stop = stop_of_fed items stop
 stop_of_fed (item.Rec s r ∷ items) stop = stop_of_fed items stop
@@ -316,7 +316,7 @@ module _ (plan : Shape) (s : Stream) (bytes : List ℕ) where
         let e = ap length accepts.are in
         omega (arith, short, n, l, e)
 
-    front_taken : (front back : List Item) → items_of_file plan s bytes ≡ front ++ back → items_taken (streams_of plan) s (flat_map fed_in front) ≡ without_comments front
+    front_taken : (front back : List Item) → items_of_file plan s bytes ≡ front ++ back → items_taken (streams_of plan) s (flat_map values_of_item front) ≡ without_comments front
     front_taken front back are =
         let all : AreTimely (streams_of (plan_alone s plan)) [] (front ++ back) = subst (AreTimely (streams_of (plan_alone s plan)) []) are all_timely in
         let few = few_items in
@@ -326,7 +326,7 @@ module _ (plan : Shape) (s : Stream) (bytes : List ℕ) where
     back_coming : (front back : List Item) → items_of_file plan s bytes ≡ front ++ back → AllByRecursion (IsFrom (last_watermark s front)) (records_of s back)
     back_coming front back are = timely_from (plan_alone s plan) front back s (timely_back (streams_of (plan_alone s plan)) [] front back (subst (AreTimely (streams_of (plan_alone s plan)) []) are all_timely))
 
-    pub taken_of_file : (values : List Fed) → IsPrefix values (fed_of (accepted_of_file plan s bytes)) → IsTakenOf plan s bytes values
+    pub taken_of_file : (values : List Fed) → IsPrefix values (values_of_accepted (accepted_of_file plan s bytes)) → IsTakenOf plan s bytes values
     taken_of_file values (more, e) = by_stop (has_stop values) refl
       where
         stop : FeedStop
@@ -335,12 +335,12 @@ module _ (plan : Shape) (s : Stream) (bytes : List ℕ) where
         by_stop : (b : Bool) → has_stop values ≡ b → IsTakenOf plan s bytes values
         by_stop true some =
             let items = items_of_file plan s bytes in
-            let all : values ≡ flat_map fed_in items ++ fed.Stop stop ∷ [] = first_with_stop values (fed_of (accepted_of_file plan s bytes)) (feed_ends (accepted_of_file plan s bytes)) (more, e) some in
+            let all : values ≡ flat_map values_of_item items ++ fed.Stop stop ∷ [] = first_with_stop values (values_of_accepted (accepted_of_file plan s bytes)) (feed_ends (accepted_of_file plan s bytes)) (more, e) some in
             record {
               front = items;
               back = [];
               are = sym (append-nil items);
-              taken_are = ap (items_taken (streams_of plan) s) all ∙ taken_more (streams_of plan) s (flat_map fed_in items) (fed.Stop stop) ∙ front_taken items [] (sym (append-nil items));
+              taken_are = ap (items_taken (streams_of plan) s) all ∙ taken_more (streams_of plan) s (flat_map values_of_item items) (fed.Stop stop) ∙ front_taken items [] (sym (append-nil items));
               coming = no_records (IsFrom (last_watermark s items)) s;
               whole = λ w. refl;
               stop = λ w. ap stop_among all ∙ stop_of_fed items stop;

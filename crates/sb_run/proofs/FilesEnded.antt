@@ -35,7 +35,7 @@ use Rattle.sb_feed.specs.declared.give.GiveStop.TheVariants as give
 use Rattle.sb_feed.specs.Calls.{call_in, calls_of}
 use Rattle.sb_feed.specs.Due.{AreFirstDropped, AreFirstRows, due_rows, rows_below, streams_in}
 use Rattle.sb_feed.specs.FedByItems.{IsFedBy, end_items}
-use Rattle.sb_feed.specs.Feeds.{AreRowsSoFar, Fed, IsFrom, fed_of, floor_in}
+use Rattle.sb_feed.specs.Feeds.{AreRowsSoFar, Fed, IsFrom, records_of_feed, floor_in}
 use Rattle.sb_feed.specs.GiveCauses.{GiveCause}
 use Rattle.sb_feed.specs.Gives.{GivesOut}
 use Rattle.sb_feed.specs.TapLists.{LeavesThoseThatStay, StopsIn}
@@ -43,7 +43,7 @@ use Rattle.sb_feed.proofs.FirstRows.{rows_same}
 use Rattle.sb_feed.proofs.GivesInTurn.{AddsUp, gives_both}
 use Rattle.sb_feed.proofs.LaterItems.{from_later}
 use Rattle.sb_feeds.specs.declared.fed.Fed.{Fed as AValue}
-use Rattle.sb_feeds.specs.Fed.{fed_of as values_fed, has_stop, stop_from}
+use Rattle.sb_feeds.specs.Fed.{records_of_feed as values_of_accepted, has_stop, stop_from}
 use Rattle.sb_run.specs.declared.files.TheConstants.{MAX_FILE_LENGTH}
 use Rattle.sb_run.specs.declared.files.inlets.FilesStop.{FilesStop}
 use Rattle.sb_run.specs.declared.files.inlets.FilesStop.TheVariants as files_at
@@ -114,8 +114,8 @@ module _ (plan : Shape) (files : Stream → List ℕ) where
   refused_of None (Some x) B r e of_a of_b = let same : x ≡ r = cc e in (of_a, of_b ∙ ap Some same)
 
   -- ---- feeding failed
-  module _ (short : (s : Stream) → length (files s) ≤ MAX_FILE_LENGTH) (values : Stream → List AValue) (fed : (s : Stream) → IsPrefix (values s) (values_fed (accepted_of_file plan s (files s)))) where
-    shorter : (popped later : List AValue) (s : Stream) → values s ≡ popped ++ later → IsPrefix popped (values_fed (accepted_of_file plan s (files s)))
+  module _ (short : (s : Stream) → length (files s) ≤ MAX_FILE_LENGTH) (values : Stream → List AValue) (fed : (s : Stream) → IsPrefix (values s) (values_of_accepted (accepted_of_file plan s (files s)))) where
+    shorter : (popped later : List AValue) (s : Stream) → values s ≡ popped ++ later → IsPrefix popped (values_of_accepted (accepted_of_file plan s (files s)))
     shorter popped later s are = let (more, e) = fed s in (later ++ more, sym (append_assoc popped later more) ∙ ap (λ l. l ++ more) (sym are) ∙ e)
 
     module _ {O : Type 0} (part : O → List Record → O → Type 0) (o p : O) (taps taps' : List TapState) (dropped dropped' : Stream → List Dropped) (why : GiveStop) (e : FeedsPart plan values part o p taps taps' dropped dropped' why) where
@@ -134,9 +134,9 @@ module _ (plan : Shape) (files : Stream → List ℕ) where
               (subst (λ m. floor_in e.f s ≤ m) (ap (last_watermark s) (of s).taken_are ∙ told_mark s (of s).front) low) (of s).coming
           by_floor (inr stopped) = subst (λ l. AllByRecursion (IsFrom (floor_in e.f s)) (records_of s l)) (sym ((of s).whole stopped)) (no_records (IsFrom (floor_in e.f s)) s)
 
-      all_of : (s : Stream) → fed_of e.f s ++ coming s ≡ records_of s (items_of_files plan files)
+      all_of : (s : Stream) → records_of_feed e.f s ++ coming s ≡ records_of s (items_of_files plan files)
       all_of s =
-          sym (append_assoc (fed_of e.f s) (e.covers.rest s) (records_of s (of s).back))
+          sym (append_assoc (records_of_feed e.f s) (e.covers.rest s) (records_of s (of s).back))
           ∙ ap (λ l. l ++ records_of s (of s).back) (e.covers.are s ∙ ap (records_of s) (of s).taken_are ∙ told_says (record_in s) (skip_records s) (of s).front)
           ∙ sym (flat_map-append (record_in s) (of s).front (of s).back) ∙ ap (records_of s) (sym (of s).are) ∙ sym (both_records s)
 
@@ -144,7 +144,7 @@ module _ (plan : Shape) (files : Stream → List ℕ) where
       first_rows =
           let all = streams_in (items_of_files plan files) in
           let these : e.rows ≡ result.rows_below e.so_far.mark plan all = e.so_far.are coming (λ s. All-join (IsFrom (floor_in e.f s)) (e.covers.rest s) (records_of s (of s).back) (e.covers.coming s) (back_from s))
-          ∙ rows_same e.so_far.mark plan (λ s. fed_of e.f s ++ coming s) all all_of in
+          ∙ rows_same e.so_far.mark plan (λ s. records_of_feed e.f s ++ coming s) all all_of in
           let more = sorted_records (at_least e.so_far.mark (before END_MARK (output_of plan all))) in
           record { rest = more; are = sorted_before-front e.so_far.mark END_MARK (output_of plan all) e.so_far.bound ∙ ap (λ l. l ++ more) (sym these) }
 
@@ -203,7 +203,7 @@ module _ (plan : Shape) (files : Stream → List ℕ) where
 
 -- ---- the hand came back, all of it worked off
 module _ {O : Type 0} (h : HandView) (files : Stream → List ℕ) (short : (s : Stream) → length (files s) ≤ MAX_FILE_LENGTH) (values : Stream → List AValue)
-    (fed : (s : Stream) → IsPrefix (values s) (values_fed (accepted_of_file h.plan s (files s)))) (sizes : Sizes) (size : ℕ) (stands : Fed → List Record → Type 0)
+    (fed : (s : Stream) → IsPrefix (values s) (values_of_accepted (accepted_of_file h.plan s (files s)))) (sizes : Sizes) (size : ℕ) (stands : Fed → List Record → Type 0)
     (after part : O → List Record → O → Type 0) (laws : AddsUp after part) (o p q : O) (taps taps1 taps2 : List TapState) (dropped dropped' : Stream → List Dropped) (stop : FilesStop)
     (e : FeedsFiles h.plan size values stands after o p taps taps1 dropped dropped' stop) (back : GivesOut (IsRested h e.f) after p q taps1 taps2 e.gives.rows) where
   abbrev out : GivesOut (IsRested h e.f) after o q taps taps2 []
@@ -273,7 +273,7 @@ module _ {O : Type 0} (h : HandView) (files : Stream → List ℕ) (short : (s :
 -- ---- over a shared cascade
 module _ {O : Type 0} (after part : O → List Record → O → Type 0) (laws : AddsUp after part) (plan : Shape) (sizes : Sizes) (c : Cascade) (pass : CascadePass)
     (shared : IsShared plan sizes.bundle sizes.pending sizes.keeps_diaries (setting_of c)) (files : Stream → List ℕ) (short : (s : Stream) → length (files s) ≤ MAX_FILE_LENGTH) (values : Stream → List AValue)
-    (fed : (s : Stream) → IsPrefix (values s) (values_fed (accepted_of_file plan s (files s)))) (o p : O) (taps taps1 : List TapState) (dropped dropped' : Stream → List Dropped) where
+    (fed : (s : Stream) → IsPrefix (values s) (values_of_accepted (accepted_of_file plan s (files s)))) (o p : O) (taps taps1 : List TapState) (dropped dropped' : Stream → List Dropped) where
   -- feeding stopped early
   pub two_early : (why : GiveStop) → FeedsPart (plan_of c) values part o p taps taps1 dropped dropped' why → TwoEnds plan sizes files after part o p taps taps1 dropped dropped' (early_by why)
   two_early why e =
@@ -292,12 +292,12 @@ module _ {O : Type 0} (after part : O → List Record → O → Type 0) (laws : 
     two_done h comes =
         let (back, gives) = comes e.f e.gives.rows e.gives.stand in
         subst (λ u. TwoEnds u sizes files after part o q taps taps2 dropped dropped' (end_by h stop)) shared.plan_is
-        (subst (λ u. ((s : Stream) → IsPrefix (values s) (values_fed (accepted_of_file u s (files s)))) → settings_of h.nodes ≡ settings_at sizes.keeps_diaries sizes.pending u
+        (subst (λ u. ((s : Stream) → IsPrefix (values s) (values_of_accepted (accepted_of_file u s (files s)))) → settings_of h.nodes ≡ settings_at sizes.keeps_diaries sizes.pending u
         → (x : FeedsFiles u (setting_of c).bundle values (HasFed c pass) after o p taps taps1 dropped dropped' stop) → GivesOut (IsRested h x.f) after p q taps1 taps2 x.gives.rows
         → TwoEnds u sizes files after part o q taps taps2 dropped dropped' (end_by h stop)) back.plan
         (λ read settings x came. files_here h files short values read sizes (setting_of c).bundle (HasFed c pass) after part laws o p q taps taps1 taps2 dropped dropped' stop x came
         (back.bundle ∙ shared.bundle_is) (sym shared.bundle_is) settings)
-        (λ s. subst (λ u. IsPrefix (values s) (values_fed (accepted_of_file u s (files s)))) (sym shared.plan_is) (fed s))
+        (λ s. subst (λ u. IsPrefix (values s) (values_of_accepted (accepted_of_file u s (files s)))) (sym shared.plan_is) (fed s))
         (back.settings ∙ (λ i. settings_at (shared.keeps_is i) (shared.pending_is i) (plan_of c)))
         e gives)
 

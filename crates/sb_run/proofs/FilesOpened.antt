@@ -12,8 +12,8 @@ use Rattle.sb_record.specs.Progress.{Progress}
 use Rattle.sb_outside.specs.Lines.{lines}
 use Rattle.sb_pipeline.specs.Shapes.{Shape, streams_of}
 use Rattle.sb_feeds.specs.declared.ends.FeedDone.{FeedDone}
-use Rattle.sb_feeds.specs.Ends.{fed_by, received_by, ring_in, ring_of}
-use Rattle.sb_feeds.specs.Fed.{fed_by_file, fed_of}
+use Rattle.sb_feeds.specs.Ends.{values_fed, values_received, ring_in, ring_of}
+use Rattle.sb_feeds.specs.Fed.{values_of_file, values_of_accepted}
 use Rattle.sb_run.specs.declared.files.inlet.Inlet.{Inlet}
 use Rattle.sb_run.specs.declared.files.inlets.Inlets.{Inlets}
 use Rattle.sb_run.specs.declared.files.reading.FilePart.{FilePart}
@@ -45,15 +45,15 @@ opened_nothing streams late keys a b files inlets o B = o.of_b.nothing_received
 
 -- what a thread fed is what the plan accepts of its file
 module _ (plan : Shape) (streams : Streams) (late : LatePolicy) (keys : Keys) (same_streams : streams ≡ streams_of plan) (same_late : late ≡ plan.late) (same_keys : keys ≡ plan.keys) where
-  fed_is : (s : Stream) (bytes : List ℕ) (part : FilePart) (inlet : Inlet) (done : FeedDone) → IsOpened streams late keys s bytes part inlet → IsFedWhole part done → fed_by done ≡ fed_of (accepted_of_file plan s bytes)
+  fed_is : (s : Stream) (bytes : List ℕ) (part : FilePart) (inlet : Inlet) (done : FeedDone) → IsOpened streams late keys s bytes part inlet → IsFedWhole part done → values_fed done ≡ values_of_accepted (accepted_of_file plan s bytes)
   fed_is s bytes part inlet done o w =
-      w.fed ∙ (λ i. fed_by_file (o.part_is.intake i) (o.part_is.bytes_are i))
-      ∙ (λ i. fed_of (accepted (stream_alone s (same_streams i)) (same_late i) (same_keys i) (lines true bytes)))
+      w.fed ∙ (λ i. values_of_file (o.part_is.intake i) (o.part_is.bytes_are i))
+      ∙ (λ i. values_of_accepted (accepted (stream_alone s (same_streams i)) (same_late i) (same_keys i) (lines true bytes)))
 
   pub files_read : (a b : List ℕ) (files : Files) (first last : Inlets) (done : FilesDone) → AreOpened streams late keys a b files first → AreFedWhole files done
-      → IsPrefix (received_by last.a.inward) (fed_by done.a) → IsPrefix (received_by last.b.inward) (fed_by done.b) → (s : Stream) → IsPrefix (values_of last s) (fed_of (accepted_of_file plan s (by_stream a b s)))
-  files_read a b files first last done o (whole_a, whole_b) prefix_a prefix_b A = subst (IsPrefix (received_by last.a.inward)) (fed_is A a files.a first.a done.a o.of_a whole_a) prefix_a
-  files_read a b files first last done o (whole_a, whole_b) prefix_a prefix_b B = subst (IsPrefix (received_by last.b.inward)) (fed_is B b files.b first.b done.b o.of_b whole_b) prefix_b
+      → IsPrefix (values_received last.a.inward) (values_fed done.a) → IsPrefix (values_received last.b.inward) (values_fed done.b) → (s : Stream) → IsPrefix (values_of last s) (values_of_accepted (accepted_of_file plan s (by_stream a b s)))
+  files_read a b files first last done o (whole_a, whole_b) prefix_a prefix_b A = subst (IsPrefix (values_received last.a.inward)) (fed_is A a files.a first.a done.a o.of_a whole_a) prefix_a
+  files_read a b files first last done o (whole_a, whole_b) prefix_a prefix_b B = subst (IsPrefix (values_received last.b.inward)) (fed_is B b files.b first.b done.b o.of_b whole_b) prefix_b
 
 -- the two ends of a ring are of one ring
 pub rings_tie : (streams : Streams) (late : LatePolicy) (keys : Keys) (s : Stream) (bytes : List ℕ) (part : FilePart) (first last : Inlet) (done : FeedDone) → IsOpened streams late keys s bytes part first → IsFedWhole part done

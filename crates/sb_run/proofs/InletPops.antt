@@ -9,7 +9,7 @@ use Rattle.sb_feeds.specs.declared.ends.FeedIn.{FeedIn}
 use Rattle.sb_feeds.specs.declared.fed.Fed.{Fed}
 use Rattle.sb_feeds.specs.declared.fed.Fed.TheVariants as fed
 use Rattle.sb_feeds.specs.declared.fed.FeedStop.{FeedStop}
-use Rattle.sb_feeds.specs.Ends.{received_by}
+use Rattle.sb_feeds.specs.Ends.{values_received}
 use Rattle.sb_feeds.specs.Fed.{has_stop}
 use Rattle.sb_run.specs.declared.files.inlet.Inlet.{Inlet}
 use Rattle.sb_run.specs.Pops.{IsInlet, PopsOne, is_next, mark_behind, stop_among, items_taken}
@@ -24,37 +24,37 @@ none_came a = ([], sym (append-nil a))
 
 module _ (streams : Streams) (s : Stream) (old : Inlet) (now : FeedIn) (is : IsInlet streams s old) where
   -- a stop came
-  pub stop_popped : (value : Fed) (stop : FeedStop) → received_by now ≡ received_by old.inward ++ value ∷ [] → value ≡ fed.Stop stop → has_stop (received_by old.inward) ≡ false
+  pub stop_popped : (value : Fed) (stop : FeedStop) → values_received now ≡ values_received old.inward ++ value ∷ [] → value ≡ fed.Stop stop → has_stop (values_received old.inward) ≡ false
       → PopsOne streams s old (record old { inward = now; stop = Some stop }) None
   stop_popped value stop came stops none =
-      let received : received_by now ≡ received_by old.inward ++ fed.Stop stop ∷ [] = came ∙ ap (λ v. received_by old.inward ++ v ∷ []) stops in
-      let same : items_taken streams s (received_by now) ≡ items_taken streams s (received_by old.inward) = ap (items_taken streams s) received ∙ taken_more streams s (received_by old.inward) (fed.Stop stop) in (
+      let received : values_received now ≡ values_received old.inward ++ fed.Stop stop ∷ [] = came ∙ ap (λ v. values_received old.inward ++ v ∷ []) stops in
+      let same : items_taken streams s (values_received now) ≡ items_taken streams s (values_received old.inward) = ap (items_taken streams s) received ∙ taken_more streams s (values_received old.inward) (fed.Stop stop) in (
         record {
           stream = is.stream;
           used = is.used;
           mark = is.mark ∙ ap (last_watermark s) (sym same);
           count = is.count ∙ ap length (sym same);
-          stop = sym (ap stop_among received ∙ stop_first (received_by old.inward) stop none);
+          stop = sym (ap stop_among received ∙ stop_first (values_received old.inward) stop none);
         },
         same,
       )
 
   -- an item came, and was counted in or left out
-  module _ (value : Fed) (i : Item) (came : received_by now ≡ received_by old.inward ++ value ∷ []) (gives : value ≡ fed.Item i) where
-    received : received_by now ≡ received_by old.inward ++ fed.Item i ∷ []
-    received = came ∙ ap (λ v. received_by old.inward ++ v ∷ []) gives
+  module _ (value : Fed) (i : Item) (came : values_received now ≡ values_received old.inward ++ value ∷ []) (gives : value ≡ fed.Item i) where
+    received : values_received now ≡ values_received old.inward ++ fed.Item i ∷ []
+    received = came ∙ ap (λ v. values_received old.inward ++ v ∷ []) gives
 
-    same_test : is_next old.stream old.used old.mark old.count i ≡ is_next s (uses streams s) (last_watermark s (items_taken streams s (received_by old.inward))) (length (items_taken streams s (received_by old.inward))) i
+    same_test : is_next old.stream old.used old.mark old.count i ≡ is_next s (uses streams s) (last_watermark s (items_taken streams s (values_received old.inward))) (length (items_taken streams s (values_received old.inward))) i
     same_test = λ j. is_next (is.stream j) (is.used j) (is.mark j) (is.count j) i
 
     taken_by : (b : Bool) → is_next old.stream old.used old.mark old.count i ≡ b
-        → items_taken streams s (received_by now) ≡ (if b then items_taken streams s (received_by old.inward) ++ i ∷ [] else items_taken streams s (received_by old.inward))
+        → items_taken streams s (values_received now) ≡ (if b then items_taken streams s (values_received old.inward) ++ i ∷ [] else items_taken streams s (values_received old.inward))
     taken_by b test =
-        ap (items_taken streams s) received ∙ taken_more streams s (received_by old.inward) (fed.Item i)
-        ∙ ap (λ q. if q then items_taken streams s (received_by old.inward) ++ i ∷ [] else items_taken streams s (received_by old.inward)) (sym same_test ∙ test)
+        ap (items_taken streams s) received ∙ taken_more streams s (values_received old.inward) (fed.Item i)
+        ∙ ap (λ q. if q then items_taken streams s (values_received old.inward) ++ i ∷ [] else items_taken streams s (values_received old.inward)) (sym same_test ∙ test)
 
-    stop_is : old.stop ≡ stop_among (received_by now)
-    stop_is = is.stop ∙ sym (ap stop_among received ∙ stop_item (received_by old.inward) i)
+    stop_is : old.stop ≡ stop_among (values_received now)
+    stop_is = is.stop ∙ sym (ap stop_among received ∙ stop_item (values_received old.inward) i)
 
     left_out : is_next old.stream old.used old.mark old.count i ≡ false → PopsOne streams s old (record old { inward = now }) None
     left_out test =
@@ -73,7 +73,7 @@ module _ (streams : Streams) (s : Stream) (old : Inlet) (now : FeedIn) (is : IsI
     counted test =
         let more = taken_by true test in
         let passes = sym same_test ∙ test in
-        let before = items_taken streams s (received_by old.inward) in (
+        let before = items_taken streams s (values_received old.inward) in (
           record {
             stream = is.stream;
             used = is.used;

@@ -30,7 +30,7 @@ use Rattle.sb_feed.specs.declared.give.GiveStop.{GiveStop}
 use Rattle.sb_feed.specs.declared.give.GiveStop.TheVariants as give
 use Rattle.sb_feed.specs.Due.{AreFirstRows, streams_in}
 use Rattle.sb_feed.specs.FedByItems.{IsFedBy, end_items}
-use Rattle.sb_feed.specs.Feeds.{AreRowsSoFar, Fed, fed_of, nothing_fed}
+use Rattle.sb_feed.specs.Feeds.{AreRowsSoFar, Fed, records_of_feed, nothing_fed}
 use Rattle.sb_feed.specs.GiveCauses.{GiveCause}
 use Rattle.sb_feed.specs.Given.{items_of}
 use Rattle.sb_feed.specs.Gives.{Gives, StopsOut}
@@ -109,9 +109,9 @@ module _ (c : Cascade) (p : CascadePass) (h : HandView) (back : GivesBack (setti
         settings = back.settings ∙ (λ i. settings_at (setting_of c).keeps (sym back.pending i) (sym back.plan i));
         moment = all.moment;
         shows = subst (λ l. Shows h l all.moment) fed.drained all.shows;
-        exact = subst (λ q. IsExact q all.moment (fed_of f)) (sym back.plan)
+        exact = subst (λ q. IsExact q all.moment (records_of_feed f)) (sym back.plan)
             (subst (IsExact plan all.moment) (λ i s. fed-are f s i)
-            (subst (λ (g : tally.Feed). IsExact plan all.moment (tally.fed_of g)) fed.fed all.exact));
+            (subst (λ (g : tally.Feed). IsExact plan all.moment (tally.records_of_feed g)) fed.fed all.exact));
         tallied = subst (λ q. IsTallied q all.moment (diaries_of h.nodes) (feed_of f)) (sym back.plan)
             (subst (IsTallied plan all.moment (diaries_of h.nodes)) fed.fed all.tallied);
         bound = fed.bound;

@@ -32,7 +32,7 @@ use Rattle.sb_hand.specs.HandLaws.{AreIdle}
 use Rattle.sb_hand.specs.Hands.{HandView}
 use Rattle.sb_hand.specs.Showing.{diaries_of}
 use Rattle.sb_hand.proofs.Resting.{idle-is-rest}
-use Rattle.sb_feed.specs.Feeds.{AreRowsSoFar, Fed, IsComing, IsFrom, fed_of, floor_in, marks_in}
+use Rattle.sb_feed.specs.Feeds.{AreRowsSoFar, Fed, IsComing, IsFrom, records_of_feed, floor_in, marks_in}
 use Rattle.sb_run.specs.Rested.{IsRested, IsWhole, feed_of}
 use Rattle.sb_run.proofs.Behind.{written_behind}
 
@@ -79,11 +79,11 @@ module _ (plan : Shape) (m : Moment) (diaries : List (List DiaryEvent)) (f : Fed
       All-from_recursion (λ (r : Record). IsFrom (floor_at m d) r) (coming s) (subst (λ x. AllByRecursion (IsFrom x) (coming s)) (sym (floor_of_source s d is)) (all s))
 
   -- its rows are the plan's below a mark, whatever may come
-  pub moment_so_far : IsPlan plan → IsExact plan m (fed_of f) → ((s : Stream) → floor_in f s ≤ END_MARK) → AreRowsSoFar plan f m.rows
+  pub moment_so_far : IsPlan plan → IsExact plan m (records_of_feed f) → ((s : Stream) → floor_in f s ≤ END_MARK) → AreRowsSoFar plan f m.rows
   moment_so_far is_plan exact bound = record {
     mark = written_to plan m;
     bound = written_behind plan is_plan m sound END_MARK (λ s d is. let e = floor_of_source s d is in let b = bound s in omega (arith, e, b));
-    are = λ coming is. rows-are_the_plans plan m (fed_of f) coming sound exact (admissible coming is);
+    are = λ coming is. rows-are_the_plans plan m (records_of_feed f) coming sound exact (admissible coming is);
   }
 
   -- and their times are below the last mark
@@ -125,11 +125,11 @@ module _ (h : HandView) (f : Fed) (rows : List Record) (w : IsWhole h f rows) (i
   written_within = subst (λ x. x ≤ END_MARK) (sym written_low) (low_within (streams_of h.plan) (floor_in f A) (floor_in f B) (w.bound A) (w.bound B))
 
   -- the rows that came out and those that lie ready, by what was fed and what may come
-  pub rows_with_tray : (coming : Stream → List Record) → IsComing f coming → rows ++ h.tray ≡ rows_below (low_of h.plan f) h.plan (λ s. fed_of f s ++ coming s)
+  pub rows_with_tray : (coming : Stream → List Record) → IsComing f coming → rows ++ h.tray ≡ rows_below (low_of h.plan f) h.plan (λ s. records_of_feed f s ++ coming s)
   rows_with_tray coming is =
       sym w.shows.rows_is
-      ∙ rows-are_the_plans h.plan w.moment (fed_of f) coming w.shows.sound w.exact (admissible h.plan w.moment (diaries_of h.nodes) f w.shows.sound w.tallied coming is)
-      ∙ ap (λ x. rows_below x h.plan (λ s. fed_of f s ++ coming s)) written_low
+      ∙ rows-are_the_plans h.plan w.moment (records_of_feed f) coming w.shows.sound w.exact (admissible h.plan w.moment (diaries_of h.nodes) f w.shows.sound w.tallied coming is)
+      ∙ ap (λ x. rows_below x h.plan (λ s. records_of_feed f s ++ coming s)) written_low
 
   -- their times are below the last mark
   pub times_below : All (λ r. r.time < END_MARK) h.tray
@@ -141,7 +141,7 @@ module _ (h : HandView) (f : Fed) (rows : List Record) (w : IsWhole h f rows) (i
 
 -- the rows of a hand at rest are the plan's below the low watermark, whatever may come
 pub rested_rows : (h : HandView) (f : Fed) (rows : List Record) → IsRested h f rows → (coming : Stream → List Record) → IsComing f coming
-    → rows ≡ rows_below (low_of h.plan f) h.plan (λ s. fed_of f s ++ coming s)
+    → rows ≡ rows_below (low_of h.plan f) h.plan (λ s. records_of_feed f s ++ coming s)
 rested_rows h f rows r coming is =
     sym (ap (λ l. rows ++ l) r.none_ready ∙ append-nil rows) ∙ rows_with_tray h f rows r.whole r.idle coming is
 

@@ -15,14 +15,14 @@ use Rattle.sb_pipeline.specs.Plans.{IsPlan}
 use Rattle.sb_core.specs.declared.event.Event.{Event}
 use Rattle.sb_core.specs.declared.event.Event.TheVariants.{Arrive, Seal}
 use Rattle.sb_core.specs.Exactness.{IsExact}
-use Rattle.sb_core.specs.Laws.{fed_after, fed_by}
+use Rattle.sb_core.specs.Laws.{records_fed_after, records_fed_by}
 use Rattle.sb_core.specs.Moments.{first}
 use Rattle.sb_core.proofs.sound.AfterSound.{runs-keep}
 use Rattle.sb_core.proofs.sound.FirstMoment.{runs-are_sound}
 use Rattle.sb_tally.specs.Keeping.{feed_by, no_feed, one_more_of}
 use Rattle.sb_tally.specs.Tally.{Feed, IsTallied}
 use Rattle.sb_tally.specs.Tally as tally
-use Rattle.sb_tally.specs.Whole.{as_fed}
+use Rattle.sb_tally.specs.Whole.{fed_bundle}
 use Rattle.sb_tally.proofs.EventsKeep.{runs-keep_tally}
 use Rattle.sb_tally.proofs.First.{first-is_tallied}
 use Rattle.sb_hand.specs.declared.did.Did.{Did}
@@ -33,7 +33,7 @@ use Rattle.sb_hand.specs.Runs.{bundle_events}
 use Rattle.sb_hand.specs.Showing.{Does, Stands, diaries_of, settings_of}
 use Rattle.sb_hand.specs.Stepping.{Steps}
 use Rattle.sb_hand.proofs.FeedingNothing.{bundles-feed_nothing, closings-feed_nothing}
-use Rattle.sb_feed.specs.Feeds.{Fed, bundles_in, fed_of, floor_in, marks_in, nothing_fed, with_bundle, with_mark}
+use Rattle.sb_feed.specs.Feeds.{Fed, bundles_in, records_of_feed, floor_in, marks_in, nothing_fed, with_bundle, with_mark}
 use Rattle.sb_run.specs.Rested.{HasSameSetting, IsWhole, feed_of}
 
 -- the hand with other nodes and another tray
@@ -49,11 +49,11 @@ same_but h n plan bundle pending spent =
 whole-then : (h : HandView) (nodes : List NodeState) (tray added : List Record) (events : List Event) (f g : Fed) (rows : List Record)
     → IsWhole h f rows → settings_of nodes ≡ settings_of h.nodes → tray ≡ h.tray ++ added
     → Does h.plan h.bundle events h.nodes [] nodes [] added
-    → fed_by events (fed_of f) ≡ fed_of g → feed_by events (feed_of f) ≡ feed_of g → ((s : Stream) → floor_in g s ≤ END_MARK)
+    → records_fed_by events (records_of_feed f) ≡ records_of_feed g → feed_by events (feed_of f) ≡ feed_of g → ((s : Stream) → floor_in g s ≤ END_MARK)
     → IsWhole (with_nodes nodes tray h) g rows
 whole-then h nodes tray added events f g rows w settings is_tray does fed feed bound =
     let r = does (rows ++ h.tray) w.moment w.shows in
-    let k = runs-keep h.plan w.is_plan events w.moment r.later (fed_of f) r.runs w.shows.sound w.exact in
+    let k = runs-keep h.plan w.is_plan events w.moment r.later (records_of_feed f) r.runs w.shows.sound w.exact in
     let t = runs-keep_tally h.plan w.is_plan events w.moment r.later (diaries_of h.nodes) (feed_of f) r.runs w.shows.sound w.tallied in
     record {
       is_plan = w.is_plan;
@@ -75,11 +75,11 @@ pub whole-stepped : (h n : HandView) (node : ℕ) (what : Did) (f : Fed) (rows :
 whole-stepped h n node did.Bundle f rows s is same w =
     let none = bundles-feed_nothing node s.0 s.2.number s.2.gave in
     subst (λ x. IsWhole x f rows) (same_but h n same.plan same.bundle same.pending (is ∙ sym w.unspent))
-    (whole-then h n.nodes n.tray [] (bundle_events node s.0 s.2.number s.2.gave) f f rows w (same.settings is) (s.3 ∙ sym (append-nil h.tray)) s.2.does (none.fed (fed_of f)) (none.feed (feed_of f)) w.bound)
+    (whole-then h n.nodes n.tray [] (bundle_events node s.0 s.2.number s.2.gave) f f rows w (same.settings is) (s.3 ∙ sym (append-nil h.tray)) s.2.does (none.fed (records_of_feed f)) (none.feed (feed_of f)) w.bound)
 whole-stepped h n node did.Closing f rows s is same w =
     let none = closings-feed_nothing h.plan node s.0 s.2.events s.2.are in
     subst (λ x. IsWhole x f rows) (same_but h n same.plan same.bundle same.pending (is ∙ sym w.unspent))
-    (whole-then h n.nodes n.tray s.2.added s.2.events f f rows w (same.settings is) s.2.tray_is s.2.does (none.fed (fed_of f)) (none.feed (feed_of f)) w.bound)
+    (whole-then h n.nodes n.tray s.2.added s.2.events f f rows w (same.settings is) s.2.tray_is s.2.does (none.fed (records_of_feed f)) (none.feed (feed_of f)) w.bound)
 whole-stepped h n node did.Nothing f rows s is same w =
     let equal : h ≡ with_nodes n.nodes n.tray h = λ i. record h { nodes = sym s.1 i; tray = sym s.2 i } in
     subst (λ x. IsWhole x f rows) (equal ∙ same_but h n same.plan same.bundle same.pending (is ∙ sym w.unspent)) w
@@ -90,7 +90,7 @@ one_more l b =
     ap (λ x. records_in_order (parts_of l) ++ x) (sym (append-nil b.records))
     ∙ sym (ap records_in_order (map-append (λ (c : Bundle). c.records) l (b ∷ [])) ∙ flat_map-append (λ p. p) (parts_of l) (b.records ∷ []))
 
-fed-arrives : (s : Stream) (b : Bundle) (f : Fed) (u : Stream) → fed_after (Arrive s b.records) (fed_of f) u ≡ fed_of (with_bundle s b f) u
+fed-arrives : (s : Stream) (b : Bundle) (f : Fed) (u : Stream) → records_fed_after (Arrive s b.records) (records_of_feed f) u ≡ records_of_feed (with_bundle s b f) u
 fed-arrives A b f A = one_more f.bundles_a b
 fed-arrives A b f B = refl
 fed-arrives B b f A = refl
@@ -102,11 +102,11 @@ feed-arrives s b f epoch = λ i. record { bundles = λ u. bundles s epoch u i; m
     was : (n : ℕ) → tally.Fed
     was n = record { epoch = n; records = b.records }
 
-    more : (l : List Bundle) (n : ℕ) → b.epoch ≡ n → map as_fed l ++ was n ∷ [] ≡ map as_fed (l ++ b ∷ [])
-    more l n e = ap (λ n. map as_fed l ++ was n ∷ []) (sym e) ∙ sym (map-append as_fed l (b ∷ []))
+    more : (l : List Bundle) (n : ℕ) → b.epoch ≡ n → map fed_bundle l ++ was n ∷ [] ≡ map fed_bundle (l ++ b ∷ [])
+    more l n e = ap (λ n. map fed_bundle l ++ was n ∷ []) (sym e) ∙ sym (map-append fed_bundle l (b ∷ []))
 
     bundles : (s : Stream) → b.epoch ≡ length (marks_in f s) → (u : Stream)
-        → one_more_of s (was (length (marks_in f s))) (λ v. map as_fed (bundles_in f v)) u ≡ map as_fed (bundles_in (with_bundle s b f) u)
+        → one_more_of s (was (length (marks_in f s))) (λ v. map fed_bundle (bundles_in f v)) u ≡ map fed_bundle (bundles_in (with_bundle s b f) u)
     bundles A e A = more f.bundles_a (length f.marks_a) e
     bundles A e B = refl
     bundles B e A = refl
@@ -137,7 +137,7 @@ whole-arrived h n s b f rows does settings rest epoch w =
     (whole-then h n.nodes h.tray [] (Arrive s b.records ∷ []) f (with_bundle s b f) rows w settings (sym (append-nil h.tray)) does (λ i u. fed-arrives s b f u i) (feed-arrives s b f epoch) (floor-arrives s b f w.bound))
 
 -- a watermark of a stream comes
-fed-seals : (s : Stream) (t : ℕ) (f : Fed) (u : Stream) → fed_of f u ≡ fed_of (with_mark s t f) u
+fed-seals : (s : Stream) (t : ℕ) (f : Fed) (u : Stream) → records_of_feed f u ≡ records_of_feed (with_mark s t f) u
 fed-seals A t f A = refl
 fed-seals A t f B = refl
 fed-seals B t f A = refl
@@ -146,7 +146,7 @@ fed-seals B t f B = refl
 pub feed-seals : (s : Stream) (t : ℕ) (f : Fed) → feed_by (Seal s t ∷ []) (feed_of f) ≡ feed_of (with_mark s t f)
 feed-seals s t f = λ i. record { bundles = λ u. bundles s u i; marks = λ u. marks s u i; drained = 0 }
   where
-    bundles : (s u : Stream) → map as_fed (bundles_in f u) ≡ map as_fed (bundles_in (with_mark s t f) u)
+    bundles : (s u : Stream) → map fed_bundle (bundles_in f u) ≡ map fed_bundle (bundles_in (with_mark s t f) u)
     bundles A A = refl
     bundles A B = refl
     bundles B A = refl
@@ -207,17 +207,17 @@ whole-new plan is_plan bundle pending keeps h some most some_bundles new =
       settings = new.settings ∙ (λ i. settings_at keeps (sym new.pending_is i) (sym new.plan_is i));
       moment = first plan bundle;
       shows = new.shows;
-      exact = subst (λ p. IsExact p (first plan bundle) (fed_of nothing_fed)) (sym new.plan_is) (subst (IsExact plan (first plan bundle)) (λ i u. none u i) exact);
+      exact = subst (λ p. IsExact p (first plan bundle) (records_of_feed nothing_fed)) (sym new.plan_is) (subst (IsExact plan (first plan bundle)) (λ i u. none u i) exact);
       tallied = subst (λ p. IsTallied p (first plan bundle) (diaries_of h.nodes) (feed_of nothing_fed)) (sym new.plan_is)
           (subst (λ x. IsTallied plan (first plan bundle) (diaries_of h.nodes) x) (λ i. record { bundles = λ u. no_bundles u i; marks = λ u. no_marks u i; drained = 0 }) tallied2);
       bound = λ u. none_passed u;
     }
   where
-    none : (u : Stream) → [] ≡ fed_of nothing_fed u
+    none : (u : Stream) → [] ≡ records_of_feed nothing_fed u
     none A = refl
     none B = refl
 
-    no_bundles : (u : Stream) → [] ≡ map as_fed (bundles_in nothing_fed u)
+    no_bundles : (u : Stream) → [] ≡ map fed_bundle (bundles_in nothing_fed u)
     no_bundles A = refl
     no_bundles B = refl
 

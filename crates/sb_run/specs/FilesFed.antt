@@ -14,7 +14,7 @@ use Rattle.sb_feed.specs.declared.cutters.Cutters.{Cutters}
 use Rattle.sb_feed.specs.declared.give.GiveStop.{GiveStop}
 use Rattle.sb_feed.specs.Due.{AreFirstDropped}
 use Rattle.sb_feed.specs.FedByItems.{IsFedBy, end_items}
-use Rattle.sb_feed.specs.Feeds.{AreRowsSoFar, Fed, IsFrom, fed_of, floor_in}
+use Rattle.sb_feed.specs.Feeds.{AreRowsSoFar, Fed, IsFrom, records_of_feed, floor_in}
 use Rattle.sb_feed.specs.Gives.{GivesOut, TapsAt}
 use Rattle.sb_feeds.specs.declared.fed.Fed.{Fed as AValue}
 use Rattle.sb_feeds.specs.Fed.{has_stop}
@@ -24,7 +24,7 @@ use Rattle.sb_run.specs.Pops.{AreMerged, as_stop, files_stop_if, stop_among, ite
 -- what was fed of the items taken of each stream, and what was not yet. Behind a stop no more is taken
 pub record CoversTaken (streams : Streams) (values : Stream → List AValue) (f : Fed) : Type 0 where
   pub rest : Stream → List Record
-  pub are : (s : Stream) → fed_of f s ++ rest s ≡ records_of s (items_taken streams s (values s))
+  pub are : (s : Stream) → records_of_feed f s ++ rest s ≡ records_of s (items_taken streams s (values s))
   pub coming : (s : Stream) → AllByRecursion (IsFrom (floor_in f s)) (rest s)
   pub floors : (s : Stream)
       → (floor_in f s ≤ last_watermark s (items_taken streams s (values s))) ⊎ (has_stop (values s) ≡ true)

@@ -7,8 +7,8 @@ use Rattle.sb_record.specs.declared.item.Streams.{Streams}
 use Rattle.sb_record.specs.declared.key.Keys.{Keys}
 use Rattle.sb_record.specs.Intake.{first_progress}
 use Rattle.sb_feeds.specs.declared.ends.FeedDone.{FeedDone}
-use Rattle.sb_feeds.specs.Ends.{fed_by, received_by, ring_in, ring_of, ring_out, sent_by}
-use Rattle.sb_feeds.specs.Fed.{IsNew, fed_by_file}
+use Rattle.sb_feeds.specs.Ends.{values_fed, values_received, ring_in, ring_of, ring_out, values_sent}
+use Rattle.sb_feeds.specs.Fed.{IsNew, values_of_file}
 use Rattle.sb_run.specs.declared.files.inlet.Inlet.{Inlet}
 use Rattle.sb_run.specs.declared.files.inlets.Inlets.{Inlets}
 use Rattle.sb_run.specs.declared.files.reading.FilePart.{FilePart}
@@ -22,14 +22,14 @@ pub record IsNewPart (streams : Streams) (late : LatePolicy) (keys : Keys) (byte
     : Type 0 where
   pub bytes_are : part.bytes.items ≡ bytes
   pub intake : part.intake ≡ first_progress streams 0 late keys
-  pub nothing_sent : sent_by part.out ≡ []
+  pub nothing_sent : values_sent part.out ≡ []
 
 -- the file of a stream and the receiving end of its ring, before the first value
 pub record IsOpened (streams : Streams) (late : LatePolicy) (keys : Keys) (s : Stream) (bytes : List ℕ)
     (part : FilePart) (inlet : Inlet) : Type 0 where
   pub part_is : IsNewPart (stream_alone s streams) late keys bytes part
   pub inlet_is : IsInlet streams s inlet
-  pub nothing_received : received_by inlet.inward ≡ []
+  pub nothing_received : values_received inlet.inward ≡ []
   pub ring : ring_in inlet.inward ≡ ring_out part.out
 
 -- both of them
@@ -42,13 +42,13 @@ pub record AreOpened (streams : Streams) (late : LatePolicy) (keys : Keys) (a b 
 pub record AreNew (files : Files) : Type 0 where
   pub new_a : IsNew files.a.intake
   pub new_b : IsNew files.b.intake
-  pub none_a : sent_by files.a.out ≡ []
-  pub none_b : sent_by files.b.out ≡ []
+  pub none_a : values_sent files.a.out ≡ []
+  pub none_b : values_sent files.b.out ≡ []
 
 -- the file was fed whole
 pub record IsFedWhole (part : FilePart) (done : FeedDone) : Type 0 where
   pub ring : ring_of done ≡ ring_out part.out
-  pub fed : fed_by done ≡ fed_by_file part.intake part.bytes.items
+  pub fed : values_fed done ≡ values_of_file part.intake part.bytes.items
 
 -- both were
 abbrev pub AreFedWhole : Files → FilesDone → Type 0

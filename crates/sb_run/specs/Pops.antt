@@ -15,7 +15,7 @@ use Rattle.sb_feeds.specs.declared.fed.Fed.{Fed}
 use Rattle.sb_feeds.specs.declared.fed.Fed.TheVariants as fed
 use Rattle.sb_feeds.specs.declared.fed.FeedStop.{FeedStop}
 use Rattle.sb_feeds.specs.declared.fed.FeedStop.TheVariants as feed_stop
-use Rattle.sb_feeds.specs.Ends.{received_by}
+use Rattle.sb_feeds.specs.Ends.{values_received}
 use Rattle.sb_run.specs.declared.files.TheConstants.{MAX_FILE_LENGTH}
 use Rattle.sb_run.specs.declared.files.inlet.Inlet.{Inlet}
 use Rattle.sb_run.specs.declared.files.inlets.Inlets.{Inlets}
@@ -66,13 +66,17 @@ stop_among [] = None
 stop_among (fed.Item i ∷ values) = stop_among values
 stop_among (fed.Stop stop ∷ values) = Some stop
 
+-- what was taken of the values that came out of a stream's ring
+abbrev pub items_of_inlet : Streams → Stream → Inlet → List Item
+items_of_inlet streams s i = items_taken streams s (values_received i.inward)
+
 -- the receiving end of a stream's ring says what was taken of the values so far, and which stop is among them
 pub record IsInlet (streams : Streams) (s : Stream) (i : Inlet) : Type 0 where
   pub stream : i.stream ≡ s
   pub used : i.used ≡ uses streams s
-  pub mark : i.mark ≡ last_watermark s (items_taken streams s (received_by i.inward))
-  pub count : i.count ≡ length (items_taken streams s (received_by i.inward))
-  pub stop : i.stop ≡ stop_among (received_by i.inward)
+  pub mark : i.mark ≡ last_watermark s (items_of_inlet streams s i)
+  pub count : i.count ≡ length (items_of_inlet streams s i)
+  pub stop : i.stop ≡ stop_among (values_received i.inward)
 
 pub record AreInlets (streams : Streams) (i : Inlets) : Type 0 where
   pub of_a : IsInlet streams A i.a
@@ -80,18 +84,17 @@ pub record AreInlets (streams : Streams) (i : Inlets) : Type 0 where
 
 -- the values that came out of each ring so far
 abbrev pub values_of : Inlets → Stream → List Fed
-values_of i = by_stream (received_by i.a.inward) (received_by i.b.inward)
+values_of i = by_stream (values_received i.a.inward) (values_received i.b.inward)
 
 -- the item was taken of a stream's ring, or none was
 abbrev pub PopsOne : Streams → Stream → Inlet → Inlet → Option Item → Type 0
 PopsOne streams s old new None =
-    IsInlet streams s new
-    × (items_taken streams s (received_by new.inward) ≡ items_taken streams s (received_by old.inward))
+    IsInlet streams s new × (items_of_inlet streams s new ≡ items_of_inlet streams s old)
 PopsOne streams s old new (Some i) =
     IsInlet streams s new
-    × (items_taken streams s (received_by new.inward) ≡ items_taken streams s (received_by old.inward) ++ i ∷ [])
-    × (is_next s (uses streams s) (last_watermark s (items_taken streams s (received_by old.inward)))
-    (length (items_taken streams s (received_by old.inward))) i ≡ true)
+    × (items_of_inlet streams s new ≡ items_of_inlet streams s old ++ i ∷ [])
+    × (is_next s (uses streams s) (last_watermark s (items_of_inlet streams s old))
+    (length (items_of_inlet streams s old)) i ≡ true)
 
 -- the other of the two streams
 abbrev pub other_than : Stream → Stream

@@ -7,15 +7,15 @@ use Rattle.sb_pipeline.specs.Plans.{IsPlan}
 use Rattle.sb_core.specs.declared.moment.Moment.{Moment}
 use Rattle.sb_core.specs.Exactness.{IsExact}
 use Rattle.sb_tally.specs.Tally.{Feed, IsTallied}
-use Rattle.sb_tally.specs.Whole.{as_fed}
+use Rattle.sb_tally.specs.Whole.{fed_bundle}
 use Rattle.sb_hand.specs.HandLaws.{AreIdle}
 use Rattle.sb_hand.specs.Hands.{HandView, Shows, settings_at}
 use Rattle.sb_hand.specs.Showing.{diaries_of, settings_of}
-use Rattle.sb_feed.specs.Feeds.{Fed, bundles_in, fed_of, floor_in, marks_in}
+use Rattle.sb_feed.specs.Feeds.{Fed, bundles_in, records_of_feed, floor_in, marks_in}
 
 -- what was fed, as the tally counts it: rows that were drained are rows of the moment still, so none counts as drained
 abbrev pub feed_of : Fed → Feed
-feed_of f = record { bundles = λ s. map as_fed (bundles_in f s); marks = marks_in f; drained = 0 }
+feed_of f = record { bundles = λ s. map fed_bundle (bundles_in f s); marks = marks_in f; drained = 0 }
 
 -- the plan and the sizes are as they were, and what the nodes were made with too, unless the hand is spent
 pub record HasSameSetting (old new : HandView) : Type 0 where
@@ -35,7 +35,7 @@ pub record IsWhole (h : HandView) (f : Fed) (rows : List Record) : Type 0 where
   pub settings : settings_of h.nodes ≡ settings_at keeps h.pending h.plan
   pub moment : Moment
   pub shows : Shows h rows moment
-  pub exact : IsExact h.plan moment (fed_of f)
+  pub exact : IsExact h.plan moment (records_of_feed f)
   pub tallied : IsTallied h.plan moment (diaries_of h.nodes) (feed_of f)
   pub bound : (s : Stream) → floor_in f s ≤ END_MARK
 

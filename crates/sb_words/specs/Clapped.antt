@@ -59,7 +59,8 @@ with_numbers app =
 abbrev pub with_plans : App → App
 with_plans app =
     with_subcommand (with_subcommand (with_subcommand (with_subcommand app (with_options (of_one (codes "run"))).top)
-    (of_one (codes "slow")).top) (with_options (of_two (codes "watch"))).top) (with_options (of_three (codes "feeds"))).top
+    (of_one (codes "slow")).top) (with_options (of_two (codes "watch"))).top)
+    (with_options (of_three (codes "feeds"))).top
 
 -- the command with the subcommands over a plan and a part of its input
 abbrev pub with_parts : App → App

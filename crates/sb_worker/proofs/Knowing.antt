@@ -16,14 +16,14 @@ use Rattle.sb_cascade.specs.declared.pass.CascadePass.{CascadePass}
 use Rattle.sb_cascade.specs.declared.telling.Feed.{Feed}
 use Rattle.sb_cascade.specs.Bringing.{MayArrive, MaySeal}
 use Rattle.sb_cascade.specs.Calls.{IsEmptyHanded, IsFeeder, IsReady, IsSame, hands, plan_of, setting_of}
-use Rattle.sb_cascade.specs.Views.{fed_on, with_bundle, with_mark}
+use Rattle.sb_cascade.specs.Views.{stream_feed, with_bundle, with_mark}
 use Rattle.sb_worker.specs.declared.feeding.BothFed.{BothFed}
 use Rattle.sb_worker.specs.declared.feeding.Fed.{Fed}
 use Rattle.sb_worker.specs.Feeding.{IsFed, IsFeeding, MayBring, MayMark, of_stream, with_fed}
 
 -- a lane with the marks that a feed has of a stream
 abbrev lane_in : Stream → Feed → CoreLane
-lane_in stream f = record empty_lane { marks = (fed_on stream f).marks }
+lane_in stream f = record empty_lane { marks = (stream_feed stream f).marks }
 
 -- what is known of a stream, with the same marks
 fed-same : (stream : Stream) (fed : Fed) (p q : CascadePass) → lane_in stream (hands q).feed ≡ lane_in stream (hands p).feed → IsFed stream fed p → IsFed stream fed q

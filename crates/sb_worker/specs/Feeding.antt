@@ -10,7 +10,7 @@ use Rattle.sb_pipeline.specs.Shapes.{Shape, source}
 use Rattle.sb_core.specs.Lanes.{next_epoch, next_floor}
 use Rattle.sb_cascade.specs.declared.cascade.Cascade.{Cascade}
 use Rattle.sb_cascade.specs.declared.pass.CascadePass.{CascadePass}
-use Rattle.sb_cascade.specs.Bringing.{sealed_by}
+use Rattle.sb_cascade.specs.Bringing.{sealed_lane}
 use Rattle.sb_cascade.specs.Calls.{IsEmptyHanded, IsFeeder, IsReady}
 use Rattle.sb_worker.specs.declared.feeding.Fed.{Fed}
 use Rattle.sb_worker.specs.declared.feeding.BothFed.{BothFed}
@@ -27,8 +27,8 @@ with_fed B fed both = record both { b = fed }
 
 -- the stream's next epoch, and its floor
 pub record IsFed (stream : Stream) (fed : Fed) (p : CascadePass) : Type 0 where
-  pub epoch : fed.epoch ≡ next_epoch (sealed_by stream p)
-  pub floor : fed.floor ≡ next_floor (sealed_by stream p)
+  pub epoch : fed.epoch ≡ next_epoch (sealed_lane stream p)
+  pub floor : fed.floor ≡ next_floor (sealed_lane stream p)
 
 -- the feeder's pass, with nothing in hand, and what it knows of both streams
 pub record IsFeeding (c : Cascade) (both : BothFed) (p : CascadePass) : Type 0 where

@@ -31,7 +31,7 @@ use Rattle.sb_cascade.specs.Doings.{work_of}
 use Rattle.sb_cascade.specs.Found.{IsFound}
 use Rattle.sb_cascade.specs.SharedNodes.{SharedView}
 use Rattle.sb_cascade.specs.Shown.{operator_of}
-use Rattle.sb_cascade.specs.Views.{as_fed, fed_on, held_by}
+use Rattle.sb_cascade.specs.Views.{fed_bundle, stream_feed, held_by}
 use Rattle.sb_cascade.proofs.entered.Begun as begin
 use Rattle.sb_cascade.proofs.lives.Claims.{times_here}
 use Rattle.sb_cascade.proofs.entered.FoundLanes.{lane_in_part, lanes_are, near, part_there}
@@ -58,7 +58,7 @@ module _ (a : Setting) (w : Hands) (k : ℕ) (x : SharedView) (f : IsFound a w k
       }
 
   -- to the feeder the lane of a stream has the marks that it has fed
-  pub marks_fed : w.feed.on ≡ true → (s : Stream) (d : Down) → source a.plan s ≡ Some d → d.node ≡ k → (at : LaneView) → HasLane d.lane at x.own → at.marks ≡ (fed_on s w.feed).marks
+  pub marks_fed : w.feed.on ≡ true → (s : Stream) (d : Down) → source a.plan s ≡ Some d → d.node ≡ k → (at : LaneView) → HasLane d.lane at x.own → at.marks ≡ (stream_feed s w.feed).marks
   marks_fed on s d from here at has =
       let told = (diaries-tell a.plan f.moment f.diaries f.feed f.sound f.tallied k (near a w k x f)).1 d.lane (lane_of at)
       (ap (λ (n : Node). slice_get n.lanes d.lane) (part_there a w k x f) ∙ lane_in_part a w k x f d.lane at has) in
@@ -66,10 +66,10 @@ module _ (a : Setting) (w : Hands) (k : ℕ) (x : SharedView) (f : IsFound a w k
       ∙ sym (f.tallied.sources s d from).marks_are ∙ ap (λ (g : tally.Feed). g.marks s) (f.feed_is on)
 
   -- and as many bundles came into it as the feeder has fed
-  pub bundles_fed : w.feed.on ≡ true → (s : Stream) (d : Down) → source a.plan s ≡ Some d → d.node ≡ k → (at : LaneView) → HasLane d.lane at x.own → at.arrived ≡ length (fed_on s w.feed).bundles
+  pub bundles_fed : w.feed.on ≡ true → (s : Stream) (d : Down) → source a.plan s ≡ Some d → d.node ≡ k → (at : LaneView) → HasLane d.lane at x.own → at.arrived ≡ length (stream_feed s w.feed).bundles
   bundles_fed on s d from here at has =
       let told = (diaries-tell a.plan f.moment f.diaries f.feed f.sound f.tallied k (near a w k x f)).1 d.lane (lane_of at)
       (ap (λ (n : Node). slice_get n.lanes d.lane) (part_there a w k x f) ∙ lane_in_part a w k x f d.lane at has) in
       told.arrived ∙ ap (λ j. length (arrivals d.lane (diary_at f.diaries j))) (sym here)
       ∙ ap (λ (came : List Sized). length came) (sym (f.tallied.sources s d from).bundles_are) ∙ length-map (f.feed.bundles s) tally.size_of
-      ∙ ap (λ (g : tally.Feed). length (g.bundles s)) (f.feed_is on) ∙ length-map (fed_on s w.feed).bundles as_fed
+      ∙ ap (λ (g : tally.Feed). length (g.bundles s)) (f.feed_is on) ∙ length-map (stream_feed s w.feed).bundles fed_bundle

@@ -20,7 +20,7 @@ all-drained a w k x rows on sink told f =
       moment = f.moment;
       diaries = f.diaries;
       sound = f.sound;
-      exact = subst (λ (g : tally.Feed). IsExact a.plan f.moment (tally.fed_of g)) same (f.exact on);
+      exact = subst (λ (g : tally.Feed). IsExact a.plan f.moment (tally.records_of_feed g)) same (f.exact on);
       tallied = subst (IsTallied a.plan f.moment f.diaries) (f.feed_is on ∙ same) f.tallied;
       rows = f.rows on sink ∙ ap (λ l. w.feed.drained ++ l) (sym told);
     }

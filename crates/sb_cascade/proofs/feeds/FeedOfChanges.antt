@@ -17,7 +17,7 @@ use Rattle.sb_cascade.specs.Doings.{doing_of, drained_rows}
 use Rattle.sb_cascade.specs.Linked.{LinksBy}
 use Rattle.sb_cascade.specs.Leavings.{Does, Feeds}
 use Rattle.sb_cascade.specs.SharedNodes.{SharedView}
-use Rattle.sb_cascade.specs.Views.{after, as_fed, fed_on, feed_of, with_bundle, with_drained, with_mark}
+use Rattle.sb_cascade.specs.Views.{after, fed_bundle, stream_feed, feed_of, with_bundle, with_drained, with_mark}
 use Rattle.sb_cascade.proofs.leavings.Acts.{Acts}
 
 -- whether the change is the feeder's alone
@@ -69,14 +69,14 @@ bundle-dry B records f = sym (append-nil f.drained)
 
 -- a bundle more came of the stream, and none of the other
 one-fed : (s t : Stream) (records : List Record) (f : Feed)
-    → map as_fed (fed_on t (with_bundle s records f)).bundles ≡ one_more_of s (record { epoch = length (fed_on s f).marks; records = records }) (λ z. map as_fed (fed_on z f).bundles) t
-one-fed A A records f = map-append as_fed f.a.bundles (record { epoch = length f.a.marks; records = records } ∷ [])
+    → map fed_bundle (stream_feed t (with_bundle s records f)).bundles ≡ one_more_of s (record { epoch = length (stream_feed s f).marks; records = records }) (λ z. map fed_bundle (stream_feed z f).bundles) t
+one-fed A A records f = map-append fed_bundle f.a.bundles (record { epoch = length f.a.marks; records = records } ∷ [])
 one-fed A B records f = refl
 one-fed B A records f = refl
-one-fed B B records f = map-append as_fed f.b.bundles (record { epoch = length f.b.marks; records = records } ∷ [])
+one-fed B B records f = map-append fed_bundle f.b.bundles (record { epoch = length f.b.marks; records = records } ∷ [])
 
 -- the marks are as they were
-same-marks : (s t : Stream) (records : List Record) (f : Feed) → (fed_on t (with_bundle s records f)).marks ≡ (fed_on t f).marks
+same-marks : (s t : Stream) (records : List Record) (f : Feed) → (stream_feed t (with_bundle s records f)).marks ≡ (stream_feed t f).marks
 same-marks A A records f = refl
 same-marks A B records f = refl
 same-marks B A records f = refl
@@ -98,14 +98,14 @@ mark-dry A mark f = sym (append-nil f.drained)
 mark-dry B mark f = sym (append-nil f.drained)
 
 -- the bundles are as they were
-same-bundles : (s t : Stream) (mark : ℕ) (f : Feed) → map as_fed (fed_on t (with_mark s mark f)).bundles ≡ map as_fed (fed_on t f).bundles
+same-bundles : (s t : Stream) (mark : ℕ) (f : Feed) → map fed_bundle (stream_feed t (with_mark s mark f)).bundles ≡ map fed_bundle (stream_feed t f).bundles
 same-bundles A A mark f = refl
 same-bundles A B mark f = refl
 same-bundles B A mark f = refl
 same-bundles B B mark f = refl
 
 -- a mark more came of the stream, and none of the other
-one-mark : (s t : Stream) (mark : ℕ) (f : Feed) → (fed_on t (with_mark s mark f)).marks ≡ one_more_of s mark (λ z. (fed_on z f).marks) t
+one-mark : (s t : Stream) (mark : ℕ) (f : Feed) → (stream_feed t (with_mark s mark f)).marks ≡ one_more_of s mark (λ z. (stream_feed z f).marks) t
 one-mark A A mark f = refl
 one-mark A B mark f = refl
 one-mark B A mark f = refl
@@ -117,13 +117,13 @@ mark-fed s mark f = λ i. record { bundles = λ t. same-bundles s t mark f i; ma
 
 -- ---- rows that are drained
 -- what was fed is as it was
-same-feed : (rows : List Record) (t : Stream) (f : Feed) → fed_on t (with_drained rows f) ≡ fed_on t f
+same-feed : (rows : List Record) (t : Stream) (f : Feed) → stream_feed t (with_drained rows f) ≡ stream_feed t f
 same-feed rows A f = refl
 same-feed rows B f = refl
 
 -- and so it is for the tally
 pub drained-fed : (rows : List Record) (f : Feed) → feed_of (with_drained rows f) ≡ feed_of f
-drained-fed rows f = λ i. record { bundles = λ t. map as_fed (same-feed rows t f i).bundles; marks = λ t. (same-feed rows t f i).marks; drained = 0 }
+drained-fed rows f = λ i. record { bundles = λ t. map fed_bundle (same-feed rows t f i).bundles; marks = λ t. (same-feed rows t f i).marks; drained = 0 }
 
 -- ---- the feeder's changes
 module _ (w : Hands) (k : ℕ) (on : w.feed.on ≡ true) where

@@ -18,7 +18,7 @@ use Rattle.sb_cascade.specs.declared.telling.Hands.{Hands}
 use Rattle.sb_cascade.specs.declared.telling.Setting.{Setting}
 use Rattle.sb_cascade.specs.Found.{IsFound}
 use Rattle.sb_cascade.specs.SharedNodes.{ChangesOwn, SharedView}
-use Rattle.sb_cascade.specs.Views.{fed_on, held_by}
+use Rattle.sb_cascade.specs.Views.{stream_feed, held_by}
 use Rattle.sb_cascade.proofs.leavings.Acts.{Acts}
 use Rattle.sb_cascade.proofs.entered.Found.{marks_fed}
 use Rattle.sb_cascade.proofs.leavings.FreshEvents.{AreInTime, arrives}
@@ -26,7 +26,7 @@ use Rattle.sb_cascade.proofs.leavings.ToldWorks.{not_empty}
 
 -- a lane that was sealed with the marks that were fed of a stream
 abbrev pub lane_by : Stream → Hands → CoreLane
-lane_by s w = record empty_lane { marks = (fed_on s w.feed).marks }
+lane_by s w = record empty_lane { marks = (stream_feed s w.feed).marks }
 
 module _ (a : Setting) (w : Hands) (k : ℕ) (x : SharedView) (f : IsFound a w k x) (on : w.feed.on ≡ true) (s : Stream) (d : Down) (from : source a.plan s ≡ Some d) (here : d.node ≡ k) (at : LaneView) (has : HasLane d.lane at x.own) where
   -- to the feeder the lane of a stream has the next epoch that it knows

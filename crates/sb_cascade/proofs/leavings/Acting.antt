@@ -16,7 +16,7 @@ use Rattle.sb_core.specs.declared.event.Event.{Event}
 use Rattle.sb_core.specs.declared.event.Event.TheVariants as event
 use Rattle.sb_core.specs.Soundness.{IsSound}
 use Rattle.sb_core.specs.Exactness.{IsExact}
-use Rattle.sb_core.specs.Laws.{fed_after}
+use Rattle.sb_core.specs.Laws.{records_fed_after}
 use Rattle.sb_core.specs.Parts.{Part}
 use Rattle.sb_core.proofs.sound.AnyOrder.{held-in_any_order}
 use Rattle.sb_core.proofs.parts.PartsLaw.{parts-keep_sound, held-parts_keep_sound, parts-are_events, held-parts_are_events}
@@ -44,7 +44,7 @@ bundle_more bundles epoch records =
     ∙ sym (flat_map-append (λ (b : tally.Fed). b.records) bundles (record { epoch = epoch; records = records } ∷ []))
 
 -- what the event feeds, as records and as bundles
-fed_same : (e : Event) (feed : tally.Feed) (s : Stream) → fed_after e (tally.fed_of feed) s ≡ tally.fed_of (feed_after e feed) s
+fed_same : (e : Event) (feed : tally.Feed) (s : Stream) → records_fed_after e (tally.records_of_feed feed) s ≡ tally.records_of_feed (feed_after e feed) s
 fed_same (event.Arrive A records) feed A = bundle_more (feed.bundles A) _ records
 fed_same (event.Arrive A records) feed B = refl
 fed_same (event.Arrive B records) feed A = refl
@@ -61,7 +61,7 @@ module _ (a : Setting) where
   -- a moment that is sound, exact for what was fed, and tallies
   pub record IsGood (nodes : List Node) (held : List Held) (rows : List Record) (diaries : List (List DiaryEvent)) (feed : tally.Feed) : Type 0 where
     pub sound : IsSound a.plan (moment_of a.bundle nodes held rows)
-    pub exact : IsExact a.plan (moment_of a.bundle nodes held rows) (tally.fed_of feed)
+    pub exact : IsExact a.plan (moment_of a.bundle nodes held rows) (tally.records_of_feed feed)
     pub tallied : IsTallied a.plan (moment_of a.bundle nodes held rows) diaries feed
 
   -- the order of what is held does not count
@@ -71,7 +71,7 @@ module _ (a : Setting) where
       let m = moment_of a.bundle nodes held rows in
       let law = held-in_any_order a.plan m held' same good.sound in record {
         sound = law.0;
-        exact = law.1 (tally.fed_of feed) good.exact;
+        exact = law.1 (tally.records_of_feed feed) good.exact;
         tallied = tally-in_any_order a.plan m held' diaries feed same good.sound good.tallied;
       }
 
@@ -101,7 +101,7 @@ module _ (a : Setting) where
         subst (λ (l : List Held). IsGood (slice_set nodes k q.node) (l ++ rest) (rows ++ q.rows) (told (Fresh e)) (feed_after e feed)) (sym may.3)
         (record {
           sound = law.0;
-          exact = subst (IsExact a.plan n) (λ i s. fed_same e feed s i) (law.1 (tally.fed_of feed) was.exact);
+          exact = subst (IsExact a.plan n) (λ i s. fed_same e feed s i) (law.1 (tally.records_of_feed feed) was.exact);
           tallied = subst (λ l. IsTallied a.plan n (slice_set diaries k (l ++ lines_by a (Fresh e) node)) (feed_after e feed)) here
               (parts-keep_tally a.plan ok m e k node q diaries feed was.sound was.tallied may.0 at may.2);
         })
@@ -113,7 +113,7 @@ module _ (a : Setting) where
         subst (λ (l : List Held). IsGood (slice_set nodes k q.node) (l ++ rest) (rows ++ q.rows) (told (Of e h)) (feed_after e feed)) (sym may.4)
         (record {
           sound = law.0;
-          exact = subst (IsExact a.plan n) (λ i s. fed_same e feed s i) (law.1 (tally.fed_of feed) was.exact);
+          exact = subst (IsExact a.plan n) (λ i s. fed_same e feed s i) (law.1 (tally.records_of_feed feed) was.exact);
           tallied = subst (λ l. IsTallied a.plan n (slice_set diaries k (l ++ lines_by a (Of e h) node)) (feed_after e feed)) here
               (held-parts_keep_tally a.plan ok m e h rest k node q diaries feed was.sound was.tallied may.1 may.0 at may.3);
         })

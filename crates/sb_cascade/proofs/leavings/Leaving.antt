@@ -36,7 +36,7 @@ use Rattle.sb_cascade.specs.Passing.{is_feeder}
 use Rattle.sb_cascade.specs.SharedNodes.{SharedView}
 use Rattle.sb_cascade.specs.Shown.{AreLater, ShowsMoment, ShowsPart, beginning_of, diaries_in, moment_of, operator_of, settings_in}
 use Rattle.sb_core.specs.Exactness.{IsExact}
-use Rattle.sb_cascade.specs.Views.{after, all_in_hand, fed_of, feed_of, held_by, work_on}
+use Rattle.sb_cascade.specs.Views.{after, all_in_hand, records_of_feed, feed_of, held_by, work_on}
 use Rattle.sb_cascade.proofs.leavings.Acting.{IsGood, acts, in_any_order, is_event_of}
 use Rattle.sb_cascade.specs.LinkedPassing.{place-here}
 use Rattle.sb_cascade.proofs.links.LinksKept.{links-kept}
@@ -117,7 +117,7 @@ module _ (a : Setting) where
         shown = was.2;
         held = refl;
         feed_is = λ on. ap (λ (u : Hands). feed_of u.feed) (is_feeder views r.feeder w id r.first r.others at on);
-        exact = λ on. subst (λ (u : Hands). IsExact a.plan (moment_of a.bundle r.parts (held_by w ++ rest) r.rows) (fed_of u.feed))
+        exact = λ on. subst (λ (u : Hands). IsExact a.plan (moment_of a.bundle r.parts (held_by w ++ rest) r.rows) (records_of_feed u.feed))
             (is_feeder views r.feeder w id r.first r.others at on) good.exact;
         rows = λ on sink. r.tray x (ap (get_elem? states) (sym sink) ∙ here)
             ∙ ap (λ (u : Hands). u.feed.drained ++ x.tray) (is_feeder views r.feeder w id r.first r.others at on);

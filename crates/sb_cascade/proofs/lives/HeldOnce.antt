@@ -24,7 +24,7 @@ use Rattle.sb_cascade.specs.Found.{IsShown}
 use Rattle.sb_cascade.specs.Laws.{EachIsHeldOnce, shown_by}
 use Rattle.sb_cascade.specs.Passing.{is_feeder, pass_first}
 use Rattle.sb_cascade.specs.Shown.{ShowsMoment, diaries_in, moment_of}
-use Rattle.sb_cascade.specs.Views.{all_in_hand, fed_of, feed_of, held_by}
+use Rattle.sb_cascade.specs.Views.{all_in_hand, records_of_feed, feed_of, held_by}
 use Rattle.sb_cascade.proofs.leavings.Acting.{IsGood, in_any_order}
 
 -- the bundles that are out are among those that are there
@@ -115,6 +115,6 @@ shows a id w shelf status states logs views r at =
       diaries = diaries_in states;
       sound = good.sound;
       held = refl;
-      exact = λ on. subst (λ (u : Hands). IsExact a.plan (moment_of a.bundle r.parts (held_by w ++ o.0) r.rows) (fed_of u.feed)) (feeder on) good.exact;
+      exact = λ on. subst (λ (u : Hands). IsExact a.plan (moment_of a.bundle r.parts (held_by w ++ o.0) r.rows) (records_of_feed u.feed)) (feeder on) good.exact;
       tallied = λ on. subst (λ (u : Hands). IsTallied a.plan (moment_of a.bundle r.parts (held_by w ++ o.0) r.rows) (diaries_in states) (feed_of u.feed)) (feeder on) good.tallied;
     }

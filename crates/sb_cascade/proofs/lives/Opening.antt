@@ -43,7 +43,7 @@ use Rattle.sb_cascade.specs.Ends.{fresh_state}
 use Rattle.sb_cascade.specs.SharedNodes.{SharedView, lines_of, owed_lines, owed_in}
 use Rattle.sb_cascade.specs.Shown.{ShowsMoment, ShowsPart, beginning_of, diaries_in, moment_of, settings_in}
 use Rattle.sb_cascade.specs.Shown as shown
-use Rattle.sb_cascade.specs.Views.{all_in_hand, as_fed, fed_on, feed_of, first_hands, work_on}
+use Rattle.sb_cascade.specs.Views.{all_in_hand, fed_bundle, stream_feed, feed_of, first_hands, work_on}
 use Rattle.sb_cascade.specs.Linked.{HasLaneIn}
 use Rattle.sb_cascade.proofs.links.LinkedSteps.{are-empty, bare-linked}
 use Rattle.sb_cascade.proofs.entered.Lookups.{image_at}
@@ -74,12 +74,12 @@ diaries_fresh [] = refl
 diaries_fresh (own ∷ owns) = ap (λ l. own.diary.events ∷ l) (diaries_fresh owns)
 
 -- no bundle came
-no_bundles : (s : Stream) → [] ≡ map as_fed (fed_on s first_hands.feed).bundles
+no_bundles : (s : Stream) → [] ≡ map fed_bundle (stream_feed s first_hands.feed).bundles
 no_bundles A = refl
 no_bundles B = refl
 
 -- no mark came
-no_marks : (s : Stream) → [] ≡ (fed_on s first_hands.feed).marks
+no_marks : (s : Stream) → [] ≡ (stream_feed s first_hands.feed).marks
 no_marks A = refl
 no_marks B = refl
 
@@ -176,7 +176,7 @@ module _ (a : Setting) (h : HandView) (ok : IsPlan a.plan) (new : IsNewHand a.pl
     feeds = refl;
     others = λ j w e. absurd (some-ne-none w (sym e));
     sound = subst (λ l. IsSound a.plan (moment_of a.bundle parts l [])) (sym none_laid) stands.sound;
-    exact = subst (λ (t : List Held × tally.Feed). IsExact a.plan (moment_of a.bundle parts t.0 []) (tally.fed_of t.1)) (λ i. (sym none_laid i, nothing_came i))
+    exact = subst (λ (t : List Held × tally.Feed). IsExact a.plan (moment_of a.bundle parts t.0 []) (tally.records_of_feed t.1)) (λ i. (sym none_laid i, nothing_came i))
         (first-exact a.plan ok a.bundle);
     tallied = subst (λ (t : List Held × (List (List DiaryEvent) × tally.Feed)). IsTallied a.plan (moment_of a.bundle parts t.0 []) t.1.0 t.1.1)
         (λ i. (sym none_laid i, (sym (diaries_fresh h.nodes ∙ new.diaries) i, nothing_came i)))

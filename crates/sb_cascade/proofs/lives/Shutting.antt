@@ -26,7 +26,7 @@ use Rattle.sb_cascade.specs.Doings.{Doing, Quiet, Fresh, Of, Story, doing_of, is
 use Rattle.sb_cascade.specs.Ends.{IsShut}
 use Rattle.sb_cascade.specs.SharedNodes.{SharedView, lines_of}
 use Rattle.sb_cascade.specs.Shown.{AreLater, ShowsMoment, beginning_of, diaries_in, moment_of}
-use Rattle.sb_cascade.specs.Views.{all_in_hand, fed_of, feed_of, held_by, idle_hands, as_list, work_on}
+use Rattle.sb_cascade.specs.Views.{all_in_hand, records_of_feed, feed_of, held_by, idle_hands, as_list, work_on}
 use Rattle.sb_cascade.proofs.links.LinkedSteps.{are-empty, end-linked}
 use Rattle.sb_cascade.proofs.diaries.Replaying.{next}
 
@@ -119,7 +119,7 @@ module _ (a : Setting) (v : View SharedView Change Hands) (states : List SharedV
     listed = (lists v.trace c.7.0.0, lists v.joined c.7.0.1);
     once = once;
     sound = subst (λ (l : List Held). IsSound a.plan (moment_of a.bundle r.parts l r.rows)) out r.sound;
-    exact = subst (λ (t : List Held × Hands). IsExact a.plan (moment_of a.bundle r.parts t.0 r.rows) (fed_of t.1.feed)) (λ i. (out i, feeder i)) r.exact;
+    exact = subst (λ (t : List Held × Hands). IsExact a.plan (moment_of a.bundle r.parts t.0 r.rows) (records_of_feed t.1.feed)) (λ i. (out i, feeder i)) r.exact;
     tallied = subst (λ (t : List Held × Hands). IsTallied a.plan (moment_of a.bundle r.parts t.0 r.rows) (diaries_in states) (feed_of t.1.feed)) (λ i. (out i, feeder i)) r.tallied;
     sane = λ n is low k x e. false_from_ne_true x.spent (λ s. let high = r.spent k x e s in let same : c.0 ≡ n = c.5 n is in omega arith);
     tray = λ x e. r.tray x e ∙ ap (λ (w : Hands). w.feed.drained ++ x.tray) feeder;

@@ -24,7 +24,7 @@ use Rattle.sb_core.specs.Rest.{IsAtRest, RowsAtRest, RowsAtTheEnd}
 use Rattle.sb_core.specs.Bounds.{bound_at}
 use Rattle.sb_core.specs.Holdings.{IsHeld}
 use Rattle.sb_core.specs.Soundness.{AreKeptAt, IsSound}
-use Rattle.sb_core.specs.Laws.{RunsGiveTheRows, fed_by, RowsAreThePlans, RowsAreAll, IsDone}
+use Rattle.sb_core.specs.Laws.{RunsGiveTheRows, records_fed_by, RowsAreThePlans, RowsAreAll, IsDone}
 use Rattle.sb_core.proofs.windows.Groupings.{early_one}
 use Rattle.sb_core.proofs.times.Timely.{zero_early}
 use Rattle.sb_core.proofs.ends.AtRest.{closes-low, from_one}
@@ -71,7 +71,7 @@ rows-are_all plan is_plan m fed sound exact done =
 pub runs-give_the_rows : RunsGiveTheRows
 runs-give_the_rows plan is_plan bundle low high events m h =
     let k = runs-are_sound plan is_plan bundle low high events m h in
-    ((λ coming ok. rows-are_the_plans plan m (fed_by events (λ s. [])) coming k.0 k.1 ok), (λ done. rows-are_all plan is_plan m (fed_by events (λ s. [])) k.0 k.1 done))
+    ((λ coming ok. rows-are_the_plans plan m (records_fed_by events (λ s. [])) coming k.0 k.1 ok), (λ done. rows-are_all plan is_plan m (records_fed_by events (λ s. [])) k.0 k.1 done))
 
 -- ---- at rest
 pub rows-at_rest : RowsAtRest

@@ -33,7 +33,7 @@ use Rattle.sb_core.specs.Bounds.{bound_at}
 use Rattle.sb_core.specs.Closings.{is_pardo}
 use Rattle.sb_core.specs.Holdings.{IsWork, IsHeld, is_unpassed}
 use Rattle.sb_core.proofs.sound.Orderly.{IsLawful}
-use Rattle.sb_core.specs.Laws.{concerns, fed_after}
+use Rattle.sb_core.specs.Laws.{concerns, records_fed_after}
 use Rattle.sb_core.proofs.containers.Lists.{cond_is_some, IsReordered-pulled}
 use Rattle.sb_core.proofs.containers.LaneLaws.{All-pulled}
 use Rattle.sb_core.proofs.exact.Nodes.{node_at-same, node_at-set_same}
@@ -147,12 +147,12 @@ events-carry plan is_plan m later event h lawful after = made-carries plan is_pl
 abbrev EventsKeepExact : Type 0
 EventsKeepExact =
     (plan : Shape) → IsPlan plan → (m later : Moment) (fed : Stream → List Record) (event : Event) → Events.after plan m event ≡ Some later
-    → IsLawful plan m → IsLawful plan later → IsExact plan m fed → IsExact plan later (fed_after event fed)
+    → IsLawful plan m → IsLawful plan later → IsExact plan m fed → IsExact plan later (records_fed_after event fed)
 
 pub events-keep_exact : EventsKeepExact
 events-keep_exact plan is_plan m later fed event h lawful after exact = by_event event (events-carry plan is_plan m later event h lawful after)
   where
-    by_event : (event : Event) → EventCarries plan m later event → IsExact plan later (fed_after event fed)
+    by_event : (event : Event) → EventCarries plan m later event → IsExact plan later (records_fed_after event fed)
     by_event (Arrive A records) c = carried-exact plan m later (Fed A c.0 records) fed (lawful-timely plan m lawful) c.2 exact
     by_event (Arrive B records) c = carried-exact plan m later (Fed B c.0 records) fed (lawful-timely plan m lawful) c.2 exact
     by_event (Seal stream mark) c = carried-exact plan m later Nothing fed (lawful-timely plan m lawful) c exact

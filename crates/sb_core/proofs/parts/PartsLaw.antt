@@ -11,7 +11,7 @@ use Rattle.sb_pipeline.specs.declared.transform.Down.{Down}
 use Rattle.sb_core.specs.declared.held.Held.TheVariants.{Work, Close}
 use Rattle.sb_core.specs.declared.event.Event.TheVariants.{Deliver}
 use Rattle.sb_core.specs.Events.{concerns, with_part}
-use Rattle.sb_core.specs.Laws.{fed_after}
+use Rattle.sb_core.specs.Laws.{records_fed_after}
 use Rattle.sb_core.specs.Moments.{with_held}
 use Rattle.sb_core.specs.Parts.{PartsKeepSound, HeldPartsKeepSound, PartsAreEvents, EventsAreParts}
 use Rattle.sb_core.proofs.parts.ByParts.{apart, part-is_event}
@@ -49,11 +49,11 @@ parts-keep_sound plan is_plan m event k node p sound named at h =
     let e = parts-are_events plan m event k node p sound named at h in
     let s = events-keep_sound plan is_plan m (with_part k m.held m p) event e sound in
     let o = held-in_any_order plan (with_part k m.held m p) (p.held ++ m.held) (IsPermutation-append_comm m.held p.held) s.0 in
-    (o.0, λ fed exact. o.1 (fed_after event fed) (s.1 fed exact))
+    (o.0, λ fed exact. o.1 (records_fed_after event fed) (s.1 fed exact))
 
 pub held-parts_keep_sound : HeldPartsKeepSound
 held-parts_keep_sound plan is_plan m event h rest k node p sound c named at e =
     let z = held-parts_are_events plan m event h rest k node p c named at e in
     let s = events-keep_sound plan is_plan (with_held (h ∷ rest) m) (with_part k rest m p) event z sound in
     let o = held-in_any_order plan (with_part k rest m p) (p.held ++ rest) (IsPermutation-append_comm rest p.held) s.0 in
-    (o.0, λ fed exact. o.1 (fed_after event fed) (s.1 fed exact))
+    (o.0, λ fed exact. o.1 (records_fed_after event fed) (s.1 fed exact))

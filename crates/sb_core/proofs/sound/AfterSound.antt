@@ -18,7 +18,7 @@ use Rattle.sb_record.specs.Reading.{◌>>=◌}
 use Rattle.sb_core.specs.Exactness.{IsExact}
 use Rattle.sb_core.specs.Holdings.{IsHeld, IsCloseOf}
 use Rattle.sb_core.specs.Soundness.{IsSound}
-use Rattle.sb_core.specs.Laws.{EventsKeepSound, fed_after, fed_by}
+use Rattle.sb_core.specs.Laws.{EventsKeepSound, records_fed_after, records_fed_by}
 use Rattle.sb_core.proofs.containers.Lists.{IsReordered-pulled}
 use Rattle.sb_core.proofs.containers.LaneLaws.{All-pulled}
 use Rattle.sb_core.proofs.exact.AfterExact.{events-keep_exact}
@@ -63,9 +63,9 @@ events-keep_sound plan is_plan m later event h sound =
     let then = made-sound plan is_plan m later event (sym (after-made plan m (lawful_of sound) event) ∙ h) sound in (then, λ fed exact. events-keep_exact plan is_plan m later fed event h (lawful_of sound) (lawful_of then) exact)
 
 -- ---- a list of events
-pub runs-keep : (plan : Shape) → IsPlan plan → (events : List Event) (m later : Moment) (fed : Stream → List Record) → Events.run plan events m ≡ Some later → IsSound plan m → IsExact plan m fed → IsSound plan later × IsExact plan later (fed_by events fed)
+pub runs-keep : (plan : Shape) → IsPlan plan → (events : List Event) (m later : Moment) (fed : Stream → List Record) → Events.run plan events m ≡ Some later → IsSound plan m → IsExact plan m fed → IsSound plan later × IsExact plan later (records_fed_by events fed)
 runs-keep plan is_plan [] m later fed h sound exact = let k : m ≡ later = same_Some m later h in subst (λ m. IsSound plan m × IsExact plan m fed) k (sound, exact)
 runs-keep plan is_plan (e ∷ es) m later fed h sound exact =
     let a = bind_some (Events.after plan m e) (Events.run plan es) later h in
     let k = events-keep_sound plan is_plan m a.0 e a.1 sound in
-    runs-keep plan is_plan es a.0 later (fed_after e fed) a.2 k.0 (k.1 fed exact)
+    runs-keep plan is_plan es a.0 later (records_fed_after e fed) a.2 k.0 (k.1 fed exact)

@@ -23,7 +23,7 @@ use Rattle.sb_core.specs.Exactness.{waiting_from, work_in, rows_left_in, rest, g
 use Rattle.sb_record.specs.declared.element.KeptRec.{KeptRec}
 use Rattle.sb_core.specs.Holdings.{IsHeld, is_unpassed, IsCloseOf}
 use Rattle.sb_core.specs.Soundness.{IsOpenBelow, IsSound}
-use Rattle.sb_core.specs.Laws.{NewAtTheHead, IdleByItsLanes, takes_up, HeldInAnyOrder, EventsAtTheHead, concerns, remains_of, fed_after}
+use Rattle.sb_core.specs.Laws.{NewAtTheHead, IdleByItsLanes, takes_up, HeldInAnyOrder, EventsAtTheHead, concerns, remains_of, records_fed_after}
 use Rattle.sb_record.proofs.Sums.{IsReordered, IsReordered-flat_map}
 use Rattle.sb_core.proofs.exact.Gives.{gives-less, sum_by-rest}
 use Rattle.sb_core.proofs.exact.Exactly.{Carries, carries-same, carried-exact}
@@ -115,7 +115,7 @@ pub held-in_any_order : HeldInAnyOrder
 held-in_any_order plan m held same sound = (sound-permuted plan m held same sound, λ fed exact. exact-permuted plan m held same (lawful_of sound) fed exact)
 
 -- only an arrival feeds
-fed-same : (event : Event) (fed : Stream → List Record) → ((s : Stream) (records : List Record) → event ≢ Arrive s records) → fed_after event fed ≡ fed
+fed-same : (event : Event) (fed : Stream → List Record) → ((s : Stream) (records : List Record) → event ≢ Arrive s records) → records_fed_after event fed ≡ fed
 fed-same (Arrive A records) fed no_arrival = absurd (no_arrival A records refl)
 fed-same (Arrive B records) fed no_arrival = absurd (no_arrival B records refl)
 fed-same (Seal stream mark) fed no_arrival = refl

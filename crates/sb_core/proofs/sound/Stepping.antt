@@ -14,7 +14,7 @@ use Rattle.sb_core.specs.declared.machine.StepStop.{StepStop}
 use Rattle.sb_core.specs.declared.machine.StepStop.TheVariants.{NotNow, Memory}
 use Rattle.sb_core.specs.Events
 use Rattle.sb_core.specs.Exactness.{IsExact}
-use Rattle.sb_core.specs.Laws.{fed_after, fed_by}
+use Rattle.sb_core.specs.Laws.{records_fed_after, records_fed_by}
 use Rattle.sb_core.specs.Soundness.{IsSound}
 use Rattle.sb_core.specs.Steps.{Becomes}
 use Rattle.sb_core.proofs.sound.AfterSound.{events-keep_sound}
@@ -26,7 +26,7 @@ module _ (plan : Shape) (is_plan : IsPlan plan) (old new : Moment) (event : Even
   step-sound (Err Memory) b = subst (IsSound plan) (sym b) sound
 
   pub step-exact : {T : Type 0} (r : Result T StepStop) → Becomes (Events.after plan old event) old new r
-      → OnOk r ((fed : Stream → List Record) → IsExact plan old fed → IsExact plan new (fed_after event fed))
+      → OnOk r ((fed : Stream → List Record) → IsExact plan old fed → IsExact plan new (records_fed_after event fed))
   step-exact (Ok x) b = (events-keep_sound plan is_plan old new event b sound).1
   step-exact (Err stop) b = tt
 
@@ -38,6 +38,6 @@ run-more plan (e ∷ events) event old new next done more =
     let a = bind_some (Events.after plan old e) (Events.run plan events) new done in
     ap (λ (o : Option Moment). o >>= Events.run plan (events ++ event ∷ [])) a.1 ∙ run-more plan events event a.0 new next a.2 more
 
-pub fed_by-more : (events : List Event) (event : Event) (fed : Stream → List Record) → fed_by (events ++ event ∷ []) fed ≡ fed_after event (fed_by events fed)
-fed_by-more [] event fed = refl
-fed_by-more (e ∷ events) event fed = fed_by-more events event (fed_after e fed)
+pub records_fed_by-more : (events : List Event) (event : Event) (fed : Stream → List Record) → records_fed_by (events ++ event ∷ []) fed ≡ records_fed_after event (records_fed_by events fed)
+records_fed_by-more [] event fed = refl
+records_fed_by-more (e ∷ events) event fed = records_fed_by-more events event (records_fed_after e fed)

@@ -4,7 +4,7 @@ ghost use Rattle.std.specs.Prelude.{◌≡◌, ◌++◌, ◌+◌, List, None, tr
 ghost use Rattle.sb_record.specs.declared.item.Stream.{Stream as AStream};
 ghost use Rattle.sb_record.specs.declared.item.Streams.{Streams};
 ghost use Rattle.sb_feeds.specs.declared.fed.Fed.{Fed as AValue};
-ghost use Rattle.sb_feeds.specs.Ends.{received_by, ring_in};
+ghost use Rattle.sb_feeds.specs.Ends.{values_received, ring_in};
 ghost use Rattle.sb_run.specs.Pops.{IsInlet, PopsOne, is_next as spec_is_next, mark_behind as spec_mark_behind};
 
 use crate::files::next::{is_next, mark_behind};
@@ -46,7 +46,8 @@ impl Inlet {
     /// Takes the next item out of the ring, if it gives one that may be taken. Behind the stop the ring is left alone.
     pub(crate) fn pop(&mut self) -> Option<Item>
         ensures ring { ring_in self.new.inward ≡ ring_in self.old.inward }
-        ensures grows { (came : List AValue) × (received_by self.new.inward ≡ received_by self.old.inward ++ came) }
+        ensures grows { (came : List AValue)
+            × (values_received self.new.inward ≡ values_received self.old.inward ++ came) }
         ensures pops { (streams : Streams) (s : AStream) → IsInlet streams s self.old
             → PopsOne streams s self.old self.new result }
     {

@@ -4,7 +4,7 @@ ghost use Rattle.std.specs.Prelude.{◌≡◌, [], true, length, IfOk, OnOk, Som
 ghost use Rattle.std.specs.List.{AllByRecursion};
 ghost use Rattle.std.specs.Thread.{IsSync};
 ghost use mathlib.Core.List.{IsPrefix};
-ghost use Rattle.sb_feeds.specs.Ends.{fed_by, received_by, ring_in, ring_of, ring_out, sent_by};
+ghost use Rattle.sb_feeds.specs.Ends.{values_fed, values_received, ring_in, ring_of, ring_out, values_sent};
 ghost use Rattle.sb_feeds.specs.Fed.{IsNew};
 ghost use Rattle.sb_run.specs.Files.{stream_alone as spec_stream_alone};
 ghost use Rattle.sb_run.specs.FilesRead.{AreFedWhole, AreNew, AreNewOnce, AreOpened, AreReadOnce, IsFedWhole, IsOpened};
@@ -117,7 +117,7 @@ pub(crate) fn open_files(
 // Feeds a file.
 fn feed_part<W: Wait>(rt: &W, part: FilePart) -> FeedDone
     requires new { IsNew part.intake }
-    requires nothing_sent { sent_by part.out ≡ [] }
+    requires nothing_sent { values_sent part.out ≡ [] }
     ensures { IsFedWhole part result }
 {
     let FilePart { bytes, intake, out } = part;
@@ -133,11 +133,11 @@ fn feed_both<W: Threads + Wait + Sync>(rt: &W, files: Files) -> FilesDone
     let (done_a, done_b) = join(
         rt,
         move || -> FeedDone
-            requires { IsNew a.intake × (sent_by a.out ≡ []) }
+            requires { IsNew a.intake × (values_sent a.out ≡ []) }
             ensures { IsFedWhole a result }
         { feed_part(rt, a) },
         move || -> FeedDone
-            requires { IsNew b.intake × (sent_by b.out ≡ []) }
+            requires { IsNew b.intake × (values_sent b.out ≡ []) }
             ensures { IsFedWhole b result }
         { feed_part(rt, b) },
     );
@@ -195,8 +195,8 @@ pub(crate) fn feed_and_help<W: Threads + Wait + Clock + Sync, G: Gate>(
 pub(crate) fn tie_both(inlets: Inlets, done: FilesDone)
     requires ring_a { ring_in inlets.a.inward ≡ ring_of done.a }
     requires ring_b { ring_in inlets.b.inward ≡ ring_of done.b }
-    ensures first_a { IsPrefix (received_by inlets.a.inward) (fed_by done.a) }
-    ensures first_b { IsPrefix (received_by inlets.b.inward) (fed_by done.b) }
+    ensures first_a { IsPrefix (values_received inlets.a.inward) (values_fed done.a) }
+    ensures first_b { IsPrefix (values_received inlets.b.inward) (values_fed done.b) }
 {
     let Inlets { a, b, .. } = inlets;
     let Inlet {
