@@ -14,6 +14,7 @@ use sb_record::{Key, NoMemory, Record};
 use sb_window::KeyedWindow;
 use std::alloc::Global;
 use std::collections::BTreeMap;
+use std::collections::btree_map::Entry;
 
 /// A partial value for each of some keyed windows.
 pub(crate) type Partials = BTreeMap<KeyedWindow, Partial>;
@@ -31,10 +32,10 @@ pub(crate) fn join_at(
         then joined_value (join_values agg) (get keyed_window_cmp partials.old window) (Some partial)
         else get keyed_window_cmp partials.old q)) }
 {
-    match partials.get_mut(&window) {
-        Some(kept) => kept.join(alloc, agg, partial),
-        None => {
-            partials.insert(window, partial)?;
+    match partials.entry(window)? {
+        Entry::Occupied(place) => place.into_mut().join(alloc, agg, partial),
+        Entry::Vacant(place) => {
+            place.insert(partial);
             Ok(())
         }
     }
