@@ -24,7 +24,8 @@ use Rattle.sb_emit.specs.TextLaws.{part_of_more}
 use Rattle.sb_feed.specs.Due.{AreFirstDropped, AreFirstRows, due_rows}
 use Rattle.sb_run.specs.declared.files.two_end.TwoEnd.{TwoEnd}
 use Rattle.sb_run.specs.declared.files.two_end.TwoEnd.TheVariants as two
-use Rattle.sb_run.specs.Files.{by_stream, items_of_file, items_of_files, stream_alone}
+use Rattle.sb_run.specs.Files.{items_of_file, items_of_files, stream_alone}
+use Rattle.sb_slow.specs.Inputs.{by_stream}
 use Rattle.sb_run.specs.TwoEnds.{FilesEndAt, FilesEndEarly, TwoEnds, as_run}
 use Rattle.sb_words.specs.declared.options.Options.{Options}
 use Rattle.sb_cli.specs.declared.late.LateRecords.TheVariants.{OfFiles}

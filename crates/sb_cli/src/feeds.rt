@@ -4,7 +4,7 @@ ghost use Rattle.std.specs.Prelude.{◌≡◌, ◌≢◌, ◌≤◌, ◌<◌, �
 ghost use Rattle.std.specs.Io.KnownBytes.{Keeps};
 ghost use Rattle.sb_outside.specs.Folders.{Load};
 ghost use Rattle.sb_outside.specs.Sinks.{SinkCause};
-ghost use Rattle.sb_run.specs.Files.{by_stream};
+ghost use Rattle.sb_slow.specs.Inputs.{by_stream};
 ghost use Rattle.sb_run.specs.RunEnds as ends;
 ghost use Rattle.sb_run.specs.TwoEnds.{TwoEnds, as_run};
 ghost use Rattle.sb_words.specs.Options.{AreInRange};

@@ -9,11 +9,6 @@ use Rattle.sb_record.specs.Inputs.{Accepted, accepted}
 use Rattle.sb_outside.specs.Lines.{lines}
 use Rattle.sb_pipeline.specs.Shapes.{Shape, streams_of}
 
--- one of each stream
-abbrev pub by_stream : {X : Type 0} → X → X → Stream → X
-by_stream a b A = a
-by_stream a b B = b
-
 -- the stream alone, if it is one of these
 abbrev pub stream_alone : Stream → Streams → Streams
 stream_alone A streams = record { a = streams.a; b = false }

@@ -1,10 +1,8 @@
--- The records of both streams.
-use Rattle.std.specs.Prelude.{List}
-use Rattle.sb_record.specs.declared.item.Record.{Record}
+-- What is there of both streams.
 use Rattle.sb_record.specs.declared.item.Stream.{Stream}
 use Rattle.sb_record.specs.declared.item.Stream.TheVariants.{A, B}
 
--- the records of the stream, where these are those of streams a and b
-abbrev pub by_stream : List Record → List Record → Stream → List Record
+-- that of the stream, of one thing of stream a and one of stream b
+abbrev pub by_stream : {X : Type 0} → X → X → Stream → X
 by_stream a b A = a
 by_stream a b B = b

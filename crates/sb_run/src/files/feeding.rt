@@ -13,7 +13,7 @@ ghost use Rattle.sb_feed.specs.GiveCauses.{GiveCause};
 ghost use Rattle.sb_feed.specs.Takes.{MayEnd, MayTake, TakesOrFails};
 ghost use Rattle.sb_feeds.specs.Ends.{ring_in};
 ghost use Rattle.sb_run.specs.Feeders.{HasFed, IsStill};
-ghost use Rattle.sb_run.specs.Files.{by_stream};
+ghost use Rattle.sb_slow.specs.Inputs.{by_stream};
 ghost use Rattle.sb_run.specs.FilesFed.{FeedsValues};
 ghost use Rattle.sb_run.specs.Pops.{AreInlets, as_stop as spec_as_stop, item_for, values_of};
 

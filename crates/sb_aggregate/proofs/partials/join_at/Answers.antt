@@ -23,10 +23,10 @@ pub returns-in-Occupied : goal.returns-in-Occupied
 returns-in-Occupied c =
     let found : get keyed_window_cmp c.args.partials.now c.args.window ≡ Some c.into_mut.result.now = search rules in
     on_ok_weaker c.join.result
-      (λ joins.
-        let all = put-joined c.args.partials.now c.args.window (map_with_value c.in_ok-place.field-0) c.join.new.self (λ v q. (c.in_ok-place.ensures.update.0 v).0 q) (ap (λ v. joined_value (join_values c.args.agg) v (Some c.args.partial)) found ∙ ap Some (sym joins)) in
-        search (all, rules))
-      c.join.ensures
+    (λ joins.
+    let all = put-joined c.args.partials.now c.args.window (map_with_value c.in_ok-place.field-0) c.join.new.self (λ v q. (c.in_ok-place.ensures.update.0 v).0 q) (ap (λ v. joined_value (join_values c.args.agg) v (Some c.args.partial)) found ∙ ap Some (sym joins)) in
+    search (all, rules))
+    c.join.ensures
 
 pub returns-in-Vacant : goal.returns-in-Vacant
 returns-in-Vacant c =

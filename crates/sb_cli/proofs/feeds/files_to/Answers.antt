@@ -1,6 +1,6 @@
 use Rattle.std.proofs.Common.{◌≡◌, sym, subst}
 use Rattle.sb_run.specs.RunEnds.{OutputCause}
-use Rattle.sb_run.specs.Files.{by_stream}
+use Rattle.sb_slow.specs.Inputs.{by_stream}
 use Rattle.sb_run.specs.TwoEnds.{as_run}
 use Rattle.sb_cli.specs.Answers.{Wrote, WrotePrefix}
 use Rattle.sb_cli.proofs.FilesThrough.{files_through, in_files}
