@@ -12,7 +12,7 @@ use std::alloc::Global;
 
 /// The late records that a run lists, in the order of their lines.
 #[derive(Drop)]
-pub(crate) enum LateRecords {
+pub enum LateRecords {
     /// Those of one input.
     OfInput(Sequence<Dropped>),
     /// Those of two files, file a and file b.
@@ -21,14 +21,14 @@ pub(crate) enum LateRecords {
 
 impl LateRecords {
     /// None.
-    pub fn none(alloc: Global) -> LateRecords
+    pub(crate) fn none(alloc: Global) -> LateRecords
         ensures { result ≡ OfInput [] }
     {
         LateRecords::OfInput(Sequence::new(Vec::new(alloc)))
     }
 
     /// Writes a line for each, and takes no memory for it.
-    pub fn write<N: Sink>(&self, notes: &mut N) -> Result<(), SinkFault>
+    pub(crate) fn write<N: Sink>(&self, notes: &mut N) -> Result<(), SinkFault>
         ensures bytes { WritesAll (N.taken notes.old) (N.taken notes.new) (late_text self.now) result }
         ensures cause { SinkCause (N.sink_state notes.old) (N.sink_state notes.new) result }
     {

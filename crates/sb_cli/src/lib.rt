@@ -26,6 +26,7 @@ mod watching;
 mod work;
 
 pub use command::streambox;
+pub use late::LateRecords;
 pub use resuming::MAX_CHECKPOINT_BYTES;
 pub use status::Status;
 pub use work::WORK_WINDOW;

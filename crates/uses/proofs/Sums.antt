@@ -13,6 +13,7 @@ use Rattle.sb_feed.specs.Due.{due_rows}
 use Rattle.sb_feed.specs.Given.{items_of}
 use Rattle.sb_words.specs.declared.options.Options.{Options}
 use Rattle.sb_cli.specs.Answers.{IsAnswer, IsAnswerOf, ending_with}
+use Rattle.sb_cli.specs.declared.late.LateRecords.{LateRecords}
 use Rattle.sb_cli.specs.Pipelines.{all_rows}
 use Rattle.sb_words.specs.Words.Asked.{Sum}
 use Rattle.sb_cli.specs.declared.status.Status.{Status}
@@ -31,7 +32,7 @@ all_given None text bytes given end = absurd given
 all_given (Some rest) text bytes given end = sym (given ∙ ap (λ l. bytes ++ l) end ∙ append-nil bytes)
 
 -- a sink that was empty has the text of the sums where the run is done
-sums_at_done : (size : ℕ) (options : Options) (text : List ℕ) (folder : Option Files) (left' : Option (List ℕ)) (taken' : List ℕ) (late : _) (diaries : List NodeDiary)
+sums_at_done : (size : ℕ) (options : Options) (text : List ℕ) (folder : Option Files) (left' : Option (List ℕ)) (taken' : List ℕ) (late : LateRecords) (diaries : List NodeDiary)
     → IsAnswer folder (Sum size options) (Some text) left' (Some []) (Some taken') (ending_with Done late diaries) → taken' ≡ text_of (sums_of size text)
 sums_at_done size options text folder left' taken' late diaries (inl none) = absurd none.no_plan
 sums_at_done size options text folder left' taken' late diaries (inr found) =
@@ -46,7 +47,7 @@ sums_at_done size options text folder left' taken' late diaries (inr found) =
     ∙ ap (λ ended. text_of (all_rows plan (accepted_by plan (lines ended given.bytes)).items)) at_end
     ∙ ap (λ bytes. text_of (sums_of size bytes)) all
 
-pub sums_written : (size : ℕ) (options : Options) (text : List ℕ) (folder : Option Files) (left left' : Option (List ℕ)) (taken taken' : List ℕ) (status : Status) (late : _) (diaries : List NodeDiary)
+pub sums_written : (size : ℕ) (options : Options) (text : List ℕ) (folder : Option Files) (left left' : Option (List ℕ)) (taken taken' : List ℕ) (status : Status) (late : LateRecords) (diaries : List NodeDiary)
     → IsAnswer folder (Sum size options) left left' (Some taken) (Some taken') (ending_with status late diaries)
     → left ≡ Some text → taken ≡ [] → status ≡ Done → taken' ≡ text_of (sums_of size text)
 sums_written size options text folder left left' taken taken' status late diaries is told empty done =
