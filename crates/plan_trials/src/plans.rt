@@ -5,12 +5,28 @@ use std::sync::Wait;
 use std::test::Fail;
 use std::thread::Threads;
 use std::time::Clock;
-use trials::{ADS, RUN, Row, Trial, VIEWS, WORKERS, try_by_workers, try_out, try_plan};
+use trials::{
+    ADS, Lines, RUN, Row, Trial, VIEWS, WORKERS, try_by_files, try_by_workers, try_out, try_plan,
+};
 
 /// The words of the plain program.
 const SLOW: &[&str] = &["slow", "p.toml"];
 
-/// Runs a plan with each number of workers, and by the plain program.
+/// Of which streams the lines of a plan are. A join alone takes both.
+fn lines_of(plan: &[u8]) -> Lines {
+    let mut lines = Lines::OfA;
+    for line in plan.split(|byte| *byte == b'\n') {
+        if line.starts_with(b"with") {
+            return Lines::OfBoth;
+        }
+        if line == b"from = \"b\"" {
+            lines = Lines::OfB;
+        }
+    }
+    lines
+}
+
+/// Runs a plan with each number of workers, by the plain program, and over two files if its lines are of one stream.
 pub(crate) fn check_plan(
     rt: &(impl AllocGlobal + Threads + Wait + Clock + Sync),
     trial: &Trial,
@@ -20,24 +36,27 @@ pub(crate) fn check_plan(
         words: SLOW,
         ..*trial
     };
-    try_out(rt, &slow, None)
+    try_out(rt, &slow, None)?;
+    try_by_files(rt, trial, lines_of(trial.plan), trial.plan, trial.rows)
 }
 
-/// Runs a trial with another plan with each number of workers, and by the plain program: it has to leave these rows.
+/// The same of a trial with another plan: it has to leave these rows.
 pub(crate) fn check_made(
     rt: &(impl AllocGlobal + Threads + Wait + Clock + Sync),
     trial: &Trial,
     plan: &str,
     rows: &str,
 ) -> Result<(), Fail> {
+    let plan = plan.as_bytes();
     for workers in WORKERS {
-        try_plan(rt, trial, plan.as_bytes(), trial.table, rows, Some(workers))?;
+        try_plan(rt, trial, plan, trial.table, rows, Some(workers))?;
     }
     let slow = Trial {
         words: SLOW,
         ..*trial
     };
-    try_plan(rt, &slow, plan.as_bytes(), trial.table, rows, None)
+    try_plan(rt, &slow, plan, trial.table, rows, None)?;
+    try_by_files(rt, trial, lines_of(plan), plan, rows)
 }
 
 const VIEW_LINES: &[u8] =

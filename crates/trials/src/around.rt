@@ -40,12 +40,13 @@ pub(crate) fn sink_of(alloc: Global, calls: Calls) -> Result<MemSink, AllocError
     Ok(MemSink::new(alloc, limits(alloc, calls.most)?, failing))
 }
 
-/// The folder of a trial, with this plan and this table.
+/// A folder with this plan, this table and these files, of which the loads with these numbers fail.
 pub(crate) fn folder_of(
     alloc: Global,
     plan: &[u8],
     table: &[u8],
-    trial: &Trial,
+    more_files: &[(&str, &[u8])],
+    unloaded: &[u64],
 ) -> Result<MemFolder, AllocError> {
     let mut files = BTreeMap::new(alloc);
     files.insert(
@@ -56,13 +57,13 @@ pub(crate) fn folder_of(
         String::from_str(alloc, "ads.csv")?,
         Vec::from_slice(alloc, table)?,
     )?;
-    for (name, bytes) in trial.files {
+    for (name, bytes) in more_files {
         files.insert(
             String::from_str(alloc, name)?,
             Vec::from_slice(alloc, bytes)?,
         )?;
     }
-    let failing = Vec::from_slice(alloc, trial.unloaded)?;
+    let failing = Vec::from_slice(alloc, unloaded)?;
     Ok(MemFolder::new(alloc, files, failing))
 }
 
@@ -71,7 +72,7 @@ pub(crate) fn around_of(alloc: Global, trial: &Trial) -> Result<Around, AllocErr
         input: source_of(alloc, trial.text, trial.reads)?,
         out: sink_of(alloc, trial.writes)?,
         notes: sink_of(alloc, trial.tells)?,
-        folder: folder_of(alloc, trial.plan, trial.table, trial)?,
+        folder: folder_of(alloc, trial.plan, trial.table, trial.files, trial.unloaded)?,
     })
 }
 

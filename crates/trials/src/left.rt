@@ -57,21 +57,16 @@ pub(crate) fn check_left(
     trial: &Trial,
     workers: Option<u32>,
     rows: &str,
+    notes: &[u8],
     code: u8,
     around: &Around,
 ) -> Result<(), Fail>
-    ensures notes { OnOk result (around.now.notes.taken ≡ trial.now.notes.now) }
+    ensures notes { OnOk result (around.now.notes.taken ≡ notes.now) }
     ensures code { OnOk result (code ≡ trial.now.code) }
     ensures rows { OnOk result (around.now.out.taken ≡ rows.now) }
 {
     let loads = u64::from(code == LOAD_FAILED);
-    check_bytes(
-        trial,
-        workers,
-        "notes",
-        around.notes.taken(),
-        trial.notes.as_bytes(),
-    )?;
+    check_bytes(trial, workers, "notes", around.notes.taken(), notes)?;
     check_number(trial, workers, "exit code", code.into(), trial.code.into())?;
     check_bytes(trial, workers, "rows", around.out.taken(), rows.as_bytes())?;
     check_number(

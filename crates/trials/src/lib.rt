@@ -11,6 +11,8 @@ mod tables;
 mod tries;
 mod views;
 
-pub use tables::{Calls, RUN, Row, SUM, Trial, WELL, WORKERS, Watch};
-pub use tries::{Taps, try_by_workers, try_out, try_over, try_over_by_workers, try_past, try_plan};
+pub use tables::{Calls, Lines, RUN, Row, SUM, Trial, WELL, WORKERS, Watch};
+pub use tries::{
+    Taps, try_by_files, try_by_workers, try_out, try_over, try_over_by_workers, try_past, try_plan,
+};
 pub use views::{ADS, VIEWS};

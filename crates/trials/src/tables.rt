@@ -24,6 +24,14 @@ pub enum Watch {
     Count(&'static [u64]),
 }
 
+/// Of which streams the lines of a trial are.
+#[derive(Clone, Copy)]
+pub enum Lines {
+    OfA,
+    OfB,
+    OfBoth,
+}
+
 /// A run, and what it has to leave.
 #[derive(Clone, Copy)]
 pub struct Trial {

@@ -4,9 +4,10 @@ ghost use Rattle.std.specs.Prelude.{◌≡◌, OnOk};
 
 use crate::around::{Around, around_of, folder_of, sink_of, source_of, words_of};
 use crate::left::{check_left, check_reads, check_seen};
-use crate::tables::{Trial, WELL, WORKERS, Watch};
+use crate::tables::{Lines, Trial, WELL, WORKERS, Watch};
 use sb_cli::{Status, streambox};
 use sb_emit::{CountTap, HeadTap, Tap};
+use std::alloc::{AllocError, Global};
 use std::sync::Wait;
 use std::test::Fail;
 use std::thread::Threads;
@@ -17,6 +18,20 @@ pub type Taps = Vec<Box<dyn Tap>>;
 
 /// How many taps a run has at most here.
 const MOST_TAPS: usize = 2;
+
+/// The words of a run over two files, of which that of stream a has the lines.
+const LINES_OF_A: &[&str] = &["feeds", "p.toml", "lines", "none"];
+
+/// The same, of stream b.
+const LINES_OF_B: &[&str] = &["feeds", "p.toml", "none", "lines"];
+
+/// How a note of a line begins, where the line is one of file a.
+const FILE_A: &[u8] = b"file a: ";
+
+/// The same, of file b.
+const FILE_B: &[u8] = b"file b: ";
+
+const NO_LINES: &[u8] = b"";
 
 /// Runs the words, past taps.
 fn run(
@@ -45,16 +60,17 @@ fn run_and_check(
     rt: &(impl AllocGlobal + Threads + Wait + Clock + Sync),
     trial: &Trial,
     rows: &str,
+    notes: &[u8],
     workers: Option<u32>,
     around: &mut Around,
     taps: &mut Taps,
 ) -> Result<(), Fail>
-    ensures notes { OnOk result (around.new.notes.taken ≡ trial.now.notes.now) }
+    ensures notes { OnOk result (around.new.notes.taken ≡ notes.now) }
     ensures rows { OnOk result (around.new.out.taken ≡ rows.now) }
 {
     let words = words_of(rt.alloc(), trial.words, workers)?;
     let status = run(rt, &words, around, taps)?;
-    check_left(trial, workers, rows, status.code(), around)?;
+    check_left(trial, workers, rows, notes, status.code(), around)?;
     check_seen(trial, workers, taps)?;
     check_reads(trial, workers, around.input.faults())
 }
@@ -67,7 +83,8 @@ pub fn try_past(
     taps: &mut Taps,
 ) -> Result<(), Fail> {
     let mut around = around_of(rt.alloc(), trial)?;
-    run_and_check(rt, trial, trial.rows, workers, &mut around, taps)
+    let notes = trial.notes.as_bytes();
+    run_and_check(rt, trial, trial.rows, notes, workers, &mut around, taps)
 }
 
 /// Runs a trial with so many workers, or those that its words name, and compares what it leaves.
@@ -116,7 +133,8 @@ pub fn try_over(
     let mut taps: Taps = Vec::new(alloc);
     let mut around = around_of(alloc, trial)?;
     around.input = source_of(alloc, text, trial.reads)?;
-    run_and_check(rt, trial, rows, workers, &mut around, &mut taps)
+    let notes = trial.notes.as_bytes();
+    run_and_check(rt, trial, rows, notes, workers, &mut around, &mut taps)
 }
 
 /// The same, with each number of workers.
@@ -144,6 +162,49 @@ pub fn try_plan(
     let alloc = rt.alloc();
     let mut taps: Taps = Vec::new(alloc);
     let mut around = around_of(alloc, trial)?;
-    around.folder = folder_of(alloc, plan, table, trial)?;
-    run_and_check(rt, trial, rows, workers, &mut around, &mut taps)
+    around.folder = folder_of(alloc, plan, table, trial.files, trial.unloaded)?;
+    let notes = trial.notes.as_bytes();
+    run_and_check(rt, trial, rows, notes, workers, &mut around, &mut taps)
+}
+
+/// The notes of a run over a file, by those of the run over the same lines: the note of a line names the file.
+fn notes_of_file(alloc: Global, file: &[u8], notes: &str) -> Result<Vec<u8>, AllocError> {
+    let mut named = Vec::new(alloc);
+    for note in notes.as_bytes().split_inclusive(|byte| *byte == b'\n') {
+        if note.starts_with(b"line ") {
+            named.extend_from_slice(file)?;
+        }
+        named.extend_from_slice(note)?;
+    }
+    Ok(named)
+}
+
+/// Runs a trial with another plan by `feeds` with each number of workers: the lines are in the file of their stream,
+/// and the other file has none. It has to leave these rows and the notes of the trial, in which lines name the file.
+/// Nothing is run if the lines are of both streams, since a file has those of one.
+pub fn try_by_files(
+    rt: &(impl AllocGlobal + Threads + Wait + Clock + Sync),
+    trial: &Trial,
+    lines: Lines,
+    plan: &[u8],
+    rows: &str,
+) -> Result<(), Fail> {
+    let alloc = rt.alloc();
+    let (words, file) = match lines {
+        Lines::OfA => (LINES_OF_A, FILE_A),
+        Lines::OfB => (LINES_OF_B, FILE_B),
+        Lines::OfBoth => return Ok(()),
+    };
+    let notes = notes_of_file(alloc, file, trial.notes)?;
+    let files = [("lines", trial.text), ("none", NO_LINES)];
+    let by_files = Trial { words, ..*trial };
+    for workers in WORKERS {
+        let workers = Some(workers);
+        let mut taps: Taps = Vec::new(alloc);
+        let mut around = around_of(alloc, trial)?;
+        around.input = source_of(alloc, NO_LINES, WELL)?;
+        around.folder = folder_of(alloc, plan, trial.table, &files, trial.unloaded)?;
+        run_and_check(rt, &by_files, rows, &notes, workers, &mut around, &mut taps)?;
+    }
+    Ok(())
 }
