@@ -1,27 +1,10 @@
 //! The test of an item that comes out of the ring of a file.
 
 ghost use Rattle.std.specs.Prelude.{◌≡◌};
-ghost use Rattle.sb_run.specs.Pops.{is_next as spec_is_next, is_stream as spec_is_stream};
-ghost use Rattle.sb_run.specs.Pops.{mark_behind as spec_mark_behind};
+ghost use Rattle.sb_run.specs.Pops.{is_next as spec_is_next, mark_behind as spec_mark_behind};
 
 use crate::files::MAX_FILE_LENGTH;
 use sb_record::{END_MARK, Item, MAX_TIME, Stream};
-
-// Whether the two are the same stream.
-fn is_stream(stream: Stream, other: Stream) -> bool
-    ensures { result ≡ spec_is_stream stream other }
-{
-    match stream {
-        Stream::A => match other {
-            Stream::A => true,
-            Stream::B => false,
-        },
-        Stream::B => match other {
-            Stream::A => false,
-            Stream::B => true,
-        },
-    }
-}
 
 /// Whether an item may be taken next of the file of a stream: it is of this stream, which the plan uses, it is in time
 /// after the stream's last watermark, and few enough items came before.
@@ -30,12 +13,12 @@ pub(crate) fn is_next(stream: Stream, used: bool, mark: u64, count: usize, item:
 {
     match item {
         Item::Rec(other, next) => {
-            let own = used && is_stream(stream, *other);
+            let own = used && stream == *other;
             let in_time = mark <= next.time && next.time <= MAX_TIME;
             count < MAX_FILE_LENGTH && (own && in_time)
         }
         Item::Mark(other, time) => {
-            let own = used && is_stream(stream, *other);
+            let own = used && stream == *other;
             let in_time = mark <= *time && *time <= END_MARK;
             count < MAX_FILE_LENGTH && (own && in_time)
         }
