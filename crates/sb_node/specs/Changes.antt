@@ -16,6 +16,7 @@ use Rattle.sb_kept.specs.Keeping.{IsSpent, IsMadeFor, IsPartFor, closed_mark, gi
 use Rattle.sb_lane.specs.LaneView.{LaneView, lane_of}
 use Rattle.sb_lane.specs.Placed.{conts_of}
 use Rattle.sb_lane.specs.Taking.{take_first, finish_first}
+use Rattle.sb_node.specs.declared.closing.Closing.{Closing}
 use Rattle.sb_node.specs.declared.state.NodeState.{NodeState}
 use Rattle.sb_node.specs.LinkChanges.{GetsLink, LinksStay}
 use Rattle.sb_node.specs.Marking.{mark_for}
@@ -77,34 +78,33 @@ pub record ClosesKept (mark : ℕ) (rows : List Record) (old new : NodeState) : 
   pub closed : closed_mark new.kept ≡ mark
   pub closes : Closes mark (gives old.kept) rows (gives new.kept)
 
--- the oldest container of lane l is closing, and so many rows are due
-pub record Starts (l : ℕ) (lane : LaneView) (epoch serial floor mark count : ℕ) (old new : NodeState) : Type 0 where
+-- this closing begins: the oldest container of its lane is closing, and so many rows are due
+pub record Starts (lane : LaneView) (c : Closing) (count : ℕ) (old new : NodeState) : Type 0 where
   pub now : LaneView
-  pub sets : SetsLane l lane now (line.Begin l epoch mark count) old new
+  pub sets : SetsLane c.lane lane now (line.Begin c.lane c.epoch c.mark count) old new
   pub kept : new.kept ≡ old.kept
   pub closings : new.closings ≡ old.closings + 1
   pub is : lane_of now ≡ record (lane_of lane) { conts = with_first_closing (conts_of lane.containers) }
   pub linked : LinksStay lane now
-  pub serial_is : serial ≡ old.closings
-  pub floor_is : floor ≡ before_closing (map lane_of old.lanes.items)
-  pub mark_is : mark ≡ mark_for l (map lane_of old.lanes.items)
+  pub serial_is : c.serial ≡ old.closings
+  pub floor_is : c.floor ≡ before_closing (map lane_of old.lanes.items)
+  pub mark_is : c.mark ≡ mark_for c.lane (map lane_of old.lanes.items)
 
--- the oldest container of lane l is closing, and these rows come out
-pub record Begins (l : ℕ) (lane : LaneView) (epoch serial floor mark : ℕ) (rows : List Record)
-    (old new : NodeState) : Type 0 where
+-- this closing begins: the oldest container of its lane is closing, and its rows come out
+pub record Begins (lane : LaneView) (c : Closing) (old new : NodeState) : Type 0 where
   pub now : LaneView
-  pub sets : SetsLane l lane now (line.Begin l epoch mark (length rows)) old new
+  pub sets : SetsLane c.lane lane now (line.Begin c.lane c.epoch c.mark (length c.rows.items)) old new
   pub closings : new.closings ≡ old.closings + 1
   pub is : lane_of now ≡ record (lane_of lane) { conts = with_first_closing (conts_of lane.containers) }
   pub linked : LinksStay lane now
-  pub serial_is : serial ≡ old.closings
-  pub floor_is : floor ≡ before_closing (map lane_of old.lanes.items)
-  pub mark_is : mark ≡ mark_for l (map lane_of old.lanes.items)
+  pub serial_is : c.serial ≡ old.closings
+  pub floor_is : c.floor ≡ before_closing (map lane_of old.lanes.items)
+  pub mark_is : c.mark ≡ mark_for c.lane (map lane_of old.lanes.items)
   pub was : IsSpent old.kept → ⊥
   pub unspent : IsSpent new.kept → ⊥
   pub made : (op : Operator) → IsMadeFor op old.kept → IsMadeFor op new.kept
-  pub closed : closed_mark new.kept ≡ mark
-  pub closes : Closes mark (gives old.kept) rows (gives new.kept)
+  pub closed : closed_mark new.kept ≡ c.mark
+  pub closes : Closes c.mark (gives old.kept) c.rows.items (gives new.kept)
 
 -- lane l shows what it did, and all else is as it was
 pub record Stays (l : ℕ) (lane : LaneView) (old new : NodeState) : Type 0 where

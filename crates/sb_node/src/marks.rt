@@ -104,7 +104,7 @@ impl NodeState {
         requires few { length self.old.lanes.items ≤ 2 }
         ensures names { (result.node ≡ node) × (result.lane ≡ lane) × (result.epoch ≡ epoch) × (result.rows ≡ rows) }
         ensures starts { (at : LaneView) → HasLane lane at self.old
-            → Starts lane at epoch result.serial result.floor result.mark count self.old self.new }
+            → Starts at result count self.old self.new }
     {
         let mark = mark_for(self.lanes.as_slice(), lane);
         let floor = mark_before(self.lanes.as_slice());
@@ -146,7 +146,7 @@ impl NodeState {
             → closed_mark self.old.kept ≤ spec.mark_for lane (map lane_of self.old.lanes.items) }
         ensures names { IfOk result (λ c. (c.node ≡ node) × (c.lane ≡ lane) × (c.epoch ≡ epoch)) }
         ensures begins { IfOk result (λ c. (at : LaneView) → HasLane lane at self.old
-            → Begins lane at epoch c.serial c.floor c.mark c.rows.items self.old self.new) }
+            → Begins at c self.old self.new) }
         ensures err { OnErr result (LosesKept self.old self.new) }
     {
         let rows = self.close(lane)?;
