@@ -1,16 +1,18 @@
 -- What an event makes of the one node that it changes is what it makes of all nodes.
-use Rattle.std.proofs.Common.{◌≡◌, ℕ, ◌+◌, List, [], ◌∷◌, ◌++◌, get_or, map, set, Some, sym, refl, ap, subst, ◌∙◌, arith}
+use Rattle.std.proofs.Common.{◌≡◌, ℕ, ◌+◌, List, [], ◌∷◌, ◌++◌, get_or, length, map, set, Some, sym, refl, ap, subst, ◌∙◌, arith}
 use Rattle.std.specs.List.{slice_get}
 use Rattle.std.proofs.lemmas.Option.{get_or_from_slice_get, same_Some}
-use Rattle.sb_record.specs.declared.item.Record.{Record}
 use Rattle.sb_bundle.specs.declared.bundle.Bundle.{Bundle}
 use Rattle.sb_core.specs.declared.moment.CoreLane.{CoreLane}
 use Rattle.sb_core.specs.Marks.{before_closing}
 use Rattle.sb_core.proofs.exact.Nodes.{slice_get-set_same}
 use Rattle.sb_diary.specs.Diaries.{Written, with_spare}
 use Rattle.sb_diary.specs.declared.event.DiaryEvent.{DiaryEvent}
+use Rattle.sb_diary.specs.declared.event.DiaryEvent.TheVariants as line
+use Rattle.sb_kept.specs.declared.kept.Kept.{Kept}
 use Rattle.sb_lane.specs.LaneView.{LaneView, lane_of}
 use Rattle.sb_work.specs.declared.outputs.Part.{Part}
+use Rattle.sb_node.specs.declared.closing.Closing.{Closing}
 use Rattle.sb_node.specs.declared.state.NodeState.{NodeState}
 use Rattle.sb_node.specs.Changes as node
 use Rattle.sb_node.specs.LinkChanges.{LinksStay}
@@ -22,6 +24,23 @@ use Rattle.sb_hand.proofs.SettingsStay.{set_same}
 -- the node that code reads
 pub own-there : (nodes : List NodeState) (k : ℕ) (own x : NodeState) → slice_get nodes k ≡ Some x → own ≡ get_or nodes k own → slice_get nodes k ≡ Some own
 own-there nodes k own x there own_is = there ∙ ap (λ n. Some n) (sym (own_is ∙ get_or_from_slice_get nodes k x own there))
+
+-- the node and the lane, by other names
+abbrev sets-there : (k j l i : ℕ) (lane now : LaneView) (more : ℕ) (was is : Kept) (line : DiaryEvent) (old new : List NodeState) → k ≡ j → l ≡ i → SetsNode j i lane now more was is line old new → SetsNode k l lane now more was is line old new
+sets-there k j l i lane now more was is line old new node_is at_lane s = record {
+  own = s.own;
+  there = ap (slice_get old) node_is ∙ s.there;
+  in_it = ap (slice_get s.own.lanes.items) at_lane ∙ s.in_it;
+  was_so = s.was_so;
+  with = s.with;
+  set = s.set ∙ ap (λ n. set old n s.with) (sym node_is);
+  lanes = s.lanes ∙ ap (λ n. set s.own.lanes.items n now) (sym at_lane);
+  kept = s.kept;
+  closings = s.closings;
+  diary = s.diary;
+  keeps = s.keeps;
+  limit = s.limit;
+}
 
 module _ (nodes : List NodeState) (k l : ℕ) (own : NodeState) (at : LaneView) (h : HasLane k l at nodes) (own_is : own ≡ get_or nodes k own) where
   -- it is the one that has the lane
@@ -124,16 +143,17 @@ module _ (nodes : List NodeState) (k l : ℕ) (own : NodeState) (at : LaneView) 
       adds = a.adds;
     }
 
-    pub begins : (epoch serial floor mark : ℕ) (rows : List Record) → node.Begins l at epoch serial floor mark rows ready with → BeginsAt k l nodes (set nodes k with) at epoch serial floor mark rows
-    begins epoch serial floor mark rows b = record {
+    pub begins : (c : Closing) → c.node ≡ k → c.lane ≡ l → node.Begins at c ready with → BeginsAt c nodes (set nodes k with) at
+    begins c node_is at_lane b = record {
       now = b.now;
       was = own.kept;
       is = with.kept;
-      sets = sets-node b.now 1 _ b.sets b.closings;
+      sets = sets-there c.node k c.lane l at b.now 1 own.kept with.kept (line.Begin c.lane c.epoch c.mark (length c.rows.items)) nodes (set nodes k with) node_is at_lane
+          (sets-node b.now 1 _ (subst (λ i. node.SetsLane i at b.now (line.Begin c.lane c.epoch c.mark (length c.rows.items)) ready with) at_lane b.sets) b.closings);
       lane_is = b.is;
       serial_is = b.serial_is ∙ ap (λ (n : NodeState). n.closings) node-read;
       floor_is = b.floor_is ∙ ap (λ (n : NodeState). before_closing (map lane_of n.lanes.items)) node-read;
-      mark_is = b.mark_is ∙ ap (λ (n : NodeState). mark_for l (map lane_of n.lanes.items)) node-read;
+      mark_is = b.mark_is ∙ ap (λ (n : NodeState). mark_for c.lane (map lane_of n.lanes.items)) node-read;
       unspent = b.unspent;
       made = b.made;
       closed = b.closed;

@@ -33,10 +33,12 @@ use Rattle.sb_lane.specs.declared.answers.LaneClose.{LaneClose}
 use Rattle.sb_lane.specs.Looks.{look_of}
 use Rattle.sb_lane.specs.LaneView.{LaneView, lane_of}
 use Rattle.sb_lane.specs.Placed.{conts_of}
+use Rattle.sb_node.specs.declared.closing.Closing.{Closing}
 use Rattle.sb_node.specs.declared.state.NodeState.{NodeState}
 use Rattle.sb_kept.specs.declared.kept.Kept.{Kept}
 use Rattle.sb_kept.specs.Keeping.{IsMadeFor, IsSpent, ShowsKept, closed_mark, output_from, gives}
 use Rattle.sb_node.specs.Marking.{mark_for}
+use Rattle.sb_hand.specs.Runs.{close_of}
 use Rattle.sb_hand.specs.Sets.{HasLane, BeginsAt}
 use Rattle.sb_hand.specs.Showing.{ShowsNode, Stands, Reaches, Does, diaries_of}
 use Rattle.sb_hand.proofs.Calm.{node_is}
@@ -137,97 +139,97 @@ collected-other (ParDo op) mark kept h = refl
 collected-other (Windowed g) mark kept h = refl
 collected-other Sink mark kept h = cc
 
-module _ (plan : Shape) (is_plan : IsPlan plan) (bundle : ℕ) (nodes new : List NodeState) (k l : ℕ) (within : k ≤ length plan.steps) (lane : LaneView) (close : LaneClose) (looks : look_of (conts_of lane.containers) ≡ Ok close) (serial floor mark : ℕ) (out : List Record)
-    (b : BeginsAt k l nodes new lane close.epoch serial floor mark out) where
-  abbrev has_it : HasLane k l lane nodes
+module _ (plan : Shape) (is_plan : IsPlan plan) (bundle : ℕ) (c : Closing) (nodes new : List NodeState) (within : c.node ≤ length plan.steps) (lane : LaneView) (close : LaneClose) (looks : look_of (conts_of lane.containers) ≡ Ok close) (of_it : close.epoch ≡ c.epoch)
+    (b : BeginsAt c nodes new lane) where
+  abbrev has_it : HasLane c.node c.lane lane nodes
   has_it = record { own = b.sets.own; there = b.sets.there; in_it = b.sets.in_it }
 
-  module _ (rows : List Record) (m : Moment) (s : Stands plan bundle nodes [] rows m) (n : Node) (at_m : slice_get m.nodes k ≡ Some n) where
+  module _ (rows : List Record) (m : Moment) (s : Stands plan bundle nodes [] rows m) (n : Node) (at_m : slice_get m.nodes c.node ≡ Some n) where
     abbrev op : Operator
-    op = operator_at (slice_get plan.steps k)
+    op = operator_at (slice_get plan.steps c.node)
 
     abbrev begun_lane : CoreLane
     begun_lane = record (lane_of lane) { conts = with_first_closing (conts_of lane.containers) }
 
     abbrev first : Cont
-    first = (may plan is_plan bundle nodes rows m s k l within lane has_it close looks n at_m).first
+    first = (may plan is_plan bundle nodes rows m s c.node c.lane within lane has_it close looks n at_m).first
 
     abbrev part : Part
-    part = begun_part op k l n (lane_of lane) first
+    part = begun_part op c.node c.lane n (lane_of lane) first
 
     sh : ShowsNode op b.sets.own n
-    sh = shown plan is_plan bundle nodes rows m s k l within lane has_it close looks n at_m
+    sh = shown plan is_plan bundle nodes rows m s c.node c.lane within lane has_it close looks n at_m
 
-    floor_path : least_begun_mark n.lanes ≡ floor
-    floor_path = sym (floor_is plan is_plan bundle nodes rows m s k l within lane has_it close looks n at_m) ∙ sym b.floor_is
+    floor_path : least_begun_mark n.lanes ≡ c.floor
+    floor_path = sym (floor_is plan is_plan bundle nodes rows m s c.node c.lane within lane has_it close looks n at_m) ∙ sym b.floor_is
 
-    floor_now : closed_mark b.was ≡ floor
+    floor_now : closed_mark b.was ≡ c.floor
     floor_now = ap closed_mark (sym b.sets.was_so) ∙ sh.kept.closed_is ∙ floor_path
 
-    mark_path : least_begun_mark (slice_set n.lanes l begun_lane) ≡ mark
-    mark_path = mark_is plan is_plan bundle nodes rows m s k l within lane has_it close looks n at_m ∙ sym b.mark_is
+    mark_path : least_begun_mark (slice_set n.lanes c.lane begun_lane) ≡ c.mark
+    mark_path = mark_is plan is_plan bundle nodes rows m s c.node c.lane within lane has_it close looks n at_m ∙ sym b.mark_is
 
-    shows0 : StandsFor op floor (gives b.was) n.kept
+    shows0 : StandsFor op c.floor (gives b.was) n.kept
     shows0 = subst (λ x. StandsFor op x (gives b.was) n.kept) floor_now (subst (λ (x : Kept). ShowsKept op x n.kept) b.sets.was_so sh.kept.kept)
 
-    out_is : sorted_records (before mark (output_from op floor n.kept)) ≡ out
-    out_is = sym (rows-closes op floor mark (gives b.was) (gives b.is) n.kept out shows0 b.closes)
+    out_is : sorted_records (before c.mark (output_from op c.floor n.kept)) ≡ c.rows.items
+    out_is = sym (rows-closes op c.floor c.mark (gives b.was) (gives b.is) n.kept c.rows.items shows0 b.closes)
 
-    epoch_path : first.epoch ≡ close.epoch
-    epoch_path = (may plan is_plan bundle nodes rows m s k l within lane has_it close looks n at_m).epoch_is
+    epoch_path : first.epoch ≡ c.epoch
+    epoch_path = (may plan is_plan bundle nodes rows m s c.node c.lane within lane has_it close looks n at_m).epoch_is ∙ of_it
 
-    serial_path : n.closings ≡ serial
+    serial_path : n.closings ≡ c.serial
     serial_path = sh.closings ∙ sym b.serial_is
 
-    node_shows : IsSound plan (with_part k [] m part) → ShowsNode op b.sets.with part.node
+    node_shows : IsSound plan (with_part c.node [] m part) → ShowsNode op b.sets.with part.node
     node_shows still =
-        let up : floor ≤ mark = let le = rises_in plan is_plan bundle nodes rows m s k l within lane has_it close looks n at_m [] still in omega (arith, le, floor_path, mark_path) in
-        let rest : StandsFor op mark (gives b.is) (kept_at op mark n.kept) = shows-closes op (groups-at plan is_plan k) floor mark (gives b.was) (gives b.is) n.kept out up shows0 b.closes in
+        let up : c.floor ≤ c.mark = let le = rises_in plan is_plan bundle nodes rows m s c.node c.lane within lane has_it close looks n at_m [] still in omega (arith, le, floor_path, mark_path) in
+        let rest : StandsFor op c.mark (gives b.is) (kept_at op c.mark n.kept) = shows-closes op (groups-at plan is_plan c.node) c.floor c.mark (gives b.was) (gives b.is) n.kept c.rows.items up shows0 b.closes in
         record {
-          lanes = ap (λ ls. slice_set ls l begun_lane) sh.lanes ∙ ap (slice_set (map lane_of b.sets.own.lanes.items) l) (sym b.lane_is) ∙ sym (map-set lane_of b.sets.own.lanes.items l b.now) ∙ ap (map lane_of) (sym b.sets.lanes);
+          lanes = ap (λ ls. slice_set ls c.lane begun_lane) sh.lanes ∙ ap (slice_set (map lane_of b.sets.own.lanes.items) c.lane) (sym b.lane_is) ∙ sym (map-set lane_of b.sets.own.lanes.items c.lane b.now) ∙ ap (map lane_of) (sym b.sets.lanes);
           closings = ap (λ x. x + 1) sh.closings ∙ sym b.sets.closings;
           kept = record {
             made = subst (λ (x : Kept). IsMadeFor op x) (sym b.sets.kept) (b.made op (subst (λ (x : Kept). IsMadeFor op x) b.sets.was_so sh.kept.made));
             unspent = subst (λ (x : Kept). IsSpent x → ⊥) (sym b.sets.kept) b.unspent;
             closed_is = ap closed_mark b.sets.kept ∙ b.closed ∙ sym mark_path;
-            kept = subst (λ z. z) (λ i. ShowsKept op (sym b.sets.kept i) (kept_at op (sym mark_path i) n.kept)) (subst (λ x. StandsFor op x (gives b.is) (kept_at op mark n.kept)) (sym b.closed) rest);
+            kept = subst (λ z. z) (λ i. ShowsKept op (sym b.sets.kept i) (kept_at op (sym mark_path i) n.kept)) (subst (λ x. StandsFor op x (gives b.is) (kept_at op c.mark n.kept)) (sym b.closed) rest);
           };
         }
 
     -- what the diary says of it
-    line_is : (taken added : List Record) → rows_at op floor mark n.kept ≡ taken → rows_at_sink op mark n.kept ≡ added → length taken + length added ≡ length out → line_after plan (Begin k l) n ≡ line.Begin l close.epoch mark (length out)
+    line_is : (taken added : List Record) → rows_at op c.floor c.mark n.kept ≡ taken → rows_at_sink op c.mark n.kept ≡ added → length taken + length added ≡ length c.rows.items → line_after plan (Begin c.node c.lane) n ≡ line.Begin c.lane c.epoch c.mark (length c.rows.items)
     line_is taken added taken_is added_is count =
-        (λ i. begun (get_or_from_slice_get n.lanes l (lane_of lane) empty_lane lane_there i))
-        ∙ (λ i. line.Begin l (oldest_path i) (mark_path i) (length (rows_at op (floor_path i) (mark_path i) n.kept) + length (rows_at_sink op (mark_path i) n.kept)))
-        ∙ (λ i. line.Begin l close.epoch mark (length (taken_is i) + length (added_is i)))
-        ∙ ap (λ c. line.Begin l close.epoch mark c) count
+        (λ i. begun (get_or_from_slice_get n.lanes c.lane (lane_of lane) empty_lane lane_there i))
+        ∙ (λ i. line.Begin c.lane (oldest_path i) (mark_path i) (length (rows_at op (floor_path i) (mark_path i) n.kept) + length (rows_at_sink op (mark_path i) n.kept)))
+        ∙ (λ i. line.Begin c.lane c.epoch c.mark (length (taken_is i) + length (added_is i)))
+        ∙ ap (λ n. line.Begin c.lane c.epoch c.mark n) count
       where
         begun : CoreLane → DiaryEvent
         begun x =
-            line.Begin l x.ended (least_begun_mark (set_lane l (record x { conts = with_first_closing x.conts }) n).lanes)
-            (length (rows_at op (least_begun_mark n.lanes) (least_begun_mark (set_lane l (record x { conts = with_first_closing x.conts }) n).lanes) n.kept) + length (rows_at_sink op (least_begun_mark (set_lane l (record x { conts = with_first_closing x.conts }) n).lanes) n.kept))
+            line.Begin c.lane x.ended (least_begun_mark (set_lane c.lane (record x { conts = with_first_closing x.conts }) n).lanes)
+            (length (rows_at op (least_begun_mark n.lanes) (least_begun_mark (set_lane c.lane (record x { conts = with_first_closing x.conts }) n).lanes) n.kept) + length (rows_at_sink op (least_begun_mark (set_lane c.lane (record x { conts = with_first_closing x.conts }) n).lanes) n.kept))
 
-        lane_there : slice_get n.lanes l ≡ Some (lane_of lane)
-        lane_there = lane_in plan is_plan bundle nodes rows m s k l within lane has_it close looks n at_m
+        lane_there : slice_get n.lanes c.lane ≡ Some (lane_of lane)
+        lane_there = lane_in plan is_plan bundle nodes rows m s c.node c.lane within lane has_it close looks n at_m
 
-        oldest_path : lane.ended ≡ close.epoch
-        oldest_path = sym (may plan is_plan bundle nodes rows m s k l within lane has_it close looks n at_m).oldest ∙ epoch_path
+        oldest_path : lane.ended ≡ c.epoch
+        oldest_path = sym (may plan is_plan bundle nodes rows m s c.node c.lane within lane has_it close looks n at_m).oldest ∙ epoch_path
 
-    pub begins : (taken added : List Record) (passed : Bool) → is_sink op ≡ passed → rows_at op floor mark n.kept ≡ taken → rows_at_sink op mark n.kept ≡ added → length taken + length added ≡ length out → Reaches plan bundle (Begin k l ∷ []) m (diaries_of nodes) new (Close k l close.epoch serial floor mark taken passed ∷ []) (rows ++ added)
+    pub begins : (taken added : List Record) (passed : Bool) → is_sink op ≡ passed → rows_at op c.floor c.mark n.kept ≡ taken → rows_at_sink op c.mark n.kept ≡ added → length taken + length added ≡ length c.rows.items → Reaches plan bundle (Begin c.node c.lane ∷ []) m (diaries_of nodes) new (close_of c taken passed ∷ []) (rows ++ added)
     begins taken added passed sink taken_is added_is count =
-        subst (λ z. z) (λ i. Reaches plan bundle (Begin k l ∷ []) m (diaries_of nodes) (sym b.sets.set i) (Close k l (epoch_path i) (serial_path i) (floor_path i) (mark_path i) ((ap (λ f. rows_at op f (least_begun_mark (slice_set n.lanes l begun_lane)) n.kept) floor_path ∙ ap (λ x. rows_at op floor x n.kept) mark_path ∙ taken_is) i) (sink i) ∷ []) (rows ++ (ap (λ x. rows_at_sink op x n.kept) mark_path ∙ added_is) i))
-        (event-free plan is_plan bundle nodes [] rows m s k b.sets.own b.sets.with n part b.sets.there at_m (Begin k l) (line.Begin l close.epoch mark (length out)) refl refl (part_is plan is_plan bundle nodes rows m s k l within lane has_it close looks n at_m) b.sets.diary (line_is taken added taken_is added_is count) node_shows)
+        subst (λ z. z) (λ i. Reaches plan bundle (Begin c.node c.lane ∷ []) m (diaries_of nodes) (sym b.sets.set i) (Close c.node c.lane (epoch_path i) (serial_path i) (floor_path i) (mark_path i) ((ap (λ f. rows_at op f (least_begun_mark (slice_set n.lanes c.lane begun_lane)) n.kept) floor_path ∙ ap (λ x. rows_at op c.floor x n.kept) mark_path ∙ taken_is) i) (sink i) ∷ []) (rows ++ (ap (λ x. rows_at_sink op x n.kept) mark_path ∙ added_is) i))
+        (event-free plan is_plan bundle nodes [] rows m s c.node b.sets.own b.sets.with n part b.sets.there at_m (Begin c.node c.lane) (line.Begin c.lane c.epoch c.mark (length c.rows.items)) refl refl (part_is plan is_plan bundle nodes rows m s c.node c.lane within lane has_it close looks n at_m) b.sets.diary (line_is taken added taken_is added_is count) node_shows)
 
   -- a closing of a transform
-  pub begin-does : is_sink (operator_at (slice_get plan.steps k)) ≡ false → Does plan bundle (Begin k l ∷ []) nodes [] new (Close k l close.epoch serial floor mark out false ∷ []) []
+  pub begin-does : is_sink (operator_at (slice_get plan.steps c.node)) ≡ false → Does plan bundle (Begin c.node c.lane ∷ []) nodes [] new (close_of c c.rows.items false ∷ []) []
   begin-does other = λ rows m s.
-      let found = there-too nodes m.nodes k b.sets.own s.count b.sets.there in
-      begins rows m s found.0 found.1 out [] false other
-      (rows-at (operator_at (slice_get plan.steps k)) floor mark found.0.kept other ∙ out_is rows m s found.0 found.1) (collected-other (operator_at (slice_get plan.steps k)) mark found.0.kept other) (omega arith)
+      let found = there-too nodes m.nodes c.node b.sets.own s.count b.sets.there in
+      begins rows m s found.0 found.1 c.rows.items [] false other
+      (rows-at (operator_at (slice_get plan.steps c.node)) c.floor c.mark found.0.kept other ∙ out_is rows m s found.0 found.1) (collected-other (operator_at (slice_get plan.steps c.node)) c.mark found.0.kept other) (omega arith)
 
   -- a closing of the sink
-  pub begin-sink : is_sink (operator_at (slice_get plan.steps k)) ≡ true → Does plan bundle (Begin k l ∷ []) nodes [] new (Close k l close.epoch serial floor mark [] true ∷ []) out
+  pub begin-sink : is_sink (operator_at (slice_get plan.steps c.node)) ≡ true → Does plan bundle (Begin c.node c.lane ∷ []) nodes [] new (close_of c [] true ∷ []) c.rows.items
   begin-sink sink = λ rows m s.
-      let found = there-too nodes m.nodes k b.sets.own s.count b.sets.there in
-      begins rows m s found.0 found.1 [] out true sink
-      (rows_at-sink (operator_at (slice_get plan.steps k)) floor mark found.0.kept sink) (collected-sink (operator_at (slice_get plan.steps k)) floor mark found.0.kept sink ∙ out_is rows m s found.0 found.1) (omega arith)
+      let found = there-too nodes m.nodes c.node b.sets.own s.count b.sets.there in
+      begins rows m s found.0 found.1 [] c.rows.items true sink
+      (rows_at-sink (operator_at (slice_get plan.steps c.node)) c.floor c.mark found.0.kept sink) (collected-sink (operator_at (slice_get plan.steps c.node)) c.floor c.mark found.0.kept sink ∙ out_is rows m s found.0 found.1) (omega arith)

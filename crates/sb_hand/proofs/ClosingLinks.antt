@@ -139,7 +139,7 @@ module _ (plan : Shape) (is_plan : IsPlan plan) (bundle : ℕ) (c : Closing) (ol
     here place stands at has = stands st at is (to-st at old has)
 
 -- before the first rows there is no container for them
-pub none-yet : (plan : Shape) (is_plan : IsPlan plan) (bundle : ℕ) (c : Closing) (old mid : List NodeState) (lane : LaneView) → CanStand plan bundle old [] → BeginsAt c.node c.lane old mid lane c.epoch c.serial c.floor c.mark c.rows.items → CanStand plan bundle mid (close_of c c.rows.items false ∷ [])
+pub none-yet : (plan : Shape) (is_plan : IsPlan plan) (bundle : ℕ) (c : Closing) (old mid : List NodeState) (lane : LaneView) → CanStand plan bundle old [] → BeginsAt c old mid lane → CanStand plan bundle mid (close_of c c.rows.items false ∷ [])
     → is_pardo (operator_at (slice_get plan.steps c.node)) ≡ false → NoneBelow plan c.node c.serial mid
 none-yet plan is_plan bundle c old mid lane can b begun other_op = λ st under is has.
     let o = of-node c.node c.lane lane b.now 1 b.was b.is _ old mid b.sets in

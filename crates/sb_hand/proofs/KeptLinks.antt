@@ -22,6 +22,7 @@ use Rattle.sb_lane.specs.Links.{Link, link_in, links_of}
 use Rattle.sb_lane.specs.Placed.{conts_of}
 use Rattle.sb_lane.specs.Taking.{finish_first}
 use Rattle.sb_work.specs.declared.outputs.Part.{Part}
+use Rattle.sb_node.specs.declared.closing.Closing.{Closing}
 use Rattle.sb_node.specs.declared.state.NodeState.{NodeState}
 use Rattle.sb_node.specs.LinkChanges.{DropsLink, FindsPlace, GetsLink, GetsPlace, LinksStay}
 use Rattle.sb_hand.specs.LaneGoing.{LaneGoes}
@@ -69,12 +70,6 @@ module _ (plan : Shape) (is_plan : IsPlan plan) (old new : List NodeState) (k l 
       let one = of-node k l lane a.now 0 a.was a.is _ old new a.sets in
       stay plan is_plan old new k l lane a.now one linked (g lane a.now (has-was old new k l lane a.now one) (has-now old new k l lane a.now one)) (ap (λ (x : CoreLane). x.marks) a.lane_is)
       (as-many _ _ (ap (λ (x : CoreLane). unsealed_of x.conts) a.lane_is ∙ unsealed.finished epoch number (conts_of lane.containers)))
-
-  pub begin-keeps : (epoch serial floor mark : ℕ) (rows : List Record) → BeginsAt k l old new lane epoch serial floor mark rows → LaneGoes k l LinksStay old new → KeepsLinks plan old new
-  begin-keeps epoch serial floor mark rows b g =
-      let one = of-node k l lane b.now 1 b.was b.is _ old new b.sets in
-      stay plan is_plan old new k l lane b.now one linked (g lane b.now (has-was old new k l lane b.now one) (has-now old new k l lane b.now one)) (ap (λ (x : CoreLane). x.marks) b.lane_is)
-      (as-many _ _ (ap (λ (x : CoreLane). unsealed_of x.conts) b.lane_is ∙ unsealed.begun (conts_of lane.containers)))
 
   -- a bundle comes
   module _ (epoch floor : ℕ) (records : List Record) (line : DiaryEvent) (t : Turns k l old new lane (with_arrival epoch floor records (lane_of lane)) line) where
@@ -164,3 +159,10 @@ module _ (plan : Shape) (is_plan : IsPlan plan) (old new : List NodeState) (k l 
         let ok = lane-ok plan is_plan size old held rows m s k l lane (has-was old new k l lane t.now o) in
         end plan is_plan old new k l lane t.now o linked lane.ended (rising (bound_at plan k) lane ok) (it-goes (record (lane_of lane) { conts = drop 1 (conts_of lane.containers); ended = lane.ended + 1 }) line t DropsLink g)
         (ap (λ (x : CoreLane). x.marks) t.is) (ap (λ (x : CoreLane). x.conts) t.is) less (unsealed.oldest (bound_at plan k) (lane_of lane) ok less)
+
+-- a closing begins
+pub begin-keeps : (plan : Shape) (is_plan : IsPlan plan) (c : Closing) (old new : List NodeState) (lane : LaneView) → AreLinked plan old → BeginsAt c old new lane → LaneGoes c.node c.lane LinksStay old new → KeepsLinks plan old new
+begin-keeps plan is_plan c old new lane linked b g =
+    let one = of-node c.node c.lane lane b.now 1 b.was b.is _ old new b.sets in
+    stay plan is_plan old new c.node c.lane lane b.now one linked (g lane b.now (has-was old new c.node c.lane lane b.now one) (has-now old new c.node c.lane lane b.now one)) (ap (λ (x : CoreLane). x.marks) b.lane_is)
+    (as-many _ _ (ap (λ (x : CoreLane). unsealed_of x.conts) b.lane_is ∙ unsealed.begun (conts_of lane.containers)))

@@ -10,10 +10,10 @@ use Rattle.sb_core.specs.Lanes.{with_first_closing}
 use Rattle.sb_core.proofs.exact.Nodes.{slice_get-set_same, slice_get-set_other, sum_by-set_get}
 use Rattle.sb_lane.specs.LaneView.{LaneView, lane_of}
 use Rattle.sb_lane.specs.Taking.{first_taken, take_first, finish_first}
+use Rattle.sb_node.specs.declared.closing.Closing.{Closing}
 use Rattle.sb_node.specs.declared.state.NodeState.{NodeState}
 use Rattle.sb_diary.specs.declared.event.DiaryEvent.{DiaryEvent}
 use Rattle.sb_hand.specs.Sets.{SetsLane, Takes, Turns, Absorbs, BeginsAt}
-use Rattle.sb_record.specs.declared.item.Record.{Record}
 use Rattle.sb_hand.specs.Todo.{waiting_in, todo_lane, todo_seen, todo_of, todo_at, Lowers}
 use Rattle.sb_lane.specs.Placed.{conts_of}
 use Rattle.sb_work.specs.declared.outputs.Part.{Part}
@@ -124,9 +124,9 @@ pub below-lowers : (k d l : ℕ) (old new : List NodeState) (lane now : LaneView
 below-lowers k d l old new lane now line h s = subst (λ (n : List NodeState). Lowers k 0 old n) (sym s.set) (lowers-below k d old s.with h)
 
 -- a closing begins, and ends
-pub begins-lowers : (k l epoch serial floor mark : ℕ) (rows : List Record) (old new : List NodeState) (lane : LaneView) → BeginsAt k l old new lane epoch serial floor mark rows → Lowers k 0 old new
-begins-lowers k l epoch serial floor mark rows old new lane b =
-    subst (λ (n : List NodeState). Lowers k 0 old n) (sym b.sets.set) (lowers-lane k l 0 old b.sets.own b.sets.with lane b.now b.sets.there b.sets.in_it b.sets.lanes
+pub begins-lowers : (c : Closing) (old new : List NodeState) (lane : LaneView) → BeginsAt c old new lane → Lowers c.node 0 old new
+begins-lowers c old new lane b =
+    subst (λ (n : List NodeState). Lowers c.node 0 old n) (sym b.sets.set) (lowers-lane c.node c.lane 0 old b.sets.own b.sets.with lane b.now b.sets.there b.sets.in_it b.sets.lanes
     (at-least (todo_seen b.now) (todo_seen lane) (ap todo_lane b.lane_is ∙ ap (λ n. n + (length lane.marks - lane.ended)) (begin-lowers (conts_of lane.containers)))))
 
 pub ends-lowers : (k l : ℕ) (old new : List NodeState) (lane : LaneView) (line : DiaryEvent) → lane.ended < length lane.marks → Turns k l old new lane (record (lane_of lane) { conts = drop 1 (conts_of lane.containers); ended = lane.ended + 1 }) line → Lowers k 1 old new

@@ -9,7 +9,6 @@ use Rattle.sb_pipeline.specs.Shapes.{Shape}
 use Rattle.sb_pipeline.specs.Plans.{IsPlan}
 use Rattle.sb_pipeline.specs.Operators.{operator_at}
 use Rattle.sb_core.specs.declared.event.Event.TheVariants.{Begin, Pass, End}
-use Rattle.sb_core.specs.declared.held.Held.TheVariants.{Close}
 use Rattle.sb_core.specs.Closings.{is_sink}
 use Rattle.sb_core.specs.Marks.{first_is_closing}
 use Rattle.sb_core.proofs.times.Timely.{no_sink}
@@ -62,19 +61,12 @@ rises-there plan is_plan bundle nodes can k l within lane has close looks own th
     subst (λ (x : NodeState). closed_mark x.kept ≤ mark_for l (map lane_of x.lanes.items)) same (rises plan is_plan bundle nodes can.rows can.moment s k l within lane has close looks n.0 n.1)
 
 module _ (plan : Shape) (is_plan : IsPlan plan) (bundle : ℕ) (c : Closing) (old mid : List NodeState) (lane : LaneView) (close : LaneClose) (looks : look_of (conts_of lane.containers) ≡ Ok close) (epoch_is : close.epoch ≡ c.epoch)
-    (b : BeginsAt c.node c.lane old mid lane c.epoch c.serial c.floor c.mark c.rows.items) where
-  begun : BeginsAt c.node c.lane old mid lane close.epoch c.serial c.floor c.mark c.rows.items
-  begun = subst (λ e. BeginsAt c.node c.lane old mid lane e c.serial c.floor c.mark c.rows.items) (sym epoch_is) b
-
+    (b : BeginsAt c old mid lane) where
   pub begins-transform : c.node < length plan.steps → Does plan bundle (Begin c.node c.lane ∷ []) old [] mid (close_of c c.rows.items false ∷ []) []
-  begins-transform within =
-      subst (λ e. Does plan bundle (Begin c.node c.lane ∷ []) old [] mid (Close c.node c.lane e c.serial c.floor c.mark c.rows.items false ∷ []) []) epoch_is
-      (begin-does plan is_plan bundle old mid c.node c.lane (omega arith) lane close looks c.serial c.floor c.mark c.rows.items begun (transform-op plan.steps c.node within))
+  begins-transform within = begin-does plan is_plan bundle c old mid (omega arith) lane close looks epoch_is b (transform-op plan.steps c.node within)
 
   pub begins-sink : c.node ≡ length plan.steps → Does plan bundle (Begin c.node c.lane ∷ []) old [] mid (close_of c [] true ∷ []) c.rows.items
-  begins-sink at_end =
-      subst (λ e. Does plan bundle (Begin c.node c.lane ∷ []) old [] mid (Close c.node c.lane e c.serial c.floor c.mark [] true ∷ []) c.rows.items) epoch_is
-      (begin-sink plan is_plan bundle old mid c.node c.lane (omega arith) lane close looks c.serial c.floor c.mark c.rows.items begun (sink-op plan.steps c.node at_end))
+  begins-sink at_end = begin-sink plan is_plan bundle c old mid (omega arith) lane close looks epoch_is b (sink-op plan.steps c.node at_end)
 
   pub closes-transform : (new : List NodeState) (tray : List Record) → c.node < length plan.steps → Ends plan bundle c mid new → ClosesNode plan bundle c.node c.lane old tray new tray
   closes-transform new tray within e = record {
@@ -83,7 +75,7 @@ module _ (plan : Shape) (is_plan : IsPlan plan) (bundle : ℕ) (c : Closing) (ol
     added = [];
     tray_is = sym (append-nil tray);
     does = does-then plan bundle (Begin c.node c.lane ∷ []) (deliveries c.node c.lane e.count ++ Pass c.node ∷ End c.node ∷ []) old mid new [] (close_of c c.rows.items false ∷ []) [] [] [] (begins-transform within) e.does;
-    lowers = lowers-then c.node 0 1 old mid new (begins-lowers c.node c.lane c.epoch c.serial c.floor c.mark c.rows.items old mid lane b) e.lowers;
+    lowers = lowers-then c.node 0 1 old mid new (begins-lowers c old mid lane b) e.lowers;
     settings = e.settings ∙ settings-node old mid c.node c.lane lane b.now 1 b.was b.is (line.Begin c.lane c.epoch c.mark (length c.rows.items)) b.sets;
   }
 
@@ -101,7 +93,7 @@ module _ (plan : Shape) (is_plan : IsPlan plan) (bundle : ℕ) (c : Closing) (ol
     does = subst (λ (l : List Record). Does plan bundle (Begin c.node c.lane ∷ [] ++ End c.node ∷ []) old [] new [] l) (append-nil c.rows.items)
         (does-then plan bundle (Begin c.node c.lane ∷ []) (End c.node ∷ []) old mid new [] (close_of c [] true ∷ []) [] c.rows.items [] (begins-sink at_end)
         (end-does plan is_plan bundle mid new c.node c.lane c.epoch c.serial c.floor c.mark [] x t.now t.sets t.is));
-    lowers = lowers-then c.node 0 1 old mid new (begins-lowers c.node c.lane c.epoch c.serial c.floor c.mark c.rows.items old mid lane b) (ends-lowers c.node c.lane mid new x (line.End c.lane c.epoch) less t);
+    lowers = lowers-then c.node 0 1 old mid new (begins-lowers c old mid lane b) (ends-lowers c.node c.lane mid new x (line.End c.lane c.epoch) less t);
     settings =
         settings-lane mid new c.node c.lane x t.now (line.End c.lane c.epoch) t.sets
         ∙ settings-node old mid c.node c.lane lane b.now 1 b.was b.is (line.Begin c.lane c.epoch c.mark (length c.rows.items)) b.sets;

@@ -17,6 +17,7 @@ use Rattle.sb_core.specs.Marks.{before_closing}
 use Rattle.sb_node.specs.Marking.{mark_for}
 use Rattle.sb_kept.specs.declared.kept.Kept.{Kept}
 use Rattle.sb_kept.specs.Keeping.{IsSpent, IsMadeFor, IsPartFor, closed_mark, gives}
+use Rattle.sb_node.specs.declared.closing.Closing.{Closing}
 use Rattle.sb_node.specs.declared.state.NodeState.{NodeState}
 
 -- the lane is there, and is so
@@ -83,21 +84,20 @@ pub record Absorbs (k l : ℕ) (old new : List NodeState) (lane : LaneView) (epo
   pub adds : (records : List Record) → IsPartFor was part l records
       → Adds (closed_mark was) (gives was) (gives is) (on_lane l records)
 
--- the oldest container of the lane is closing, and these rows come out
-pub record BeginsAt (k l : ℕ) (old new : List NodeState) (lane : LaneView) (epoch serial floor mark : ℕ)
-    (rows : List Record) : Type 0 where
+-- this closing begins: the oldest container of its lane is closing, and its rows come out
+pub record BeginsAt (c : Closing) (old new : List NodeState) (lane : LaneView) : Type 0 where
   pub now : LaneView
   pub was : Kept
   pub is : Kept
-  pub sets : SetsNode k l lane now 1 was is (line.Begin l epoch mark (length rows)) old new
+  pub sets : SetsNode c.node c.lane lane now 1 was is (line.Begin c.lane c.epoch c.mark (length c.rows.items)) old new
   pub lane_is : lane_of now ≡ record (lane_of lane) { conts = with_first_closing (conts_of lane.containers) }
-  pub serial_is : serial ≡ sets.own.closings
-  pub floor_is : floor ≡ before_closing (map lane_of sets.own.lanes.items)
-  pub mark_is : mark ≡ mark_for l (map lane_of sets.own.lanes.items)
+  pub serial_is : c.serial ≡ sets.own.closings
+  pub floor_is : c.floor ≡ before_closing (map lane_of sets.own.lanes.items)
+  pub mark_is : c.mark ≡ mark_for c.lane (map lane_of sets.own.lanes.items)
   pub unspent : IsSpent is → ⊥
   pub made : (op : Operator) → IsMadeFor op was → IsMadeFor op is
-  pub closed : closed_mark is ≡ mark
-  pub closes : Closes mark (gives was) rows (gives is)
+  pub closed : closed_mark is ≡ c.mark
+  pub closes : Closes c.mark (gives was) c.rows.items (gives is)
 
 -- lane l of node k shows what it did, and so does the rest of the node
 pub record StaysAt (k l : ℕ) (old new : List NodeState) (lane : LaneView) : Type 0 where

@@ -196,7 +196,7 @@ pub(crate) fn begin_at(
         → closed_mark own.kept ≤ spec.mark_for lane (map lane_of own.lanes.items) }
     ensures names { IfOk result (λ c. (c.node ≡ node) × (c.lane ≡ lane) × (c.epoch ≡ epoch)) }
     ensures begins { IfOk result (λ c. (at : LaneView) → HasLane node lane at nodes.old.items
-        → BeginsAt node lane nodes.old.items nodes.new.items at epoch c.serial c.floor c.mark c.rows.items) }
+        → BeginsAt c nodes.old.items nodes.new.items at) }
     ensures links { OnOk result (LaneGoes node lane LinksStay nodes.old.items nodes.new.items) }
 {
     let own = &mut nodes[node as usize];

@@ -2,7 +2,6 @@ use Rattle.std.proofs.Common.{◌≡◌, ◌∷◌, [], sym, subst, ◌∙◌, a
 use Rattle.sb_core.specs.declared.event.Event.TheVariants.{Begin}
 use Rattle.sb_lane.proofs.Results.{on_ok, both_ok}
 use Rattle.sb_hand.specs.Runs.{close_of, ClosesNode}
-use Rattle.sb_hand.specs.Sets.{BeginsAt}
 use Rattle.sb_diary.specs.declared.event.DiaryEvent.TheVariants as line
 use Rattle.sb_node.specs.LinkChanges.{LinksStay}
 use Rattle.sb_hand.specs.LaneGoing.{LaneGoes}
@@ -31,7 +30,7 @@ close_transform-requires-clause-can c =
     let at = c.requires.at in
     let l = c.requires.looks at.0 at.1 in
     let names = c.in_ok-closing.ensures.names in
-    let b = subst (λ z. z) (λ i. BeginsAt (sym names.0 i) (sym names.1 i) c.args.nodes.now.items c.begin_at.new.nodes.items at.0 (sym names.2 i) cl.serial cl.floor cl.mark cl.rows.items) (c.in_ok-closing.ensures.begins at.0 at.1) in
+    let b = c.in_ok-closing.ensures.begins at.0 at.1 in
     can-after c.args.plan.now c.args.bundle (Begin cl.node cl.lane ∷ []) c.args.nodes.now.items c.begin_at.new.nodes.items [] (close_of cl cl.rows.items false ∷ []) [] c.requires.can
     (begins-transform c.args.plan.now c.requires.plan c.args.bundle cl c.args.nodes.now.items c.begin_at.new.nodes.items at.0 l.0 l.1 (l.2 ∙ sym names.2) b (omega (arith, names.0, c.if-node-transforms.true, c.transforms.ensures.value)))
 
@@ -41,7 +40,7 @@ close_sink-requires c =
     let at = c.requires.at in
     let l = c.requires.looks at.0 at.1 in
     let names = c.in_ok-closing.ensures.names in
-    let b = subst (λ z. z) (λ i. BeginsAt (sym names.0 i) (sym names.1 i) c.args.nodes.now.items c.begin_at.new.nodes.items at.0 (sym names.2 i) cl.serial cl.floor cl.mark cl.rows.items) (c.in_ok-closing.ensures.begins at.0 at.1) in
+    let b = c.in_ok-closing.ensures.begins at.0 at.1 in
     sink-lane c.args.plan.now c.requires.plan c.args.bundle cl c.args.nodes.now.items c.begin_at.new.nodes.items at.0 l.0 l.1 (l.2 ∙ sym names.2) b c.requires.can (omega (arith, names.0, c.if-node-transforms.false, c.transforms.ensures.value, c.requires.node))
 
 pub returns-then-node-transforms-clause-closes : goal.returns-then-node-transforms-clause-closes
@@ -50,7 +49,7 @@ returns-then-node-transforms-clause-closes c =
     let at = c.requires.at in
     let l = c.requires.looks at.0 at.1 in
     let names = c.in_ok-closing.ensures.names in
-    let b = subst (λ z. z) (λ i. BeginsAt (sym names.0 i) (sym names.1 i) c.args.nodes.now.items c.begin_at.new.nodes.items at.0 (sym names.2 i) cl.serial cl.floor cl.mark cl.rows.items) (c.in_ok-closing.ensures.begins at.0 at.1) in
+    let b = c.in_ok-closing.ensures.begins at.0 at.1 in
     on_ok c.close_transform.result (λ e. subst (λ z. z) (λ i. ClosesNode c.args.plan.now c.args.bundle (names.0 i) (names.1 i) c.args.nodes.now.items c.args.tray.now.items c.close_transform.new.nodes.items c.args.tray.now.items)
     (closes-transform c.args.plan.now c.requires.plan c.args.bundle cl c.args.nodes.now.items c.begin_at.new.nodes.items at.0 l.0 l.1 (l.2 ∙ sym names.2) b c.close_transform.new.nodes.items c.args.tray.now.items (omega (arith, names.0, c.if-node-transforms.true, c.transforms.ensures.value)) e)) c.close_transform.ensures.ends
 
@@ -60,7 +59,7 @@ returns-else-node-transforms-clause-closes c =
     let at = c.requires.at in
     let l = c.requires.looks at.0 at.1 in
     let names = c.in_ok-closing.ensures.names in
-    let b = subst (λ z. z) (λ i. BeginsAt (sym names.0 i) (sym names.1 i) c.args.nodes.now.items c.begin_at.new.nodes.items at.0 (sym names.2 i) cl.serial cl.floor cl.mark cl.rows.items) (c.in_ok-closing.ensures.begins at.0 at.1) in
+    let b = c.in_ok-closing.ensures.begins at.0 at.1 in
     let at_end : cl.node ≡ length c.args.plan.now.steps = omega (arith, names.0, c.if-node-transforms.false, c.transforms.ensures.value, c.requires.node) in
     let own = sink-lane c.args.plan.now c.requires.plan c.args.bundle cl c.args.nodes.now.items c.begin_at.new.nodes.items at.0 l.0 l.1 (l.2 ∙ sym names.2) b c.requires.can at_end in
     both_ok c.close_sink.result (λ t e. subst (λ z. z) (λ i. ClosesNode c.args.plan.now c.args.bundle (names.0 i) (names.1 i) c.args.nodes.now.items c.args.tray.now.items c.close_sink.new.nodes.items c.close_sink.new.tray.items)
@@ -72,9 +71,9 @@ close_transform-requires-clause-linked c =
     let at = c.requires.at in
     let l = c.requires.looks at.0 at.1 in
     let names = c.in_ok-closing.ensures.names in
-    let b = subst (λ z. z) (λ i. BeginsAt (sym names.0 i) (sym names.1 i) c.args.nodes.now.items c.begin_at.new.nodes.items at.0 (sym names.2 i) cl.serial cl.floor cl.mark cl.rows.items) (c.in_ok-closing.ensures.begins at.0 at.1) in
+    let b = c.in_ok-closing.ensures.begins at.0 at.1 in
     let g = subst (λ z. z) (λ i. LaneGoes (sym names.0 i) (sym names.1 i) LinksStay c.args.nodes.now.items c.begin_at.new.nodes.items) c.in_ok-closing.ensures.links in
-    let keeps = begin-keeps c.args.plan.now c.requires.plan c.args.nodes.now.items c.begin_at.new.nodes.items cl.node cl.lane at.0 c.requires.linked cl.epoch cl.serial cl.floor cl.mark cl.rows.items b g in
+    let keeps = begin-keeps c.args.plan.now c.requires.plan cl c.args.nodes.now.items c.begin_at.new.nodes.items at.0 c.requires.linked b g in
     keeps.linked
 
 pub close_transform-requires-clause-none : goal.close_transform-requires-clause-none
@@ -83,7 +82,7 @@ close_transform-requires-clause-none c =
     let at = c.requires.at in
     let l = c.requires.looks at.0 at.1 in
     let names = c.in_ok-closing.ensures.names in
-    let b = subst (λ z. z) (λ i. BeginsAt (sym names.0 i) (sym names.1 i) c.args.nodes.now.items c.begin_at.new.nodes.items at.0 (sym names.2 i) cl.serial cl.floor cl.mark cl.rows.items) (c.in_ok-closing.ensures.begins at.0 at.1) in
+    let b = c.in_ok-closing.ensures.begins at.0 at.1 in
     let can = can-after c.args.plan.now c.args.bundle (Begin cl.node cl.lane ∷ []) c.args.nodes.now.items c.begin_at.new.nodes.items [] (close_of cl cl.rows.items false ∷ []) [] c.requires.can
     (begins-transform c.args.plan.now c.requires.plan c.args.bundle cl c.args.nodes.now.items c.begin_at.new.nodes.items at.0 l.0 l.1 (l.2 ∙ sym names.2) b (omega (arith, names.0, c.if-node-transforms.true, c.transforms.ensures.value))) in
     none-yet c.args.plan.now c.requires.plan c.args.bundle cl c.args.nodes.now.items c.begin_at.new.nodes.items at.0 c.requires.can b can
@@ -94,9 +93,9 @@ returns-then-node-transforms-clause-links c =
     let at = c.requires.at in
     let l = c.requires.looks at.0 at.1 in
     let names = c.in_ok-closing.ensures.names in
-    let b = subst (λ z. z) (λ i. BeginsAt (sym names.0 i) (sym names.1 i) c.args.nodes.now.items c.begin_at.new.nodes.items at.0 (sym names.2 i) cl.serial cl.floor cl.mark cl.rows.items) (c.in_ok-closing.ensures.begins at.0 at.1) in
+    let b = c.in_ok-closing.ensures.begins at.0 at.1 in
     let g = subst (λ z. z) (λ i. LaneGoes (sym names.0 i) (sym names.1 i) LinksStay c.args.nodes.now.items c.begin_at.new.nodes.items) c.in_ok-closing.ensures.links in
-    let keeps = begin-keeps c.args.plan.now c.requires.plan c.args.nodes.now.items c.begin_at.new.nodes.items cl.node cl.lane at.0 c.requires.linked cl.epoch cl.serial cl.floor cl.mark cl.rows.items b g in
+    let keeps = begin-keeps c.args.plan.now c.requires.plan cl c.args.nodes.now.items c.begin_at.new.nodes.items at.0 c.requires.linked b g in
     on_ok c.close_transform.result (keeps-then c.args.plan.now c.args.nodes.now.items c.begin_at.new.nodes.items c.close_transform.new.nodes.items keeps) c.close_transform.ensures.links
 
 pub returns-else-node-transforms-clause-links : goal.returns-else-node-transforms-clause-links
@@ -105,9 +104,9 @@ returns-else-node-transforms-clause-links c =
     let at = c.requires.at in
     let l = c.requires.looks at.0 at.1 in
     let names = c.in_ok-closing.ensures.names in
-    let b = subst (λ z. z) (λ i. BeginsAt (sym names.0 i) (sym names.1 i) c.args.nodes.now.items c.begin_at.new.nodes.items at.0 (sym names.2 i) cl.serial cl.floor cl.mark cl.rows.items) (c.in_ok-closing.ensures.begins at.0 at.1) in
+    let b = c.in_ok-closing.ensures.begins at.0 at.1 in
     let g = subst (λ z. z) (λ i. LaneGoes (sym names.0 i) (sym names.1 i) LinksStay c.args.nodes.now.items c.begin_at.new.nodes.items) c.in_ok-closing.ensures.links in
-    let keeps = begin-keeps c.args.plan.now c.requires.plan c.args.nodes.now.items c.begin_at.new.nodes.items cl.node cl.lane at.0 c.requires.linked cl.epoch cl.serial cl.floor cl.mark cl.rows.items b g in
+    let keeps = begin-keeps c.args.plan.now c.requires.plan cl c.args.nodes.now.items c.begin_at.new.nodes.items at.0 c.requires.linked b g in
     let at_end : cl.node ≡ length c.args.plan.now.steps = omega (arith, names.0, c.if-node-transforms.false, c.transforms.ensures.value, c.requires.node) in
     let own = sink-lane c.args.plan.now c.requires.plan c.args.bundle cl c.args.nodes.now.items c.begin_at.new.nodes.items at.0 l.0 l.1 (l.2 ∙ sym names.2) b c.requires.can at_end in
     let can = can-after c.args.plan.now c.args.bundle (Begin cl.node cl.lane ∷ []) c.args.nodes.now.items c.begin_at.new.nodes.items [] (close_of cl [] true ∷ []) cl.rows.items c.requires.can

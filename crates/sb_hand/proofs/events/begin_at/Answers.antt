@@ -1,6 +1,8 @@
+use Rattle.std.proofs.Common.{◌≡◌, set, ap, ◌∙◌}
 use Rattle.sb_node.specs.declared.closing.Closing.{Closing}
-use Rattle.sb_lane.proofs.Results.{ok-map, ok-some}
+use Rattle.sb_lane.specs.LaneView.{LaneView}
 use Rattle.sb_node.specs.LinkChanges.{LinksStay}
+use Rattle.sb_hand.proofs.Answering.{from-two, two-ok}
 use Rattle.sb_hand.proofs.AtNodes.{begins, goes, has-lane, lane-there, own-there}
 use Rattle.sb_hand.proofs.events.begin_at.Goals as goal
 
@@ -17,7 +19,15 @@ pub begin-requires-clause-rises : goal.begin-requires-clause-rises
 begin-requires-clause-rises c = λ unspent. c.requires.rises c.index_mut-own.result.now (own-there c.args.nodes.now.items c.args.node c.index_mut-own.result.now c.requires.at.1.own c.requires.at.1.there c.index_mut-own.ensures.value)
 
 pub returns-clause-begins : goal.returns-clause-begins
-returns-clause-begins c = ok-map c.begin.result (λ (closing : Closing) begun at h. begins c.args.nodes.now.items c.args.node c.args.lane c.index_mut-own.result.now at h c.index_mut-own.ensures.value c.reserve.new.self _ c.in_ok-reserve.ensures.ok _ c.args.epoch closing.serial closing.floor closing.mark closing.rows.items (begun at (has-lane c.args.nodes.now.items c.args.node c.args.lane c.index_mut-own.result.now at h c.index_mut-own.ensures.value))) c.begin.ensures.begins
+returns-clause-begins c =
+    let own = c.index_mut-own.result.now in
+    let nodes = c.args.nodes.now.items in
+    let own_is = c.index_mut-own.ensures.value in
+    from-two c.begin.result (λ (closing : Closing) names begun at h.
+    begins nodes c.args.node c.args.lane own at h own_is c.reserve.new.self _ c.in_ok-reserve.ensures.ok _ closing names.0 names.1 (begun at (has-lane nodes c.args.node c.args.lane own at h own_is))) c.begin.ensures.names c.begin.ensures.begins
 
 pub returns-clause-links : goal.returns-clause-links
-returns-clause-links c = ok-some c.begin.result (λ closing begun. goes c.args.nodes.now.items c.args.node c.args.lane c.index_mut-own.result.now _ c.index_mut-own.ensures.value LinksStay (λ at there. let t = begun at there in (t.now, t.sets.lanes, t.linked))) c.begin.ensures.begins
+returns-clause-links c =
+    let own = c.index_mut-own.result.now in
+    let lane : (closing : Closing) → closing.lane ≡ c.args.lane → (now : LaneView) → set own.lanes.items closing.lane now ≡ set own.lanes.items c.args.lane now = λ closing e now. ap (λ l. set own.lanes.items l now) e in
+    two-ok c.begin.result (λ closing names begun. goes c.args.nodes.now.items c.args.node c.args.lane own _ c.index_mut-own.ensures.value LinksStay (λ at there. let t = begun at there in (t.now, t.sets.lanes ∙ lane closing names.1 t.now, t.linked))) c.begin.ensures.names c.begin.ensures.begins
