@@ -5,6 +5,7 @@ pub mod Hands
 pub mod LaneGoing
 pub mod Linking
 pub mod NewNodes
+pub mod Readiness
 pub mod Runs
 pub mod Searching
 pub mod Sets

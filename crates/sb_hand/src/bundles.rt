@@ -1,17 +1,16 @@
 //! Whole bundles: taken, processed, delivered and finished.
 
-ghost use Rattle.std.specs.Prelude.{◌≡◌, ◌<◌, ◌≤◌, ◌∷◌, [], true, false, length, OnOk, slice_get, is_some};
+ghost use Rattle.std.specs.Prelude.{◌≡◌, ◌≤◌, ◌∷◌, [], true, false, length, OnOk, slice_get, is_some};
 ghost use Rattle.sb_core.specs.Closings.{delivery, is_pardo};
 ghost use Rattle.sb_lane.specs.LaneView.{LaneView};
 ghost use Rattle.sb_lane.specs.Placed.{conts_of};
 ghost use Rattle.sb_lane.specs.Taking.{take_first};
 ghost use Rattle.sb_pipeline.specs.Operators.{operator_at};
-ghost use Rattle.sb_pipeline.specs.Plans.{IsPlan};
 ghost use Rattle.sb_work.specs.Processing.{IsOutput};
-ghost use Rattle.sb_hand.specs.Linking.{AreLinked, KeepsLinks};
+ghost use Rattle.sb_hand.specs.Linking.{KeepsLinks};
+ghost use Rattle.sb_hand.specs.Readiness.{CanGive, IsReady};
 ghost use Rattle.sb_hand.specs.Runs.{work_of, FinishesWork, Gives, WorksOff};
 ghost use Rattle.sb_hand.specs.Sets.{HasLane};
-ghost use Rattle.sb_hand.specs.Showing.{CanStand};
 
 use crate::events::{down_at, finish_at, finish_part, link_at, put_at, put_first, take_at};
 use sb_bundle::Bundle;
@@ -30,15 +29,7 @@ fn give(
     claim: &Claim,
     given: Sequence<Record>,
 ) -> Result<(), NoMemory>
-    requires plan { IsPlan plan.now }
-    requires node { claim.now.node < length plan.now.steps }
-    requires can { CanStand plan.now size nodes.old.items
-        (work_of claim.now.node claim.now.lane claim.now.bundle false ∷ []) }
-    requires linked { AreLinked plan.now nodes.old.items }
-    requires pardo { is_pardo (operator_at (slice_get plan.now.steps claim.now.node)) ≡ true }
-    requires given { given
-        ≡ delivery (operator_at (slice_get plan.now.steps claim.now.node)) claim.now.bundle.records }
-    requires some { 0 < length given }
+    requires { CanGive plan.now size claim.now given nodes.old.items }
     ensures gives { OnOk result (Gives plan.now size claim.now.node claim.now.lane claim.now.bundle
         nodes.old.items nodes.new.items) }
     ensures links { OnOk result (KeepsLinks plan.now nodes.old.items nodes.new.items) }
@@ -71,15 +62,7 @@ fn deliver_given(
     claim: &Claim,
     given: Sequence<Record>,
 ) -> Result<(), NoMemory>
-    requires plan { IsPlan plan.now }
-    requires node { claim.now.node < length plan.now.steps }
-    requires can { CanStand plan.now size nodes.old.items
-        (work_of claim.now.node claim.now.lane claim.now.bundle false ∷ []) }
-    requires linked { AreLinked plan.now nodes.old.items }
-    requires pardo { is_pardo (operator_at (slice_get plan.now.steps claim.now.node)) ≡ true }
-    requires given { given
-        ≡ delivery (operator_at (slice_get plan.now.steps claim.now.node)) claim.now.bundle.records }
-    requires some { 0 < length given }
+    requires { CanGive plan.now size claim.now given nodes.old.items }
     ensures finishes { OnOk result (FinishesWork plan.now size claim.now.node claim.now.lane claim.now.bundle
         nodes.old.items nodes.new.items) }
     ensures links { OnOk result (KeepsLinks plan.now nodes.old.items nodes.new.items) }
@@ -103,10 +86,8 @@ fn finish_empty(
     nodes: &mut Vec<NodeState>,
     claim: &Claim,
 ) -> Result<(), NoMemory>
-    requires plan { IsPlan plan.now }
-    requires can { CanStand plan.now size nodes.old.items
-        (work_of claim.now.node claim.now.lane claim.now.bundle false ∷ []) }
-    requires linked { AreLinked plan.now nodes.old.items }
+    requires ready { IsReady plan.now size (work_of claim.now.node claim.now.lane claim.now.bundle false ∷ [])
+        nodes.old.items }
     requires pardo { is_pardo (operator_at (slice_get plan.now.steps claim.now.node)) ≡ true }
     requires none { delivery (operator_at (slice_get plan.now.steps claim.now.node)) claim.now.bundle.records ≡ [] }
     ensures finishes { OnOk result (FinishesWork plan.now size claim.now.node claim.now.lane claim.now.bundle
@@ -135,11 +116,9 @@ fn finish_bundle(
     claim: &Claim,
     output: Output,
 ) -> Result<(), NoMemory>
-    requires plan { IsPlan plan.now }
+    requires ready { IsReady plan.now size (work_of claim.now.node claim.now.lane claim.now.bundle false ∷ [])
+        nodes.old.items }
     requires node { claim.now.node ≤ length plan.now.steps }
-    requires can { CanStand plan.now size nodes.old.items
-        (work_of claim.now.node claim.now.lane claim.now.bundle false ∷ []) }
-    requires linked { AreLinked plan.now nodes.old.items }
     requires output { IsOutput (operator_at (slice_get plan.now.steps claim.now.node)) claim.now.lane
         claim.now.bundle.records output }
     ensures finishes { OnOk result (FinishesWork plan.now size claim.now.node claim.now.lane claim.now.bundle
@@ -167,10 +146,8 @@ pub(crate) fn work_off(
     node: u32,
     lane: u32,
 ) -> Result<(), NoMemory>
-    requires plan { IsPlan plan.now }
+    requires ready { IsReady plan.now size [] nodes.old.items }
     requires node { node ≤ length plan.now.steps }
-    requires can { CanStand plan.now size nodes.old.items [] }
-    requires linked { AreLinked plan.now nodes.old.items }
     requires waits { (at : LaneView) × HasLane node lane at nodes.old.items
         × (is_some (take_first (conts_of at.containers)) ≡ true) }
     ensures works { OnOk result (WorksOff plan.now size node lane nodes.old.items nodes.new.items) }

@@ -1,21 +1,18 @@
 //! Whole closings.
 
-ghost use Rattle.std.specs.Prelude.{◌≡◌, ◌<◌, ◌≤◌, ◌++◌, ◌+◌, ◌∷◌, [], true, false, length, drop, take, slice_get, OnOk, IfOk, Ok};
-ghost use Rattle.sb_core.specs.Closings.{is_pardo};
+ghost use Rattle.std.specs.Prelude.{◌≡◌, ◌<◌, ◌≤◌, ◌++◌, ◌+◌, ◌∷◌, [], true, false, length, drop, take, OnOk, IfOk, Ok};
 ghost use Rattle.sb_core.specs.Marks.{first_is_closing};
 ghost use Rattle.sb_diary.specs.declared.event.DiaryEvent.TheVariants as line;
 ghost use Rattle.sb_lane.specs.LaneView.{LaneView, lane_of};
 ghost use Rattle.sb_lane.specs.Looks.{look_of};
 ghost use Rattle.sb_lane.specs.Placed.{conts_of};
 ghost use Rattle.sb_lane.specs.declared.answers.LaneClose.{LaneClose as AClose};
-ghost use Rattle.sb_pipeline.specs.Operators.{operator_at};
-ghost use Rattle.sb_pipeline.specs.Plans.{IsPlan};
 ghost use Rattle.sb_node.specs.LinkChanges.{DropsLink};
 ghost use Rattle.sb_hand.specs.LaneGoing.{LaneGoes};
-ghost use Rattle.sb_hand.specs.Linking.{AreLinked, KeepsLinks, NoneBelow, StandsBelow};
+ghost use Rattle.sb_hand.specs.Linking.{KeepsLinks, StandsBelow};
+ghost use Rattle.sb_hand.specs.Readiness.{CanDeliver, IsReady};
 ghost use Rattle.sb_hand.specs.Runs.{close_of, Delivers, Ends, ClosesNode};
 ghost use Rattle.sb_hand.specs.Sets.{HasLane, Turns};
-ghost use Rattle.sb_hand.specs.Showing.{CanStand};
 
 use crate::events::{begin_at, end_at, put_at, put_first, seal_at};
 use sb_bundle::Bundle;
@@ -43,12 +40,8 @@ fn deliver_first(
     nodes: &mut Vec<NodeState>,
     closing: &Closing,
 ) -> Result<(usize, u64), NoMemory>
-    requires plan { IsPlan plan.now }
-    requires node { closing.now.node < length plan.now.steps }
+    requires can { CanDeliver plan.now bundle closing.now nodes.old.items }
     requires some { 0 < length closing.now.rows.items }
-    requires can { CanStand plan.now bundle nodes.old.items (close_of closing.now closing.now.rows.items false ∷ []) }
-    requires linked { AreLinked plan.now nodes.old.items }
-    requires none { NoneBelow plan.now closing.now.node closing.now.serial nodes.old.items }
     ensures within { IfOk result (λ r. r.0 ≤ length closing.now.rows.items) }
     ensures does { IfOk result (λ r. Delivers plan.now bundle closing.now
         nodes.old.items closing.now.rows.items nodes.new.items (drop r.0 closing.now.rows.items)) }
@@ -82,12 +75,10 @@ fn deliver_next(
     place: u64,
     from: usize,
 ) -> Result<usize, NoMemory>
-    requires plan { IsPlan plan.now }
+    requires ready { IsReady plan.now bundle
+        (close_of closing.now (drop from closing.now.rows.items) false ∷ []) nodes.old.items }
     requires node { closing.now.node < length plan.now.steps }
     requires from { from < length closing.now.rows.items }
-    requires can { CanStand plan.now bundle nodes.old.items
-        (close_of closing.now (drop from closing.now.rows.items) false ∷ []) }
-    requires linked { AreLinked plan.now nodes.old.items }
     requires stands { StandsBelow plan.now closing.now.node closing.now.serial place nodes.old.items }
     ensures more { IfOk result (λ upto. (from < upto) × (upto ≤ length closing.now.rows.items)) }
     ensures does { IfOk result (λ upto. Delivers plan.now bundle closing.now
@@ -121,12 +112,8 @@ fn deliver_some(
     nodes: &mut Vec<NodeState>,
     closing: &Closing,
 ) -> Result<(), NoMemory>
-    requires plan { IsPlan plan.now }
-    requires node { closing.now.node < length plan.now.steps }
+    requires can { CanDeliver plan.now bundle closing.now nodes.old.items }
     requires some { 0 < length closing.now.rows.items }
-    requires can { CanStand plan.now bundle nodes.old.items (close_of closing.now closing.now.rows.items false ∷ []) }
-    requires linked { AreLinked plan.now nodes.old.items }
-    requires none { NoneBelow plan.now closing.now.node closing.now.serial nodes.old.items }
     ensures does { OnOk result
         (Delivers plan.now bundle closing.now nodes.old.items closing.now.rows.items nodes.new.items []) }
     ensures links { OnOk result (KeepsLinks plan.now nodes.old.items nodes.new.items) }
@@ -147,12 +134,7 @@ fn deliver_rows(
     nodes: &mut Vec<NodeState>,
     closing: &Closing,
 ) -> Result<(), NoMemory>
-    requires plan { IsPlan plan.now }
-    requires node { closing.now.node < length plan.now.steps }
-    requires can { CanStand plan.now bundle nodes.old.items (close_of closing.now closing.now.rows.items false ∷ []) }
-    requires linked { AreLinked plan.now nodes.old.items }
-    requires none { is_pardo (operator_at (slice_get plan.now.steps closing.now.node)) ≡ false
-        → NoneBelow plan.now closing.now.node closing.now.serial nodes.old.items }
+    requires { CanDeliver plan.now bundle closing.now nodes.old.items }
     ensures does { OnOk result
         (Delivers plan.now bundle closing.now nodes.old.items closing.now.rows.items nodes.new.items []) }
     ensures links { OnOk result (KeepsLinks plan.now nodes.old.items nodes.new.items) }
@@ -172,12 +154,7 @@ fn close_transform(
     nodes: &mut Vec<NodeState>,
     closing: &Closing,
 ) -> Result<(), NoMemory>
-    requires plan { IsPlan plan.now }
-    requires node { closing.now.node < length plan.now.steps }
-    requires can { CanStand plan.now bundle nodes.old.items (close_of closing.now closing.now.rows.items false ∷ []) }
-    requires linked { AreLinked plan.now nodes.old.items }
-    requires none { is_pardo (operator_at (slice_get plan.now.steps closing.now.node)) ≡ false
-        → NoneBelow plan.now closing.now.node closing.now.serial nodes.old.items }
+    requires { CanDeliver plan.now bundle closing.now nodes.old.items }
     ensures ends { OnOk result (Ends plan.now bundle closing.now nodes.old.items nodes.new.items) }
     ensures links { OnOk result (KeepsLinks plan.now nodes.old.items nodes.new.items) }
 {
@@ -220,10 +197,8 @@ pub(crate) fn close_node(
     lane: u32,
     epoch: u64,
 ) -> Result<(), NoMemory>
-    requires plan { IsPlan plan.now }
+    requires ready { IsReady plan.now bundle [] nodes.old.items }
     requires node { node ≤ length plan.now.steps }
-    requires can { CanStand plan.now bundle nodes.old.items [] }
-    requires linked { AreLinked plan.now nodes.old.items }
     requires at { (at : LaneView) × HasLane node lane at nodes.old.items }
     requires looks { (at : LaneView) → HasLane node lane at nodes.old.items
         → (close : AClose) × (look_of (conts_of at.containers) ≡ Ok close) × (close.epoch ≡ epoch) }

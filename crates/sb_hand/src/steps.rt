@@ -7,10 +7,9 @@ ghost use Rattle.sb_lane.specs.Looks.{look_of};
 ghost use Rattle.sb_lane.specs.LaneView.{LaneView};
 ghost use Rattle.sb_lane.specs.Placed.{conts_of};
 ghost use Rattle.sb_lane.specs.Taking.{take_first};
-ghost use Rattle.sb_pipeline.specs.Plans.{IsPlan};
 ghost use Rattle.sb_node.specs.declared.state.NodeState.{NodeState as ANode};
-ghost use Rattle.sb_hand.specs.Linking.{AreLinked, KeepsLinks};
-ghost use Rattle.sb_hand.specs.Showing.{CanStand};
+ghost use Rattle.sb_hand.specs.Linking.{KeepsLinks};
+ghost use Rattle.sb_hand.specs.Readiness.{IsReady};
 ghost use Rattle.sb_hand.specs.Stepping.{Steps};
 ghost use Rattle.sb_node.specs.Looking.{CannotClose, NoneWaits};
 
@@ -47,10 +46,8 @@ fn close_step(
     tray: &mut Vec<Record>,
     node: u32,
 ) -> Result<Did, NoMemory>
-    requires plan { IsPlan plan.now }
+    requires ready { IsReady plan.now size [] nodes.old.items }
     requires node { node ≤ length plan.now.steps }
-    requires can { CanStand plan.now size nodes.old.items [] }
-    requires linked { AreLinked plan.now nodes.old.items }
     requires idle { (own : ANode) → slice_get nodes.old.items node ≡ Some own → All NoneWaits own.lanes.items }
     ensures steps { IfOk result
         (Steps plan.now size node nodes.old.items tray.old.items nodes.new.items tray.new.items) }
@@ -74,10 +71,8 @@ pub(crate) fn step_node(
     tray: &mut Vec<Record>,
     node: u32,
 ) -> Result<Did, NoMemory>
-    requires plan { IsPlan plan.now }
+    requires ready { IsReady plan.now size [] nodes.old.items }
     requires node { node ≤ length plan.now.steps }
-    requires can { CanStand plan.now size nodes.old.items [] }
-    requires linked { AreLinked plan.now nodes.old.items }
     ensures steps { IfOk result
         (Steps plan.now size node nodes.old.items tray.old.items nodes.new.items tray.new.items) }
     ensures links { OnOk result (KeepsLinks plan.now nodes.old.items nodes.new.items) }

@@ -7,37 +7,37 @@ use Rattle.sb_hand.proofs.bundles.give.Goals as goal
 
 pub down_at-requires : goal.down_at-requires
 down_at-requires c =
-    let own = has-own c.args.plan.now c.requires.plan c.args.size c.args.nodes.now.items c.args.claim.now.node c.args.claim.now.lane c.args.claim.now.bundle c.requires.can c.requires.linked c.requires.pardo c.down-below.result c.down-below.ensures.down c.args.given c.requires.given c.requires.some in
+    let own = has-own c.args.plan.now c.args.size c.args.claim.now c.args.given c.args.nodes.now.items c.requires c.down-below.result c.down-below.ensures.down in
     (own.0, subst (λ (n : List NodeState). HasLane c.args.claim.now.node 0 own.0 n) (sym c.as_slice.ensures.value) own.1)
 
 pub put_at-requires-clause-at : goal.put_at-requires-clause-at
-put_at-requires-clause-at c = below c.args.plan.now c.requires.plan c.args.size c.args.nodes.now.items c.args.claim.now.node c.args.claim.now.lane c.args.claim.now.bundle c.requires.can c.requires.linked c.requires.pardo c.down-below.result c.down-below.ensures.down c.args.given c.requires.given c.requires.some
+put_at-requires-clause-at c = below c.args.plan.now c.args.size c.args.claim.now c.args.given c.args.nodes.now.items c.requires c.down-below.result c.down-below.ensures.down
 
 pub put_at-requires-clause-here : goal.put_at-requires-clause-here
-put_at-requires-clause-here c = there c.args.plan.now c.requires.plan c.args.size c.args.nodes.now.items c.args.claim.now.node c.args.claim.now.lane c.args.claim.now.bundle c.requires.can c.requires.linked c.requires.pardo c.down-below.result c.down-below.ensures.down c.args.given c.requires.given c.requires.some c.down_at.result (λ at h. c.down_at.ensures at (subst (λ (n : List NodeState). HasLane c.args.claim.now.node 0 at n) (sym c.as_slice.ensures.value) h)) c.in-Some.place c.in-Some.is
+put_at-requires-clause-here c = there c.args.plan.now c.args.size c.args.claim.now c.args.given c.args.nodes.now.items c.requires c.down-below.result c.down-below.ensures.down c.down_at.result (λ at h. c.down_at.ensures at (subst (λ (n : List NodeState). HasLane c.args.claim.now.node 0 at n) (sym c.as_slice.ensures.value) h)) c.in-Some.place c.in-Some.is
 
 pub put_at-requires-clause-order : goal.put_at-requires-clause-order
-put_at-requires-clause-order c = order c.args.plan.now c.requires.plan c.args.size c.args.nodes.now.items c.args.claim.now.node c.args.claim.now.lane c.args.claim.now.bundle c.requires.can c.requires.linked c.requires.pardo c.down-below.result c.down-below.ensures.down c.args.given c.requires.given c.requires.some
+put_at-requires-clause-order c = order c.args.plan.now c.args.size c.args.claim.now c.args.given c.args.nodes.now.items c.requires c.down-below.result c.down-below.ensures.down
 
 pub put_first-requires-clause-at : goal.put_first-requires-clause-at
-put_first-requires-clause-at c = below c.args.plan.now c.requires.plan c.args.size c.args.nodes.now.items c.args.claim.now.node c.args.claim.now.lane c.args.claim.now.bundle c.requires.can c.requires.linked c.requires.pardo c.down-below.result c.down-below.ensures.down c.args.given c.requires.given c.requires.some
+put_first-requires-clause-at c = below c.args.plan.now c.args.size c.args.claim.now c.args.given c.args.nodes.now.items c.requires c.down-below.result c.down-below.ensures.down
 
 pub put_first-requires-clause-order : goal.put_first-requires-clause-order
-put_first-requires-clause-order c = placed-order c.args.plan.now c.requires.plan c.args.size c.args.nodes.now.items c.args.claim.now.node c.args.claim.now.lane c.args.claim.now.bundle c.requires.can c.requires.linked c.requires.pardo c.down-below.result c.down-below.ensures.down c.args.given c.requires.given c.requires.some
+put_first-requires-clause-order c = placed-order c.args.plan.now c.args.size c.args.claim.now c.args.given c.args.nodes.now.items c.requires c.down-below.result c.down-below.ensures.down
 
 pub link_at-requires : goal.link_at-requires
-link_at-requires c = has-own-still c.args.plan.now c.requires.plan c.args.size c.args.nodes.now.items c.args.claim.now.node c.args.claim.now.lane c.args.claim.now.bundle c.requires.can c.requires.linked c.requires.pardo c.down-below.result c.down-below.ensures.down c.args.given c.requires.given c.requires.some c.down_at.result (λ at h. c.down_at.ensures at (subst (λ (n : List NodeState). HasLane c.args.claim.now.node 0 at n) (sym c.as_slice.ensures.value) h)) c.in-None.is c.put_first.new.nodes.items c.in_ok-place-in-None.ensures.puts c.in_ok-place-in-None.place c.in_ok-place-in-None.ensures.links
+link_at-requires c = has-own-still c.args.plan.now c.args.size c.args.claim.now c.args.given c.args.nodes.now.items c.requires c.down-below.result c.down-below.ensures.down c.down_at.result (λ at h. c.down_at.ensures at (subst (λ (n : List NodeState). HasLane c.args.claim.now.node 0 at n) (sym c.as_slice.ensures.value) h)) c.in-None.is c.put_first.new.nodes.items c.in_ok-place-in-None.ensures.puts c.in_ok-place-in-None.place c.in_ok-place-in-None.ensures.links
 
 pub returns-in-Some-clause-gives : goal.returns-in-Some-clause-gives
-returns-in-Some-clause-gives c = on_ok c.put_at.result (gives-there c.args.plan.now c.requires.plan c.args.size c.args.nodes.now.items c.args.claim.now.node c.args.claim.now.lane c.args.claim.now.bundle c.requires.can c.requires.linked c.requires.pardo c.down-below.result c.down-below.ensures.down c.args.given c.requires.given c.requires.some c.down_at.result (λ at h. c.down_at.ensures at (subst (λ (n : List NodeState). HasLane c.args.claim.now.node 0 at n) (sym c.as_slice.ensures.value) h)) c.put_at.new.nodes.items) c.put_at.ensures.puts
+returns-in-Some-clause-gives c = on_ok c.put_at.result (gives-there c.args.plan.now c.args.size c.args.claim.now c.args.given c.args.nodes.now.items c.requires c.down-below.result c.down-below.ensures.down c.down_at.result (λ at h. c.down_at.ensures at (subst (λ (n : List NodeState). HasLane c.args.claim.now.node 0 at n) (sym c.as_slice.ensures.value) h)) c.put_at.new.nodes.items) c.put_at.ensures.puts
 
 pub returns-in-Some-clause-links : goal.returns-in-Some-clause-links
-returns-in-Some-clause-links c = both_ok c.put_at.result (keeps-there c.args.plan.now c.requires.plan c.args.size c.args.nodes.now.items c.args.claim.now.node c.args.claim.now.lane c.args.claim.now.bundle c.requires.can c.requires.linked c.requires.pardo c.down-below.result c.down-below.ensures.down c.args.given c.requires.given c.requires.some c.down_at.result (λ at h. c.down_at.ensures at (subst (λ (n : List NodeState). HasLane c.args.claim.now.node 0 at n) (sym c.as_slice.ensures.value) h)) c.put_at.new.nodes.items) c.put_at.ensures.puts c.put_at.ensures.links
+returns-in-Some-clause-links c = both_ok c.put_at.result (keeps-there c.args.plan.now c.args.size c.args.claim.now c.args.given c.args.nodes.now.items c.requires c.down-below.result c.down-below.ensures.down c.down_at.result (λ at h. c.down_at.ensures at (subst (λ (n : List NodeState). HasLane c.args.claim.now.node 0 at n) (sym c.as_slice.ensures.value) h)) c.put_at.new.nodes.items) c.put_at.ensures.puts c.put_at.ensures.links
 
 pub returns-in_ok-place-in-None-clause-gives : goal.returns-in_ok-place-in-None-clause-gives
 returns-in_ok-place-in-None-clause-gives c =
-    gives-first c.args.plan.now c.requires.plan c.args.size c.args.nodes.now.items c.args.claim.now.node c.args.claim.now.lane c.args.claim.now.bundle c.requires.can c.requires.linked c.requires.pardo c.down-below.result c.down-below.ensures.down c.args.given c.requires.given c.requires.some c.down_at.result (λ at h. c.down_at.ensures at (subst (λ (n : List NodeState). HasLane c.args.claim.now.node 0 at n) (sym c.as_slice.ensures.value) h)) c.in-None.is c.put_first.new.nodes.items c.in_ok-place-in-None.ensures.puts c.in_ok-place-in-None.place c.in_ok-place-in-None.ensures.links c.link_at.new.nodes.items c.link_at.ensures.stays
+    gives-first c.args.plan.now c.args.size c.args.claim.now c.args.given c.args.nodes.now.items c.requires c.down-below.result c.down-below.ensures.down c.down_at.result (λ at h. c.down_at.ensures at (subst (λ (n : List NodeState). HasLane c.args.claim.now.node 0 at n) (sym c.as_slice.ensures.value) h)) c.in-None.is c.put_first.new.nodes.items c.in_ok-place-in-None.ensures.puts c.in_ok-place-in-None.place c.in_ok-place-in-None.ensures.links c.link_at.new.nodes.items c.link_at.ensures.stays
 
 pub returns-in_ok-place-in-None-clause-links : goal.returns-in_ok-place-in-None-clause-links
 returns-in_ok-place-in-None-clause-links c =
-    keeps-first c.args.plan.now c.requires.plan c.args.size c.args.nodes.now.items c.args.claim.now.node c.args.claim.now.lane c.args.claim.now.bundle c.requires.can c.requires.linked c.requires.pardo c.down-below.result c.down-below.ensures.down c.args.given c.requires.given c.requires.some c.down_at.result (λ at h. c.down_at.ensures at (subst (λ (n : List NodeState). HasLane c.args.claim.now.node 0 at n) (sym c.as_slice.ensures.value) h)) c.in-None.is c.put_first.new.nodes.items c.in_ok-place-in-None.ensures.puts c.in_ok-place-in-None.place c.in_ok-place-in-None.ensures.links c.link_at.new.nodes.items c.link_at.ensures.stays c.link_at.ensures.links
+    keeps-first c.args.plan.now c.args.size c.args.claim.now c.args.given c.args.nodes.now.items c.requires c.down-below.result c.down-below.ensures.down c.down_at.result (λ at h. c.down_at.ensures at (subst (λ (n : List NodeState). HasLane c.args.claim.now.node 0 at n) (sym c.as_slice.ensures.value) h)) c.in-None.is c.put_first.new.nodes.items c.in_ok-place-in-None.ensures.puts c.in_ok-place-in-None.place c.in_ok-place-in-None.ensures.links c.link_at.new.nodes.items c.link_at.ensures.stays c.link_at.ensures.links

@@ -10,7 +10,7 @@ loop-from-init c =
     let first = c.in_ok-first.ensures.does in
     record {
       within = c.in_ok-first.ensures.within;
-      can = can-after c.args.plan.now c.args.bundle (deliveries cl.node cl.lane first.count) c.args.nodes.now.items c.deliver_first.new.nodes.items (close_of cl cl.rows.items false ∷ []) (close_of cl (drop c.in_ok-first.first cl.rows.items) false ∷ []) [] c.requires.can first.does;
+      can = can-after c.args.plan.now c.args.bundle (deliveries cl.node cl.lane first.count) c.args.nodes.now.items c.deliver_first.new.nodes.items (close_of cl cl.rows.items false ∷ []) (close_of cl (drop c.in_ok-first.first cl.rows.items) false ∷ []) [] c.requires.can.ready.can first.does;
       done = first;
       stands = c.in_ok-first.ensures.stands;
       links = c.in_ok-first.ensures.links;
@@ -27,3 +27,6 @@ loop-from-preserved c =
       stands = c.in_ok-from.ensures.stands;
       links = keeps-then c.args.plan.now c.args.nodes.now.items c.loop-from.nodes.items c.deliver_next.new.nodes.items c.loop-from.invariant.links c.in_ok-from.ensures.links;
     }
+
+pub deliver_next-requires-clause-ready : goal.deliver_next-requires-clause-ready
+deliver_next-requires-clause-ready c = record { is_plan = c.requires.can.ready.is_plan; can = c.loop-from.invariant.can; linked = c.loop-from.invariant.links.linked }

@@ -12,18 +12,18 @@ use Rattle.sb_hand.proofs.steps.close_step.Goals as goal
 
 pub closable_lane-requires : goal.closable_lane-requires
 closable_lane-requires c =
-    let own = node-there c.args.plan.now c.args.size c.args.nodes.now.items [] c.requires.can c.args.node c.requires.node c.index.result.now c.index.ensures in
+    let own = node-there c.args.plan.now c.args.size c.args.nodes.now.items [] c.requires.ready.can c.args.node c.requires.node c.index.result.now c.index.ensures in
     omega (arith, own.few, ap length c.as_slice.ensures.value)
 
 pub close_node-requires-clause-at : goal.close_node-requires-clause-at
 close_node-requires-clause-at c =
-    let own = node-there c.args.plan.now c.args.size c.args.nodes.now.items [] c.requires.can c.args.node c.requires.node c.index.result.now c.index.ensures in
+    let own = node-there c.args.plan.now c.args.size c.args.nodes.now.items [] c.requires.ready.can c.args.node c.requires.node c.index.result.now c.index.ensures in
     let s = c.in-Some.ensures.some in
     (s.0, record { own = c.index.result.now; there = own.there; in_it = ap (λ ls. slice_get ls c.in-Some.lane) (sym c.as_slice.ensures.value) ∙ s.1 })
 
 pub close_node-requires-clause-looks : goal.close_node-requires-clause-looks
 close_node-requires-clause-looks c = λ at h.
-    let own = node-there c.args.plan.now c.args.size c.args.nodes.now.items [] c.requires.can c.args.node c.requires.node c.index.result.now c.index.ensures in
+    let own = node-there c.args.plan.now c.args.size c.args.nodes.now.items [] c.requires.ready.can c.args.node c.requires.node c.index.result.now c.index.ensures in
     let s = c.in-Some.ensures.some in
     let same : h.own ≡ c.index.result.now = same_Some h.own c.index.result.now (sym h.there ∙ own.there) in
     let at_is : s.0 ≡ at = same_Some s.0 at (sym s.1 ∙ ap (λ ls. slice_get ls c.in-Some.lane) c.as_slice.ensures.value ∙ ap (λ (n : NodeState). slice_get n.lanes.items c.in-Some.lane) (sym same) ∙ h.in_it) in
@@ -31,7 +31,7 @@ close_node-requires-clause-looks c = λ at h.
 
 pub returns-in-None-clause-steps : goal.returns-in-None-clause-steps
 returns-in-None-clause-steps c =
-    let own = node-there c.args.plan.now c.args.size c.args.nodes.now.items [] c.requires.can c.args.node c.requires.node c.index.result.now c.index.ensures in (
+    let own = node-there c.args.plan.now c.args.size c.args.nodes.now.items [] c.requires.ready.can c.args.node c.requires.node c.index.result.now c.index.ensures in (
       record {
         own = c.index.result.now;
         there = own.there;
@@ -44,7 +44,7 @@ returns-in-None-clause-steps c =
 
 pub returns-in_ok-close_node-in-Some-clause-steps : goal.returns-in_ok-close_node-in-Some-clause-steps
 returns-in_ok-close_node-in-Some-clause-steps c =
-    let own = node-there c.args.plan.now c.args.size c.args.nodes.now.items [] c.requires.can c.args.node c.requires.node c.index.result.now c.index.ensures in
+    let own = node-there c.args.plan.now c.args.size c.args.nodes.now.items [] c.requires.ready.can c.args.node c.requires.node c.index.result.now c.index.ensures in
     let s = c.in-Some.ensures.some in (
       c.in-Some.lane,
       record {
@@ -58,4 +58,4 @@ returns-in_ok-close_node-in-Some-clause-steps c =
     )
 
 pub returns-in-None-clause-links : goal.returns-in-None-clause-links
-returns-in-None-clause-links c = keeps-none c.args.plan.now c.args.nodes.now.items c.requires.linked
+returns-in-None-clause-links c = keeps-none c.args.plan.now c.args.nodes.now.items c.requires.ready.linked

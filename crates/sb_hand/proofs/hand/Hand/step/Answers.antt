@@ -1,5 +1,11 @@
+use Rattle.std.proofs.Common.{rules}
 use Rattle.sb_hand.proofs.Stepwise.{can-steps, settings-step}
 use Rattle.sb_hand.proofs.hand.Hand.step.Goals as goal
+
+pub step_node-requires-clause-ready : goal.step_node-requires-clause-ready
+step_node-requires-clause-ready c =
+    let known = c.self.invariant c.if-self.false in
+    record { is_plan = search rules; can = known.0; linked = known.1 }
 
 pub invariant_of-self-2 : goal.invariant_of-self-2
 invariant_of-self-2 c = λ e.
