@@ -110,7 +110,7 @@ pub record BeginsAt (sink : Bool) (c : Closing) (old new : SharedView) : Type 0 
   pub room : ℕ
   pub closes : ClosesKept (mark_for c.lane (map lane_of old.own.lanes.items)) rows
       (record old.own { diary = with_spare room old.own.diary }) mid
-  pub starts : Starts c.lane lane c.epoch c.serial c.floor c.mark (length rows) mid new.own
+  pub starts : Starts lane c (length rows) mid new.own
   pub rows_are : c.rows.items ≡ (if sink then [] else rows)
   pub tray : new.tray ≡ old.tray ++ (if sink then rows else [])
   pub was : old.spent ≡ false
