@@ -43,7 +43,7 @@ use Rattle.sb_feed.proofs.FirstRows.{rows_same}
 use Rattle.sb_feed.proofs.GivesInTurn.{AddsUp, gives_both}
 use Rattle.sb_feed.proofs.LaterItems.{from_later}
 use Rattle.sb_feeds.specs.declared.fed.Fed.{Fed as AValue}
-use Rattle.sb_feeds.specs.Fed.{records_of_feed as values_of_accepted, has_stop, stop_from}
+use Rattle.sb_feeds.specs.Fed.{values_of_accepted, has_stop, stop_from}
 use Rattle.sb_run.specs.declared.files.TheConstants.{MAX_FILE_LENGTH}
 use Rattle.sb_run.specs.declared.files.inlets.FilesStop.{FilesStop}
 use Rattle.sb_run.specs.declared.files.inlets.FilesStop.TheVariants as files_at
