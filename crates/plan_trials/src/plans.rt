@@ -12,6 +12,9 @@ use trials::{
 /// The words of the plain program.
 const SLOW: &[&str] = &["slow", "p.toml"];
 
+/// The line of a plan by which a transform takes stream b, unless it is a join.
+const FROM_B: &[u8] = b"from = \"b\"";
+
 /// Of which streams the lines of a plan are. A join alone takes both.
 fn lines_of(plan: &[u8]) -> Lines {
     let mut lines = Lines::OfA;
@@ -19,7 +22,7 @@ fn lines_of(plan: &[u8]) -> Lines {
         if line.starts_with(b"with") {
             return Lines::OfBoth;
         }
-        if line == b"from = \"b\"" {
+        if line == FROM_B {
             lines = Lines::OfB;
         }
     }
