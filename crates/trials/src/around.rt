@@ -1,22 +1,32 @@
-//! What is around a run, in memory: its input, where its rows and notes go, its folder and its words.
+//! What is around a run, in memory: its input, where its rows and notes go, its folder, its taps and its words.
 
 ghost use Rattle.std.specs.Prelude.{◌≤◌, All, IfOk};
 
-use crate::tables::{Calls, Trial};
-use sb_outside::{MemFolder, MemSink, MemSource};
+use crate::tables::{Calls, Trial, Watch};
+use sb_cli::sb_emit::{CountTap, HeadTap, Tap};
+use sb_cli::sb_outside::{MemFolder, MemSink, MemSource, StdSink};
 use std::alloc::{AllocError, Global};
 use std::collections::BTreeMap;
+use std::fs::File;
+use std::io;
+use std::rt::Files;
+
+/// Taps in a list.
+pub type Taps = Vec<Box<dyn Tap>>;
+
+/// The file that a tap writes rows to.
+pub const HEAD: &str = "head";
 
 /// How many calls of a source or a sink have a limit, if one is asked for.
 const LIMITED_CALLS: usize = 200;
 
 /// What is around a run.
 #[derive(Drop)]
-pub(crate) struct Around {
-    pub(crate) input: MemSource,
-    pub(crate) out: MemSink,
-    pub(crate) notes: MemSink,
-    pub(crate) folder: MemFolder,
+pub struct Around {
+    pub input: MemSource,
+    pub out: MemSink,
+    pub notes: MemSink,
+    pub folder: MemFolder,
 }
 
 /// The most that each call moves.
@@ -29,62 +39,80 @@ fn limits(alloc: Global, most: usize) -> Result<Vec<usize>, AllocError>
     vec![in alloc; most; LIMITED_CALLS]
 }
 
-pub(crate) fn source_of(alloc: Global, text: &[u8], calls: Calls) -> Result<MemSource, AllocError> {
+fn source_of(alloc: Global, text: &[u8], calls: &Calls) -> Result<MemSource, AllocError> {
     let bytes = Vec::from_slice(alloc, text)?;
-    let failing = Vec::from_slice(alloc, calls.failing)?;
+    let failing = Vec::from_slice(alloc, &calls.failing)?;
     Ok(MemSource::new(bytes, limits(alloc, calls.most)?, failing))
 }
 
-pub(crate) fn sink_of(alloc: Global, calls: Calls) -> Result<MemSink, AllocError> {
-    let failing = Vec::from_slice(alloc, calls.failing)?;
+fn sink_of(alloc: Global, calls: &Calls) -> Result<MemSink, AllocError> {
+    let failing = Vec::from_slice(alloc, &calls.failing)?;
     Ok(MemSink::new(alloc, limits(alloc, calls.most)?, failing))
 }
 
-/// A folder with this plan, this table and these files, of which the loads with these numbers fail.
-pub(crate) fn folder_of(
+/// A folder with these files, of which the loads with these numbers fail.
+fn folder_of(
     alloc: Global,
-    plan: &[u8],
-    table: &[u8],
-    more_files: &[(&str, &[u8])],
+    files: &BTreeMap<String, Vec<u8>>,
     unloaded: &[u64],
 ) -> Result<MemFolder, AllocError> {
-    let mut files = BTreeMap::new(alloc);
-    files.insert(
-        String::from_str(alloc, "p.toml")?,
-        Vec::from_slice(alloc, plan)?,
-    )?;
-    files.insert(
-        String::from_str(alloc, "ads.csv")?,
-        Vec::from_slice(alloc, table)?,
-    )?;
-    for (name, bytes) in more_files {
-        files.insert(
-            String::from_str(alloc, name)?,
-            Vec::from_slice(alloc, bytes)?,
-        )?;
+    let mut copies = BTreeMap::new(alloc);
+    for (name, bytes) in files {
+        copies.insert(name.clone()?, Vec::from_slice(alloc, bytes)?)?;
     }
     let failing = Vec::from_slice(alloc, unloaded)?;
-    Ok(MemFolder::new(alloc, files, failing))
+    Ok(MemFolder::new(alloc, copies, failing))
 }
 
-pub(crate) fn around_of(alloc: Global, trial: &Trial) -> Result<Around, AllocError> {
+/// What is around a trial.
+pub fn around_of(alloc: Global, trial: &Trial) -> Result<Around, AllocError> {
     Ok(Around {
-        input: source_of(alloc, trial.text, trial.reads)?,
-        out: sink_of(alloc, trial.writes)?,
-        notes: sink_of(alloc, trial.tells)?,
-        folder: folder_of(alloc, trial.plan, trial.table, trial.files, trial.unloaded)?,
+        input: source_of(alloc, &trial.text, &trial.reads)?,
+        out: sink_of(alloc, &trial.writes)?,
+        notes: sink_of(alloc, &trial.tells)?,
+        folder: folder_of(alloc, &trial.files, &trial.unloaded)?,
     })
 }
 
+/// A tap that has enough of so many rows, which it writes to the file.
+fn head_of(
+    rt: &(impl AllocGlobal + Files<File = File>),
+    most: u32,
+) -> io::Result<HeadTap<StdSink<File>>> {
+    let file = File::create(rt, HEAD)?;
+    Ok(HeadTap::new(most.max(1), StdSink::new(file)))
+}
+
+/// The taps of a trial.
+pub fn taps_of(
+    rt: &(impl AllocGlobal + Files<File = File>),
+    watches: &[Watch],
+) -> io::Result<Taps> {
+    let alloc = rt.alloc();
+    let mut taps: Taps = Vec::new(alloc);
+    for watch in watches {
+        match watch {
+            Watch::Head(most) => {
+                taps.push(Box::new(alloc, head_of(rt, *most)?)?)?;
+            }
+            Watch::Count(failing) => {
+                let failing = Vec::from_slice(alloc, failing)?;
+                taps.push(Box::new(alloc, CountTap::new(failing))?)?;
+            }
+        }
+    }
+    Ok(taps)
+}
+
 /// The words, and then those for a number of workers, if there is one.
-pub(crate) fn words_of(
+pub fn words_of(
     alloc: Global,
-    words: &[&str],
-    workers: Option<u32>,
+    words: &[String],
+    workers: Option<u64>,
 ) -> Result<Vec<String>, AllocError> {
     let mut strings = Vec::new(alloc);
     for word in words {
-        strings.push(String::from_str(alloc, word)?)?;
+        strings.push(word.clone()?)?;
     }
     if let Some(workers) = workers {
         strings.push(String::from_str(alloc, "--workers")?)?;

@@ -2,76 +2,69 @@
 
 ghost use Rattle.std.specs.Prelude.{◌≡◌, OnOk};
 
-use crate::around::Around;
+use crate::around::{Around, Taps};
+use crate::difference::Difference;
 use crate::tables::Trial;
-use crate::tries::Taps;
-use std::test::Fail;
+use std::alloc::Global;
 
 /// The exit code of a load that failed.
 const LOAD_FAILED: u8 = 6;
 
-/// Compares bytes that a run has left with those that it has to leave.
-fn check_bytes(
-    trial: &Trial,
-    workers: Option<u32>,
+/// Compares bytes that a run of these words has left with those that it has to leave.
+pub fn check_bytes(
+    alloc: Global,
+    words: &[String],
     what: &str,
     left: &[u8],
     wanted: &[u8],
-) -> Result<(), Fail>
+) -> Result<(), Difference>
     ensures { OnOk result (left.now ≡ wanted.now) }
 {
     if left == wanted {
         return Ok(());
     }
-    let Trial { words, text, .. } = trial;
-    Err(Fail::new(format_args!(
-        "{what}: \"{}\", not \"{}\"; {words:?}, workers {workers:?}: \"{}\"",
+    Err(Difference::Found(format!(in alloc;
+        "{words:?}: {what}: \"{}\", not \"{}\"",
         left.escape_ascii(),
-        wanted.escape_ascii(),
-        text.escape_ascii()
-    )))
+        wanted.escape_ascii()
+    )?))
 }
 
-/// Compares a number that a run has left with that which it has to leave.
-fn check_number(
-    trial: &Trial,
-    workers: Option<u32>,
+/// Compares a number that a run of these words has left with that which it has to leave.
+pub fn check_number(
+    alloc: Global,
+    words: &[String],
     what: &str,
     left: u64,
     wanted: u64,
-) -> Result<(), Fail>
+) -> Result<(), Difference>
     ensures { OnOk result (left ≡ wanted) }
 {
     if left == wanted {
         return Ok(());
     }
-    let Trial { words, text, .. } = trial;
-    Err(Fail::new(format_args!(
-        "{what}: {left}, not {wanted}; {words:?}, workers {workers:?}: \"{}\"",
-        text.escape_ascii()
-    )))
+    Err(Difference::Found(format!(in alloc; "{words:?}: {what}: {left}, not {wanted}")?))
 }
 
 /// Compares the notes, the exit code, the rows and the number of failed loads.
-pub(crate) fn check_left(
+pub fn check_left(
+    alloc: Global,
+    words: &[String],
     trial: &Trial,
-    workers: Option<u32>,
-    rows: &str,
-    notes: &[u8],
     code: u8,
     around: &Around,
-) -> Result<(), Fail>
-    ensures notes { OnOk result (around.now.notes.taken ≡ notes.now) }
+) -> Result<(), Difference>
+    ensures notes { OnOk result (around.now.notes.taken ≡ trial.now.notes.items) }
     ensures code { OnOk result (code ≡ trial.now.code) }
-    ensures rows { OnOk result (around.now.out.taken ≡ rows.now) }
+    ensures rows { OnOk result (around.now.out.taken ≡ trial.now.rows.items) }
 {
     let loads = u64::from(code == LOAD_FAILED);
-    check_bytes(trial, workers, "notes", around.notes.taken(), notes)?;
-    check_number(trial, workers, "exit code", code.into(), trial.code.into())?;
-    check_bytes(trial, workers, "rows", around.out.taken(), rows.as_bytes())?;
+    check_bytes(alloc, words, "notes", around.notes.taken(), &trial.notes)?;
+    check_number(alloc, words, "exit code", code.into(), trial.code)?;
+    check_bytes(alloc, words, "rows", around.out.taken(), &trial.rows)?;
     check_number(
-        trial,
-        workers,
+        alloc,
+        words,
         "failed loads",
         around.folder.faults() as u64,
         loads,
@@ -79,19 +72,32 @@ pub(crate) fn check_left(
 }
 
 /// Compares how many rows the taps that are left have seen.
-pub(crate) fn check_seen(trial: &Trial, workers: Option<u32>, taps: &Taps) -> Result<(), Fail> {
-    let seen = trial.seen;
-    check_number(trial, workers, "taps", taps.len() as u64, seen.len() as u64)?;
+pub fn check_seen(
+    alloc: Global,
+    words: &[String],
+    trial: &Trial,
+    taps: &Taps,
+) -> Result<(), Difference> {
+    let seen = trial.seen.as_slice();
+    check_number(alloc, words, "taps", taps.len() as u64, seen.len() as u64)?;
     for (tap, rows) in taps.iter().zip(seen) {
-        check_number(trial, workers, "rows that a tap saw", tap.seen(), *rows)?;
+        check_number(alloc, words, "rows that a tap saw", tap.seen(), *rows)?;
     }
     Ok(())
 }
 
-/// Compares how often reads have failed, if there is one worker: several may read on while a row is written.
-pub(crate) fn check_reads(trial: &Trial, workers: Option<u32>, faults: u64) -> Result<(), Fail> {
-    if workers.unwrap_or(1) == 1 {
-        check_number(trial, workers, "failed reads", faults, trial.faults)?;
-    }
-    Ok(())
+/// Compares how often reads have failed.
+pub fn check_reads(
+    alloc: Global,
+    words: &[String],
+    trial: &Trial,
+    around: &Around,
+) -> Result<(), Difference> {
+    check_number(
+        alloc,
+        words,
+        "failed reads",
+        around.input.faults(),
+        trial.faults,
+    )
 }

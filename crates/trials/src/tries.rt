@@ -1,23 +1,26 @@
-//! Runs a trial, and compares what it leaves with what it has to leave.
+//! Runs a trial in each of its ways, and compares what it leaves with what it has to leave.
 
 ghost use Rattle.std.specs.Prelude.{◌≡◌, OnOk};
 
-use crate::around::{Around, around_of, folder_of, sink_of, source_of, words_of};
-use crate::left::{check_left, check_reads, check_seen};
-use crate::tables::{Lines, Trial, WELL, WORKERS, Watch};
+use crate::around::{Around, HEAD, Taps, around_of, taps_of, words_of};
+use crate::difference::Difference;
+use crate::left::{check_bytes, check_left, check_reads, check_seen};
+use crate::seeds::try_by_seeds;
+use crate::tables::{Calls, Case, Lines, Trial, Watch, Ways};
 use sb_cli::{Status, streambox};
-use sb_emit::{CountTap, HeadTap, Tap};
 use std::alloc::{AllocError, Global};
+use std::fs::File;
+use std::rt::Files;
 use std::sync::Wait;
-use std::test::Fail;
 use std::thread::Threads;
 use std::time::Clock;
-
-/// Taps in a list.
-pub type Taps = Vec<Box<dyn Tap>>;
+use std::{fs, mem};
 
 /// How many taps a run has at most here.
 const MOST_TAPS: usize = 2;
+
+/// The words of the plain program.
+pub const SLOW: &[&str] = &["slow", "p.toml"];
 
 /// The words of a run over two files, of which that of stream a has the lines.
 const LINES_OF_A: &[&str] = &["feeds", "p.toml", "lines", "none"];
@@ -31,17 +34,16 @@ const FILE_A: &[u8] = b"file a: ";
 /// The same, of file b.
 const FILE_B: &[u8] = b"file b: ";
 
-const NO_LINES: &[u8] = b"";
-
 /// Runs the words, past taps.
-fn run(
+pub fn run(
     rt: &(impl AllocGlobal + Threads + Wait + Clock + Sync),
     words: &[String],
     around: &mut Around,
     taps: &mut Taps,
-) -> Result<Status, Fail> {
+) -> Result<Status, Difference> {
     if taps.len() > MOST_TAPS {
-        return Err(Fail::new("too many taps"));
+        let text = String::from_str(rt.alloc(), "too many taps")?;
+        return Err(Difference::Found(text));
     }
     Ok(streambox(
         rt,
@@ -55,122 +57,108 @@ fn run(
     ))
 }
 
-/// Runs the words of a trial past the taps, and compares what it leaves.
+/// Runs the words past the taps, and compares what the run leaves with what the trial says.
 fn run_and_check(
     rt: &(impl AllocGlobal + Threads + Wait + Clock + Sync),
+    words: &[String],
     trial: &Trial,
-    rows: &str,
-    notes: &[u8],
-    workers: Option<u32>,
     around: &mut Around,
     taps: &mut Taps,
-) -> Result<(), Fail>
-    ensures notes { OnOk result (around.new.notes.taken ≡ notes.now) }
-    ensures rows { OnOk result (around.new.out.taken ≡ rows.now) }
+) -> Result<(), Difference>
+    ensures notes { OnOk result (around.new.notes.taken ≡ trial.now.notes.items) }
+    ensures rows { OnOk result (around.new.out.taken ≡ trial.now.rows.items) }
 {
-    let words = words_of(rt.alloc(), trial.words, workers)?;
-    let status = run(rt, &words, around, taps)?;
-    check_left(trial, workers, rows, notes, status.code(), around)?;
-    check_seen(trial, workers, taps)?;
-    check_reads(trial, workers, around.input.faults())
+    let status = run(rt, words, around, taps)?;
+    check_left(rt.alloc(), words, trial, status.code(), around)?;
+    check_seen(rt.alloc(), words, trial, taps)
 }
 
-/// Runs a trial with so many workers, past the taps, and compares what it leaves.
-pub fn try_past(
-    rt: &(impl AllocGlobal + Threads + Wait + Clock + Sync),
+/// Compares what a tap has written to its file, if there is one, and removes the file.
+fn check_head(
+    rt: &(impl AllocGlobal + Files<File = File>),
+    words: &[String],
     trial: &Trial,
-    workers: Option<u32>,
-    taps: &mut Taps,
-) -> Result<(), Fail> {
-    let mut around = around_of(rt.alloc(), trial)?;
-    let notes = trial.notes.as_bytes();
-    run_and_check(rt, trial, trial.rows, notes, workers, &mut around, taps)
+) -> Result<(), Difference> {
+    for watch in &trial.taps {
+        if let Watch::Head(_) = watch {
+            let bytes = fs::read(rt, HEAD)?;
+            fs::remove_file(rt, HEAD)?;
+            check_bytes(rt.alloc(), words, "rows of a tap", &bytes, &trial.head)?;
+        }
+    }
+    Ok(())
 }
 
 /// Runs a trial with so many workers, or those that its words name, and compares what it leaves.
-pub fn try_out(
-    rt: &(impl AllocGlobal + Threads + Wait + Clock + Sync),
+fn try_out(
+    rt: &(impl AllocGlobal + Files<File = File> + Threads + Wait + Clock + Sync),
     trial: &Trial,
-    workers: Option<u32>,
-) -> Result<(), Fail> {
+    workers: Option<u64>,
+) -> Result<(), Difference> {
     let alloc = rt.alloc();
-    let mut taps: Taps = Vec::new(alloc);
-    for watch in trial.taps {
-        match watch {
-            Watch::Head(most) => {
-                let sink = sink_of(alloc, WELL)?;
-                taps.push(Box::new(alloc, HeadTap::new((*most).max(1), sink))?)?;
-            }
-            Watch::Count(failing) => {
-                let failing = Vec::from_slice(alloc, failing)?;
-                taps.push(Box::new(alloc, CountTap::new(failing))?)?;
-            }
-        }
-    }
-    try_past(rt, trial, workers, &mut taps)
-}
-
-/// Runs a trial with each number of workers.
-pub fn try_by_workers(
-    rt: &(impl AllocGlobal + Threads + Wait + Clock + Sync),
-    trial: &Trial,
-) -> Result<(), Fail> {
-    for workers in WORKERS {
-        try_out(rt, trial, Some(workers))?;
-    }
-    Ok(())
-}
-
-/// Runs a trial over another text, which has to leave these rows, with so many workers.
-pub fn try_over(
-    rt: &(impl AllocGlobal + Threads + Wait + Clock + Sync),
-    trial: &Trial,
-    text: &[u8],
-    rows: &str,
-    workers: Option<u32>,
-) -> Result<(), Fail> {
-    let alloc = rt.alloc();
-    let mut taps: Taps = Vec::new(alloc);
+    let words = words_of(alloc, &trial.words, workers)?;
+    let mut taps = taps_of(rt, &trial.taps)?;
     let mut around = around_of(alloc, trial)?;
-    around.input = source_of(alloc, text, trial.reads)?;
-    let notes = trial.notes.as_bytes();
-    run_and_check(rt, trial, rows, notes, workers, &mut around, &mut taps)
-}
-
-/// The same, with each number of workers.
-pub fn try_over_by_workers(
-    rt: &(impl AllocGlobal + Threads + Wait + Clock + Sync),
-    trial: &Trial,
-    text: &[u8],
-    rows: &str,
-) -> Result<(), Fail> {
-    for workers in WORKERS {
-        try_over(rt, trial, text, rows, Some(workers))?;
+    run_and_check(rt, &words, trial, &mut around, &mut taps)?;
+    // Several workers may read on while a row is written.
+    if workers.unwrap_or(1) == 1 {
+        check_reads(alloc, &words, trial, &around)?;
     }
-    Ok(())
+    check_head(rt, &words, trial)
 }
 
-/// Runs a trial with another plan and another table, which has to leave these rows, with so many workers.
-pub fn try_plan(
-    rt: &(impl AllocGlobal + Threads + Wait + Clock + Sync),
+/// Runs a trial with each number of workers, 0 where its words stand as they are, and says how many runs that were.
+fn try_by_workers(
+    rt: &(impl AllocGlobal + Files<File = File> + Threads + Wait + Clock + Sync),
     trial: &Trial,
-    plan: &[u8],
-    table: &[u8],
-    rows: &str,
-    workers: Option<u32>,
-) -> Result<(), Fail> {
-    let alloc = rt.alloc();
-    let mut taps: Taps = Vec::new(alloc);
-    let mut around = around_of(alloc, trial)?;
-    around.folder = folder_of(alloc, plan, table, trial.files, trial.unloaded)?;
-    let notes = trial.notes.as_bytes();
-    run_and_check(rt, trial, rows, notes, workers, &mut around, &mut taps)
+    workers: &[u64],
+) -> Result<u64, Difference> {
+    for number in workers {
+        let workers = if *number == 0 { None } else { Some(*number) };
+        try_out(rt, trial, workers)?;
+    }
+    Ok(workers.len() as u64)
+}
+
+/// The same, with the input in pieces of each of these sizes, if there are any.
+fn try_by_pieces(
+    rt: &(impl AllocGlobal + Files<File = File> + Threads + Wait + Clock + Sync),
+    trial: &mut Trial,
+    ways: &Ways,
+) -> Result<u64, Difference> {
+    if ways.pieces.is_empty() {
+        return try_by_workers(rt, trial, &ways.workers);
+    }
+    let mut runs = 0u64;
+    for most in &ways.pieces {
+        trial.reads.most = usize::try_from(*most).unwrap_or(0);
+        runs = runs.saturating_add(try_by_workers(rt, trial, &ways.workers)?);
+    }
+    Ok(runs)
+}
+
+/// Runs the plan of a trial by the plain program.
+fn try_slow(
+    rt: &(impl AllocGlobal + Files<File = File> + Threads + Wait + Clock + Sync),
+    trial: &mut Trial,
+) -> Result<u64, Difference> {
+    trial.words = strings_of(rt.alloc(), SLOW)?;
+    try_by_workers(rt, trial, &[0])
+}
+
+/// Words as a run takes them.
+pub fn strings_of(alloc: Global, words: &[&str]) -> Result<Vec<String>, AllocError> {
+    let mut strings = Vec::new(alloc);
+    for word in words {
+        strings.push(String::from_str(alloc, word)?)?;
+    }
+    Ok(strings)
 }
 
 /// The notes of a run over a file, by those of the run over the same lines: the note of a line names the file.
-fn notes_of_file(alloc: Global, file: &[u8], notes: &str) -> Result<Vec<u8>, AllocError> {
+fn notes_of_file(alloc: Global, file: &[u8], notes: &[u8]) -> Result<Vec<u8>, AllocError> {
     let mut named = Vec::new(alloc);
-    for note in notes.as_bytes().split_inclusive(|byte| *byte == b'\n') {
+    for note in notes.split_inclusive(|byte| *byte == b'\n') {
         if note.starts_with(b"line ") {
             named.extend_from_slice(file)?;
         }
@@ -179,32 +167,58 @@ fn notes_of_file(alloc: Global, file: &[u8], notes: &str) -> Result<Vec<u8>, All
     Ok(named)
 }
 
-/// Runs a trial with another plan by `feeds` with each number of workers: the lines are in the file of their stream,
-/// and the other file has none. It has to leave these rows and the notes of the trial, in which lines name the file.
-/// Nothing is run if the lines are of both streams, since a file has those of one.
-pub fn try_by_files(
-    rt: &(impl AllocGlobal + Threads + Wait + Clock + Sync),
-    trial: &Trial,
-    lines: Lines,
-    plan: &[u8],
-    rows: &str,
-) -> Result<(), Fail> {
-    let alloc = rt.alloc();
-    let (words, file) = match lines {
+/// Makes a trial one over two files: one has its lines, and the other none.
+fn move_to_files(
+    alloc: Global,
+    trial: &mut Trial,
+    words: &[&str],
+    file: &[u8],
+) -> Result<(), AllocError> {
+    let lines = mem::replace(&mut trial.text, Vec::new(alloc));
+    trial
+        .files
+        .insert(String::from_str(alloc, "lines")?, lines)?;
+    trial
+        .files
+        .insert(String::from_str(alloc, "none")?, Vec::new(alloc))?;
+    trial.notes = notes_of_file(alloc, file, &trial.notes)?;
+    trial.words = strings_of(alloc, words)?;
+    trial.reads = Calls {
+        most: 0,
+        failing: Vec::new(alloc),
+    };
+    Ok(())
+}
+
+/// Runs a trial by `feeds` with each number of workers: the lines are in the file of their stream, and the other file
+/// has none. It has to leave the same rows, and the same notes, in which lines name the file. Nothing is run if the
+/// lines are of both streams, since a file has those of one.
+fn try_by_files(
+    rt: &(impl AllocGlobal + Files<File = File> + Threads + Wait + Clock + Sync),
+    trial: &mut Trial,
+    ways: &Ways,
+) -> Result<u64, Difference> {
+    let (words, file) = match ways.lines {
         Lines::OfA => (LINES_OF_A, FILE_A),
         Lines::OfB => (LINES_OF_B, FILE_B),
-        Lines::OfBoth => return Ok(()),
+        Lines::OfBoth => return Ok(0),
     };
-    let notes = notes_of_file(alloc, file, trial.notes)?;
-    let files = [("lines", trial.text), ("none", NO_LINES)];
-    let by_files = Trial { words, ..*trial };
-    for workers in WORKERS {
-        let workers = Some(workers);
-        let mut taps: Taps = Vec::new(alloc);
-        let mut around = around_of(alloc, trial)?;
-        around.input = source_of(alloc, NO_LINES, WELL)?;
-        around.folder = folder_of(alloc, plan, trial.table, &files, trial.unloaded)?;
-        run_and_check(rt, &by_files, rows, &notes, workers, &mut around, &mut taps)?;
+    move_to_files(rt.alloc(), trial, words, file)?;
+    try_by_workers(rt, trial, &ways.workers)
+}
+
+/// Runs a case in each of its ways, and says how many runs that were.
+pub fn try_case(
+    rt: &(impl AllocGlobal + Files<File = File> + Threads + Wait + Clock + Sync),
+    case: Case,
+) -> Result<u64, Difference> {
+    let Case { mut trial, ways } = case;
+    if ways.seeds > 0 {
+        return try_by_seeds(rt, &mut trial, &ways);
     }
-    Ok(())
+    let mut runs = try_by_pieces(rt, &mut trial, &ways)?;
+    if ways.slow {
+        runs = runs.saturating_add(try_slow(rt, &mut trial)?);
+    }
+    Ok(runs.saturating_add(try_by_files(rt, &mut trial, &ways)?))
 }
