@@ -1,6 +1,6 @@
 -- Which words are a command.
-use Rattle.std.proofs.Common.{◌≡◌, ◌↔◌, ℕ, List, [], ◌∷◌, Some, None, Option, refl, sym, ap, subst, ◌∙◌, arith, rules}
-use Rattle.std.specs.Prelude.{IfSome, codes, decimal}
+use Rattle.std.proofs.Common.{◌≡◌, ◌↔◌, ℕ, List, [], ◌∷◌, Some, None, Option, refl, sym, ap, subst, ◌∙◌, arith, true, false}
+use Rattle.std.specs.Prelude.{IfSome, bytes_eq, codes, decimal}
 use Rattle.std.specs.Option.{option_map}
 use Rattle.std.proofs.lemmas.Fmt.{decimal_injective}
 use Rattle.std.proofs.lemmas.Option.{same_Some}
@@ -56,22 +56,26 @@ begins (Save name) command (argument ∷ []) is = is.0
 begins (Resume name checkpoint options) command (argument ∷ second ∷ words) is = is.0
 begins wanted command words is = absurd is
 
+-- one word is not another
+differs : (a b : List ℕ) → bytes_eq a b ≡ false → bytes_eq a a ≡ true → a ≡ b → ⊥
+differs a b other same e = let again = ap (bytes_eq a) e in cc
+
 -- options that are none make no command
 pub no_sum : (argument : List ℕ) (words : List (List ℕ)) → AreAnswered None words → IsNoCommand (codes "sum" ∷ argument ∷ words)
 no_sum argument words none (Sum size options) is = cc ((none options).1 is.3)
-no_sum argument words none wanted is = let same = begins wanted (codes "sum") (argument ∷ words) is in search rules
+no_sum argument words none wanted is = absurd (differs (codes "sum") (word_of wanted) refl refl (begins wanted (codes "sum") (argument ∷ words) is))
 
 pub no_work : (argument : List ℕ) (words : List (List ℕ)) → AreSizesAnswered None words → IsNoCommand (codes "work" ∷ argument ∷ words)
 no_work argument words none (Work records options) is = cc ((none options).1 (is.3, is.4))
-no_work argument words none wanted is = let same = begins wanted (codes "work") (argument ∷ words) is in search rules
+no_work argument words none wanted is = absurd (differs (codes "work") (word_of wanted) refl refl (begins wanted (codes "work") (argument ∷ words) is))
 
 pub no_run : (name : List ℕ) (words : List (List ℕ)) → AreAnswered None words → IsNoCommand (codes "run" ∷ name ∷ words)
 no_run name words none (Run plan options) is = cc ((none options).1 is.3)
-no_run name words none wanted is = let same = begins wanted (codes "run") (name ∷ words) is in search rules
+no_run name words none wanted is = absurd (differs (codes "run") (word_of wanted) refl refl (begins wanted (codes "run") (name ∷ words) is))
 
 pub no_part : (name : List ℕ) (words : List (List ℕ)) → AreSizesAnswered None words → IsNoCommand (codes "part" ∷ name ∷ words)
 no_part name words none (Part plan options) is = cc ((none options).1 (is.3, is.4))
-no_part name words none wanted is = let same = begins wanted (codes "part") (name ∷ words) is in search rules
+no_part name words none wanted is = absurd (differs (codes "part") (word_of wanted) refl refl (begins wanted (codes "part") (name ∷ words) is))
 
 -- words that ask for one thing alone
 only : (mine : Asked) (words : List (List ℕ)) → IsCommand mine words → ((wanted : Asked) → IsCommand wanted words → mine ≡ wanted)
@@ -93,7 +97,7 @@ is_sum argument words size is spelled options exact =
         let sizes : size ≡ other = decimal_injective size other (omega (arith, is.1)) (omega (arith, command.2.1)) (sym spelled ∙ command.1) in
         let same = same_Some options given ((exact given).1 command.3) in
         cc
-    one wanted command = let same = begins wanted (codes "sum") (argument ∷ words) command in search rules
+    one wanted command = absurd (differs (codes "sum") (word_of wanted) refl refl (begins wanted (codes "sum") (argument ∷ words) command))
 
 -- a number of records and options
 pub is_work : (argument : List ℕ) (words : List (List ℕ)) (records : ℕ) → IsAmount records → argument ≡ decimal records
@@ -108,7 +112,7 @@ is_work argument words records is spelled options exact =
         let amounts : records ≡ other = decimal_injective records other (omega (arith, is.1)) (omega (arith, command.2.1)) (sym spelled ∙ command.1) in
         let same = same_Some options given ((exact given).1 (command.3, command.4)) in
         cc
-    one wanted command = let same = begins wanted (codes "work") (argument ∷ words) command in search rules
+    one wanted command = absurd (differs (codes "work") (word_of wanted) refl refl (begins wanted (codes "work") (argument ∷ words) command))
 
 -- a plan and options
 pub is_run : (name : List ℕ) (words : List (List ℕ)) → IsFileName name → (options : Options) → AreAnswered (Some options) words
@@ -121,7 +125,7 @@ is_run name words is options exact =
         let plans = command.1 in
         let same = same_Some options given ((exact given).1 command.3) in
         cc
-    one wanted command = let same = begins wanted (codes "run") (name ∷ words) command in search rules
+    one wanted command = absurd (differs (codes "run") (word_of wanted) refl refl (begins wanted (codes "run") (name ∷ words) command))
 
 pub is_part : (name : List ℕ) (words : List (List ℕ)) → IsFileName name → (options : Options) → AreSizesAnswered (Some options) words
     → Answers (Some (Part name options)) (codes "part" ∷ name ∷ words)
@@ -134,7 +138,7 @@ is_part name words is options exact =
         let plans = command.1 in
         let same = same_Some options given ((exact given).1 (command.3, command.4)) in
         cc
-    one wanted command = let same = begins wanted (codes "part") (name ∷ words) command in search rules
+    one wanted command = absurd (differs (codes "part") (word_of wanted) refl refl (begins wanted (codes "part") (name ∷ words) command))
 
 -- a plan, a key and options
 pub is_watch : (name key : List ℕ) (words others : List (List ℕ)) → words ≡ key ∷ others → IsFileName name → IsKeyWord key
@@ -151,7 +155,7 @@ is_watch name key words others are is is_key options exact =
         let keys = command.3 in
         let same = same_Some options given ((exact given).1 (command.5, command.6)) in
         cc
-    one wanted command = let same = begins wanted (codes "watch") (name ∷ key ∷ others) command in search rules
+    one wanted command = absurd (differs (codes "watch") (word_of wanted) refl refl (begins wanted (codes "watch") (name ∷ key ∷ others) command))
 
 -- options that it does not take make no command
 pub no_watch : (name key : List ℕ) (words others : List (List ℕ)) → words ≡ key ∷ others → AreSizesAnswered None others
@@ -161,7 +165,7 @@ no_watch name key words others are none wanted is =
   where
     silent : (wanted : Asked) → IsCommand wanted (codes "watch" ∷ name ∷ key ∷ others) → ⊥
     silent (Watch plan word options) command = cc ((none options).1 (command.5, command.6))
-    silent wanted command = let same = begins wanted (codes "watch") (name ∷ key ∷ others) command in search rules
+    silent wanted command = absurd (differs (codes "watch") (word_of wanted) refl refl (begins wanted (codes "watch") (name ∷ key ∷ others) command))
 
 -- a plan, two files and options
 pub is_feeds : (name file_a file_b : List ℕ) (words others : List (List ℕ)) → words ≡ file_a ∷ file_b ∷ others
@@ -179,7 +183,7 @@ is_feeds name file_a file_b words others are is is_a is_b options exact =
         let seconds = command.5 in
         let same = same_Some options given ((exact given).1 command.7) in
         cc
-    one wanted command = let same = begins wanted (codes "feeds") (name ∷ file_a ∷ file_b ∷ others) command in search rules
+    one wanted command = absurd (differs (codes "feeds") (word_of wanted) refl refl (begins wanted (codes "feeds") (name ∷ file_a ∷ file_b ∷ others) command))
 
 pub no_feeds : (name file_a file_b : List ℕ) (words others : List (List ℕ)) → words ≡ file_a ∷ file_b ∷ others → AreAnswered None others
     → IsNoCommand (codes "feeds" ∷ name ∷ words)
@@ -188,7 +192,7 @@ no_feeds name file_a file_b words others are none wanted is =
   where
     silent : (wanted : Asked) → IsCommand wanted (codes "feeds" ∷ name ∷ file_a ∷ file_b ∷ others) → ⊥
     silent (Feeds plan a b options) command = cc ((none options).1 command.7)
-    silent wanted command = let same = begins wanted (codes "feeds") (name ∷ file_a ∷ file_b ∷ others) command in search rules
+    silent wanted command = absurd (differs (codes "feeds") (word_of wanted) refl refl (begins wanted (codes "feeds") (name ∷ file_a ∷ file_b ∷ others) command))
 
 -- a plan, a checkpoint and options
 pub is_resume : (name checkpoint : List ℕ) (words others : List (List ℕ)) → words ≡ checkpoint ∷ others → IsFileName name → IsFileName checkpoint
@@ -205,7 +209,7 @@ is_resume name checkpoint words others are is is_file options exact =
         let files = command.3 in
         let same = same_Some options given ((exact given).1 (command.5, command.6)) in
         cc
-    one wanted command = let same = begins wanted (codes "resume") (name ∷ checkpoint ∷ others) command in search rules
+    one wanted command = absurd (differs (codes "resume") (word_of wanted) refl refl (begins wanted (codes "resume") (name ∷ checkpoint ∷ others) command))
 
 pub no_resume : (name checkpoint : List ℕ) (words others : List (List ℕ)) → words ≡ checkpoint ∷ others → AreSizesAnswered None others
     → IsNoCommand (codes "resume" ∷ name ∷ words)
@@ -214,7 +218,7 @@ no_resume name checkpoint words others are none wanted is =
   where
     silent : (wanted : Asked) → IsCommand wanted (codes "resume" ∷ name ∷ checkpoint ∷ others) → ⊥
     silent (Resume plan file options) command = cc ((none options).1 (command.5, command.6))
-    silent wanted command = let same = begins wanted (codes "resume") (name ∷ checkpoint ∷ others) command in search rules
+    silent wanted command = absurd (differs (codes "resume") (word_of wanted) refl refl (begins wanted (codes "resume") (name ∷ checkpoint ∷ others) command))
 
 -- what is read in the words of a command is its own reading
 pub read_is : (read : Option Request) (own : Request) (words : List (List ℕ)) → Answers (Some (asked_of own)) words

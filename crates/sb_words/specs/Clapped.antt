@@ -1,5 +1,5 @@
 -- The command as clap has it.
-use Rattle.std.specs.Prelude.{◌≡◌, Some, true, false, codes}
+use Rattle.std.specs.Prelude.{◌≡◌, IfOk, Result, Some, true, false, codes}
 use Rattle.clap.specs.Words.{App, Rule, Text, app_of, new_app, new_rule, with_rule, with_subcommand}
 use Rattle.clap.specs.declared.Command.{Command}
 use Rattle.clap.specs.declared.Command.TheViews.{out-Command}
@@ -9,6 +9,10 @@ use Rattle.clap.specs.declared.builder.ArgAction.TheVariants.{SetTrue}
 pub record IsAs (command : Command) (app : App) : Type 0 where
   pub is : app_of command ≡ app
   pub local : (out-Command command).has_globals ≡ false
+
+-- what is built so far is this one, unless memory ran out
+pub record IsBuilt {E : Type 0} (so_far : Result Command E) (app : App) : Type 0 where
+  pub is : IfOk so_far (λ command. IsAs command app)
 
 -- an option with a value, and one without
 abbrev pub option : Text → Rule

@@ -1,4 +1,0 @@
-use Rattle.sb_words.proofs.clapped.of_one_with_options.Goals as goal
-
-pub returns : goal.returns
-returns c = c.with_options.ensures _ c.in_ok-of_one.ensures
