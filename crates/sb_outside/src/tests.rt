@@ -14,18 +14,47 @@ use std::fs;
 use std::io::{self, ErrorKind, Read, Write};
 use std::test::Fail;
 
-/// Pieces that are all of one size.
-fn pieces_of(alloc: Global, size: usize) -> Result<Vec<usize>, AllocError>
+/// So many pieces that are all of one size.
+fn pieces_of(alloc: Global, count: usize, size: usize) -> Result<Vec<usize>, AllocError>
     requires { 1 ≤ size }
     ensures { IfOk result (λ pieces. All (λ n. 1 ≤ n) pieces.items) }
 {
-    vec![in alloc; size; 200]
+    vec![in alloc; size; count]
+}
+
+/// No pieces: what a source or a sink has without a limit.
+fn no_pieces(alloc: Global) -> Vec<usize>
+    ensures { All (λ n. 1 ≤ n) result.items }
+{
+    Vec::new(alloc)
 }
 
 /// A source that gives all that it is asked for.
 fn whole_source(alloc: Global, text: &[u8]) -> Result<MemSource, AllocError> {
     let bytes = Vec::from_slice(alloc, text)?;
-    Ok(MemSource::new(bytes, Vec::new(alloc), Vec::new(alloc)))
+    Ok(MemSource::new(bytes, no_pieces(alloc), Vec::new(alloc)))
+}
+
+/// A source that gives at most so many bytes at a time, and of which the calls with these numbers fail.
+fn source_in_pieces(
+    alloc: Global,
+    text: &[u8],
+    size: usize,
+    failing: Vec<u64>,
+) -> Result<MemSource, AllocError>
+    requires { 1 ≤ size }
+{
+    let bytes = Vec::from_slice(alloc, text)?;
+    let pieces = pieces_of(alloc, 200, size)?;
+    Ok(MemSource::new(bytes, pieces, failing))
+}
+
+/// A sink that takes at most so many bytes at a time.
+fn sink_in_pieces(alloc: Global, size: usize) -> Result<MemSink, AllocError>
+    requires { 1 ≤ size }
+{
+    let pieces = pieces_of(alloc, 200, size)?;
+    Ok(MemSink::new(alloc, pieces, Vec::new(alloc)))
 }
 
 fn is_line<S: Source>(reader: &mut LineReader<S>, want: &[u8]) -> bool {
@@ -35,76 +64,107 @@ fn is_line<S: Source>(reader: &mut LineReader<S>, want: &[u8]) -> bool {
     }
 }
 
+fn is_at_end<S: Source>(reader: &mut LineReader<S>) -> bool {
+    matches!(reader.next(), Next::End)
+}
+
 const TEXT: &[u8] = b"A,1,2,3\r\n# a comment\n\n\r\nB,4,5,\r6\nlast";
 
 const LINES: [&[u8]; 6] = [b"A,1,2,3", b"# a comment", b"", b"", b"B,4,5,\r6", b"last"];
 
+/// Whether the reader gives [`LINES`] and then says twice that it is at its end.
+fn gives_lines<S: Source>(reader: &mut LineReader<S>) -> bool {
+    for want in &LINES {
+        if !is_line(reader, want) {
+            return false;
+        }
+    }
+    is_at_end(reader) && is_at_end(reader)
+}
+
 #[test]
 fn lines_are_the_same_in_pieces_of_each_size(rt: HostRuntime) -> Result<(), Fail> {
     for size in 1..8usize {
-        let bytes = Vec::from_slice(rt.alloc(), TEXT)?;
-        let pieces = pieces_of(rt.alloc(), size)?;
-        let mut source = MemSource::new(bytes, pieces, Vec::new(rt.alloc()));
+        let mut source = source_in_pieces(rt.alloc(), TEXT, size, Vec::new(rt.alloc()))?;
         let mut reader = LineReader::new(&mut source);
-        for want in LINES {
-            assert!(rt; is_line(&mut reader, want), "pieces of {size}");
-        }
-        let ended = matches!(reader.next(), Next::End) && matches!(reader.next(), Next::End);
-        assert!(rt; ended, "pieces of {size}");
+        assert!(rt; gives_lines(&mut reader), "pieces of {size}");
     }
     Ok(())
 }
 
+/// What a reader gives first, how long its line then is, and what it gives twice more.
+type Steps = (Step, usize, Step, Step);
+
+const A_LINE: Steps = (Step::Line, 128, Step::End, Step::End);
+
+const TOO_LONG: Steps = (Step::TooLong, 0, Step::TooLong, Step::TooLong);
+
+/// What a reader of so many bytes and this end gives.
+fn steps_of(alloc: Global, count: usize, end: &[u8]) -> Result<Steps, AllocError> {
+    let mut bytes = vec![in alloc; b'x'; count]?;
+    bytes.extend_from_slice(end)?;
+    let mut source = whole_source(alloc, &bytes)?;
+    let mut lines = LineBuffer::new();
+    let first = lines.advance(&mut source);
+    let len = lines.line().len();
+    let second = lines.advance(&mut source);
+    Ok((first, len, second, lines.advance(&mut source)))
+}
+
+const LENGTHS: [(usize, &[u8], Steps); 9] = [
+    (128, b"\n", A_LINE),
+    (128, b"\r\n", A_LINE),
+    (128, b"\r", A_LINE),
+    (128, b"", A_LINE),
+    (128, b"\r\r\n", TOO_LONG),
+    (128, b"\r\r", TOO_LONG),
+    (129, b"\n", TOO_LONG),
+    (129, b"\r\n", TOO_LONG),
+    (129, b"", TOO_LONG),
+];
+
 #[test]
 fn a_line_has_at_most_128_bytes(rt: HostRuntime) -> Result<(), Fail> {
-    let cases: [(usize, &[u8], Step); 9] = [
-        (128, b"\n", Step::Line),
-        (128, b"\r\n", Step::Line),
-        (128, b"\r", Step::Line),
-        (128, b"", Step::Line),
-        (128, b"\r\r\n", Step::TooLong),
-        (128, b"\r\r", Step::TooLong),
-        (129, b"\n", Step::TooLong),
-        (129, b"\r\n", Step::TooLong),
-        (129, b"", Step::TooLong),
-    ];
-    for (count, end, want) in cases {
-        let mut bytes = vec![in rt.alloc(); b'x'; count]?;
-        bytes.extend_from_slice(end)?;
-        let mut source = whole_source(rt.alloc(), &bytes)?;
-        let mut lines = LineBuffer::new();
-        assert_eq!(rt; lines.advance(&mut source), want, "{count} bytes");
-        let (again, len) = if want == Step::Line {
-            (Step::End, 128)
-        } else {
-            (want, 0)
-        };
-        assert_eq!(rt; lines.line().len(), len, "{count} bytes");
-        assert_eq!(rt; lines.advance(&mut source), again, "{count} bytes");
-        assert_eq!(rt; lines.advance(&mut source), again, "{count} bytes");
+    for (count, end, want) in &LENGTHS {
+        let steps = steps_of(rt.alloc(), *count, end)?;
+        assert!(rt; steps == *want, "{count} bytes and {end:?}");
     }
     Ok(())
+}
+
+/// Whether this step comes next, and so many reads have then failed.
+fn is_step(lines: &mut LineBuffer, source: &mut MemSource, want: Step, faults: u64) -> bool {
+    lines.advance(source) == want && source.faults() == faults
+}
+
+/// Whether a read gives these bytes.
+fn gives(source: &mut MemSource, want: &[u8]) -> bool {
+    let mut room = [0u8; 8];
+    match source.read(&mut room) {
+        Ok(count) => room.get(..count) == Some(want),
+        Err(SourceFault) => false,
+    }
+}
+
+/// Whether a read fails.
+fn fails(source: &mut MemSource) -> bool {
+    source.read(&mut [0u8; 8]) == Err(SourceFault)
 }
 
 #[test]
 fn a_fault_in_mid_stream_is_answered_again_without_a_read(rt: HostRuntime) -> Result<(), Fail> {
-    let bytes = Vec::from_slice(rt.alloc(), b"ab\ncd\n")?;
-    let pieces = pieces_of(rt.alloc(), 4)?;
-    let mut source = MemSource::new(bytes, pieces, vec![in rt.alloc(); 2, 3]?);
+    let failing = vec![in rt.alloc(); 2, 3]?;
+    let mut source = source_in_pieces(rt.alloc(), b"ab\ncd\n", 4, failing)?;
     let mut lines = LineBuffer::new();
-    assert_eq!(rt; lines.advance(&mut source), Step::Line);
-    assert_eq!(rt; lines.line(), b"ab".as_slice());
-    assert_eq!(rt; source.faults(), 0);
+    assert!(rt; is_step(&mut lines, &mut source, Step::Line, 0));
+    assert!(rt; lines.line() == b"ab".as_slice());
     for _ in 0..3 {
-        assert_eq!(rt; lines.advance(&mut source), Step::Fault);
-        assert_eq!(rt; source.faults(), 1);
+        assert!(rt; is_step(&mut lines, &mut source, Step::Fault, 1));
     }
     // Another reader finds what was left: call 3 fails too, and call 4 goes on where call 1 ended.
-    let mut rest = [0u8; 8];
-    assert_eq!(rt; source.read(&mut rest), Err(SourceFault));
-    assert_eq!(rt; source.read(&mut rest), Ok(2));
-    assert_eq!(rt; &rest[..2], b"d\n".as_slice());
-    assert_eq!(rt; source.faults(), 2);
+    assert!(rt; fails(&mut source));
+    assert!(rt; gives(&mut source, b"d\n"));
+    assert!(rt; source.faults() == 2);
     Ok(())
 }
 
@@ -134,51 +194,74 @@ fn a_read_is_given_the_whole_buffer_once_no_byte_is_at_hand(rt: HostRuntime) {
     let mut source = EmptyLines { reads: 0, room: 0 };
     let mut lines = LineBuffer::new();
     for count in 0..20_000u32 {
-        assert_eq!(rt; lines.advance(&mut source), Step::Line);
-        assert_eq!(rt; u32::from(source.reads), count / 8192 + 1);
-        assert_eq!(rt; source.room, 8192);
+        let is_line = lines.advance(&mut source) == Step::Line;
+        let reads = u32::from(source.reads);
+        assert!(rt; is_line && reads == count / 8192 + 1 && source.room == 8192);
     }
+}
+
+/// Whether a sink takes all of [`TEXT`].
+fn takes_text(sink: &mut MemSink) -> bool {
+    write_all_of(sink, TEXT) == Ok(()) && sink.taken() == TEXT && sink.faults() == 0
 }
 
 #[test]
 fn all_bytes_are_written_in_pieces_of_each_size(rt: HostRuntime) -> Result<(), Fail> {
     for size in 1..8usize {
-        let pieces = pieces_of(rt.alloc(), size)?;
-        let mut sink = MemSink::new(rt.alloc(), pieces, Vec::new(rt.alloc()));
-        assert_eq!(rt; write_all_of(&mut sink, TEXT), Ok(()));
-        assert_eq!(rt; sink.taken(), TEXT);
-        assert_eq!(rt; sink.faults(), 0);
+        let mut sink = sink_in_pieces(rt.alloc(), size)?;
+        assert!(rt; takes_text(&mut sink), "pieces of {size}");
     }
     Ok(())
 }
 
+/// A sink whose pieces differ, and of which call 3 fails.
+fn failing_sink(alloc: Global) -> Result<MemSink, AllocError> {
+    let pieces = vec![in alloc; 3, 2, 4, 1]?;
+    Ok(MemSink::new(alloc, pieces, vec![in alloc; 3]?))
+}
+
+/// Bytes for a sink, its answer to them, and what it has then taken in all and how many of its calls have failed.
+type Written = (&'static [u8], Result<(), SinkFault>, &'static [u8], u64);
+
+const WRITTEN: [Written; 3] = [
+    (b"abcdefghij", Err(SinkFault::Failed), b"abcde", 1),
+    (b"fghij", Ok(()), b"abcdefghij", 1),
+    (b"", Ok(()), b"abcdefghij", 1),
+];
+
+fn is_written(sink: &mut MemSink, written: &Written) -> bool {
+    let (bytes, answer, taken, faults) = *written;
+    write_all_of(sink, bytes) == answer && sink.taken() == taken && sink.faults() == faults
+}
+
 #[test]
 fn a_sink_that_fails_has_taken_a_prefix(rt: HostRuntime) -> Result<(), Fail> {
-    let pieces = vec![in rt.alloc(); 3, 2, 4, 1]?;
-    let mut sink = MemSink::new(rt.alloc(), pieces, vec![in rt.alloc(); 3]?);
-    assert_eq!(rt;
-        write_all_of(&mut sink, b"abcdefghij"),
-        Err(SinkFault::Failed)
-    );
-    assert_eq!(rt; sink.taken(), b"abcde".as_slice());
-    assert_eq!(rt; sink.faults(), 1);
-    assert_eq!(rt; write_all_of(&mut sink, b"fghij"), Ok(()));
-    assert_eq!(rt; sink.taken(), b"abcdefghij".as_slice());
-    assert_eq!(rt; write_all_of(&mut sink, b""), Ok(()));
-    assert_eq!(rt; sink.finish(), Ok(()));
-    assert_eq!(rt; sink.faults(), 1);
+    let mut sink = failing_sink(rt.alloc())?;
+    for written in &WRITTEN {
+        assert!(rt; is_written(&mut sink, written), "{written:?}");
+    }
+    assert!(rt; sink.finish() == Ok(()) && sink.faults() == 1);
     Ok(())
 }
 
 #[test]
 fn a_sink_may_fail_at_the_end(rt: HostRuntime) -> Result<(), Fail> {
-    let mut sink = MemSink::new(rt.alloc(), Vec::new(rt.alloc()), vec![in rt.alloc(); 2]?);
-    assert_eq!(rt; write_all_of(&mut sink, b"abc"), Ok(()));
-    assert_eq!(rt; sink.faults(), 0);
-    assert_eq!(rt; sink.finish(), Err(SinkFault::Failed));
-    assert_eq!(rt; sink.faults(), 1);
-    assert_eq!(rt; sink.taken(), b"abc".as_slice());
+    let failing = vec![in rt.alloc(); 2]?;
+    let mut sink = MemSink::new(rt.alloc(), no_pieces(rt.alloc()), failing);
+    assert!(rt; is_written(&mut sink, &(b"abc", Ok(()), b"abc", 0)));
+    assert!(rt; sink.finish() == Err(SinkFault::Failed));
+    assert!(rt; sink.faults() == 1 && sink.taken() == b"abc".as_slice());
     Ok(())
+}
+
+/// Whether the reader gives [`LINES`] and a sink takes them, and the reader is then at its end.
+fn copies_lines<S: Source, K: Sink>(reader: &mut LineReader<S>, sink: &mut K) -> bool {
+    for want in &LINES {
+        if !is_line(reader, want) || write_all_of(sink, want) != Ok(()) {
+            return false;
+        }
+    }
+    is_at_end(reader)
 }
 
 #[test]
@@ -186,20 +269,13 @@ fn std_readers_and_writers_serve(rt: HostRuntime) -> Result<(), Fail> {
     let mut reader = LineReader::new(StdSource::new(TEXT));
     let mut out = Vec::new(rt.alloc());
     let mut sink = StdSink::new(&mut out);
-    for want in LINES {
-        assert!(rt; is_line(&mut reader, want));
-        assert_eq!(rt; write_all_of(&mut sink, want), Ok(()));
-    }
-    assert!(rt; matches!(reader.next(), Next::End));
-    assert_eq!(rt;
-        out.as_slice(),
-        b"A,1,2,3# a commentB,4,5,\r6last".as_slice()
-    );
+    assert!(rt; copies_lines(&mut reader, &mut sink));
+    assert!(rt; out.as_slice() == b"A,1,2,3# a commentB,4,5,\r6last".as_slice());
     Ok(())
 }
 
 /// A writer with a fault.
-#[derive(Clone, Copy, PartialEq)]
+#[derive(Clone, Copy, Debug, PartialEq)]
 enum BadWriter {
     TakesNone,
     Breaks,
@@ -225,61 +301,47 @@ impl Write for BadWriter {
 /// What a sink over a writer answers to a first write, a second one and the end, and how many faults it has then
 /// counted.
 type Answers = (
-    BadWriter,
     Result<usize, SinkFault>,
     Result<usize, SinkFault>,
     Result<(), SinkFault>,
     u64,
 );
 
+fn answers_over(writer: BadWriter) -> Answers {
+    let mut sink = StdSink::new(writer);
+    (
+        sink.write(b"abc"),
+        sink.write(b"c"),
+        sink.finish(),
+        sink.faults(),
+    )
+}
+
+const FAILED: Result<usize, SinkFault> = Err(SinkFault::Failed);
+
+const NO_MEMORY: Result<usize, SinkFault> = Err(SinkFault::Memory);
+
+const NO_END: Result<(), SinkFault> = Err(SinkFault::Failed);
+
+const ANSWERS: [(BadWriter, Answers); 4] = [
+    (BadWriter::TakesNone, (FAILED, FAILED, NO_END, 3)),
+    (BadWriter::Breaks, (FAILED, FAILED, NO_END, 3)),
+    (BadWriter::WantsMemory, (NO_MEMORY, NO_MEMORY, NO_END, 1)),
+    (BadWriter::CannotFlush, (Ok(2), FAILED, NO_END, 3)),
+];
+
 #[test]
 fn a_writer_that_fails_is_answered_with_its_cause(rt: HostRuntime) {
-    let cases: [Answers; 4] = [
-        (
-            BadWriter::TakesNone,
-            Err(SinkFault::Failed),
-            Err(SinkFault::Failed),
-            Err(SinkFault::Failed),
-            3,
-        ),
-        (
-            BadWriter::Breaks,
-            Err(SinkFault::Failed),
-            Err(SinkFault::Failed),
-            Err(SinkFault::Failed),
-            3,
-        ),
-        (
-            BadWriter::WantsMemory,
-            Err(SinkFault::Memory),
-            Err(SinkFault::Memory),
-            Err(SinkFault::Failed),
-            1,
-        ),
-        (
-            BadWriter::CannotFlush,
-            Ok(2),
-            Err(SinkFault::Failed),
-            Err(SinkFault::Failed),
-            3,
-        ),
-    ];
-    for (writer, first, second, end, faults) in cases {
-        let mut sink = StdSink::new(writer);
-        assert_eq!(rt; sink.write(b"abc"), first);
-        assert_eq!(rt; sink.write(b"c"), second);
-        assert_eq!(rt; sink.finish(), end);
-        assert_eq!(rt; sink.faults(), faults);
+    for (writer, want) in &ANSWERS {
+        assert!(rt; answers_over(*writer) == *want, "{writer:?}");
     }
 }
 
 #[test]
 fn a_flush_that_failed_is_told_at_the_end(rt: HostRuntime) {
     let mut sink = StdSink::new(BadWriter::CannotFlush);
-    assert_eq!(rt; sink.write(b"ab"), Ok(2));
-    assert_eq!(rt; sink.faults(), 1);
-    assert_eq!(rt; sink.finish(), Err(SinkFault::Failed));
-    assert_eq!(rt; sink.faults(), 2);
+    assert!(rt; sink.write(b"ab") == Ok(2) && sink.faults() == 1);
+    assert!(rt; sink.finish() == NO_END && sink.faults() == 2);
 }
 
 /// A writer that counts how often it was flushed since it was last written to.
@@ -301,12 +363,10 @@ impl Write for CountsFlushes {
 #[test]
 fn a_writer_is_flushed_behind_each_write(rt: HostRuntime) {
     let mut writer = CountsFlushes(0);
-    let mut sink = StdSink::new(&mut writer);
-    assert_eq!(rt; write_all_of(&mut sink, TEXT), Ok(()));
-    assert_eq!(rt; writer.0, 1);
-    let mut sink = StdSink::new(&mut writer);
-    assert_eq!(rt; sink.finish(), Ok(()));
-    assert_eq!(rt; writer.0, 2);
+    assert!(rt; write_all_of(&mut StdSink::new(&mut writer), TEXT) == Ok(()));
+    assert!(rt; writer.0 == 1);
+    assert!(rt; StdSink::new(&mut writer).finish() == Ok(()));
+    assert!(rt; writer.0 == 2);
 }
 
 const FOLDER: &str = "sb_outside_test";
@@ -317,8 +377,10 @@ const EMPTY: &str = "sb_outside_test/empty";
 
 const MISSING: &str = "sb_outside_test/missing";
 
-/// Loads of at most so many bytes behind `>`: their answers, and what stands then.
-const LOADS: [(&str, usize, Result<(), FolderFault>, &[u8]); 8] = [
+/// A load of at most so many bytes behind `>`: its answer, and what stands then.
+type Load = (&'static str, usize, Result<(), FolderFault>, &'static [u8]);
+
+const LOADS: [Load; 8] = [
     (LETTERS, usize::MAX, Ok(()), b">abcdef"),
     (LETTERS, 7, Ok(()), b">abcdef"),
     (LETTERS, 6, Ok(()), b">abcdef"),
@@ -330,15 +392,23 @@ const LOADS: [(&str, usize, Result<(), FolderFault>, &[u8]); 8] = [
     (FOLDER, 9, Err(FolderFault::Failed), b">"),
 ];
 
-fn load_behind<F: Folder + Drop>(
-    alloc: Global,
-    mut folder: F,
-    name: &str,
-    most: usize,
-) -> Result<(Result<(), FolderFault>, Vec<u8>), AllocError> {
+fn is_load<F: Folder>(alloc: Global, folder: &mut F, load: &Load) -> Result<bool, AllocError> {
+    let (name, most, answer, bytes) = *load;
     let mut into = Vec::from_slice(alloc, b">")?;
-    let answer = folder.load(name, most, &mut into);
-    Ok((answer, into))
+    Ok(folder.load(name, most, &mut into) == answer && into.as_slice() == bytes)
+}
+
+/// The first of [`LOADS`] that a folder answers otherwise.
+fn other_load<F: Folder>(
+    alloc: Global,
+    folder: &mut F,
+) -> Result<Option<&'static str>, AllocError> {
+    for load in &LOADS {
+        if !is_load(alloc, folder, load)? {
+            return Ok(Some(load.0));
+        }
+    }
+    Ok(None)
 }
 
 /// A folder of two files, of which the loads with these numbers fail.
@@ -353,23 +423,22 @@ fn two_files(alloc: Global, failing: Vec<u64>) -> Result<MemFolder, AllocError> 
 }
 
 #[test]
+fn folders_in_memory_give_the_first_bytes_of_a_file(rt: HostRuntime) -> Result<(), Fail> {
+    let mut folder = two_files(rt.alloc(), Vec::new(rt.alloc()))?;
+    assert!(rt; other_load(rt.alloc(), &mut folder)? == None);
+    assert!(rt; folder.faults() == 2);
+    Ok(())
+}
+
+#[test]
 fn folders_give_the_first_bytes_of_a_file(rt: HostRuntime) -> Result<(), Fail> {
     let _ = fs::remove_dir_all(&rt, FOLDER);
     fs::create_dir(&rt, FOLDER)?;
     fs::write(&rt, LETTERS, b"abcdef".as_slice())?;
     fs::write(&rt, EMPTY, b"".as_slice())?;
-    let mut memory = two_files(rt.alloc(), Vec::new(rt.alloc()))?;
-    let mut real = StdFolder::new(rt.alloc(), rt);
-    for (name, most, answer, bytes) in LOADS {
-        let (given, into) = load_behind(rt.alloc(), &mut memory, name, most)?;
-        assert_eq!(rt; given, answer, "in memory: {name}, {most}");
-        assert_eq!(rt; into.as_slice(), bytes, "in memory: {name}, {most}");
-        let (given, into) = load_behind(rt.alloc(), &mut real, name, most)?;
-        assert_eq!(rt; given, answer, "{name}, {most}");
-        assert_eq!(rt; into.as_slice(), bytes, "{name}, {most}");
-    }
-    assert_eq!(rt; memory.faults(), 2);
-    assert_eq!(rt; real.faults(), 2);
+    let mut folder = StdFolder::new(rt.alloc(), rt);
+    assert!(rt; other_load(rt.alloc(), &mut folder)? == None);
+    assert!(rt; folder.faults() == 2);
     fs::remove_dir_all(&rt, FOLDER)?;
     Ok(())
 }
@@ -378,57 +447,86 @@ const LARGE_FOLDER: &str = "sb_outside_large";
 
 const LARGE: &str = "sb_outside_large/large";
 
+/// So many bytes, and another one behind them.
+fn large_text(alloc: Global, count: usize) -> Result<Vec<u8>, AllocError> {
+    let mut bytes = vec![in alloc; b'x'; count]?;
+    bytes.push(b'y')?;
+    Ok(bytes)
+}
+
+/// Whether a load of at most so many bytes of [`LARGE`] gives the first `count` bytes of the text.
+fn gives_first<F: Folder>(
+    alloc: Global,
+    folder: &mut F,
+    most: usize,
+    text: &[u8],
+    count: usize,
+) -> bool {
+    let mut into = Vec::new(alloc);
+    folder.load(LARGE, most, &mut into) == Ok(()) && text.get(..count) == Some(into.as_slice())
+}
+
+/// At most how many bytes are loaded of a file of 100,001, and how many then are.
+const LARGE_LOADS: [(usize, usize); 6] = [
+    (4_096, 4_096),
+    (4_097, 4_097),
+    (100_000, 100_000),
+    (100_001, 100_001),
+    (100_002, 100_001),
+    (1_000_000, 100_001),
+];
+
 #[test]
 fn a_large_file_is_loaded_to_its_end_or_to_the_limit(rt: HostRuntime) -> Result<(), Fail> {
     let _ = fs::remove_dir_all(&rt, LARGE_FOLDER);
     fs::create_dir(&rt, LARGE_FOLDER)?;
-    let mut bytes = vec![in rt.alloc(); b'x'; 100_000]?;
-    bytes.push(b'y')?;
-    fs::write(&rt, LARGE, bytes.as_slice())?;
+    let text = large_text(rt.alloc(), 100_000)?;
+    fs::write(&rt, LARGE, text.as_slice())?;
     let mut folder = StdFolder::new(rt.alloc(), rt);
-    for (most, count) in [
-        (4_096, 4_096),
-        (4_097, 4_097),
-        (100_000, 100_000),
-        (100_001, 100_001),
-        (100_002, 100_001),
-        (1_000_000, 100_001),
-    ] {
-        let mut into = Vec::new(rt.alloc());
-        assert_eq!(rt; folder.load(LARGE, most, &mut into), Ok(()));
-        assert_eq!(rt; into.len(), count, "{most}");
-        assert!(rt; bytes.starts_with(&into), "{most}");
+    for (most, count) in &LARGE_LOADS {
+        assert!(rt;
+            gives_first(rt.alloc(), &mut folder, *most, &text, *count),
+            "{most}"
+        );
     }
-    assert_eq!(rt; folder.faults(), 0);
+    assert!(rt; folder.faults() == 0);
     fs::remove_dir_all(&rt, LARGE_FOLDER)?;
     Ok(())
+}
+
+/// The name of a file that is loaded, and then the answer, how many loads have failed, and what stands.
+type NextLoad = (&'static str, Result<(), FolderFault>, usize, &'static [u8]);
+
+/// Loads of two bytes one behind another, of which the second and the fourth are told to fail.
+const NEXT_LOADS: [NextLoad; 6] = [
+    (LETTERS, Ok(()), 0, b"ab"),
+    (LETTERS, Err(FolderFault::Failed), 1, b"ab"),
+    (LETTERS, Ok(()), 1, b"abab"),
+    (MISSING, Err(FolderFault::Failed), 2, b"abab"),
+    (MISSING, Err(FolderFault::Failed), 3, b"abab"),
+    (LETTERS, Ok(()), 3, b"ababab"),
+];
+
+fn is_next_load(folder: &mut MemFolder, into: &mut Vec<u8>, load: &NextLoad) -> bool {
+    let (name, answer, faults, bytes) = *load;
+    folder.load(name, 2, into) == answer && folder.faults() == faults && into.as_slice() == bytes
 }
 
 #[test]
 fn loads_that_are_told_to_fail_do(rt: HostRuntime) -> Result<(), Fail> {
     let mut folder = two_files(rt.alloc(), vec![in rt.alloc(); 2, 4, 4, 9]?)?;
     let mut into = Vec::new(rt.alloc());
-    for (name, answer, faults, bytes) in [
-        (LETTERS, Ok(()), 0, b"ab".as_slice()),
-        (LETTERS, Err(FolderFault::Failed), 1, b"ab"),
-        (LETTERS, Ok(()), 1, b"abab"),
-        (MISSING, Err(FolderFault::Failed), 2, b"abab"),
-        (MISSING, Err(FolderFault::Failed), 3, b"abab"),
-        (LETTERS, Ok(()), 3, b"ababab"),
-    ] {
-        assert_eq!(rt; folder.load(name, 2, &mut into), answer);
-        assert_eq!(rt; folder.faults(), faults);
-        assert_eq!(rt; into.as_slice(), bytes);
+    for load in &NEXT_LOADS {
+        assert!(rt; is_next_load(&mut folder, &mut into, load), "{load:?}");
     }
     Ok(())
 }
 
 #[test]
 fn a_file_without_an_end_is_loaded_in_part(rt: HostRuntime) -> Result<(), Fail> {
-    let mut into = Vec::from_slice(rt.alloc(), b">")?;
+    let load = ("/dev/zero", 3, Ok(()), b">\0\0\0".as_slice());
     let mut folder = StdFolder::new(rt.alloc(), rt);
-    assert_eq!(rt; folder.load("/dev/zero", 3, &mut into), Ok(()));
-    assert_eq!(rt; into.as_slice(), b">\0\0\0".as_slice());
+    assert!(rt; is_load(rt.alloc(), &mut folder, &load)?);
     Ok(())
 }
 
@@ -448,13 +546,25 @@ impl Read for BreaksAfter {
     }
 }
 
+/// Whether so many bytes of a reader that then fails are read, and how many bytes then stand behind `>`, with that one.
+fn read_of_four(alloc: Global, most: usize) -> Result<(bool, usize), AllocError> {
+    let mut into = Vec::from_slice(alloc, b">")?;
+    let read = append_some(BreaksAfter(4), most, &mut into);
+    Ok((read.is_ok(), into.len()))
+}
+
+const READS_OF_FOUR: [(usize, bool, usize); 4] = [
+    (0, true, 1),
+    (3, true, 4),
+    (4, true, 5),
+    (5, false, 1),
+];
+
 #[test]
 fn no_byte_behind_the_last_that_is_wanted_is_read(rt: HostRuntime) -> Result<(), Fail> {
-    for (most, passes) in [(0, true), (3, true), (4, true), (5, false)] {
-        let mut into = Vec::from_slice(rt.alloc(), b">")?;
-        let read = append_some(BreaksAfter(4), most, &mut into);
-        assert_eq!(rt; read.is_ok(), passes, "{most}");
-        assert_eq!(rt; into.len(), if passes { 1 + most } else { 1 }, "{most}");
+    for (most, passes, len) in &READS_OF_FOUR {
+        let read = read_of_four(rt.alloc(), *most)?;
+        assert!(rt; read == (*passes, *len), "{most}");
     }
     Ok(())
 }
