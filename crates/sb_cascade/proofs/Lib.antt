@@ -4,3 +4,13 @@ pub mod diaries
 pub mod feeds
 pub mod leavings
 pub mod lives
+pub use Rattle.sb_hand.proofs.session
+pub use Rattle.sb_hand.proofs.diary
+pub use Rattle.sb_hand.proofs.emit
+pub use Rattle.sb_turn.proofs as turn
+pub use Rattle.sb_hand.proofs.base
+pub use Rattle.sb_hand.proofs.work
+pub use Rattle.sb_hand.proofs.core
+pub use Rattle.sb_hand.proofs.lane
+pub use Rattle.sb_hand.proofs.tally
+pub use Rattle.sb_hand.proofs as hand

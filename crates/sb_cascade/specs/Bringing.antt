@@ -1,16 +1,16 @@
 -- What the feeder may bring, by what it has brought.
 use Rattle.std.specs.Prelude.{◌≡◌, ◌≤◌, ℕ, length, Some}
 use Rattle.std.specs.List.{AllByRecursion}
-use Rattle.sb_record.specs.declared.item.Stream.{Stream}
-use Rattle.sb_record.specs.declared.item.TheConstants.{MAX_TIME, END_MARK}
-use Rattle.sb_bundle.specs.declared.bundle.Bundle.{Bundle}
-use Rattle.sb_pipeline.specs.declared.transform.Down.{Down}
-use Rattle.sb_pipeline.specs.Shapes.{source}
-use Rattle.sb_core.specs.declared.moment.CoreLane.{CoreLane}
-use Rattle.sb_core.specs.Lanes.{next_epoch, next_floor}
-use Rattle.sb_core.specs.Moments.{empty_lane}
-use Rattle.sb_lane.specs.declared.answers.ArriveStop.{ArriveStop}
-use Rattle.sb_lane.specs.declared.answers.ArriveStop.TheVariants.{Full, Memory}
+use Rattle.sb_hand.specs.base.records.declared.item.Stream.{Stream}
+use Rattle.sb_hand.specs.base.records.declared.item.TheConstants.{MAX_TIME, END_MARK}
+use Rattle.sb_hand.specs.base.bundle.declared.bundle.Bundle.{Bundle}
+use Rattle.sb_hand.specs.base.pipeline.declared.transform.Down.{Down}
+use Rattle.sb_hand.specs.base.pipeline.Shapes.{source}
+use Rattle.sb_hand.specs.core.declared.moment.CoreLane.{CoreLane}
+use Rattle.sb_hand.specs.core.Lanes.{next_epoch, next_floor}
+use Rattle.sb_hand.specs.core.Moments.{empty_lane}
+use Rattle.sb_hand.specs.lane.declared.answers.ArriveStop.{ArriveStop}
+use Rattle.sb_hand.specs.lane.declared.answers.ArriveStop.TheVariants.{Full, Memory}
 use Rattle.sb_cascade.specs.declared.cascade.Cascade.{Cascade}
 use Rattle.sb_cascade.specs.declared.pass.CascadePass.{CascadePass}
 use Rattle.sb_cascade.specs.declared.telling.Change.{Change}

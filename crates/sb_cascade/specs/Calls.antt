@@ -1,15 +1,15 @@
 -- What the clauses of the calls say of a cascade and of its passes.
 use Rattle.std.specs.Prelude.{◌≡◌, ◌≤◌, ◌⊎◌, ℕ, Bool, true, false, List, [], ◌∷◌, ◌++◌, drop, length, replicate, Option}
 use Rattle.std.specs.Prelude.{Some, None, IfSome}
-use Rattle.sb_record.specs.declared.item.Record.{Record}
-use Rattle.sb_core.specs.declared.held.Held.{Held}
-use Rattle.sb_core.specs.declared.held.Held.TheVariants.{Work, Close}
-use Rattle.sb_core.specs.Closings.{delivery}
-use Rattle.sb_node.specs.declared.closing.Closing.{Closing}
+use Rattle.sb_hand.specs.base.records.declared.item.Record.{Record}
+use Rattle.sb_hand.specs.core.declared.held.Held.{Held}
+use Rattle.sb_hand.specs.core.declared.held.Held.TheVariants.{Work, Close}
+use Rattle.sb_hand.specs.core.Closings.{delivery}
+use Rattle.sb_hand.specs.node.declared.closing.Closing.{Closing}
 use Rattle.sb_turn.specs.declared.turns.Entry.TheVariants as entry
 use Rattle.sb_turn.specs.declared.turns.View.{View}
 use Rattle.sb_turn.specs.Passes.{Holds, IsFree, IsPassOf, seat_view}
-use Rattle.sb_work.specs.declared.claim.Claim.{Claim}
+use Rattle.sb_hand.specs.work.declared.claim.Claim.{Claim}
 use Rattle.sb_cascade.specs.declared.cascade.Cascade.{Cascade}
 use Rattle.sb_cascade.specs.declared.pass.CascadePass.{CascadePass}
 use Rattle.sb_cascade.specs.declared.telling.Change.{Change}
@@ -20,7 +20,7 @@ use Rattle.sb_cascade.specs.Doings.{close_of, work_of}
 use Rattle.sb_cascade.specs.Found.{IsClaim, IsFound}
 use Rattle.sb_cascade.specs.SharedNodes.{SharedView}
 use Rattle.sb_cascade.specs.Shown.{operator_of}
-use Rattle.sb_pipeline.specs.Shapes.{Shape}
+use Rattle.sb_hand.specs.base.pipeline.Shapes.{Shape}
 
 -- the plan of a cascade, and what it was made with
 abbrev pub setting_of : Cascade → Setting

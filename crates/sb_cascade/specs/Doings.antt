@@ -1,17 +1,17 @@
 -- What a leaving is in the core: an event, or nothing.
 use Rattle.std.specs.Prelude.{ℕ, Bool, true, false, List, [], ◌∷◌, ◌++◌, drop, Option, Some}
-use Rattle.sb_record.specs.Reading.{◌>>=◌}
-use Rattle.sb_record.specs.declared.item.Record.{Record}
-use Rattle.sb_core.specs.declared.event.Event.{Event}
-use Rattle.sb_core.specs.declared.event.Event.TheVariants as event
-use Rattle.sb_core.specs.declared.held.Held.{Held}
-use Rattle.sb_core.specs.declared.held.Held.TheVariants.{Work, Close}
-use Rattle.sb_core.specs.declared.moment.Node.{Node}
-use Rattle.sb_core.specs.Parts.{Part, only_node, part_after, held_after}
-use Rattle.sb_diary.specs.declared.event.DiaryEvent.{DiaryEvent}
-use Rattle.sb_tally.specs.Written.{line_after, held_line}
-use Rattle.sb_node.specs.declared.closing.Closing.{Closing}
-use Rattle.sb_work.specs.declared.claim.Claim.{Claim}
+use Rattle.sb_hand.specs.base.records.Reading.{◌>>=◌}
+use Rattle.sb_hand.specs.base.records.declared.item.Record.{Record}
+use Rattle.sb_hand.specs.core.declared.event.Event.{Event}
+use Rattle.sb_hand.specs.core.declared.event.Event.TheVariants as event
+use Rattle.sb_hand.specs.core.declared.held.Held.{Held}
+use Rattle.sb_hand.specs.core.declared.held.Held.TheVariants.{Work, Close}
+use Rattle.sb_hand.specs.core.declared.moment.Node.{Node}
+use Rattle.sb_hand.specs.core.Parts.{Part, only_node, part_after, held_after}
+use Rattle.sb_hand.specs.diary.declared.event.DiaryEvent.{DiaryEvent}
+use Rattle.sb_hand.specs.tally.Written.{line_after, held_line}
+use Rattle.sb_hand.specs.node.declared.closing.Closing.{Closing}
+use Rattle.sb_hand.specs.work.declared.claim.Claim.{Claim}
 use Rattle.sb_cascade.specs.declared.telling.Change.{Change}
 use Rattle.sb_cascade.specs.declared.telling.Change.TheVariants.{Arrive, Seal, Take, Deliver, Finish, Begin, Rows, Pass}
 use Rattle.sb_cascade.specs.declared.telling.Change.TheVariants.{End}

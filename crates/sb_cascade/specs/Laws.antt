@@ -3,15 +3,15 @@ use Rattle.std.specs.Prelude.{◌≡◌, ◌≤◌, ◌==◌, ℕ, true, List, l
 use Rattle.std.specs.List.{list_any}
 use mathlib.Core.Option.{some}
 use lib.ListN.{get_elem?}
-use Rattle.sb_pipeline.specs.declared.transform.Down.{Down}
-use Rattle.sb_pipeline.specs.Shapes.{Shape}
-use Rattle.sb_core.specs.declared.moment.CoreLane.{CoreLane}
-use Rattle.sb_core.specs.declared.held.Held.{Held}
-use Rattle.sb_core.specs.declared.moment.Moment.{Moment}
-use Rattle.sb_core.specs.declared.event.Event.{Event}
-use Rattle.sb_core.specs.Events as events
-use Rattle.sb_core.specs.Marks.{first_is_closing}
-use Rattle.sb_core.specs.Moments.{with_held, lane_at, is_work, is_close, is_close_of}
+use Rattle.sb_hand.specs.base.pipeline.declared.transform.Down.{Down}
+use Rattle.sb_hand.specs.base.pipeline.Shapes.{Shape}
+use Rattle.sb_hand.specs.core.declared.moment.CoreLane.{CoreLane}
+use Rattle.sb_hand.specs.core.declared.held.Held.{Held}
+use Rattle.sb_hand.specs.core.declared.moment.Moment.{Moment}
+use Rattle.sb_hand.specs.core.declared.event.Event.{Event}
+use Rattle.sb_hand.specs.core.Events as events
+use Rattle.sb_hand.specs.core.Marks.{first_is_closing}
+use Rattle.sb_hand.specs.core.Moments.{with_held, lane_at, is_work, is_close, is_close_of}
 use Rattle.sb_turn.specs.Turning.{logs_after}
 use Rattle.sb_cascade.specs.declared.telling.Change.{Change}
 use Rattle.sb_cascade.specs.declared.telling.Hands.{Hands}

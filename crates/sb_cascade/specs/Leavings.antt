@@ -1,15 +1,15 @@
 -- What a leaving owes: that it is its event on what the node shows, and that it tells the truth.
 use Rattle.std.specs.Prelude.{◌≡◌, ◌≢◌, ◌⊎◌, ℕ, ◌≤◌, true, All, List, [], ◌∷◌, ◌++◌, length, Some, slice_get}
-use Rattle.sb_record.specs.declared.item.Record.{Record}
-use Rattle.sb_core.specs.declared.moment.Node.{Node}
-use Rattle.sb_core.specs.Laws.{concerns, place_of}
-use Rattle.sb_core.specs.Parts.{Part, only_node, part_after, held_after}
-use Rattle.sb_lane.specs.LaneView.{LaneView}
-use Rattle.sb_lane.specs.Placed.{conts_of}
-use Rattle.sb_lane.specs.Unfinished.{unfinished_of}
-use Rattle.sb_node.specs.Looking.{IsNotYet, NoneWaits}
-use Rattle.sb_tally.specs.Keeping.{feed_after}
-use Rattle.sb_tally.specs.Tally.{Feed}
+use Rattle.sb_hand.specs.base.records.declared.item.Record.{Record}
+use Rattle.sb_hand.specs.core.declared.moment.Node.{Node}
+use Rattle.sb_hand.specs.core.Laws.{concerns, place_of}
+use Rattle.sb_hand.specs.core.Parts.{Part, only_node, part_after, held_after}
+use Rattle.sb_hand.specs.lane.LaneView.{LaneView}
+use Rattle.sb_hand.specs.lane.Placed.{conts_of}
+use Rattle.sb_hand.specs.lane.Unfinished.{unfinished_of}
+use Rattle.sb_hand.specs.node.Looking.{IsNotYet, NoneWaits}
+use Rattle.sb_hand.specs.tally.Keeping.{feed_after}
+use Rattle.sb_hand.specs.tally.Tally.{Feed}
 use Rattle.sb_cascade.specs.declared.telling.Change.{Change}
 use Rattle.sb_cascade.specs.declared.telling.Change.TheVariants.{Arrive, Seal, Take, Deliver, Finish, Begin, Rows, Pass}
 use Rattle.sb_cascade.specs.declared.telling.Change.TheVariants.{End}

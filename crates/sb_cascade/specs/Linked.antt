@@ -4,19 +4,19 @@ use Rattle.std.specs.Prelude.{◌≡◌, ◌⊎◌, ℕ, ◌+◌, ◌≤◌, Boo
 use Rattle.std.specs.Prelude.{slice_get, slice_set}
 use mathlib.Core.Option.{some}
 use lib.ListN.{get_elem?}
-use Rattle.sb_record.specs.declared.item.Record.{Record}
-use Rattle.sb_pipeline.specs.declared.transform.Down.{Down}
-use Rattle.sb_pipeline.specs.declared.transform.Step.{Step}
-use Rattle.sb_pipeline.specs.Operators.{operator_at}
-use Rattle.sb_pipeline.specs.Shapes.{Shape, source}
-use Rattle.sb_core.specs.Closings.{is_pardo}
-use Rattle.sb_core.specs.Events.{below}
-use Rattle.sb_core.specs.declared.held.Held.{Held}
-use Rattle.sb_core.specs.declared.held.Held.TheVariants.{Work, Close}
-use Rattle.sb_lane.specs.LaneView.{LaneView, link_at}
-use Rattle.sb_lane.specs.Links.{Link, down_of, links_of}
-use Rattle.sb_node.specs.Changes.{HasLane}
-use Rattle.sb_node.specs.LinkChanges.{DropsLink, GetsPlace, LinksStay}
+use Rattle.sb_hand.specs.base.records.declared.item.Record.{Record}
+use Rattle.sb_hand.specs.base.pipeline.declared.transform.Down.{Down}
+use Rattle.sb_hand.specs.base.pipeline.declared.transform.Step.{Step}
+use Rattle.sb_hand.specs.base.pipeline.Operators.{operator_at}
+use Rattle.sb_hand.specs.base.pipeline.Shapes.{Shape, source}
+use Rattle.sb_hand.specs.core.Closings.{is_pardo}
+use Rattle.sb_hand.specs.core.Events.{below}
+use Rattle.sb_hand.specs.core.declared.held.Held.{Held}
+use Rattle.sb_hand.specs.core.declared.held.Held.TheVariants.{Work, Close}
+use Rattle.sb_hand.specs.lane.LaneView.{LaneView, link_at}
+use Rattle.sb_hand.specs.lane.Links.{Link, down_of, links_of}
+use Rattle.sb_hand.specs.node.Changes.{HasLane}
+use Rattle.sb_hand.specs.node.LinkChanges.{DropsLink, GetsPlace, LinksStay}
 use Rattle.sb_hand.specs.Linking.{place_in}
 use Rattle.sb_cascade.specs.declared.telling.Change.{Change}
 use Rattle.sb_cascade.specs.declared.telling.Change.TheVariants.{Arrive, Seal, Take, Deliver, Finish, Begin, Rows, Pass}

@@ -1,13 +1,13 @@
 -- How a cascade begins, and the hand that comes back.
 use Rattle.std.specs.Prelude.{◌≡◌, ◌<◌, ℕ, Bool, false, List, length, Some, slice_get}
-use Rattle.sb_pipeline.specs.Shapes.{Shape}
-use Rattle.sb_core.specs.declared.moment.Moment.{Moment}
-use Rattle.sb_core.specs.declared.moment.Node.{Node}
-use Rattle.sb_core.specs.Exactness.{IsExact}
-use Rattle.sb_tally.specs.Tally.{IsTallied}
+use Rattle.sb_hand.specs.base.pipeline.Shapes.{Shape}
+use Rattle.sb_hand.specs.core.declared.moment.Moment.{Moment}
+use Rattle.sb_hand.specs.core.declared.moment.Node.{Node}
+use Rattle.sb_hand.specs.core.Exactness.{IsExact}
+use Rattle.sb_hand.specs.tally.Tally.{IsTallied}
 use Rattle.sb_turn.specs.declared.turns.View.{View}
 use Rattle.sb_turn.specs.Turning.{Listed, events, log_of, once_in}
-use Rattle.sb_node.specs.declared.state.NodeState.{NodeState}
+use Rattle.sb_hand.specs.node.declared.state.NodeState.{NodeState}
 use Rattle.sb_hand.specs.Hands.{HandView, Shows, settings_at}
 use Rattle.sb_hand.specs.Showing.{diaries_of, settings_of}
 use Rattle.sb_cascade.specs.declared.telling.Change.{Change}

@@ -9,12 +9,12 @@ use Rattle.atomic_table.proofs.Lists.{at_longer, at_snoc}
 use Rattle.sb_turn.specs.Facts.{Finds, Fits}
 use Rattle.sb_turn.specs.Held.{flat, on_place}
 use Rattle.sb_turn.proofs.Held.{in_front, flat_more}
-use Rattle.sb_core.specs.declared.held.Held.{Held}
-use Rattle.sb_core.specs.Soundness.{IsSound}
-use Rattle.sb_core.specs.Exactness.{IsExact}
-use Rattle.sb_core.proofs.sound.AnyOrder.{held-in_any_order}
-use Rattle.sb_tally.specs.Tally.{IsTallied}
-use Rattle.sb_tally.proofs.Orders.{tally-in_any_order}
+use Rattle.sb_hand.specs.core.declared.held.Held.{Held}
+use Rattle.sb_hand.specs.core.Soundness.{IsSound}
+use Rattle.sb_hand.specs.core.Exactness.{IsExact}
+use Rattle.sb_hand.specs.AnyOrder.{held-in_any_order}
+use Rattle.sb_hand.specs.tally.Tally.{IsTallied}
+use Rattle.sb_hand.specs.TallyOrders.{tally-in_any_order}
 use Rattle.sb_cascade.specs.declared.telling.Change.{Change}
 use Rattle.sb_cascade.specs.declared.telling.Hands.{Hands}
 use Rattle.sb_cascade.specs.declared.telling.Piece.{Piece}

@@ -2,23 +2,23 @@
 use Rattle.std.specs.Prelude.{◌≡◌, ◌⊎◌, ℕ, ◌+◌, ◌*◌, ◌==◌, Bool, true, false, if◌then◌else◌, List, [], ◌++◌}
 use Rattle.std.specs.Prelude.{length, map, sum_by, is_some, Option, Some, None, Ok}
 use Rattle.std.specs.List.{list_any}
-use Rattle.sb_record.specs.declared.item.Record.{Record}
-use Rattle.sb_core.specs.LaneOrder.{cont_at}
-use Rattle.sb_core.specs.declared.moment.Cont.{Cont}
-use Rattle.sb_core.specs.declared.moment.CoreLane.{CoreLane}
-use Rattle.sb_diary.specs.Diaries.{with_spare}
-use Rattle.sb_diary.specs.declared.event.DiaryEvent.{DiaryEvent}
-use Rattle.sb_lane.specs.Changes.{StandsAt}
-use Rattle.sb_lane.specs.LaneView.{LaneView, lane_of}
-use Rattle.sb_lane.specs.Links.{Link, down_of, with_link, links_of, with_place}
-use Rattle.sb_lane.specs.Looks.{look_of}
-use Rattle.sb_lane.specs.Placed.{conts_of}
-use Rattle.sb_lane.specs.declared.answers.LaneClose.{LaneClose}
-use Rattle.sb_node.specs.Changes.{ClosesKept, Starts}
-use Rattle.sb_node.specs.Looking.{IsNotYet, NoneClosing}
-use Rattle.sb_node.specs.Marking.{mark_for}
-use Rattle.sb_node.specs.declared.closing.Closing.{Closing}
-use Rattle.sb_node.specs.declared.state.NodeState.{NodeState}
+use Rattle.sb_hand.specs.base.records.declared.item.Record.{Record}
+use Rattle.sb_hand.specs.core.LaneOrder.{cont_at}
+use Rattle.sb_hand.specs.core.declared.moment.Cont.{Cont}
+use Rattle.sb_hand.specs.core.declared.moment.CoreLane.{CoreLane}
+use Rattle.sb_hand.specs.diary.Diaries.{with_spare}
+use Rattle.sb_hand.specs.diary.declared.event.DiaryEvent.{DiaryEvent}
+use Rattle.sb_hand.specs.lane.Changes.{StandsAt}
+use Rattle.sb_hand.specs.lane.LaneView.{LaneView, lane_of}
+use Rattle.sb_hand.specs.lane.Links.{Link, down_of, with_link, links_of, with_place}
+use Rattle.sb_hand.specs.lane.Looks.{look_of}
+use Rattle.sb_hand.specs.lane.Placed.{conts_of}
+use Rattle.sb_hand.specs.lane.declared.answers.LaneClose.{LaneClose}
+use Rattle.sb_hand.specs.node.Changes.{ClosesKept, Starts}
+use Rattle.sb_hand.specs.node.Looking.{IsNotYet, NoneClosing}
+use Rattle.sb_hand.specs.node.Marking.{mark_for}
+use Rattle.sb_hand.specs.node.declared.closing.Closing.{Closing}
+use Rattle.sb_hand.specs.node.declared.state.NodeState.{NodeState}
 use Rattle.sb_cascade.specs.declared.shared_node.BeginStop.{BeginStop}
 use Rattle.sb_cascade.specs.declared.shared_node.BeginStop.TheVariants.{NotYet, Memory, Spent}
 

@@ -3,18 +3,18 @@ use Rattle.std.specs.Prelude.{◌≡◌, suc, ℕ, ◌≤◌, ◌<◌, true, fal
 use Rattle.std.specs.List.{AllByRecursion}
 use mathlib.Core.Option.{some}
 use lib.ListN.{get_elem?}
-use Rattle.sb_record.specs.declared.item.Record.{Record}
-use Rattle.sb_pipeline.specs.Plans.{IsPlan}
-use Rattle.sb_pipeline.specs.Operators.{Operator, operator_at}
-use Rattle.sb_core.specs.declared.held.Held.{Held}
-use Rattle.sb_core.specs.declared.moment.Node.{Node}
-use Rattle.sb_core.specs.declared.moment.Moment.{Moment}
-use Rattle.sb_core.specs.Moments.{empty_node}
-use Rattle.sb_core.specs.Soundness.{IsSound}
-use Rattle.sb_core.specs.Exactness.{IsExact}
-use Rattle.sb_diary.specs.declared.event.DiaryEvent.{DiaryEvent}
-use Rattle.sb_lane.specs.LaneView.{lane_of}
-use Rattle.sb_tally.specs.Tally.{IsTallied}
+use Rattle.sb_hand.specs.base.records.declared.item.Record.{Record}
+use Rattle.sb_hand.specs.base.pipeline.Plans.{IsPlan}
+use Rattle.sb_hand.specs.base.pipeline.Operators.{Operator, operator_at}
+use Rattle.sb_hand.specs.core.declared.held.Held.{Held}
+use Rattle.sb_hand.specs.core.declared.moment.Node.{Node}
+use Rattle.sb_hand.specs.core.declared.moment.Moment.{Moment}
+use Rattle.sb_hand.specs.core.Moments.{empty_node}
+use Rattle.sb_hand.specs.core.Soundness.{IsSound}
+use Rattle.sb_hand.specs.core.Exactness.{IsExact}
+use Rattle.sb_hand.specs.diary.declared.event.DiaryEvent.{DiaryEvent}
+use Rattle.sb_hand.specs.lane.LaneView.{lane_of}
+use Rattle.sb_hand.specs.tally.Tally.{IsTallied}
 use Rattle.sb_turn.specs.Turning.{log_of}
 use Rattle.sb_hand.specs.Hands.{settings_for}
 use Rattle.sb_hand.specs.Showing.{IsKept, Settings}

@@ -1,10 +1,10 @@
 -- What a pass knows, and what it knows after a leaving, a laying and a claim.
 use Rattle.std.specs.Prelude.{ℕ, true, false, List, [], ◌∷◌, ◌++◌, length, drop, map, Option, Some, None}
-use Rattle.sb_record.specs.declared.item.Record.{Record}
-use Rattle.sb_record.specs.declared.item.Stream.{Stream}
-use Rattle.sb_record.specs.declared.item.Stream.TheVariants.{A, B}
-use Rattle.sb_core.specs.declared.held.Held.{Held}
-use Rattle.sb_tally.specs.Tally as tally
+use Rattle.sb_hand.specs.base.records.declared.item.Record.{Record}
+use Rattle.sb_hand.specs.base.records.declared.item.Stream.{Stream}
+use Rattle.sb_hand.specs.base.records.declared.item.Stream.TheVariants.{A, B}
+use Rattle.sb_hand.specs.core.declared.held.Held.{Held}
+use Rattle.sb_hand.specs.tally.Tally as tally
 use Rattle.sb_turn.specs.Held.{all_held}
 use Rattle.sb_cascade.specs.declared.telling.Change.{Change}
 use Rattle.sb_cascade.specs.declared.telling.Change.TheVariants.{Arrive, Seal, Take, Deliver, Finish, Begin, Rows, Pass}

@@ -1,10 +1,10 @@
 -- What a worker may do with a bundle in hand.
 use Rattle.std.specs.Prelude.{◌≡◌, ◌<◌, ◌⊎◌, ℕ, Bool, true, List, [], length, Some}
-use Rattle.sb_record.specs.declared.item.Record.{Record}
-use Rattle.sb_pipeline.specs.declared.transform.Down.{Down}
-use Rattle.sb_pipeline.specs.Operators.{Operator}
-use Rattle.sb_core.specs.Closings.{delivery, is_pardo}
-use Rattle.sb_core.specs.Events.{below}
+use Rattle.sb_hand.specs.base.records.declared.item.Record.{Record}
+use Rattle.sb_hand.specs.base.pipeline.declared.transform.Down.{Down}
+use Rattle.sb_hand.specs.base.pipeline.Operators.{Operator}
+use Rattle.sb_hand.specs.core.Closings.{delivery, is_pardo}
+use Rattle.sb_hand.specs.core.Events.{below}
 use Rattle.sb_cascade.specs.declared.cascade.Cascade.{Cascade}
 use Rattle.sb_cascade.specs.declared.pass.CascadePass.{CascadePass}
 use Rattle.sb_cascade.specs.declared.telling.Change.{Change}

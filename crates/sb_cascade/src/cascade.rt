@@ -11,8 +11,8 @@ ghost use Rattle.sb_cascade.specs.Views.{after};
 
 use crate::keeping::Keeping;
 use crate::telling::{Change, Setting};
-use sb_node::NodeState;
-use sb_pipeline::Plan;
+use sb_hand::sb_base::Plan;
+use sb_hand::sb_node::NodeState;
 use sb_turn::{Guard, Pass, Turns};
 use std::alloc::Global;
 

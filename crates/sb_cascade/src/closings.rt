@@ -2,7 +2,7 @@
 
 ghost use Rattle.std.specs.Prelude.{◌≡◌, ◌<◌, ◌≤◌, ◌⊎◌, ℕ, Bool, true, false, [], drop, take, length};
 ghost use Rattle.std.specs.Prelude.{IfErr, IfOk, OnErr, OnOk, MatchBool, Ok};
-ghost use Rattle.sb_core.specs.Closings.{is_sink};
+ghost use Rattle.sb_hand.specs.core.Closings.{is_sink};
 ghost use Rattle.sb_cascade.specs.Calls.{HasClosing, HasSame, IsEmptyHanded, IsReady, IsSame, LeftBy};
 ghost use Rattle.sb_cascade.specs.Calls.{plan_of, rows_left, setting_of, view_of};
 ghost use Rattle.sb_cascade.specs.Shown.{operator_of};
@@ -15,10 +15,9 @@ use crate::cascade::Cascade;
 use crate::pass::CascadePass;
 use crate::shared_node::BeginStop;
 use crate::telling::Change;
-use sb_bundle::Bundle;
-use sb_lane::NotYet;
-use sb_node::Closing;
-use sb_record::{NoMemory, Record, Sequence};
+use sb_hand::sb_base::{Bundle, NoMemory, Record, Sequence};
+use sb_hand::sb_lane::NotYet;
+use sb_hand::sb_node::Closing;
 use sb_turn::Reason;
 use std::alloc::Global;
 use std::snapshot::Snapshot;

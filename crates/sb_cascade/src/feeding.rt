@@ -13,9 +13,8 @@ ghost use Rattle.sb_cascade.specs.declared.telling.Change.TheVariants as change;
 use crate::cascade::Cascade;
 use crate::pass::CascadePass;
 use crate::telling::Change;
-use sb_bundle::Bundle;
-use sb_lane::ArriveStop;
-use sb_record::{NoMemory, Record, Sequence, Stream};
+use sb_hand::sb_base::{Bundle, NoMemory, Record, Sequence, Stream};
+use sb_hand::sb_lane::ArriveStop;
 use std::snapshot::Snapshot;
 use std::sync::Wait;
 

@@ -5,34 +5,33 @@
 
 ghost use Rattle.std.specs.Prelude.{◌≡◌, ◌≤◌, ◌<◌, ◌+◌, ℕ, List, true, false, [], length, drop, map, Ok};
 ghost use Rattle.std.specs.Prelude.{IfOk, IfErr, IfSome, IfNone, OnOk, OnErr, All};
-ghost use Rattle.sb_record.specs.declared.item.Record.{Record as ARecord};
-ghost use Rattle.sb_core.specs.LaneOrder.{IsLane};
-ghost use Rattle.sb_core.specs.Lanes.{in_epoch, next_epoch, with_arrival, with_seal};
-ghost use Rattle.sb_core.specs.Marks.{first_is_closing};
-ghost use Rattle.sb_diary.specs.declared.diary.TheConstants.{MAX_DIARY_LINES};
-ghost use Rattle.sb_diary.specs.declared.event.DiaryEvent.TheVariants as line;
-ghost use Rattle.sb_kept.specs.Keeping.{IsPartFor, closed_mark};
-ghost use Rattle.sb_lane.specs.Changes.{StandsAt};
-ghost use Rattle.sb_lane.specs.LaneView.{LaneView, lane_of};
-ghost use Rattle.sb_lane.specs.Links.{down_of, links_of};
-ghost use Rattle.sb_lane.specs.Looks.{look_of};
-ghost use Rattle.sb_lane.specs.Placed.{conts_of};
-ghost use Rattle.sb_lane.specs.Taking.{finish_first};
-ghost use Rattle.sb_lane.specs.Unfinished.{unfinished_of};
-ghost use Rattle.sb_lane.specs.declared.answers.LaneClose.{LaneClose as AClose};
-ghost use Rattle.sb_node.specs.Changes.{Absorbs, HasLane, Takes, Turns};
-ghost use Rattle.sb_node.specs.Coming.{IsBackFrom};
-ghost use Rattle.sb_node.specs.LinkChanges.{DropsLink, GetsPlace};
-ghost use Rattle.sb_node.specs.Looking.{NoneClosing, NoneWaits};
-ghost use Rattle.sb_node.specs.Marking.{mark_for};
+ghost use Rattle.sb_hand.specs.base.records.declared.item.Record.{Record as ARecord};
+ghost use Rattle.sb_hand.specs.core.LaneOrder.{IsLane};
+ghost use Rattle.sb_hand.specs.core.Lanes.{in_epoch, next_epoch, with_arrival, with_seal};
+ghost use Rattle.sb_hand.specs.core.Marks.{first_is_closing};
+ghost use Rattle.sb_hand.specs.diary.declared.diary.TheConstants.{MAX_DIARY_LINES};
+ghost use Rattle.sb_hand.specs.diary.declared.event.DiaryEvent.TheVariants as line;
+ghost use Rattle.sb_hand.specs.kept.Keeping.{IsPartFor, closed_mark};
+ghost use Rattle.sb_hand.specs.lane.Changes.{StandsAt};
+ghost use Rattle.sb_hand.specs.lane.LaneView.{LaneView, lane_of};
+ghost use Rattle.sb_hand.specs.lane.Links.{down_of, links_of};
+ghost use Rattle.sb_hand.specs.lane.Looks.{look_of};
+ghost use Rattle.sb_hand.specs.lane.Placed.{conts_of};
+ghost use Rattle.sb_hand.specs.lane.Taking.{finish_first};
+ghost use Rattle.sb_hand.specs.lane.Unfinished.{unfinished_of};
+ghost use Rattle.sb_hand.specs.lane.declared.answers.LaneClose.{LaneClose as AClose};
+ghost use Rattle.sb_hand.specs.node.Changes.{Absorbs, HasLane, Takes, Turns};
+ghost use Rattle.sb_hand.specs.node.Coming.{IsBackFrom};
+ghost use Rattle.sb_hand.specs.node.LinkChanges.{DropsLink, GetsPlace};
+ghost use Rattle.sb_hand.specs.node.Looking.{NoneClosing, NoneWaits};
+ghost use Rattle.sb_hand.specs.node.Marking.{mark_for};
 ghost use Rattle.sb_cascade.specs.SharedNodes.{ChangesOwn, FinishesLinked, IsOut, LosesKept, PutsAt, ShowsSame};
 ghost use Rattle.sb_cascade.specs.SharedNodes.{BeginsAt, StopsAt, lines_of, owed_lines};
 
-use sb_bundle::Bundle;
-use sb_lane::{ArriveStop, NotYet};
-use sb_node::{Closing, NodeState};
-use sb_record::{NoMemory, Record};
-use sb_work::Part;
+use sb_hand::sb_base::{Bundle, NoMemory, Record};
+use sb_hand::sb_lane::{ArriveStop, NotYet};
+use sb_hand::sb_node::{Closing, NodeState};
+use sb_hand::sb_work::Part;
 use std::alloc::Global;
 use std::marker::Model;
 
@@ -49,8 +48,8 @@ pub struct SharedNode {
 impl Model for SharedNode {
     ghost use Rattle.std.specs.Prelude.{◌≡◌, ◌≤◌, ◌+◌, length};
     ghost use Rattle.std.specs.Coded.{codes};
-    ghost use Rattle.sb_diary.specs.declared.diary.TheConstants.{MAX_DIARY_LINES};
-    ghost use Rattle.sb_node.specs.contracts.state.NodeState as state;
+    ghost use Rattle.sb_hand.specs.diary.declared.diary.TheConstants.{MAX_DIARY_LINES};
+    ghost use Rattle.sb_hand.specs.node.contracts.state.NodeState as state;
     ghost use Rattle.sb_cascade.specs.SharedNodes.{SharedView, owed_lines};
 
     ghost Value = { SharedView };

@@ -10,7 +10,7 @@ ghost use Rattle.sb_cascade.specs.Shelving.{ClaimedOne, EndsWith, FoundNoneFree,
 use crate::cascade::Cascade;
 use crate::pass::CascadePass;
 use crate::telling::Piece;
-use sb_work::Claim;
+use sb_hand::sb_work::Claim;
 use std::sync::Wait;
 
 impl Cascade {

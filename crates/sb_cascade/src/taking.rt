@@ -6,15 +6,15 @@ ghost use Rattle.sb_cascade.specs.Calls.{LeftAtOnce, LeftBy, plan_of, setting_of
 ghost use Rattle.sb_cascade.specs.Found.{IsClaim};
 ghost use Rattle.sb_cascade.specs.Told.{Is, IsTake};
 ghost use Rattle.sb_cascade.specs.declared.telling.Change.TheVariants as change;
-ghost use Rattle.sb_work.specs.declared.claim.Claim.{Claim as AClaim};
+ghost use Rattle.sb_hand.specs.work.declared.claim.Claim.{Claim as AClaim};
 
 use crate::cascade::Cascade;
 use crate::keeping::Keeping;
 use crate::pass::CascadePass;
 use crate::shared_node::Taken;
 use crate::telling::Change;
+use sb_hand::sb_work::Claim;
 use sb_turn::Guard;
-use sb_work::Claim;
 use std::snapshot::Snapshot;
 use std::sync::Wait;
 

@@ -1,11 +1,10 @@
 //! What a leaving of a turn does, what lies on the shelf, and what a pass knows.
 
-use sb_core::Held;
-use sb_lane::NotYet;
-use sb_node::Closing;
-use sb_pipeline::Plan;
-use sb_record::{Record, Sequence, Stream};
-use sb_work::Claim;
+use sb_hand::sb_base::{Plan, Record, Sequence, Stream};
+use sb_hand::sb_core::Held;
+use sb_hand::sb_lane::NotYet;
+use sb_hand::sb_node::Closing;
+use sb_hand::sb_work::Claim;
 use std::collections::LinkedList;
 use std::snapshot::Snapshot;
 

@@ -1,18 +1,16 @@
 //! A cascade by example: the sums over windows of 10 units, and one record of stream a.
 
 ghost use Rattle.std.specs.Prelude.{◌≡◌, ◌≤◌, [], length, IfOk, OnOk};
-ghost use Rattle.sb_pipeline.specs.Shapes.{sum_shape};
+ghost use Rattle.sb_hand.specs.base.pipeline.Shapes.{sum_shape};
 ghost use Rattle.sb_turn.specs.Turning.{opening_view};
 ghost use Rattle.sb_cascade.specs.Calls.{IsEmptyHanded, IsFeeder, IsReady, IsSame};
 ghost use Rattle.sb_cascade.specs.Calls.{hands, passes_out, plan_of, setting_of, view_of};
 ghost use Rattle.sb_cascade.specs.Views.{first_hands, nothing_fed};
 
 use crate::{Cascade, CascadePass, TryTake};
-use sb_bundle::Bundle;
 use sb_hand::Hand;
-use sb_pipeline::sum_plan;
-use sb_record::{END_MARK, Key, Record, Sequence, Stream};
-use sb_work::{Output, process};
+use sb_hand::sb_base::{Bundle, END_MARK, Key, Record, Sequence, Stream, sum_plan};
+use sb_hand::sb_work::{Output, process};
 use std::alloc::Global;
 use std::sync::Wait;
 use std::test::Fail;

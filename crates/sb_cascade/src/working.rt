@@ -1,23 +1,22 @@
 //! What a worker does with a bundle in hand: what it gives goes below, and it is done with.
 
 ghost use Rattle.std.specs.Prelude.{◌≡◌, ◌≤◌, Bool, false, true, length, None, IsOk, MatchOption, OnErr, OnOk};
-ghost use Rattle.sb_pipeline.specs.declared.transform.Down.{Down as ADown};
-ghost use Rattle.sb_core.specs.Events.{below};
+ghost use Rattle.sb_hand.specs.base.pipeline.declared.transform.Down.{Down as ADown};
+ghost use Rattle.sb_hand.specs.core.Events.{below};
 ghost use Rattle.sb_cascade.specs.Calls.{HasBundle, HasSame, IsEmptyHanded, IsReady, IsSame, LeftBy, LeftSpent};
 ghost use Rattle.sb_cascade.specs.Calls.{hands, plan_of, setting_of};
 ghost use Rattle.sb_cascade.specs.Shown.{operator_of};
 ghost use Rattle.sb_cascade.specs.Told.{Is, IsDelivery, IsFinish};
 ghost use Rattle.sb_cascade.specs.Working.{GivesBelow, LeftBelow, NeedsNoPart};
 ghost use Rattle.sb_cascade.specs.declared.telling.Change.TheVariants as change;
-ghost use Rattle.sb_work.specs.Processing.{IsPart};
+ghost use Rattle.sb_hand.specs.work.Processing.{IsPart};
 
 use crate::cascade::Cascade;
 use crate::pass::CascadePass;
 use crate::telling::Change;
-use sb_bundle::Bundle;
-use sb_record::{NoMemory, Record, Sequence};
+use sb_hand::sb_base::{Bundle, NoMemory, Record, Sequence};
+use sb_hand::sb_work::{Claim, Part};
 use sb_turn::Reason;
-use sb_work::{Claim, Part};
 use std::snapshot::Snapshot;
 use std::sync::Wait;
 

@@ -1,6 +1,6 @@
 -- What an audit answers, by why reading stopped.
 use Rattle.std.proofs.Common.{◌≡◌, ℕ, List, [], Option, inl, inr, sym, subst}
-use Rattle.sb_diary.specs.Audits.{end_of}
+use Rattle.sb_watch.specs.diary.Audits.{end_of}
 use Rattle.sb_cli.specs.declared.diary_input.DiaryHalt.{DiaryHalt}
 use Rattle.sb_cli.specs.declared.diary_input.DiaryHalt.TheVariants as halt
 use Rattle.sb_cli.specs.declared.diary_input.DiaryInput.{DiaryInput}
@@ -12,7 +12,7 @@ use Rattle.sb_cli.specs.Answers.{Audited, HasAudited, HasPrinted, IsAuditAnswer}
 use Rattle.sb_cli.specs.AuditSteps.{AnswersHalt}
 use Rattle.sb_cli.specs.DiaryReads.{IsReadUpTo, ReadsDiary}
 use Rattle.sb_cli.specs.Statuses.{audit_text}
-use Rattle.sb_feed.specs.Given.{lines_of}
+use Rattle.sb_watch.specs.one_feed.Given.{lines_of}
 
 pub audit_answer : (left left' taken taken' : Option (List ℕ)) (input : DiaryInput) (why : DiaryHalt) (status : Status) (ending : Ending) → ReadsDiary left left' input
     → input.halt ≡ why → AnswersHalt input.said taken taken' why status → ending.status ≡ status → ending.late ≡ OfInput [] → ending.diaries ≡ [] → IsAuditAnswer left left' taken taken' ending

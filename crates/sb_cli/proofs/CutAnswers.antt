@@ -1,19 +1,19 @@
 -- From the end of a run over a first part of an input to its answer.
 use Rattle.std.proofs.Common.{◌≡◌, ℕ, false, List, [], ◌++◌, Option, Some, None, Result, Ok, Err, refl, sym, ap, subst, ◌∙◌, append-nil}
 use Rattle.std.specs.Io.KnownBytes.{Appends, Keeps}
-use Rattle.sb_record.specs.declared.intake.Refusal.{Refusal}
-use Rattle.sb_record.specs.declared.item.Dropped.{Dropped}
-use Rattle.sb_record.specs.declared.item.Record.{Record}
-use Rattle.sb_record.specs.Inputs.{stop_of}
-use Rattle.sb_record.specs.Rows.{text_of}
-use Rattle.sb_outside.specs.Lines.{lines}
-use Rattle.sb_outside.specs.declared.sink.SinkFault.{SinkFault}
-use Rattle.sb_outside.specs.declared.sink.SinkFault.TheVariants as fault
-use Rattle.sb_outside.proofs.Appending.{appends_kept}
-use Rattle.sb_pipeline.specs.Shapes.{Shape}
-use Rattle.sb_checkpoint.specs.Checkpoints.{low_of}
-use Rattle.sb_feed.specs.Due.{AreFirstRows, rows_below}
-use Rattle.sb_feed.specs.Given.{Given}
+use Rattle.sb_watch.specs.base.records.declared.intake.Refusal.{Refusal}
+use Rattle.sb_watch.specs.base.records.declared.item.Dropped.{Dropped}
+use Rattle.sb_watch.specs.base.records.declared.item.Record.{Record}
+use Rattle.sb_watch.specs.base.records.Inputs.{stop_of}
+use Rattle.sb_watch.specs.base.records.Rows.{text_of}
+use Rattle.sb_watch.specs.outside.Lines.{lines}
+use Rattle.sb_watch.specs.outside.declared.sink.SinkFault.{SinkFault}
+use Rattle.sb_watch.specs.outside.declared.sink.SinkFault.TheVariants as fault
+use Rattle.sb_watch.proofs.outside.Appending.{appends_kept}
+use Rattle.sb_watch.specs.base.pipeline.Shapes.{Shape}
+use Rattle.sb_cut.specs.checkpoint.Checkpoints.{low_of}
+use Rattle.sb_watch.specs.one_feed.Due.{AreFirstRows, rows_below}
+use Rattle.sb_watch.specs.one_feed.Given.{Given}
 use Rattle.sb_cut.specs.declared.cut_end.CutEnd.{CutEnd}
 use Rattle.sb_cut.specs.declared.cut_end.CutEnd.TheVariants as cut
 use Rattle.sb_cut.specs.CutEnds.{EndsCut, EndsCutEarly, PartEnds}

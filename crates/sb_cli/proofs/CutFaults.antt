@@ -1,10 +1,10 @@
 -- The faults that a run over a first part of an input tells.
 use Rattle.std.proofs.Common.{◌≡◌, ℕ, List, Result, Ok, Err, refl, ◌∙◌}
 use Rattle.std.specs.Prelude.{OnOk, false}
-use Rattle.sb_outside.specs.Folders.{Load}
-use Rattle.sb_outside.specs.Sinks.{SinkCause, SinkState}
-use Rattle.sb_outside.specs.declared.sink.SinkFault.{SinkFault}
-use Rattle.sb_outside.specs.declared.sink.SinkFault.TheVariants as fault
+use Rattle.sb_watch.specs.outside.Folders.{Load}
+use Rattle.sb_watch.specs.outside.Sinks.{SinkCause, SinkState}
+use Rattle.sb_watch.specs.outside.declared.sink.SinkFault.{SinkFault}
+use Rattle.sb_watch.specs.outside.declared.sink.SinkFault.TheVariants as fault
 use Rattle.sb_cut.specs.declared.cut_end.CutEnd.{CutEnd}
 use Rattle.sb_cut.specs.declared.cut_end.CutEnd.TheVariants as cut
 use Rattle.sb_cut.specs.CutEnds.{CutCause, CutOutputCause, IsCutWritten}

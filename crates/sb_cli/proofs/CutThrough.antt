@@ -1,9 +1,9 @@
 -- How a run over a first part of an input ends, said in other words.
 use Rattle.std.proofs.Common.{ℕ, List, Option, Some, None}
-use Rattle.sb_record.specs.declared.intake.Refusal.{Refusal}
-use Rattle.sb_record.specs.declared.item.Dropped.{Dropped}
-use Rattle.sb_record.specs.declared.item.Record.{Record}
-use Rattle.sb_pipeline.specs.Shapes.{Shape}
+use Rattle.sb_watch.specs.base.records.declared.intake.Refusal.{Refusal}
+use Rattle.sb_watch.specs.base.records.declared.item.Dropped.{Dropped}
+use Rattle.sb_watch.specs.base.records.declared.item.Record.{Record}
+use Rattle.sb_watch.specs.base.pipeline.Shapes.{Shape}
 use Rattle.sb_cut.specs.declared.cut_end.CutEnd.{CutEnd}
 use Rattle.sb_cut.specs.declared.cut_end.CutEnd.TheVariants.{Done, Refused, Input, Output, Memory}
 use Rattle.sb_cut.specs.CutEnds.{EndsCut, EndsCutEarly, PartEnds}

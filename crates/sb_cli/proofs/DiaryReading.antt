@@ -4,24 +4,24 @@ use Rattle.std.specs.Prelude.{nat_lt, if◌then◌else◌}
 use Rattle.std.proofs.lemmas.Bool.{ltb-true}
 use Rattle.std.specs.Io.KnownBytes.{Consumes}
 use Rattle.std.proofs.KnownBytes.{Consumes-nil, Consumes-trans}
-use Rattle.sb_record.specs.declared.intake.TheConstants.{MAX_LINES}
-use Rattle.sb_diary.specs.declared.audit.AuditEnd.{AuditEnd}
-use Rattle.sb_diary.specs.declared.audit.AuditFault.{AuditFault}
-use Rattle.sb_diary.specs.declared.audit.AuditFault.TheVariants as fault
-use Rattle.sb_diary.specs.declared.audit.AuditStop.{AuditStop}
-use Rattle.sb_diary.specs.declared.audit.AuditStop.TheVariants as stop
-use Rattle.sb_diary.specs.Audits.{TextAudit, Auditing, AreLegalTexts, IsFaultAt, IsLegalText, IsStopAt, first_text_audit, end_of, lines_in, first_auditing, too_long}
-use Rattle.sb_diary.proofs.TextLines.{legal-more, lines-more}
-use Rattle.sb_outside.specs.Lines.{lines, is_too_long}
-use Rattle.sb_outside.specs.declared.lines.Halt.{Halt}
-use Rattle.sb_outside.specs.declared.lines.Halt.TheVariants as halt
-use Rattle.sb_outside.specs.declared.lines.Step.TheVariants as step
-use Rattle.sb_outside.specs.Readings.{Held, Reading, Advances, MayCome, reading, rest_of_lines}
+use Rattle.sb_watch.specs.base.records.declared.intake.TheConstants.{MAX_LINES}
+use Rattle.sb_watch.specs.diary.declared.audit.AuditEnd.{AuditEnd}
+use Rattle.sb_watch.specs.diary.declared.audit.AuditFault.{AuditFault}
+use Rattle.sb_watch.specs.diary.declared.audit.AuditFault.TheVariants as fault
+use Rattle.sb_watch.specs.diary.declared.audit.AuditStop.{AuditStop}
+use Rattle.sb_watch.specs.diary.declared.audit.AuditStop.TheVariants as stop
+use Rattle.sb_watch.specs.diary.Audits.{TextAudit, Auditing, AreLegalTexts, IsFaultAt, IsLegalText, IsStopAt, first_text_audit, end_of, lines_in, first_auditing, too_long}
+use Rattle.sb_watch.proofs.diary.TextLines.{legal-more, lines-more}
+use Rattle.sb_watch.specs.outside.Lines.{lines, is_too_long}
+use Rattle.sb_watch.specs.outside.declared.lines.Halt.{Halt}
+use Rattle.sb_watch.specs.outside.declared.lines.Halt.TheVariants as halt
+use Rattle.sb_watch.specs.outside.declared.lines.Step.TheVariants as step
+use Rattle.sb_watch.specs.outside.Readings.{Held, Reading, Advances, MayCome, reading, rest_of_lines}
 use Rattle.sb_cli.specs.declared.diary_input.DiaryHalt.{DiaryHalt}
 use Rattle.sb_cli.specs.declared.diary_input.DiaryHalt.TheVariants.{End, Refused, Fault, Memory}
 use Rattle.sb_cli.specs.DiaryReads.{GaveLine, GaveRest, IsReadUpTo, IsRefusedLine, ReadsDiary, StopsDiaryAt}
-use Rattle.sb_feed.specs.Reads.{IsGoing}
-use Rattle.sb_feed.proofs.ReadSteps.{ended_by, ended_there, goes_on, may_end}
+use Rattle.sb_watch.specs.one_feed.Reads.{IsGoing}
+use Rattle.sb_watch.proofs.one_feed.ReadSteps.{ended_by, ended_there, goes_on, may_end}
 
 module _ {S : Type 0} (left : S → Option (List ℕ)) (faults : S → ℕ) where
   -- a line was given

@@ -3,16 +3,16 @@ use Rattle.std.proofs.Common.{◌≡◌, ℕ, ◌+◌, Bool, true, false, List, 
 use Rattle.std.specs.Option.{option_map}
 use Rattle.std.proofs.lemmas.Option.{same_Some, slice_get-map}
 use Rattle.std.proofs.lemmas.List.{length-map}
-use Rattle.sb_record.specs.declared.item.Item.{Item}
-use Rattle.sb_pipeline.specs.Operators.{operator_of}
-use Rattle.sb_pipeline.specs.Operators.Operator.{Sink}
-use Rattle.sb_pipeline.specs.Shapes.{Shape}
-use Rattle.sb_pipeline.specs.declared.transform.Step.{Step}
-use Rattle.sb_hand.specs.Hands.{HandView, settings_at, settings_for}
-use Rattle.sb_hand.specs.Showing.{Settings, diaries_of}
-use Rattle.sb_run.specs.declared.run_end.RunEnd.{RunEnd}
-use Rattle.sb_run.specs.declared.run_end.RunEnd.TheVariants as run
-use Rattle.sb_run.specs.RunEnds.{IsDoneHand}
+use Rattle.sb_watch.specs.base.records.declared.item.Item.{Item}
+use Rattle.sb_watch.specs.base.pipeline.Operators.{operator_of}
+use Rattle.sb_watch.specs.base.pipeline.Operators.Operator.{Sink}
+use Rattle.sb_watch.specs.base.pipeline.Shapes.{Shape}
+use Rattle.sb_watch.specs.base.pipeline.declared.transform.Step.{Step}
+use Rattle.sb_watch.specs.hand.Hands.{HandView, settings_at, settings_for}
+use Rattle.sb_watch.specs.hand.Showing.{Settings, diaries_of}
+use Rattle.sb_watch.specs.run.declared.run_end.RunEnd.{RunEnd}
+use Rattle.sb_watch.specs.run.declared.run_end.RunEnd.TheVariants as run
+use Rattle.sb_watch.specs.run.RunEnds.{IsDoneHand}
 use Rattle.sb_words.specs.declared.options.Options.{Options}
 use Rattle.sb_cli.specs.RunSteps.{CanTellAt, kept_at, sizes_from}
 use Rattle.sb_cli.specs.Telling.{diaries_of_hand}

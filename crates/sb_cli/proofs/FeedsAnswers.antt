@@ -1,13 +1,13 @@
 -- Why a run over two files is done if nothing fails, and that no run begins without them.
 use Rattle.std.proofs.Common.{inl, inr, ◌≡◌, ◌<◌, ◌≤◌, ℕ, List, [], Option, Some, length, refl, sym, ap, subst, arith, ◌∙◌}
-use Rattle.sb_record.specs.declared.item.Stream.{Stream}
-use Rattle.sb_record.specs.declared.item.Stream.TheVariants.{A, B}
-use Rattle.sb_outside.specs.Folders.{Files}
-use Rattle.sb_outside.specs.Sources.{Rose}
-use Rattle.sb_pipeline.specs.Shapes.{Shape}
-use Rattle.sb_emit.specs.Taps.{TapState}
-use Rattle.sb_run.specs.declared.files.TheConstants.{MAX_FILE_LENGTH}
-use Rattle.sb_run.specs.Files.{NoneRefused, accepted_of_file}
+use Rattle.sb_watch.specs.base.records.declared.item.Stream.{Stream}
+use Rattle.sb_watch.specs.base.records.declared.item.Stream.TheVariants.{A, B}
+use Rattle.sb_watch.specs.outside.Folders.{Files}
+use Rattle.sb_watch.specs.outside.Sources.{Rose}
+use Rattle.sb_watch.specs.base.pipeline.Shapes.{Shape}
+use Rattle.sb_watch.specs.emit.Taps.{TapState}
+use Rattle.sb_watch.specs.run.declared.files.TheConstants.{MAX_FILE_LENGTH}
+use Rattle.sb_watch.specs.run.Files.{NoneRefused, accepted_of_file}
 use Rattle.sb_words.specs.Words.Asked.{Feeds}
 use Rattle.sb_words.specs.declared.options.Options.{Options}
 use Rattle.sb_cli.specs.declared.ending.Ending.{Ending}

@@ -3,8 +3,8 @@ use Rattle.std.proofs.Common.{◌≡◌, ◌≢◌, ◌≤◌, ◌<◌, ◌+◌,
 use Rattle.std.specs.Prelude.{Result, Ok, Err}
 use Rattle.std.specs.Prelude.{min}
 use Rattle.std.proofs.lemmas.List.{length-take, take_all}
-use Rattle.sb_outside.specs.Folders.{Files, IsFile}
-use Rattle.sb_run.specs.declared.files.TheConstants.{MAX_FILE_LENGTH}
+use Rattle.sb_watch.specs.outside.Folders.{Files, IsFile}
+use Rattle.sb_watch.specs.run.declared.files.TheConstants.{MAX_FILE_LENGTH}
 use Rattle.sb_cli.specs.declared.status.Status.{Status}
 use Rattle.sb_cli.specs.declared.status.Status.TheVariants.{Done, Words, Plan, Line, Input, Output, Folder, Memory, Tap, Audit, FileTooLong, FileLine, Checkpoint}
 use Rattle.sb_cli.specs.FileSteps.{HasNoBytes, HaveNoBytes}

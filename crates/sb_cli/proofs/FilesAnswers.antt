@@ -1,32 +1,32 @@
 -- From how a run over two files ended to its answer.
 use Rattle.std.proofs.Common.{◌≡◌, ◌≤◌, ℕ, true, List, [], Option, Result, Ok, Err, refl, sym, ap, subst, ◌∙◌, arith, append-nil, ◌++◌}
 use Rattle.std.specs.Io.KnownBytes.{Keeps}
-use Rattle.sb_record.specs.declared.intake.Stop.{Stop}
-use Rattle.sb_record.specs.declared.intake.Stop.TheVariants as at
-use Rattle.sb_record.specs.declared.item.Dropped.{Dropped}
-use Rattle.sb_record.specs.declared.item.Item.{Item}
-use Rattle.sb_record.specs.declared.item.Record.{Record}
-use Rattle.sb_record.specs.declared.item.Stream.{Stream}
-use Rattle.sb_record.specs.declared.item.Stream.TheVariants.{A, B}
-use Rattle.sb_record.specs.declared.item.TheConstants.{END_MARK}
-use Rattle.sb_record.specs.Lines.{IsItemInRange}
-use Rattle.sb_record.specs.Rows.{text_of}
-use Rattle.sb_record.specs.Streams.{dropped_of, low_watermark}
-use Rattle.sb_record.proofs.Elements.{All-join}
-use Rattle.sb_record.proofs.InputLemmas.{accepted-in_range, low_watermark-in_range}
-use Rattle.sb_outside.specs.Lines.{lines}
-use Rattle.sb_outside.proofs.Appending.{appends_kept}
-use Rattle.sb_outside.specs.declared.sink.SinkFault.{SinkFault}
-use Rattle.sb_outside.specs.declared.sink.SinkFault.TheVariants as fault
-use Rattle.sb_pipeline.specs.Shapes.{Shape, streams_of}
-use Rattle.sb_emit.specs.Taps.{TapState}
-use Rattle.sb_emit.specs.TextLaws.{part_of_more}
-use Rattle.sb_feed.specs.Due.{AreFirstDropped, AreFirstRows, due_rows}
-use Rattle.sb_run.specs.declared.files.two_end.TwoEnd.{TwoEnd}
-use Rattle.sb_run.specs.declared.files.two_end.TwoEnd.TheVariants as two
-use Rattle.sb_run.specs.Files.{items_of_file, items_of_files, stream_alone}
-use Rattle.sb_slow.specs.Inputs.{by_stream}
-use Rattle.sb_run.specs.TwoEnds.{FilesEndAt, FilesEndEarly, TwoEnds, as_run}
+use Rattle.sb_watch.specs.base.records.declared.intake.Stop.{Stop}
+use Rattle.sb_watch.specs.base.records.declared.intake.Stop.TheVariants as at
+use Rattle.sb_watch.specs.base.records.declared.item.Dropped.{Dropped}
+use Rattle.sb_watch.specs.base.records.declared.item.Item.{Item}
+use Rattle.sb_watch.specs.base.records.declared.item.Record.{Record}
+use Rattle.sb_watch.specs.base.records.declared.item.Stream.{Stream}
+use Rattle.sb_watch.specs.base.records.declared.item.Stream.TheVariants.{A, B}
+use Rattle.sb_watch.specs.base.records.declared.item.TheConstants.{END_MARK}
+use Rattle.sb_watch.specs.base.records.Lines.{IsItemInRange}
+use Rattle.sb_watch.specs.base.records.Rows.{text_of}
+use Rattle.sb_watch.specs.base.records.Streams.{dropped_of, low_watermark}
+use Rattle.sb_watch.proofs.base.records.Elements.{All-join}
+use Rattle.sb_watch.proofs.base.records.InputLemmas.{accepted-in_range, low_watermark-in_range}
+use Rattle.sb_watch.specs.outside.Lines.{lines}
+use Rattle.sb_watch.proofs.outside.Appending.{appends_kept}
+use Rattle.sb_watch.specs.outside.declared.sink.SinkFault.{SinkFault}
+use Rattle.sb_watch.specs.outside.declared.sink.SinkFault.TheVariants as fault
+use Rattle.sb_watch.specs.base.pipeline.Shapes.{Shape, streams_of}
+use Rattle.sb_watch.specs.emit.Taps.{TapState}
+use Rattle.sb_watch.specs.emit.TextLaws.{part_of_more}
+use Rattle.sb_watch.specs.one_feed.Due.{AreFirstDropped, AreFirstRows, due_rows}
+use Rattle.sb_watch.specs.run.declared.files.two_end.TwoEnd.{TwoEnd}
+use Rattle.sb_watch.specs.run.declared.files.two_end.TwoEnd.TheVariants as two
+use Rattle.sb_watch.specs.run.Files.{items_of_file, items_of_files, stream_alone}
+use Rattle.sb_watch.specs.slow.Inputs.{by_stream}
+use Rattle.sb_watch.specs.run.TwoEnds.{FilesEndAt, FilesEndEarly, TwoEnds, as_run}
 use Rattle.sb_words.specs.declared.options.Options.{Options}
 use Rattle.sb_cli.specs.declared.late.LateRecords.TheVariants.{OfFiles}
 use Rattle.sb_cli.specs.declared.status.Status.TheVariants.{Done, Output, Memory, Tap, FileLine}

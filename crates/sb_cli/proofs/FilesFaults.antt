@@ -1,14 +1,14 @@
 -- The faults that a run over two files tells.
 use Rattle.std.proofs.Common.{◌≡◌, ℕ, false, List, Result, Ok, Err, refl}
 use Rattle.std.specs.Prelude.{OnOk}
-use Rattle.sb_outside.specs.Folders.{Load}
-use Rattle.sb_outside.specs.Sinks.{SinkCause, SinkState}
-use Rattle.sb_outside.specs.declared.sink.SinkFault.{SinkFault}
-use Rattle.sb_outside.specs.declared.sink.SinkFault.TheVariants as fault
-use Rattle.sb_run.specs.declared.files.two_end.TwoEnd.{TwoEnd}
-use Rattle.sb_run.specs.declared.files.two_end.TwoEnd.TheVariants as two
-use Rattle.sb_run.specs.RunEnds.{IsWritten, OutputCause}
-use Rattle.sb_run.specs.TwoEnds.{as_run}
+use Rattle.sb_watch.specs.outside.Folders.{Load}
+use Rattle.sb_watch.specs.outside.Sinks.{SinkCause, SinkState}
+use Rattle.sb_watch.specs.outside.declared.sink.SinkFault.{SinkFault}
+use Rattle.sb_watch.specs.outside.declared.sink.SinkFault.TheVariants as fault
+use Rattle.sb_watch.specs.run.declared.files.two_end.TwoEnd.{TwoEnd}
+use Rattle.sb_watch.specs.run.declared.files.two_end.TwoEnd.TheVariants as two
+use Rattle.sb_watch.specs.run.RunEnds.{IsWritten, OutputCause}
+use Rattle.sb_watch.specs.run.TwoEnds.{as_run}
 use Rattle.sb_cli.specs.Faults.{HasCause, HidesNoFault, faults_of}
 use Rattle.sb_cli.specs.FileSteps.{status_after_two}
 use Rattle.sb_cli.proofs.RunFaults.{rose_before, rose_later, same_faults, writes_same}

@@ -1,16 +1,16 @@
 -- How a run over two files ends, said in other words.
 use Rattle.std.proofs.Common.{◌≡◌, ℕ, List, Option}
-use Rattle.sb_record.specs.declared.intake.Stop.{Stop}
-use Rattle.sb_record.specs.declared.item.Dropped.{Dropped}
-use Rattle.sb_record.specs.declared.item.Record.{Record}
-use Rattle.sb_record.specs.declared.item.Stream.{Stream}
-use Rattle.sb_pipeline.specs.Shapes.{Shape}
-use Rattle.sb_emit.specs.LentLaws.{After, Part}
-use Rattle.sb_emit.specs.Taps.{TapState}
-use Rattle.sb_run.specs.declared.files.two_end.TwoEnd.{TwoEnd}
-use Rattle.sb_run.specs.declared.files.two_end.TwoEnd.TheVariants.{Done, Refused, Output, Tap, Memory}
-use Rattle.sb_run.specs.declared.sizes.Sizes.{Sizes}
-use Rattle.sb_run.specs.TwoEnds.{FilesEndAt, FilesEndEarly, TwoEnds}
+use Rattle.sb_watch.specs.base.records.declared.intake.Stop.{Stop}
+use Rattle.sb_watch.specs.base.records.declared.item.Dropped.{Dropped}
+use Rattle.sb_watch.specs.base.records.declared.item.Record.{Record}
+use Rattle.sb_watch.specs.base.records.declared.item.Stream.{Stream}
+use Rattle.sb_watch.specs.base.pipeline.Shapes.{Shape}
+use Rattle.sb_watch.specs.emit.LentLaws.{After, Part}
+use Rattle.sb_watch.specs.emit.Taps.{TapState}
+use Rattle.sb_watch.specs.run.declared.files.two_end.TwoEnd.{TwoEnd}
+use Rattle.sb_watch.specs.run.declared.files.two_end.TwoEnd.TheVariants.{Done, Refused, Output, Tap, Memory}
+use Rattle.sb_watch.specs.run.declared.sizes.Sizes.{Sizes}
+use Rattle.sb_watch.specs.run.TwoEnds.{FilesEndAt, FilesEndEarly, TwoEnds}
 use Rattle.sb_cli.specs.Answers.{Wrote, WrotePrefix}
 
 -- what is said of an output by two relations is said by two others that follow from them

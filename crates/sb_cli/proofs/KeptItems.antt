@@ -3,17 +3,17 @@ use Rattle.std.proofs.Common.{◌≡◌, ℕ, List, [], ◌∷◌, ◌++◌, Opt
 use Rattle.std.specs.List.{flat_map}
 use Rattle.std.specs.Prelude.{IsErr, Result}
 use Rattle.std.proofs.lemmas.List.Concat.{flat_map-append}
-use Rattle.sb_record.specs.declared.item.Item.{Item}
-use Rattle.sb_record.specs.declared.item.Stream.TheVariants.{A, B}
-use Rattle.sb_record.specs.declared.intake.Stop.{Stop}
-use Rattle.sb_record.specs.Progress.{Progress}
-use Rattle.sb_record.specs.Intake.{low}
-use Rattle.sb_record.specs.Streams.{low_watermark, record_in, dropped_in}
-use Rattle.sb_pipeline.specs.Shapes.{Shape, streams_of}
-use Rattle.sb_outside.specs.Readings.{Held, reading}
-use Rattle.sb_feed.specs.Given.{Given}
-use Rattle.sb_feed.specs.Reads.{StopsReading}
-use Rattle.sb_feed.proofs.ReadSoFar.{ReadSoFar, reading_stops}
+use Rattle.sb_watch.specs.base.records.declared.item.Item.{Item}
+use Rattle.sb_watch.specs.base.records.declared.item.Stream.TheVariants.{A, B}
+use Rattle.sb_watch.specs.base.records.declared.intake.Stop.{Stop}
+use Rattle.sb_watch.specs.base.records.Progress.{Progress}
+use Rattle.sb_watch.specs.base.records.Intake.{low}
+use Rattle.sb_watch.specs.base.records.Streams.{low_watermark, record_in, dropped_in}
+use Rattle.sb_watch.specs.base.pipeline.Shapes.{Shape, streams_of}
+use Rattle.sb_watch.specs.outside.Readings.{Held, reading}
+use Rattle.sb_watch.specs.one_feed.Given.{Given}
+use Rattle.sb_watch.specs.one_feed.Reads.{StopsReading}
+use Rattle.sb_watch.proofs.one_feed.ReadSoFar.{ReadSoFar, reading_stops}
 use Rattle.sb_cli.specs.declared.input.Input.{Input}
 use Rattle.sb_cli.specs.declared.kept.Kept.{Kept}
 use Rattle.sb_cli.specs.Keeping.{AreKept, Keeps}

@@ -1,7 +1,7 @@
 -- What the taps were offered, said of what the words ask for.
 use Rattle.std.proofs.Common.{◌≡◌, IsTrue, ℕ, List, Option, subst}
-use Rattle.sb_outside.specs.Folders.{Files}
-use Rattle.sb_emit.specs.Taps.{TapState}
+use Rattle.sb_watch.specs.outside.Folders.{Files}
+use Rattle.sb_watch.specs.emit.Taps.{TapState}
 use Rattle.sb_words.specs.Words.{Asked}
 use Rattle.sb_cli.specs.declared.status.Status.{Status}
 use Rattle.sb_cli.specs.Offered.{IsOffered}

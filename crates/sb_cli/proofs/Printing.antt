@@ -4,11 +4,11 @@ use Rattle.std.specs.Prelude.{false, flat_map, OnOk}
 use Rattle.std.specs.Io.KnownBytes.{Appends, Keeps}
 use Rattle.std.proofs.lemmas.List.{take-append-drop, take_more, take_all}
 use Rattle.std.proofs.lemmas.List.Concat.{flat_map-append}
-use Rattle.sb_outside.specs.Sinks.{AppendsPrefix, SinkCause, SinkState, WritesAll}
-use Rattle.sb_outside.proofs.SinkCauses.{calls_then}
+use Rattle.sb_watch.specs.outside.Sinks.{AppendsPrefix, SinkCause, SinkState, WritesAll}
+use Rattle.sb_watch.proofs.outside.SinkCauses.{calls_then}
 use Rattle.std.proofs.KnownBytes.{Appends-trans}
-use Rattle.sb_outside.specs.declared.sink.SinkFault.{SinkFault}
-use Rattle.sb_outside.proofs.Appending.{appends_kept, prefix_later, prefix_of_more}
+use Rattle.sb_watch.specs.outside.declared.sink.SinkFault.{SinkFault}
+use Rattle.sb_watch.proofs.outside.Appending.{appends_kept, prefix_later, prefix_of_more}
 
 -- some text was written, and with what is gathered it is that of the first elements
 pub record Printing {X : Type 0} (text : X → List ℕ) (old now : Option (List ℕ)) (gathered : List ℕ) (xs : List X) (done : ℕ) (before after : SinkState) : Type 0 where

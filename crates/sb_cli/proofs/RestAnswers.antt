@@ -1,14 +1,14 @@
 -- Why a run behind a checkpoint is done if nothing fails.
 use Rattle.std.proofs.Common.{inl, inr, ◌≡◌, ◌<◌, ℕ, List, Option, Some, length, refl, sym, ap, subst, subst₂, arith, ◌∙◌}
 use Rattle.std.specs.Io.KnownBytes.{prepend_known}
-use Rattle.sb_record.specs.declared.intake.Refusal.{Refusal}
-use Rattle.sb_record.specs.declared.intake.Stop.TheVariants.{Refused}
-use Rattle.sb_outside.specs.Folders.{Files}
-use Rattle.sb_pipeline.specs.Shapes.{Shape}
-use Rattle.sb_checkpoint.specs.Checkpoints.{with_comments}
-use Rattle.sb_checkpoint.specs.Texts.{IsFaultAt, IsRead, items_text, pieces}
-use Rattle.sb_checkpoint.proofs.ReadOrFaulty.{read-or_faulty}
-use Rattle.sb_feed.specs.Given.{Given, stop_at}
+use Rattle.sb_watch.specs.base.records.declared.intake.Refusal.{Refusal}
+use Rattle.sb_watch.specs.base.records.declared.intake.Stop.TheVariants.{Refused}
+use Rattle.sb_watch.specs.outside.Folders.{Files}
+use Rattle.sb_watch.specs.base.pipeline.Shapes.{Shape}
+use Rattle.sb_cut.specs.checkpoint.Checkpoints.{with_comments}
+use Rattle.sb_cut.specs.checkpoint.Texts.{IsFaultAt, IsRead, items_text, pieces}
+use Rattle.sb_cut.proofs.checkpoint.ReadOrFaulty.{read-or_faulty}
+use Rattle.sb_watch.specs.one_feed.Given.{Given, stop_at}
 use Rattle.sb_words.specs.Words.Asked.{Resume}
 use Rattle.sb_words.specs.declared.options.Options.{Options}
 use Rattle.sb_cli.specs.declared.ending.Ending.{Ending}

@@ -4,37 +4,37 @@ use Rattle.std.specs.Io.KnownBytes.{Appends, Keeps}
 use Rattle.std.specs.Option.{option_map}
 use Rattle.std.proofs.lemmas.Option.{same_Some, slice_get-map}
 use Rattle.std.proofs.lemmas.List.{length-map}
-use Rattle.sb_record.specs.declared.intake.Stop.{Stop}
-use Rattle.sb_record.specs.declared.intake.Stop.TheVariants as at
-use Rattle.sb_record.specs.declared.item.Dropped.{Dropped}
-use Rattle.sb_record.specs.declared.item.Item.{Item}
-use Rattle.sb_record.specs.declared.item.Record.{Record}
-use Rattle.sb_record.specs.declared.item.TheConstants.{END_MARK}
-use Rattle.sb_record.specs.Rows.{text_of}
-use Rattle.sb_record.specs.Streams.{low_watermark}
-use Rattle.sb_record.proofs.Earlier.{sorted_before-front}
-use Rattle.sb_record.proofs.InputLemmas.{accepted-in_range, low_watermark-in_range}
-use Rattle.sb_outside.specs.Lines.{lines}
-use Rattle.sb_outside.specs.Sinks.{AppendsPrefix}
-use Rattle.sb_outside.proofs.Appending.{appends_kept}
-use Rattle.sb_outside.specs.declared.sink.SinkFault.{SinkFault}
-use Rattle.sb_outside.specs.declared.sink.SinkFault.TheVariants as fault
-use Rattle.sb_pipeline.specs.Operators.{operator_of}
-use Rattle.sb_pipeline.specs.Operators.Operator.{Sink}
-use Rattle.sb_pipeline.specs.Results.{output_of}
-use Rattle.sb_pipeline.specs.Shapes.{Shape, streams_of}
-use Rattle.sb_pipeline.specs.declared.transform.Step.{Step}
-use Rattle.sb_checkpoint.specs.Laws.{accepted_in}
-use Rattle.sb_emit.specs.Taps.{TapState}
-use Rattle.sb_emit.specs.TextLaws.{part_of_more}
-use Rattle.sb_hand.specs.Hands.{HandView, settings_at, settings_for}
-use Rattle.sb_hand.specs.Showing.{Settings, diaries_of}
-use Rattle.sb_feed.specs.Due.{AreFirstDropped, AreFirstRows, due_rows, rows_below, streams_in}
-use Rattle.sb_feed.specs.Given.{Given, items_of, stop_at}
-use Rattle.sb_feed.specs.TapLists.{LeavesThoseThatStay}
-use Rattle.sb_run.specs.declared.run_end.RunEnd.{RunEnd}
-use Rattle.sb_run.specs.declared.run_end.RunEnd.TheVariants as run
-use Rattle.sb_run.specs.RunEnds.{Ends, EndsAt, EndsEarly, IsDoneHand}
+use Rattle.sb_watch.specs.base.records.declared.intake.Stop.{Stop}
+use Rattle.sb_watch.specs.base.records.declared.intake.Stop.TheVariants as at
+use Rattle.sb_watch.specs.base.records.declared.item.Dropped.{Dropped}
+use Rattle.sb_watch.specs.base.records.declared.item.Item.{Item}
+use Rattle.sb_watch.specs.base.records.declared.item.Record.{Record}
+use Rattle.sb_watch.specs.base.records.declared.item.TheConstants.{END_MARK}
+use Rattle.sb_watch.specs.base.records.Rows.{text_of}
+use Rattle.sb_watch.specs.base.records.Streams.{low_watermark}
+use Rattle.sb_watch.proofs.base.records.Earlier.{sorted_before-front}
+use Rattle.sb_watch.proofs.base.records.InputLemmas.{accepted-in_range, low_watermark-in_range}
+use Rattle.sb_watch.specs.outside.Lines.{lines}
+use Rattle.sb_watch.specs.outside.Sinks.{AppendsPrefix}
+use Rattle.sb_watch.proofs.outside.Appending.{appends_kept}
+use Rattle.sb_watch.specs.outside.declared.sink.SinkFault.{SinkFault}
+use Rattle.sb_watch.specs.outside.declared.sink.SinkFault.TheVariants as fault
+use Rattle.sb_watch.specs.base.pipeline.Operators.{operator_of}
+use Rattle.sb_watch.specs.base.pipeline.Operators.Operator.{Sink}
+use Rattle.sb_watch.specs.base.pipeline.Results.{output_of}
+use Rattle.sb_watch.specs.base.pipeline.Shapes.{Shape, streams_of}
+use Rattle.sb_watch.specs.base.pipeline.declared.transform.Step.{Step}
+use Rattle.sb_cut.specs.checkpoint.Laws.{accepted_in}
+use Rattle.sb_watch.specs.emit.Taps.{TapState}
+use Rattle.sb_watch.specs.emit.TextLaws.{part_of_more}
+use Rattle.sb_watch.specs.hand.Hands.{HandView, settings_at, settings_for}
+use Rattle.sb_watch.specs.hand.Showing.{Settings, diaries_of}
+use Rattle.sb_watch.specs.one_feed.Due.{AreFirstDropped, AreFirstRows, due_rows, rows_below, streams_in}
+use Rattle.sb_watch.specs.one_feed.Given.{Given, items_of, stop_at}
+use Rattle.sb_watch.specs.one_feed.TapLists.{LeavesThoseThatStay}
+use Rattle.sb_watch.specs.run.declared.run_end.RunEnd.{RunEnd}
+use Rattle.sb_watch.specs.run.declared.run_end.RunEnd.TheVariants as run
+use Rattle.sb_watch.specs.run.RunEnds.{Ends, EndsAt, EndsEarly, IsDoneHand}
 use Rattle.sb_words.specs.declared.options.Options.{Options}
 use Rattle.sb_cli.specs.declared.status.Status.{Status}
 use Rattle.sb_cli.specs.declared.status.Status.TheVariants.{Done, Words, Plan, Line, Input, Output, Folder, Memory, Tap, Audit, FileTooLong, FileLine, Checkpoint}

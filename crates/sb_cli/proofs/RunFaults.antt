@@ -1,14 +1,14 @@
 -- The faults that a run of the engine tells.
 use Rattle.std.proofs.Common.{◌≡◌, ℕ, ◌≤◌, Bool, true, false, List, Result, Ok, Err, refl, ◌∙◌, arith}
 use Rattle.std.specs.Prelude.{OnOk}
-use Rattle.sb_outside.specs.Folders.{Load}
-use Rattle.sb_outside.specs.Sinks.{SinkCause, SinkState}
-use Rattle.sb_outside.specs.Sources.{Rose}
-use Rattle.sb_outside.specs.declared.sink.SinkFault.{SinkFault}
-use Rattle.sb_outside.specs.declared.sink.SinkFault.TheVariants as fault
-use Rattle.sb_run.specs.declared.run_end.RunEnd.{RunEnd}
-use Rattle.sb_run.specs.declared.run_end.RunEnd.TheVariants as run
-use Rattle.sb_run.specs.RunEnds.{InputCause, IsWritten, OutputCause, SharedInputCause}
+use Rattle.sb_watch.specs.outside.Folders.{Load}
+use Rattle.sb_watch.specs.outside.Sinks.{SinkCause, SinkState}
+use Rattle.sb_watch.specs.outside.Sources.{Rose}
+use Rattle.sb_watch.specs.outside.declared.sink.SinkFault.{SinkFault}
+use Rattle.sb_watch.specs.outside.declared.sink.SinkFault.TheVariants as fault
+use Rattle.sb_watch.specs.run.declared.run_end.RunEnd.{RunEnd}
+use Rattle.sb_watch.specs.run.declared.run_end.RunEnd.TheVariants as run
+use Rattle.sb_watch.specs.run.RunEnds.{InputCause, IsWritten, OutputCause, SharedInputCause}
 use Rattle.sb_cli.specs.Faults.{HasCause, HidesNoFault, faults_of}
 use Rattle.sb_cli.specs.declared.status.Status.TheVariants.{Tap}
 use Rattle.sb_cli.specs.RunSteps.{status_after}

@@ -1,15 +1,15 @@
 -- From the checkpoint of a first part of an input to its answer.
 use Rattle.std.proofs.Common.{◌≡◌, ℕ, List, [], ◌++◌, Option, refl, sym, ap, subst, ◌∙◌}
-use Rattle.sb_record.specs.declared.intake.Stop.{Stop}
-use Rattle.sb_record.specs.declared.item.Dropped.{Dropped}
-use Rattle.sb_record.specs.declared.item.Item.{Item}
-use Rattle.sb_pipeline.specs.Shapes.{Shape}
-use Rattle.sb_checkpoint.specs.declared.checkpoint.Checkpoint.{Checkpoint}
-use Rattle.sb_checkpoint.specs.Keeping.{IsCheckpointOf}
-use Rattle.sb_checkpoint.specs.Texts.{checkpoint_text}
+use Rattle.sb_watch.specs.base.records.declared.intake.Stop.{Stop}
+use Rattle.sb_watch.specs.base.records.declared.item.Dropped.{Dropped}
+use Rattle.sb_watch.specs.base.records.declared.item.Item.{Item}
+use Rattle.sb_watch.specs.base.pipeline.Shapes.{Shape}
+use Rattle.sb_cut.specs.checkpoint.declared.checkpoint.Checkpoint.{Checkpoint}
+use Rattle.sb_cut.specs.checkpoint.Keeping.{IsCheckpointOf}
+use Rattle.sb_cut.specs.checkpoint.Texts.{checkpoint_text}
 use Rattle.sb_cut.specs.Parts.{part_items}
 use Rattle.sb_cut.specs.Saves.{Saves, SavesNone}
-use Rattle.sb_feed.specs.Given.{Given}
+use Rattle.sb_watch.specs.one_feed.Given.{Given}
 use Rattle.sb_words.specs.Options.{defaults}
 use Rattle.sb_cli.specs.declared.status.Status.{Status}
 use Rattle.sb_cli.specs.declared.status.Status.TheVariants.{Memory}

@@ -2,25 +2,25 @@
 use Rattle.std.proofs.Common.{◌≡◌, ◌≤◌, ◌<◌, ℕ, true, false, List, [], ◌∷◌, ◌++◌, Option, Some, None, if◌then◌else◌, sym, ap, subst, arith, ◌∙◌}
 use Rattle.std.specs.Prelude.{IfSome, fold}
 use Rattle.std.specs.List.{AllByRecursion}
-use Rattle.sb_record.specs.declared.intake.Stop.{Stop}
-use Rattle.sb_record.specs.declared.intake.Stop.TheVariants.{End, Refused, Fault}
-use Rattle.sb_record.specs.declared.item.Dropped.{Dropped}
-use Rattle.sb_record.specs.declared.item.Record.{Record}
-use Rattle.sb_record.specs.declared.item.TheConstants.{END_MARK}
-use Rattle.sb_record.specs.declared.key.Key.{Key}
-use Rattle.sb_record.specs.Keys.{same_key}
-use Rattle.sb_record.specs.Records.{before, record_cmp}
-use Rattle.sb_record.specs.Rows.{text_of}
-use Rattle.sb_record.specs.Streams.{low_watermark}
-use Rattle.sb_record.proofs.Earlier.{before-low}
-use Rattle.sb_record.proofs.Elements.{every}
-use Rattle.sb_record.proofs.Sorting.{All-in_order}
-use Rattle.sb_pipeline.specs.Results.{output_of}
-use Rattle.sb_pipeline.specs.Shapes.{Shape, streams_of}
-use Rattle.sb_live.specs.Lasts.{last_if_any, nearer}
-use Rattle.sb_live.specs.Naming.{key_named}
-use Rattle.sb_feed.specs.Due.{due_mark, due_rows, streams_in}
-use Rattle.sb_feed.specs.Given.{Given, items_of}
+use Rattle.sb_watch.specs.base.records.declared.intake.Stop.{Stop}
+use Rattle.sb_watch.specs.base.records.declared.intake.Stop.TheVariants.{End, Refused, Fault}
+use Rattle.sb_watch.specs.base.records.declared.item.Dropped.{Dropped}
+use Rattle.sb_watch.specs.base.records.declared.item.Record.{Record}
+use Rattle.sb_watch.specs.base.records.declared.item.TheConstants.{END_MARK}
+use Rattle.sb_watch.specs.base.records.declared.key.Key.{Key}
+use Rattle.sb_watch.specs.base.records.Keys.{same_key}
+use Rattle.sb_watch.specs.base.records.Records.{before, record_cmp}
+use Rattle.sb_watch.specs.base.records.Rows.{text_of}
+use Rattle.sb_watch.specs.base.records.Streams.{low_watermark}
+use Rattle.sb_watch.proofs.base.records.Earlier.{before-low}
+use Rattle.sb_watch.proofs.base.records.Elements.{every}
+use Rattle.sb_watch.proofs.base.records.Sorting.{All-in_order}
+use Rattle.sb_watch.specs.base.pipeline.Results.{output_of}
+use Rattle.sb_watch.specs.base.pipeline.Shapes.{Shape, streams_of}
+use Rattle.sb_watch.specs.live.Lasts.{last_if_any, nearer}
+use Rattle.sb_watch.specs.live.Naming.{key_named}
+use Rattle.sb_watch.specs.one_feed.Due.{due_mark, due_rows, streams_in}
+use Rattle.sb_watch.specs.one_feed.Given.{Given, items_of}
 use Rattle.sb_watch.specs.declared.watching.Watched.{Watched}
 use Rattle.sb_watch.specs.Watches.{Tells, TellsNothing}
 use Rattle.sb_words.specs.declared.options.Options.{Options}

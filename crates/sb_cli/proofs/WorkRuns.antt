@@ -1,21 +1,21 @@
 -- How a run over the records that are made ends.
 use Rattle.std.proofs.Common.{◌≡◌, ℕ, Bool, true, false, List, [], Option, Some, None, refl, ap, subst, arith, map}
-use Rattle.sb_record.specs.declared.intake.Refusal.{Refusal}
-use Rattle.sb_record.specs.declared.intake.Stop.TheVariants as stop
-use Rattle.sb_record.specs.declared.item.Dropped.{Dropped}
-use Rattle.sb_record.specs.Inputs.{stop_of}
-use Rattle.sb_outside.specs.Sources.{Rose}
-use Rattle.sb_pipeline.specs.Shapes.{Shape, sum_shape}
-use Rattle.sb_emit.specs.Summaries.{Adds, AddsPrefix, Sums, no_faults}
-use Rattle.sb_emit.specs.Taps.{TapState}
-use Rattle.sb_feed.specs.Given.{Given, accepted_of, items_of, stop_at}
+use Rattle.sb_watch.specs.base.records.declared.intake.Refusal.{Refusal}
+use Rattle.sb_watch.specs.base.records.declared.intake.Stop.TheVariants as stop
+use Rattle.sb_watch.specs.base.records.declared.item.Dropped.{Dropped}
+use Rattle.sb_watch.specs.base.records.Inputs.{stop_of}
+use Rattle.sb_watch.specs.outside.Sources.{Rose}
+use Rattle.sb_watch.specs.base.pipeline.Shapes.{Shape, sum_shape}
+use Rattle.sb_watch.specs.emit.Summaries.{Adds, AddsPrefix, Sums, no_faults}
+use Rattle.sb_watch.specs.emit.Taps.{TapState}
+use Rattle.sb_watch.specs.one_feed.Given.{Given, accepted_of, items_of, stop_at}
 use Rattle.sb_generator.specs.Generated.{generated_items, generated_text}
 use Rattle.sb_generator.specs.Laws.{AreAccepted}
 use Rattle.sb_generator.proofs.Acceptance.{text_accepted}
-use Rattle.sb_run.specs.declared.run_end.RunEnd.{RunEnd}
-use Rattle.sb_run.specs.declared.run_end.RunEnd.TheVariants.{Done, Refused, Input, Output, Tap, Memory}
-use Rattle.sb_run.specs.declared.sizes.Sizes.{Sizes}
-use Rattle.sb_run.specs.RunEnds.{Ends, OutputCause, SharedInputCause}
+use Rattle.sb_watch.specs.run.declared.run_end.RunEnd.{RunEnd}
+use Rattle.sb_watch.specs.run.declared.run_end.RunEnd.TheVariants.{Done, Refused, Input, Output, Tap, Memory}
+use Rattle.sb_watch.specs.run.declared.sizes.Sizes.{Sizes}
+use Rattle.sb_watch.specs.run.RunEnds.{Ends, OutputCause, SharedInputCause}
 use Rattle.sb_words.specs.Words.{IsAmount}
 use Rattle.sb_cli.specs.declared.work.TheConstants.{WORK_WINDOW}
 use Rattle.sb_cli.specs.Pipelines.{all_rows}

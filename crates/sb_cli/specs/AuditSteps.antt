@@ -1,6 +1,6 @@
 -- What writing the line of an audit gives.
 use Rattle.std.specs.Prelude.{◌≡◌, ℕ, List, Option}
-use Rattle.sb_diary.specs.declared.audit.AuditEnd.{AuditEnd}
+use Rattle.sb_watch.specs.diary.declared.audit.AuditEnd.{AuditEnd}
 use Rattle.sb_cli.specs.declared.status.Status.{Status}
 use Rattle.sb_cli.specs.declared.status.Status.TheVariants.{Input, Memory, Audit}
 use Rattle.sb_cli.specs.declared.diary_input.DiaryHalt.{DiaryHalt}

@@ -1,9 +1,9 @@
 -- What is read in the file of a checkpoint.
 use Rattle.std.specs.Prelude.{◌≡◌, ◌≤◌, ◌<◌, ℕ, ◌+◌, List, Option, Some, length}
-use Rattle.sb_record.specs.declared.item.Item.{Item}
-use Rattle.sb_outside.specs.Folders.{Files, Load}
-use Rattle.sb_pipeline.specs.Shapes.{Shape}
-use Rattle.sb_checkpoint.specs.Texts.{IsFaultAt, IsRead, pieces}
+use Rattle.sb_watch.specs.base.records.declared.item.Item.{Item}
+use Rattle.sb_watch.specs.outside.Folders.{Files, Load}
+use Rattle.sb_watch.specs.base.pipeline.Shapes.{Shape}
+use Rattle.sb_cut.specs.checkpoint.Texts.{IsFaultAt, IsRead, pieces}
 use Rattle.sb_cli.specs.declared.resuming.TheConstants.{MAX_CHECKPOINT_BYTES}
 
 -- the load of the file: one byte more than it may have shows that it is too long

@@ -1,10 +1,10 @@
 -- From the end of a run over a first part of an input to its answer.
 use Rattle.std.specs.Prelude.{ℕ, List, Result, Ok, Err}
-use Rattle.sb_checkpoint.specs.declared.checkpoint.Checkpoint.{Checkpoint}
-use Rattle.sb_checkpoint.specs.Saved.{items_in}
-use Rattle.sb_checkpoint.specs.Texts.{checkpoint_text}
-use Rattle.sb_outside.specs.declared.sink.SinkFault.{SinkFault}
-use Rattle.sb_outside.specs.declared.sink.SinkFault.TheVariants as fault
+use Rattle.sb_cut.specs.checkpoint.declared.checkpoint.Checkpoint.{Checkpoint}
+use Rattle.sb_cut.specs.checkpoint.Saved.{items_in}
+use Rattle.sb_cut.specs.checkpoint.Texts.{checkpoint_text}
+use Rattle.sb_watch.specs.outside.declared.sink.SinkFault.{SinkFault}
+use Rattle.sb_watch.specs.outside.declared.sink.SinkFault.TheVariants as fault
 use Rattle.sb_cut.specs.declared.cut_end.CutEnd.{CutEnd}
 use Rattle.sb_cut.specs.declared.cut_end.CutEnd.TheVariants as cut
 use Rattle.sb_cli.specs.declared.status.Status.{Status}

@@ -1,17 +1,17 @@
 -- What reading a diary text gives.
 use Rattle.std.specs.Prelude.{◌≡◌, ℕ, Bool, true, false, List, [], ◌∷◌, ◌++◌, Option, Result, Ok, Err, None}
 use Rattle.std.specs.Io.KnownBytes.{Consumes, IsAtEnd}
-use Rattle.sb_diary.specs.declared.audit.AuditFault.{AuditFault}
-use Rattle.sb_diary.specs.declared.audit.AuditFault.TheVariants.{TooMany, TooLong, Malformed, NotLegal}
-use Rattle.sb_diary.specs.Audits.{TextAudit, Auditing, AreLegalTexts, IsFaultAt, IsLegalText, IsNumbered, first_text_audit, end_of}
-use Rattle.sb_outside.specs.Lines.{is_too_long}
-use Rattle.sb_outside.specs.Readings.{Reading, MayCome, rest_of_lines}
-use Rattle.sb_outside.specs.Sources.{Rose}
+use Rattle.sb_watch.specs.diary.declared.audit.AuditFault.{AuditFault}
+use Rattle.sb_watch.specs.diary.declared.audit.AuditFault.TheVariants.{TooMany, TooLong, Malformed, NotLegal}
+use Rattle.sb_watch.specs.diary.Audits.{TextAudit, Auditing, AreLegalTexts, IsFaultAt, IsLegalText, IsNumbered, first_text_audit, end_of}
+use Rattle.sb_watch.specs.outside.Lines.{is_too_long}
+use Rattle.sb_watch.specs.outside.Readings.{Reading, MayCome, rest_of_lines}
+use Rattle.sb_watch.specs.outside.Sources.{Rose}
 use Rattle.sb_cli.specs.declared.diary_input.DiaryHalt.{DiaryHalt}
 use Rattle.sb_cli.specs.declared.diary_input.DiaryHalt.TheVariants.{End, Refused, Fault, Memory}
 use Rattle.sb_cli.specs.declared.diary_input.DiaryInput.{DiaryInput}
-use Rattle.sb_feed.specs.Given.{Given, lines_of}
-use Rattle.sb_feed.specs.Reads.{IsGoing}
+use Rattle.sb_watch.specs.one_feed.Given.{Given, lines_of}
+use Rattle.sb_watch.specs.one_feed.Reads.{IsGoing}
 
 -- why a line is refused behind lines that say t: there is no room for it, or it is too long, or an auditor says why
 abbrev pub IsRefusedLine : TextAudit → List ℕ → AuditFault → Type 0

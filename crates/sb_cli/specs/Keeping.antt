@@ -1,8 +1,8 @@
 -- What is kept of the items of an input.
 use Rattle.std.specs.Prelude.{◌≡◌, List, ◌++◌}
-use Rattle.sb_record.specs.declared.item.Item.{Item}
-use Rattle.sb_record.specs.declared.item.Stream.TheVariants.{A, B}
-use Rattle.sb_record.specs.Streams.{record_in, records_of, dropped_in, dropped_of}
+use Rattle.sb_watch.specs.base.records.declared.item.Item.{Item}
+use Rattle.sb_watch.specs.base.records.declared.item.Stream.TheVariants.{A, B}
+use Rattle.sb_watch.specs.base.records.Streams.{record_in, records_of, dropped_in, dropped_of}
 use Rattle.sb_cli.specs.declared.kept.Kept.{Kept}
 
 -- the records of each stream among the items, and the late records that were dropped

@@ -1,13 +1,13 @@
 -- What the answers of a run that is cut in two have to do with that of one run.
 use Rattle.std.specs.Prelude.{◌≡◌, ℕ, List, ◌++◌, Option}
-use Rattle.sb_record.specs.declared.intake.Stop.TheVariants.{End}
-use Rattle.sb_record.specs.Streams.{dropped_of}
-use Rattle.sb_pipeline.specs.Shapes.{Shape}
-use Rattle.sb_checkpoint.specs.Checkpoints.{with_comments}
-use Rattle.sb_checkpoint.specs.Laws.{AreWholeLines}
-use Rattle.sb_checkpoint.specs.Reach.{HasNoSession}
-use Rattle.sb_checkpoint.specs.Texts.{IsRead, items_text, pieces}
-use Rattle.sb_feed.specs.Given.{Given}
+use Rattle.sb_watch.specs.base.records.declared.intake.Stop.TheVariants.{End}
+use Rattle.sb_watch.specs.base.records.Streams.{dropped_of}
+use Rattle.sb_watch.specs.base.pipeline.Shapes.{Shape}
+use Rattle.sb_cut.specs.checkpoint.Checkpoints.{with_comments}
+use Rattle.sb_cut.specs.checkpoint.Laws.{AreWholeLines}
+use Rattle.sb_cut.specs.checkpoint.Reach.{HasNoSession}
+use Rattle.sb_cut.specs.checkpoint.Texts.{IsRead, items_text, pieces}
+use Rattle.sb_watch.specs.one_feed.Given.{Given}
 use Rattle.sb_cli.specs.CheckpointFiles.{Said}
 use Rattle.sb_cli.specs.Courses.{Course, part_course, rest_course, run_course, save_course}
 

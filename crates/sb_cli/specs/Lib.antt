@@ -21,3 +21,12 @@ pub mod RunSteps
 pub mod CutSteps
 pub mod RestSteps
 pub mod FileSteps
+pub use Rattle.sb_watch.specs.outside
+pub use Rattle.sb_generator.specs as generator
+pub use Rattle.sb_watch.specs.diary
+pub use Rattle.sb_watch.specs.emit
+pub use Rattle.sb_watch.specs.live
+pub use Rattle.sb_words.specs as words
+pub use Rattle.sb_watch.specs.base
+pub use Rattle.sb_watch.specs.one_feed
+pub use Rattle.sb_watch.specs.run

@@ -1,8 +1,8 @@
 -- What notes have taken.
 use Rattle.std.specs.Prelude.{◌⊎◌, ℕ, List, Option}
 use Rattle.std.specs.Io.KnownBytes.{Appends}
-use Rattle.sb_outside.specs.Sinks.{AppendsPrefix, SinkState}
-use Rattle.sb_outside.specs.Sources.{Rose}
+use Rattle.sb_watch.specs.outside.Sinks.{AppendsPrefix, SinkState}
+use Rattle.sb_watch.specs.outside.Sources.{Rose}
 
 -- a text was taken whole, or a prefix of it if the sink failed or was out of memory, which it has counted
 abbrev pub HasNoted : Option (List ℕ) → Option (List ℕ) → SinkState → SinkState → List ℕ → Type 0

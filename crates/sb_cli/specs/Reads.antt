@@ -1,10 +1,10 @@
 -- What reading an input gives.
 use Rattle.std.specs.Prelude.{◌≡◌, ℕ, List, Option, Result, Ok, Err}
-use Rattle.sb_record.specs.Streams.{low_watermark}
+use Rattle.sb_watch.specs.base.records.Streams.{low_watermark}
 use Rattle.sb_cli.specs.declared.input.Input.{Input}
 use Rattle.sb_cli.specs.Keeping.{AreKept}
-use Rattle.sb_pipeline.specs.Shapes.{Shape, streams_of}
-use Rattle.sb_feed.specs.Given.{Given, items_of, stop_at}
+use Rattle.sb_watch.specs.base.pipeline.Shapes.{Shape, streams_of}
+use Rattle.sb_watch.specs.one_feed.Given.{Given, items_of, stop_at}
 
 -- what is kept of the items that were accepted, their low watermark, and where reading stopped
 pub record IsInputOf

@@ -1,18 +1,18 @@
 -- What each status is for a caller of the program, and for its user.
 use Rattle.std.specs.Prelude.{ℕ, Bool, ◌==◌, if◌then◌else◌, List, [], ◌∷◌, ◌++◌, Option, Some, None, flat_map, decimal, codes}
-use Rattle.sb_diary.specs.declared.audit.AuditEnd.{AuditEnd}
-use Rattle.sb_diary.specs.declared.audit.AuditFault.{AuditFault}
-use Rattle.sb_diary.specs.declared.audit.AuditFault.TheVariants as audit
-use Rattle.sb_diary.specs.Texts.{NodeDiary, diary_text}
-use Rattle.sb_record.specs.declared.item.Dropped.{Dropped}
-use Rattle.sb_record.specs.declared.intake.Refusal.{Refusal}
-use Rattle.sb_record.specs.declared.intake.Refusal.TheVariants.{TooMany, TooLong, Malformed, WrongStream, Late, Back}
-use Rattle.sb_record.specs.declared.item.Stream.{Stream}
-use Rattle.sb_record.specs.declared.item.Stream.TheVariants.{A, B}
-use Rattle.sb_record.specs.declared.intake.Stop.{Stop}
-use Rattle.sb_record.specs.declared.intake.Stop.TheVariants.{End, Refused, Fault}
-use Rattle.sb_pardo.specs.declared.table_file.RowFault.{RowFault}
-use Rattle.sb_pardo.specs.declared.table_file.RowFault.TheVariants as row
+use Rattle.sb_watch.specs.diary.declared.audit.AuditEnd.{AuditEnd}
+use Rattle.sb_watch.specs.diary.declared.audit.AuditFault.{AuditFault}
+use Rattle.sb_watch.specs.diary.declared.audit.AuditFault.TheVariants as audit
+use Rattle.sb_watch.specs.diary.Texts.{NodeDiary, diary_text}
+use Rattle.sb_watch.specs.base.records.declared.item.Dropped.{Dropped}
+use Rattle.sb_watch.specs.base.records.declared.intake.Refusal.{Refusal}
+use Rattle.sb_watch.specs.base.records.declared.intake.Refusal.TheVariants.{TooMany, TooLong, Malformed, WrongStream, Late, Back}
+use Rattle.sb_watch.specs.base.records.declared.item.Stream.{Stream}
+use Rattle.sb_watch.specs.base.records.declared.item.Stream.TheVariants.{A, B}
+use Rattle.sb_watch.specs.base.records.declared.intake.Stop.{Stop}
+use Rattle.sb_watch.specs.base.records.declared.intake.Stop.TheVariants.{End, Refused, Fault}
+use Rattle.sb_watch.specs.base.pardo.declared.table_file.RowFault.{RowFault}
+use Rattle.sb_watch.specs.base.pardo.declared.table_file.RowFault.TheVariants as row
 use Rattle.sb_plan.specs.declared.fault.PlanCause.{PlanCause}
 use Rattle.sb_plan.specs.declared.fault.PlanCause.TheVariants as cause
 use Rattle.sb_plan.specs.declared.fault.PlanFault.{PlanFault}

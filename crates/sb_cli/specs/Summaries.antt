@@ -2,9 +2,9 @@
 use Rattle.std.specs.Prelude.{ℕ, ◌%◌, ◌^◌, List, [], ◌∷◌, ◌++◌, length, sum_by, decimal, codes}
 use Rattle.std.specs.Fmt.{signed_decimal}
 use Rattle.std.specs.Int.{cast_signed, w64}
-use Rattle.sb_record.specs.declared.item.Record.{Record}
-use Rattle.sb_pipeline.specs.Shapes.{sum_shape}
-use Rattle.sb_emit.specs.Summaries.{Sums, check_of, value_of}
+use Rattle.sb_watch.specs.base.records.declared.item.Record.{Record}
+use Rattle.sb_watch.specs.base.pipeline.Shapes.{sum_shape}
+use Rattle.sb_watch.specs.emit.Summaries.{Sums, check_of, value_of}
 use Rattle.sb_generator.specs.Generated.{generated_items}
 use Rattle.sb_cli.specs.declared.work.TheConstants.{WORK_WINDOW}
 use Rattle.sb_cli.specs.Pipelines.{all_rows}

@@ -1,13 +1,13 @@
 -- A hand whose diaries can be told, and their text.
 use Rattle.std.specs.Prelude.{◌≡◌, ℕ, ◌+◌, true, List, [], ◌∷◌, ◌++◌, false, Option, Some, None, flat_map, length, slice_get}
-use Rattle.sb_diary.specs.declared.event.DiaryEvent.{DiaryEvent}
-use Rattle.sb_diary.specs.declared.text.DiaryLine.TheVariants.{Head, Event}
-use Rattle.sb_diary.specs.Texts.{NodeDiary, text_of}
-use Rattle.sb_pipeline.specs.Operators.{lanes_of, operator_at}
-use Rattle.sb_tally.specs.Written.{diary_at}
-use Rattle.sb_node.specs.declared.state.NodeState.{NodeState}
-use Rattle.sb_hand.specs.Hands.{HandView}
-use Rattle.sb_hand.specs.Showing.{diaries_of}
+use Rattle.sb_watch.specs.diary.declared.event.DiaryEvent.{DiaryEvent}
+use Rattle.sb_watch.specs.diary.declared.text.DiaryLine.TheVariants.{Head, Event}
+use Rattle.sb_watch.specs.diary.Texts.{NodeDiary, text_of}
+use Rattle.sb_watch.specs.base.pipeline.Operators.{lanes_of, operator_at}
+use Rattle.sb_watch.specs.tally.Written.{diary_at}
+use Rattle.sb_watch.specs.node.declared.state.NodeState.{NodeState}
+use Rattle.sb_watch.specs.hand.Hands.{HandView}
+use Rattle.sb_watch.specs.hand.Showing.{diaries_of}
 use Rattle.sb_cli.specs.Told.{node_diaries}
 
 -- the hand is not spent, and each diary has kept its lines

@@ -1,9 +1,9 @@
 //! The answer to a request for rows: its plan, and what the engine or the plain program answers to it.
 
 ghost use Rattle.std.specs.Prelude.{◌≡◌, ◌<◌, ◌^◌, false, IfOk, IsTrue, List, ℕ, Some, length, map};
-ghost use Rattle.sb_outside.specs.Folders.{Files, Load};
-ghost use Rattle.sb_pipeline.specs.Plans.{IsPlan};
-ghost use Rattle.sb_pipeline.specs.Shapes.{sum_shape};
+ghost use Rattle.sb_watch.specs.outside.Folders.{Files, Load};
+ghost use Rattle.sb_watch.specs.base.pipeline.Plans.{IsPlan};
+ghost use Rattle.sb_watch.specs.base.pipeline.Shapes.{sum_shape};
 ghost use Rattle.sb_plan.specs.PlanFiles.{AnswersPlan};
 ghost use Rattle.sb_plan.specs.Wants.{BlamesLoad};
 ghost use Rattle.sb_words.specs.Options.{AreInRange};
@@ -18,11 +18,10 @@ use crate::ending::Ending;
 use crate::engine::answer_run;
 use crate::plain::answer_plain;
 use crate::status::Status;
-use sb_emit::Tap;
-use sb_outside::{Folder, FolderFault, Sink, Source};
-use sb_pipeline::{Plan, sum_plan};
 use sb_plan::{MAX_PLAN_BYTES, PlanStop, plan_of};
-use sb_record::NoMemory;
+use sb_watch::sb_base::{NoMemory, Plan, sum_plan};
+use sb_watch::sb_emit::Tap;
+use sb_watch::sb_outside::{Folder, FolderFault, Sink, Source};
 use sb_words::Options;
 use std::alloc::Global;
 use std::sync::Wait;

@@ -1,7 +1,7 @@
 //! The answer to `audit`: a diary text is read, and what it says is written as one line.
 
 ghost use Rattle.std.specs.Prelude.{List};
-ghost use Rattle.sb_outside.specs.Folders.{Load};
+ghost use Rattle.sb_watch.specs.outside.Folders.{Load};
 ghost use Rattle.sb_cli.specs.Answers.{IsAuditAnswer, IsRead};
 ghost use Rattle.sb_cli.specs.Faults.{HasCause, HidesNoFault, faults_of};
 ghost use Rattle.sb_cli.specs.Offered.{IsNoTap};
@@ -11,7 +11,7 @@ use crate::ending::Ending;
 use crate::note::audit_line;
 use crate::output::print;
 use crate::status::Status;
-use sb_outside::{Sink, Source};
+use sb_watch::sb_outside::{Sink, Source};
 use std::alloc::Global;
 
 /// Answers with what a diary text says.

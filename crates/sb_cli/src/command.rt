@@ -1,11 +1,11 @@
 //! The one call that the program makes.
 
 ghost use Rattle.std.specs.Prelude.{◌≡◌, ◌<◌, ◌^◌, false, IsTrue, ℕ, List, [], length, map};
-ghost use Rattle.sb_record.specs.declared.item.Stream.{Stream as AStream};
-ghost use Rattle.sb_outside.specs.Sinks.{SinkCause, WritesAll};
-ghost use Rattle.sb_outside.specs.Sources.{Rose};
-ghost use Rattle.sb_diary.specs.Texts.{NodeDiary};
-ghost use Rattle.sb_pipeline.specs.Shapes.{Shape};
+ghost use Rattle.sb_watch.specs.base.records.declared.item.Stream.{Stream as AStream};
+ghost use Rattle.sb_watch.specs.outside.Sinks.{SinkCause, WritesAll};
+ghost use Rattle.sb_watch.specs.outside.Sources.{Rose};
+ghost use Rattle.sb_watch.specs.diary.Texts.{NodeDiary};
+ghost use Rattle.sb_watch.specs.base.pipeline.Shapes.{Shape};
 ghost use Rattle.sb_cli.specs.declared.late.LateRecords.{LateRecords};
 ghost use Rattle.sb_cli.specs.declared.late.LateRecords.TheVariants.{OfInput};
 ghost use Rattle.sb_cli.specs.Answers.{IsAnswer, IsUnread, ending_with};
@@ -33,9 +33,9 @@ use crate::resuming::answer_resume;
 use crate::status::Status;
 use crate::watching::answer_watch;
 use crate::work::answer_work;
-use sb_emit::Tap;
-use sb_outside::{Folder, Sink, SinkFault, Source, write_all_of};
-use sb_record::NoMemory;
+use sb_watch::sb_base::NoMemory;
+use sb_watch::sb_emit::Tap;
+use sb_watch::sb_outside::{Folder, Sink, SinkFault, Source, write_all_of};
 use sb_words::{Request, read_words};
 use std::alloc::Global;
 use std::sync::Wait;

@@ -1,12 +1,12 @@
 //! Reading a diary text: an auditor takes its lines, up to where reading stops.
 
 ghost use Rattle.std.specs.Prelude.{◌≡◌, None, OnOk, IfErr};
-ghost use Rattle.sb_outside.specs.Readings.{reading};
+ghost use Rattle.sb_watch.specs.outside.Readings.{reading};
 ghost use Rattle.sb_cli.specs.DiaryReads.{DiaryFaultCause, ReadsDiary, TakesDiaryLine};
-ghost use Rattle.sb_feed.specs.Reads.{IsGoing};
+ghost use Rattle.sb_watch.specs.one_feed.Reads.{IsGoing};
 
-use sb_diary::{AuditEnd, AuditFault, AuditStop, Auditor};
-use sb_outside::{LineBuffer, Source, Step};
+use sb_watch::sb_diary::{AuditEnd, AuditFault, AuditStop, Auditor};
+use sb_watch::sb_outside::{LineBuffer, Source, Step};
 use std::alloc::Global;
 
 /// Why the reading of a diary text stops.

@@ -2,9 +2,9 @@
 
 ghost use Rattle.std.specs.Prelude.{◌≡◌, ◌<◌, ◌^◌, true, false, IsTrue, List, ℕ, [], length, map, OnOk};
 ghost use Rattle.std.specs.Io.KnownBytes.{Keeps};
-ghost use Rattle.sb_outside.specs.Folders.{Load};
-ghost use Rattle.sb_outside.specs.Sinks.{SinkCause};
-ghost use Rattle.sb_run.specs.RunEnds as ends;
+ghost use Rattle.sb_watch.specs.outside.Folders.{Load};
+ghost use Rattle.sb_watch.specs.outside.Sinks.{SinkCause};
+ghost use Rattle.sb_watch.specs.run.RunEnds as ends;
 ghost use Rattle.sb_words.specs.Options.{AreInRange};
 ghost use Rattle.sb_cli.specs.Answers.{IsAnswerOf, IsRead, Wrote, WrotePrefix};
 ghost use Rattle.sb_cli.specs.Faults.{HasCause, HidesNoFault, faults_of};
@@ -15,11 +15,10 @@ use crate::diaries::Diaries;
 use crate::ending::Ending;
 use crate::late::LateRecords;
 use crate::status::Status;
-use sb_emit::{Lent, Tap};
-use sb_outside::{Sink, SinkFault, Source};
-use sb_pipeline::Plan;
-use sb_record::{Dropped, Sequence};
-use sb_run::{RunEnd, Sizes, run};
+use sb_watch::sb_base::{Dropped, Plan, Sequence};
+use sb_watch::sb_emit::{Lent, Tap};
+use sb_watch::sb_outside::{Sink, SinkFault, Source};
+use sb_watch::sb_run::{RunEnd, Sizes, run};
 use sb_words::Options;
 use std::alloc::Global;
 use std::sync::Wait;

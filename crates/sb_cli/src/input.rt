@@ -1,15 +1,14 @@
 //! Reading an input: what is kept of the items of its lines, up to where reading stops.
 
 ghost use Rattle.std.specs.Prelude.{IfOk};
-ghost use Rattle.sb_pipeline.specs.Plans.{IsPlan};
-ghost use Rattle.sb_feed.specs.Reads.{FaultCause};
+ghost use Rattle.sb_watch.specs.base.pipeline.Plans.{IsPlan};
+ghost use Rattle.sb_watch.specs.one_feed.Reads.{FaultCause};
 ghost use Rattle.sb_cli.specs.Reads.{ReadsAll};
 
 use crate::kept::Kept;
-use sb_feed::next_item;
-use sb_outside::{LineBuffer, Source};
-use sb_pipeline::Plan;
-use sb_record::{Intake, NoMemory, Stop};
+use sb_watch::sb_base::{Intake, NoMemory, Plan, Stop};
+use sb_watch::sb_feed::next_item;
+use sb_watch::sb_outside::{LineBuffer, Source};
 use std::alloc::Global;
 
 /// What was read of an input.

@@ -3,7 +3,7 @@
 ghost use Rattle.std.specs.Prelude.{◌≡◌, OnOk, []};
 ghost use Rattle.sb_cli.specs.Keeping as spec;
 
-use sb_record::{Dropped, Item, NoMemory, Record, Sequence, Stream};
+use sb_watch::sb_base::{Dropped, Item, NoMemory, Record, Sequence, Stream};
 use std::alloc::Global;
 
 /// The records of each stream, and the late records that were dropped, in the order of their lines.

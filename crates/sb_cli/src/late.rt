@@ -1,13 +1,13 @@
 //! The late records that a run lists.
 
 ghost use Rattle.std.specs.Prelude.{◌≡◌, []};
-ghost use Rattle.sb_outside.specs.Sinks.{SinkCause, WritesAll};
+ghost use Rattle.sb_watch.specs.outside.Sinks.{SinkCause, WritesAll};
 ghost use Rattle.sb_cli.specs.declared.late.LateRecords.TheVariants.{OfInput};
 ghost use Rattle.sb_cli.specs.Statuses.{late_text};
 
 use crate::output::write_dropped;
-use sb_outside::{Sink, SinkFault};
-use sb_record::{Dropped, Sequence, Stream};
+use sb_watch::sb_base::{Dropped, Sequence, Stream};
+use sb_watch::sb_outside::{Sink, SinkFault};
 use std::alloc::Global;
 
 /// The late records that a run lists, in the order of their lines.

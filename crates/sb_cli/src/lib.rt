@@ -30,3 +30,7 @@ pub use late::LateRecords;
 pub use resuming::MAX_CHECKPOINT_BYTES;
 pub use status::Status;
 pub use work::WORK_WINDOW;
+
+// What the crates above name of the crates below.
+pub use sb_generator;
+pub use sb_watch::{sb_base, sb_emit, sb_live, sb_outside, sb_run, sb_slow};

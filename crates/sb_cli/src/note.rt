@@ -5,10 +5,9 @@ ghost use Rattle.sb_plan.specs.Keys.{key_text};
 ghost use Rattle.sb_cli.specs.Statuses as spec;
 
 use crate::status::Status;
-use sb_diary::{AuditEnd, AuditFault};
-use sb_pardo::{RowFault, TableFault};
 use sb_plan::{PlanCause, PlanFault, PlanKey};
-use sb_record::{Dropped, Refusal, Stream, TextBuf};
+use sb_watch::sb_base::{Dropped, Refusal, RowFault, Stream, TableFault, TextBuf};
+use sb_watch::sb_diary::{AuditEnd, AuditFault};
 
 /// The text of a note: it takes no memory.
 pub(crate) type Note = TextBuf<128>;

@@ -1,9 +1,9 @@
 //! Writing rows, and what is told of dropped records: many at a time. And writing a text that is the whole answer.
 
 ghost use Rattle.std.specs.Prelude.{◌≡◌, ◌<◌, ◌≤◌, ◌+◌, All, OnOk, flat_map, length};
-ghost use Rattle.sb_record.specs.Rows.{text_of};
-ghost use Rattle.sb_outside.specs.Sinks.{SinkCause, WritesAll};
-ghost use Rattle.sb_outside.specs.Sources.{Rose};
+ghost use Rattle.sb_watch.specs.base.records.Rows.{text_of};
+ghost use Rattle.sb_watch.specs.outside.Sinks.{SinkCause, WritesAll};
+ghost use Rattle.sb_watch.specs.outside.Sources.{Rose};
 ghost use Rattle.sb_cli.specs.Answers.{HasPrinted, IsWritten};
 ghost use Rattle.sb_cli.specs.Batches.{Moves};
 ghost use Rattle.sb_cli.specs.Offered.{IsNoTap};
@@ -11,8 +11,8 @@ ghost use Rattle.sb_cli.specs.Statuses.{late_line};
 
 use crate::note::late_note;
 use crate::status::Status;
-use sb_outside::{Sink, SinkFault, write_all_of};
-use sb_record::{Dropped, END_MARK, Record, Stream, TextBuf, row_bytes};
+use sb_watch::sb_base::{Dropped, END_MARK, Record, Stream, TextBuf, row_bytes};
+use sb_watch::sb_outside::{Sink, SinkFault, write_all_of};
 
 /// How many bytes of text are gathered before they are written.
 pub(crate) const BATCH: usize = 8192;

@@ -1,10 +1,10 @@
 //! The answer of the plain program to a plan: an input is read whole, and then its rows are written.
 
 ghost use Rattle.std.specs.Prelude.{◌≡◌, ◌<◌, All, List};
-ghost use Rattle.sb_record.specs.Rows.{text_of};
-ghost use Rattle.sb_outside.specs.Folders.{Load};
-ghost use Rattle.sb_outside.specs.Sources.{Rose};
-ghost use Rattle.sb_feed.specs.Due as due;
+ghost use Rattle.sb_watch.specs.base.records.Rows.{text_of};
+ghost use Rattle.sb_watch.specs.outside.Folders.{Load};
+ghost use Rattle.sb_watch.specs.outside.Sources.{Rose};
+ghost use Rattle.sb_watch.specs.one_feed.Due as due;
 ghost use Rattle.sb_words.specs.Options.{defaults};
 ghost use Rattle.sb_cli.specs.Answers.{HasWritten, IsAnswerOf, IsRead, IsWritten};
 ghost use Rattle.sb_cli.specs.Faults.{HasCause, HidesNoFault, faults_of};
@@ -17,10 +17,9 @@ use crate::kept::Kept;
 use crate::late::LateRecords;
 use crate::output::write_rows;
 use crate::status::Status;
-use sb_outside::{Sink, SinkFault, Source};
-use sb_pipeline::Plan;
-use sb_record::{END_MARK, NoMemory, Record, Stop};
-use sb_slow::rows_of_streams;
+use sb_watch::sb_base::{END_MARK, NoMemory, Plan, Record, Stop};
+use sb_watch::sb_outside::{Sink, SinkFault, Source};
+use sb_watch::sb_slow::rows_of_streams;
 use std::alloc::Global;
 
 /// Answers with the rows of a plan.

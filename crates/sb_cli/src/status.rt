@@ -7,10 +7,10 @@ ghost use Rattle.sb_cli.specs.RunSteps.{status_at};
 ghost use Rattle.sb_cli.specs.Statuses as spec;
 
 use sb_cut::CutEnd;
-use sb_diary::AuditFault;
 use sb_plan::PlanFault;
-use sb_record::{Refusal, Stop, Stream};
-use sb_run::{RunEnd, TwoEnd};
+use sb_watch::sb_base::{Refusal, Stop, Stream};
+use sb_watch::sb_diary::AuditFault;
+use sb_watch::sb_run::{RunEnd, TwoEnd};
 
 /// How a run ends.
 #[derive(Clone, Copy, Debug, PartialEq, Eq)]

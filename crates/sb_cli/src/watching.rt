@@ -1,9 +1,9 @@
 //! The answer to a plan that is watched for one key: the last of its rows that are due.
 
 ghost use Rattle.std.specs.Prelude.{◌≡◌, ◌<◌, false, IfSome, List};
-ghost use Rattle.sb_record.specs.Rows.{text_of};
-ghost use Rattle.sb_outside.specs.Folders.{Load};
-ghost use Rattle.sb_outside.specs.Sources.{Rose};
+ghost use Rattle.sb_watch.specs.base.records.Rows.{text_of};
+ghost use Rattle.sb_watch.specs.outside.Folders.{Load};
+ghost use Rattle.sb_watch.specs.outside.Sources.{Rose};
 ghost use Rattle.sb_words.specs.Options.{AreInRange};
 ghost use Rattle.sb_words.specs.Words.Asked.{Watch};
 ghost use Rattle.sb_cli.specs.Answers.{HasWritten, IsAnswer, IsAnswerBy, IsRead, IsUnread, IsWritten};
@@ -18,10 +18,9 @@ use crate::engine::sizes_of;
 use crate::late::LateRecords;
 use crate::plain::write_due;
 use crate::status::Status;
-use sb_outside::{Folder, Sink, Source};
-use sb_pipeline::Plan;
 use sb_plan::PlanStop;
-use sb_record::{END_MARK, NoMemory, Sequence, Stop};
+use sb_watch::sb_base::{END_MARK, NoMemory, Plan, Sequence, Stop};
+use sb_watch::sb_outside::{Folder, Sink, Source};
 use sb_watch::{Watched, watch};
 use sb_words::Options;
 use std::alloc::Global;

@@ -4,9 +4,9 @@
 //! workers and sizes of bundles can be compared, and timed, by a few words.
 
 ghost use Rattle.std.specs.Prelude.{◌≡◌, ℕ, List, IfOk};
-ghost use Rattle.sb_outside.specs.Folders.{Load};
-ghost use Rattle.sb_pipeline.specs.Shapes.{sum_shape};
-ghost use Rattle.sb_run.specs.RunEnds as ends;
+ghost use Rattle.sb_watch.specs.outside.Folders.{Load};
+ghost use Rattle.sb_watch.specs.base.pipeline.Shapes.{sum_shape};
+ghost use Rattle.sb_watch.specs.run.RunEnds as ends;
 ghost use Rattle.sb_words.specs.Options.{AreInRange};
 ghost use Rattle.sb_words.specs.Words.{IsAmount};
 ghost use Rattle.sb_cli.specs.Answers.{IsRead, IsWorkAnswer};
@@ -20,12 +20,11 @@ use crate::engine::sizes_of;
 use crate::note::Note;
 use crate::output::print;
 use crate::status::Status;
-use sb_emit::Summary;
 use sb_generator::GenSource;
-use sb_outside::Sink;
-use sb_pipeline::{Plan, sum_plan};
-use sb_record::NoMemory;
-use sb_run::{RunEnd, Sizes, run};
+use sb_watch::sb_base::{NoMemory, Plan, sum_plan};
+use sb_watch::sb_emit::Summary;
+use sb_watch::sb_outside::Sink;
+use sb_watch::sb_run::{RunEnd, Sizes, run};
 use sb_words::Options;
 use std::alloc::Global;
 use std::sync::Wait;

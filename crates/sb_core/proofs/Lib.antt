@@ -7,3 +7,4 @@ pub mod lawful
 pub mod sound
 pub mod parts
 pub mod ends
+pub use Rattle.sb_slow.proofs.base

@@ -1,8 +1,8 @@
 -- What a closing is to change, found before anything is changed.
 use Rattle.std.specs.Prelude.{◌≡◌, ◌<◌, ◌-◌, ◌^◌, ℕ, false, Some, slice_get}
 use Rattle.std.specs.List.{list_any}
-use Rattle.sb_pipeline.specs.Shapes.{Shape}
-use Rattle.sb_pipeline.specs.Operators.{operator_at}
+use Rattle.sb_slow.specs.base.pipeline.Shapes.{Shape}
+use Rattle.sb_slow.specs.base.pipeline.Operators.{operator_at}
 use Rattle.sb_core.specs.declared.begin.Closing.{Closing}
 use Rattle.sb_core.specs.declared.moment.Cont.{Cont}
 use Rattle.sb_core.specs.declared.moment.CoreLane.{CoreLane}

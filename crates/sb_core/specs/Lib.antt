@@ -20,3 +20,5 @@ pub mod Parts
 pub mod OneLane
 pub mod NewRows
 pub mod Rest
+pub use Rattle.sb_slow.specs.base
+pub use Rattle.sb_slow.specs as slow

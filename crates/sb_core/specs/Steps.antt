@@ -1,6 +1,6 @@
 -- What a single event does to a moment, and what a list of events does.
 use Rattle.std.specs.Prelude.{◌≡◌, Bool, true, false, not, List, take, slice_get, Option, Some, None, Result, Ok, Err}
-use Rattle.sb_pipeline.specs.Shapes.{Shape}
+use Rattle.sb_slow.specs.base.pipeline.Shapes.{Shape}
 use Rattle.sb_core.specs.declared.moment.Moment.{Moment}
 use Rattle.sb_core.specs.declared.event.Event.{Event}
 use Rattle.sb_core.specs.declared.event.Event.TheVariants.{Arrive, Seal, Take, Deliver, Finish, Begin, Pass, End}

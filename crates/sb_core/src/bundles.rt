@@ -1,7 +1,7 @@
 //! What workers do with bundles: they take one, deliver what it gives, and finish it.
 
 ghost use Rattle.std.specs.Prelude.{◌≡◌, ℕ, Bool, true, List, Err};
-ghost use Rattle.sb_record.specs.declared.item.Record.{Record};
+ghost use Rattle.sb_slow.specs.base.records.declared.item.Record.{Record};
 ghost use Rattle.sb_core.specs.MomentSteps.{after_take, bundle_delivered, bundle_finished};
 ghost use Rattle.sb_core.specs.Soundness.{IsSound};
 ghost use Rattle.sb_core.specs.Steps.{Becomes, asks_for_memory};
@@ -14,8 +14,7 @@ use crate::lanes;
 use crate::machine::StepStop;
 use crate::moment::Moment;
 use crate::operate::{absorb, delivery};
-use sb_pipeline::Plan;
-use sb_record::Sequence;
+use sb_slow::sb_base::{Plan, Sequence};
 use std::alloc::Global;
 
 /// A worker takes a waiting bundle.

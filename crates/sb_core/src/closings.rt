@@ -1,8 +1,8 @@
 //! Closings: the oldest container of a lane is closed, its rows are delivered, and its watermark is passed.
 
 ghost use Rattle.std.specs.Prelude.{◌≡◌, ◌≢◌, ℕ, Bool, true, List, drop, Err};
-ghost use Rattle.sb_pipeline.specs.Shapes.{Shape};
-ghost use Rattle.sb_record.specs.declared.item.Record.{Record as ARecord};
+ghost use Rattle.sb_slow.specs.base.pipeline.Shapes.{Shape};
+ghost use Rattle.sb_slow.specs.base.records.declared.item.Record.{Record as ARecord};
 ghost use Rattle.sb_core.specs.MomentSteps.{rows_delivered, mark_passed, closing_ended};
 ghost use Rattle.sb_core.specs.Soundness.{IsSound};
 ghost use Rattle.sb_core.specs.Steps.{Becomes};
@@ -13,8 +13,7 @@ use crate::hold::{close_at, close_of_at};
 use crate::lanes;
 use crate::machine::StepStop;
 use crate::moment::Moment;
-use sb_pipeline::Plan;
-use sb_record::Sequence;
+use sb_slow::sb_base::{Plan, Sequence};
 use std::alloc::Global;
 
 /// The closing, with the first rows gone.

@@ -4,7 +4,7 @@ ghost use Rattle.std.specs.Prelude.{◌≡◌, true, IfOk, OnErr};
 ghost use Rattle.sb_core.specs.declared.moment.Moment.{Moment as AMoment};
 ghost use Rattle.sb_core.specs.Steps.{asks_for_memory};
 
-use sb_record::{NoMemory, Record, Sequence, Stream};
+use sb_slow::sb_base::{NoMemory, Record, Sequence, Stream};
 use std::alloc::Global;
 
 /// A single change of a moment. Workers make them in any order: each has a condition, and only where that holds the

@@ -10,8 +10,7 @@ ghost use Rattle.sb_core.specs.Steps.{Becomes};
 use crate::lanes;
 use crate::machine::StepStop;
 use crate::moment::{CoreLane, Moment};
-use sb_pipeline::{Down, Plan};
-use sb_record::{END_MARK, MAX_TIME, Record, Sequence, Stream};
+use sb_slow::sb_base::{Down, END_MARK, MAX_TIME, Plan, Record, Sequence, Stream};
 use std::alloc::Global;
 
 /// The lane of a place, if there is one.

@@ -6,7 +6,7 @@ ghost use Rattle.sb_core.specs.Finding.{IsCloseAt, IsCloseOfAt, IsFirst, IsWorkA
 ghost use Rattle.sb_core.specs.Moments as spec;
 
 use crate::held::Held;
-use sb_record::Record;
+use sb_slow::sb_base::Record;
 
 /// Whether it is the bundle of this number.
 fn is_work(held: &Held, of_node: u32, of_lane: u32, of_number: u64) -> bool

@@ -9,8 +9,7 @@ ghost use Rattle.sb_core.specs.LaneSteps.{TakesOut};
 ghost use Rattle.sb_core.specs.Places.{IsPlaceOf, IsWaitingAt, without};
 
 use crate::moment::{Cont, CoreLane};
-use sb_bundle::Bundle;
-use sb_record::{NoMemory, Record, Sequence};
+use sb_slow::sb_base::{Bundle, NoMemory, Record, Sequence};
 use std::alloc::Global;
 
 /// The number of the first epoch that is not sealed.

@@ -27,3 +27,7 @@ pub use event::Event;
 pub use held::Held;
 pub use machine::{RunStop, StepStop, first, run, step};
 pub use moment::{Cont, CoreLane, Moment, Node};
+
+// What the crates above name of the crates below.
+pub use sb_slow;
+pub use sb_slow::sb_base;

@@ -1,7 +1,7 @@
 //! Steps: the machine itself.
 
 ghost use Rattle.std.specs.Prelude.{◌≡◌, ◌≤◌, true, [], ◌∷◌, Err, IfOk, OnOk, replicate};
-ghost use Rattle.sb_bundle.specs.declared.bundle.TheConstants.{MAX_BUNDLE};
+ghost use Rattle.sb_slow.specs.base.bundle.declared.bundle.TheConstants.{MAX_BUNDLE};
 ghost use Rattle.sb_core.specs.Events.{after};
 ghost use Rattle.sb_core.specs.Exactness.{IsExact};
 ghost use Rattle.sb_core.specs.Laws.{KeepsExact};
@@ -13,8 +13,7 @@ ghost use Rattle.sb_core.specs.Steps.{Becomes, Runs, asks_for_memory, done_of};
 use crate::event::Event;
 use crate::moment::{CoreLane, Moment, Node};
 use crate::{begin, bundles, closings, feeding};
-use sb_pipeline::Plan;
-use sb_record::{NoMemory, Sequence};
+use sb_slow::sb_base::{NoMemory, Plan, Sequence};
 use std::alloc::{AllocError, Global};
 
 /// Why an event did not happen.

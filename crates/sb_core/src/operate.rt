@@ -4,19 +4,16 @@ ghost use Rattle.std.specs.Prelude.{◌≡◌, ◌≤◌, ◌<◌, ◌++◌, [],
 ghost use Rattle.std.specs.Prelude.{filter, not};
 ghost use Rattle.std.specs.Prelude.{OnOk, OnErr, IfOk, IsOk};
 ghost use Rattle.std.specs.List.{list_any};
-ghost use Rattle.sb_record.specs.Records.{at_least};
-ghost use Rattle.sb_aggregate.specs.Sessions.{is_session_open};
-ghost use Rattle.sb_record.specs.Elements as elements_spec;
-ghost use Rattle.sb_record.specs.Elements.{on_lane};
-ghost use Rattle.sb_pipeline.specs.Operators.{operator_at};
-ghost use Rattle.sb_window.specs.Windows.{window_ends};
+ghost use Rattle.sb_slow.specs.base.records.Records.{at_least};
+ghost use Rattle.sb_slow.specs.base.aggregate.Sessions.{is_session_open};
+ghost use Rattle.sb_slow.specs.base.records.Elements as elements_spec;
+ghost use Rattle.sb_slow.specs.base.records.Elements.{on_lane};
+ghost use Rattle.sb_slow.specs.base.pipeline.Operators.{operator_at};
+ghost use Rattle.sb_slow.specs.base.window.Windows.{window_ends};
 ghost use Rattle.sb_core.specs.Closings as spec;
 
-use sb_pardo::apply;
-use sb_pipeline::{Kind, MAX_GAP, Plan};
-use sb_record::{END_MARK, KeptRec, NoMemory, Record};
+use sb_slow::sb_base::{END_MARK, KeptRec, Kind, MAX_GAP, NoMemory, Plan, Record, Windows, apply};
 use sb_slow::{all_records, output, push_on_lane, session_ends, sort_below};
-use sb_window::Windows;
 use std::alloc::Global;
 
 /// What a bundle gives below before a closing.

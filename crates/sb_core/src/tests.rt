@@ -1,18 +1,15 @@
 //! The machine by example, and driven by chance: whatever the order of events, the rows are those of the plain program.
 
 ghost use Rattle.std.specs.Prelude.{◌≡◌, ◌≤◌, All, IfOk};
-ghost use Rattle.sb_bundle.specs.declared.bundle.TheConstants.{MAX_BUNDLE};
-ghost use Rattle.sb_record.specs.Lines.{IsItemInRange};
+ghost use Rattle.sb_slow.specs.base.bundle.declared.bundle.TheConstants.{MAX_BUNDLE};
+ghost use Rattle.sb_slow.specs.base.records.Lines.{IsItemInRange};
 
 use crate::{Event, Held, Moment, RunStop, StepStop, first, run, step};
-use sb_aggregate::Agg;
-use sb_bundle::Cutter;
-use sb_join::Combine;
-use sb_pardo::{Change, Op};
-use sb_pipeline::{Down, Kind, Plan, Step, sum_plan};
-use sb_record::{END_MARK, Item, Key, Keys, Record, Sequence, Stream, read_line};
+use sb_slow::sb_base::{
+    Agg, BadWindow, Change, Combine, Cutter, Down, END_MARK, Item, Key, Keys, Kind, Op, Plan,
+    Record, Sequence, Step, Stream, Windows, read_line, sum_plan,
+};
 use sb_slow::slow_rows;
-use sb_window::{BadWindow, Windows};
 use std::alloc::{AllocError, Global};
 use std::test::Fail;
 

@@ -1,12 +1,12 @@
 -- Whose reads have failed where a first part was read, and where reading it stopped.
 use Rattle.std.proofs.Common.{◌≡◌, ◌≤◌, ℕ, ◌+◌, ◌-◌, ◌^◌, Bool, true, false, not, ◌&&◌, List, ◌∷◌, Option, Some, None, refl, sym, ap, subst, ◌∙◌, arith}
 use Rattle.std.specs.Io.KnownBytes.{IsAtEnd}
-use Rattle.sb_record.specs.declared.intake.Refusal.{Refusal}
-use Rattle.sb_record.specs.declared.intake.Stop.{Stop}
-use Rattle.sb_record.specs.declared.intake.Stop.TheVariants.{End, Refused, Fault}
-use Rattle.sb_record.specs.Inputs.{stop_of}
-use Rattle.sb_outside.specs.Sources.{Rose}
-use Rattle.sb_feed.specs.Reads.{FaultCause}
+use Rattle.sb_run.specs.base.records.declared.intake.Refusal.{Refusal}
+use Rattle.sb_run.specs.base.records.declared.intake.Stop.{Stop}
+use Rattle.sb_run.specs.base.records.declared.intake.Stop.TheVariants.{End, Refused, Fault}
+use Rattle.sb_run.specs.base.records.Inputs.{stop_of}
+use Rattle.sb_run.specs.outside.Sources.{Rose}
+use Rattle.sb_run.specs.one_feed.Reads.{FaultCause}
 use Rattle.sb_checkpoint.specs.Cut.{IsCutAt, faults_of}
 use Rattle.sb_cut.specs.Saves.{cut_stop}
 

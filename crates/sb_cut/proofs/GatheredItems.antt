@@ -4,22 +4,22 @@ use Rattle.std.specs.List.{filter}
 use Rattle.std.specs.Prelude.{OnErr}
 use Rattle.std.proofs.lemmas.List.Concat.{flat_map-append}
 use Rattle.std.proofs.lemmas.List.Elements.{filter-append}
-use Rattle.sb_record.specs.declared.intake.Stop.{Stop}
-use Rattle.sb_record.specs.declared.intake.TheConstants.{MAX_LINES}
-use Rattle.sb_record.specs.declared.item.Dropped.{Dropped}
-use Rattle.sb_record.specs.declared.item.Item.{Item}
-use Rattle.sb_record.specs.declared.item.Item.TheVariants.{Rec, Mark, Skip, Late}
-use Rattle.sb_record.specs.declared.item.Stream.TheVariants.{A, B}
-use Rattle.sb_record.specs.Intake.{after, mark_of, answer_to}
-use Rattle.sb_record.specs.Progress.{Progress}
-use Rattle.sb_record.specs.Streams.{dropped_in, dropped_of, last_watermark, least_of}
-use Rattle.sb_outside.specs.Readings.{Held, reading}
-use Rattle.sb_pipeline.specs.Shapes.{Shape, streams_of}
-use Rattle.sb_feed.specs.FedByItems.{IsTimely}
-use Rattle.sb_feed.specs.Reads.{StopsReading, TakesItem}
-use Rattle.sb_feed.proofs.FedSoFar.{dropped_more, given_so_far}
-use Rattle.sb_feed.proofs.LaterItems.{mark_rises, mark_then, said_by, tested_is_timely}
-use Rattle.sb_feed.proofs.ReadSoFar.{ReadSoFar, read_more, read_nothing, reading_stops}
+use Rattle.sb_run.specs.base.records.declared.intake.Stop.{Stop}
+use Rattle.sb_run.specs.base.records.declared.intake.TheConstants.{MAX_LINES}
+use Rattle.sb_run.specs.base.records.declared.item.Dropped.{Dropped}
+use Rattle.sb_run.specs.base.records.declared.item.Item.{Item}
+use Rattle.sb_run.specs.base.records.declared.item.Item.TheVariants.{Rec, Mark, Skip, Late}
+use Rattle.sb_run.specs.base.records.declared.item.Stream.TheVariants.{A, B}
+use Rattle.sb_run.specs.base.records.Intake.{after, mark_of, answer_to}
+use Rattle.sb_run.specs.base.records.Progress.{Progress}
+use Rattle.sb_run.specs.base.records.Streams.{dropped_in, dropped_of, last_watermark, least_of}
+use Rattle.sb_run.specs.outside.Readings.{Held, reading}
+use Rattle.sb_run.specs.base.pipeline.Shapes.{Shape, streams_of}
+use Rattle.sb_run.specs.one_feed.FedByItems.{IsTimely}
+use Rattle.sb_run.specs.one_feed.Reads.{StopsReading, TakesItem}
+use Rattle.sb_run.proofs.one_feed.FedSoFar.{dropped_more, given_so_far}
+use Rattle.sb_run.proofs.one_feed.LaterItems.{mark_rises, mark_then, said_by, tested_is_timely}
+use Rattle.sb_run.proofs.one_feed.ReadSoFar.{ReadSoFar, read_more, read_nothing, reading_stops}
 use Rattle.sb_checkpoint.specs.Checkpoints.{is_kept, kept_of, low_of}
 use Rattle.sb_checkpoint.specs.Keeping.{Kept, kept_after, low_in, with_item}
 use Rattle.sb_checkpoint.specs.Reach.{reach}

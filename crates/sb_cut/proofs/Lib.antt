@@ -3,3 +3,4 @@ pub mod GatheredItems
 pub mod CutCauses
 pub mod SavedParts
 pub mod PartEnds
+pub use Rattle.sb_checkpoint.proofs as checkpoint

@@ -4,10 +4,10 @@ use Rattle.std.specs.Prelude.{◌||◌, IfOk, length}
 use Rattle.std.specs.Io.KnownBytes.{Consumes, IsAtEnd, Keeps, ReadConsumes}
 use Rattle.std.proofs.lemmas.Bool.{lt-ltb}
 use Rattle.std.proofs.lemmas.List.{append_cancel_right}
-use Rattle.sb_record.specs.Inputs.{Accepted, accepted}
-use Rattle.sb_outside.specs.Lines.{is_too_long, lines, lines_from, without_cr}
-use Rattle.sb_pipeline.specs.Shapes.{Shape, streams_of}
-use Rattle.sb_feed.specs.Given.{Given, accepted_of}
+use Rattle.sb_run.specs.base.records.Inputs.{Accepted, accepted}
+use Rattle.sb_run.specs.outside.Lines.{is_too_long, lines, lines_from, without_cr}
+use Rattle.sb_run.specs.base.pipeline.Shapes.{Shape, streams_of}
+use Rattle.sb_run.specs.one_feed.Given.{Given, accepted_of}
 use Rattle.sb_cut.specs.FirstParts.{open_end}
 use Rattle.sb_cut.specs.Parts.{part_accepted}
 

@@ -2,21 +2,21 @@
 use Rattle.std.proofs.Common.{◌≡◌, ◌≤◌, ℕ, ◌+◌, Bool, true, false, not, ◌&&◌, List, [], ◌∷◌, ◌++◌, map, Option, Some, None, refl, sym, ap, subst, ◌∙◌, inl, inr}
 use Rattle.std.specs.Io.KnownBytes.{IsAtEnd}
 use Rattle.std.specs.List.{AllZip}
-use Rattle.sb_record.specs.declared.intake.Refusal.{Refusal}
-use Rattle.sb_record.specs.declared.intake.Stop.{Stop}
-use Rattle.sb_record.specs.declared.intake.Stop.TheVariants as stop
-use Rattle.sb_record.specs.declared.item.Dropped.{Dropped}
-use Rattle.sb_record.specs.declared.item.Record.{Record}
-use Rattle.sb_record.specs.Inputs.{Accepted, stop_of}
-use Rattle.sb_record.specs.Streams.{dropped_of}
-use Rattle.sb_outside.specs.Sinks.{SinkState}
-use Rattle.sb_pipeline.specs.Shapes.{Shape}
-use Rattle.sb_emit.specs.declared.tap.TapFault.{TapFault}
-use Rattle.sb_emit.specs.Offers.{StopsAt}
-use Rattle.sb_emit.specs.Taps.{TapState}
-use Rattle.sb_feed.specs.Due.{AreFirstDropped, AreFirstRows, due_mark, rows_below}
-use Rattle.sb_feed.specs.Given.{accepted_of, items_of}
-use Rattle.sb_feed.specs.TapLists.{LeavesThoseThatStay, SawRows, StopsIn}
+use Rattle.sb_run.specs.base.records.declared.intake.Refusal.{Refusal}
+use Rattle.sb_run.specs.base.records.declared.intake.Stop.{Stop}
+use Rattle.sb_run.specs.base.records.declared.intake.Stop.TheVariants as stop
+use Rattle.sb_run.specs.base.records.declared.item.Dropped.{Dropped}
+use Rattle.sb_run.specs.base.records.declared.item.Record.{Record}
+use Rattle.sb_run.specs.base.records.Inputs.{Accepted, stop_of}
+use Rattle.sb_run.specs.base.records.Streams.{dropped_of}
+use Rattle.sb_run.specs.outside.Sinks.{SinkState}
+use Rattle.sb_run.specs.base.pipeline.Shapes.{Shape}
+use Rattle.sb_run.specs.emit.declared.tap.TapFault.{TapFault}
+use Rattle.sb_run.specs.emit.Offers.{StopsAt}
+use Rattle.sb_run.specs.emit.Taps.{TapState}
+use Rattle.sb_run.specs.one_feed.Due.{AreFirstDropped, AreFirstRows, due_mark, rows_below}
+use Rattle.sb_run.specs.one_feed.Given.{accepted_of, items_of}
+use Rattle.sb_run.specs.one_feed.TapLists.{LeavesThoseThatStay, SawRows, StopsIn}
 use Rattle.sb_checkpoint.specs.Checkpoints.{low_of}
 use Rattle.sb_checkpoint.specs.Cut.{IsCutAt, faults_of}
 use Rattle.sb_run.specs.declared.run_end.RunEnd.{RunEnd}

@@ -1,15 +1,15 @@
 -- What saving a first part does, by what was gathered of it.
 use Rattle.std.proofs.Common.{◌≡◌, ℕ, ◌+◌, Bool, true, false, not, ◌&&◌, List, ◌++◌, Option, sym, ap, subst, ◌∙◌}
-use Rattle.sb_record.specs.declared.intake.Stop.{Stop}
-use Rattle.sb_record.specs.declared.intake.Stop.TheVariants.{End}
-use Rattle.sb_record.specs.declared.item.Dropped.{Dropped}
-use Rattle.sb_record.specs.declared.item.Item.{Item}
-use Rattle.sb_record.specs.Inputs.{Accepted, stop_of}
-use Rattle.sb_record.specs.Streams.{dropped_of}
-use Rattle.sb_pipeline.specs.Shapes.{Shape}
-use Rattle.sb_feed.specs.Due.{AreFirstDropped}
-use Rattle.sb_feed.specs.Given.{accepted_of, items_of}
-use Rattle.sb_feed.specs.Reads.{FaultCause}
+use Rattle.sb_run.specs.base.records.declared.intake.Stop.{Stop}
+use Rattle.sb_run.specs.base.records.declared.intake.Stop.TheVariants.{End}
+use Rattle.sb_run.specs.base.records.declared.item.Dropped.{Dropped}
+use Rattle.sb_run.specs.base.records.declared.item.Item.{Item}
+use Rattle.sb_run.specs.base.records.Inputs.{Accepted, stop_of}
+use Rattle.sb_run.specs.base.records.Streams.{dropped_of}
+use Rattle.sb_run.specs.base.pipeline.Shapes.{Shape}
+use Rattle.sb_run.specs.one_feed.Due.{AreFirstDropped}
+use Rattle.sb_run.specs.one_feed.Given.{accepted_of, items_of}
+use Rattle.sb_run.specs.one_feed.Reads.{FaultCause}
 use Rattle.sb_checkpoint.specs.declared.checkpoint.Checkpoint.{Checkpoint}
 use Rattle.sb_checkpoint.specs.Cut.{faults_of}
 use Rattle.sb_checkpoint.specs.Keeping.{IsCheckpointOf, Kept, kept_after}

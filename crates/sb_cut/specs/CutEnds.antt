@@ -1,14 +1,14 @@
 -- How a run over a first part of an input ends.
 use Rattle.std.specs.Prelude.{◌≡◌, ◌≤◌, ℕ, Bool, true, false, List, ◌++◌, Option, None, Some, ⊤}
-use Rattle.sb_record.specs.declared.intake.Refusal.{Refusal}
-use Rattle.sb_record.specs.declared.item.Dropped.{Dropped}
-use Rattle.sb_record.specs.declared.item.Record.{Record}
-use Rattle.sb_record.specs.Streams.{dropped_of}
-use Rattle.sb_outside.specs.Sinks.{SinkState}
-use Rattle.sb_outside.specs.Sources.{Rose}
-use Rattle.sb_pipeline.specs.Shapes.{Shape}
-use Rattle.sb_feed.specs.Due.{AreFirstDropped, AreFirstRows, rows_below}
-use Rattle.sb_feed.specs.Given.{Given}
+use Rattle.sb_run.specs.base.records.declared.intake.Refusal.{Refusal}
+use Rattle.sb_run.specs.base.records.declared.item.Dropped.{Dropped}
+use Rattle.sb_run.specs.base.records.declared.item.Record.{Record}
+use Rattle.sb_run.specs.base.records.Streams.{dropped_of}
+use Rattle.sb_run.specs.outside.Sinks.{SinkState}
+use Rattle.sb_run.specs.outside.Sources.{Rose}
+use Rattle.sb_run.specs.base.pipeline.Shapes.{Shape}
+use Rattle.sb_run.specs.one_feed.Due.{AreFirstDropped, AreFirstRows, rows_below}
+use Rattle.sb_run.specs.one_feed.Given.{Given}
 use Rattle.sb_checkpoint.specs.Checkpoints.{low_of}
 use Rattle.sb_run.specs.declared.run_end.RunEnd.{RunEnd}
 use Rattle.sb_run.specs.declared.run_end.RunEnd.TheVariants as run

@@ -1,10 +1,10 @@
 -- What is accepted of a first part of an input.
 use Rattle.std.specs.Prelude.{ℕ, false, List, Option}
-use Rattle.sb_record.specs.declared.item.Item.{Item}
-use Rattle.sb_record.specs.Inputs.{Accepted}
-use Rattle.sb_outside.specs.Lines.{lines}
-use Rattle.sb_pipeline.specs.Shapes.{Shape}
-use Rattle.sb_feed.specs.Given.{Given}
+use Rattle.sb_run.specs.base.records.declared.item.Item.{Item}
+use Rattle.sb_run.specs.base.records.Inputs.{Accepted}
+use Rattle.sb_run.specs.outside.Lines.{lines}
+use Rattle.sb_run.specs.base.pipeline.Shapes.{Shape}
+use Rattle.sb_run.specs.one_feed.Given.{Given}
 use Rattle.sb_checkpoint.specs.Laws.{accepted_in}
 
 -- what a plan accepts of a first part: a rest behind the last line feed is no line

@@ -1,13 +1,13 @@
 -- What saving a first part of an input does.
 use Rattle.std.specs.Prelude.{◌≡◌, ℕ, Bool, true, false, List, ◌++◌, Option}
-use Rattle.sb_record.specs.declared.intake.Stop.{Stop}
-use Rattle.sb_record.specs.declared.intake.Stop.TheVariants.{End, Refused, Fault}
-use Rattle.sb_record.specs.declared.item.Dropped.{Dropped}
-use Rattle.sb_record.specs.Inputs.{stop_of}
-use Rattle.sb_record.specs.Streams.{dropped_of}
-use Rattle.sb_pipeline.specs.Shapes.{Shape}
-use Rattle.sb_feed.specs.Due.{AreFirstDropped}
-use Rattle.sb_feed.specs.Given.{Given, items_of, stop_at}
+use Rattle.sb_run.specs.base.records.declared.intake.Stop.{Stop}
+use Rattle.sb_run.specs.base.records.declared.intake.Stop.TheVariants.{End, Refused, Fault}
+use Rattle.sb_run.specs.base.records.declared.item.Dropped.{Dropped}
+use Rattle.sb_run.specs.base.records.Inputs.{stop_of}
+use Rattle.sb_run.specs.base.records.Streams.{dropped_of}
+use Rattle.sb_run.specs.base.pipeline.Shapes.{Shape}
+use Rattle.sb_run.specs.one_feed.Due.{AreFirstDropped}
+use Rattle.sb_run.specs.one_feed.Given.{Given, items_of, stop_at}
 use Rattle.sb_checkpoint.specs.declared.checkpoint.Checkpoint.{Checkpoint}
 use Rattle.sb_checkpoint.specs.Keeping.{IsCheckpointOf, Kept, kept_after}
 use Rattle.sb_cut.specs.Parts.{part_accepted, part_items}

@@ -1,15 +1,14 @@
 //! Reading an input, of which only what a checkpoint needs is kept.
 
 ghost use Rattle.std.specs.Prelude.{◌≡◌, IfOk, OnErr};
-ghost use Rattle.sb_feed.specs.Reads.{FaultCause};
+ghost use Rattle.sb_run.specs.one_feed.Reads.{FaultCause};
 ghost use Rattle.sb_checkpoint.specs.Reach.{HasNoSession};
 ghost use Rattle.sb_cut.specs.Saves.{Gathers, GathersNone};
 
 use sb_checkpoint::Keeper;
-use sb_feed::{keep_dropped, next_item};
-use sb_outside::{LineBuffer, Source};
-use sb_pipeline::Plan;
-use sb_record::{Dropped, Intake, NoMemory, Stop};
+use sb_run::sb_base::{Dropped, Intake, NoMemory, Plan, Stop};
+use sb_run::sb_feed::{keep_dropped, next_item};
+use sb_run::sb_outside::{LineBuffer, Source};
 use std::alloc::Global;
 
 /// What was kept of an input, and where reading stopped.

@@ -19,3 +19,6 @@ pub use saving::{Saved, save};
 
 #[cfg(test)]
 mod tests;
+
+// What the crates above name of the crates below.
+pub use sb_checkpoint;

@@ -6,10 +6,9 @@ ghost use Rattle.sb_cut.specs.CutEnds.{CutCause, CutOutputCause, PartEnds};
 
 use crate::cut_end::CutEnd;
 use crate::first_part::FirstPart;
-use sb_emit::RowOut;
-use sb_outside::Source;
-use sb_pipeline::Plan;
-use sb_record::Dropped;
+use sb_run::sb_base::{Dropped, Plan};
+use sb_run::sb_emit::RowOut;
+use sb_run::sb_outside::Source;
 use sb_run::{Sizes, run};
 use std::alloc::Global;
 use std::sync::Wait;

@@ -9,10 +9,9 @@ ghost use Rattle.sb_checkpoint.specs.Texts.{items_text};
 ghost use Rattle.sb_run.specs.RunEnds.{AreSizes, Ends, OutputCause, SharedInputCause};
 
 use sb_checkpoint::{Checkpoint, Resumed, RowsFrom};
-use sb_emit::RowOut;
-use sb_outside::Source;
-use sb_pipeline::Plan;
-use sb_record::Dropped;
+use sb_run::sb_base::{Dropped, Plan};
+use sb_run::sb_emit::RowOut;
+use sb_run::sb_outside::Source;
 use sb_run::{RunEnd, Sizes, run};
 use std::alloc::Global;
 use std::sync::Wait;

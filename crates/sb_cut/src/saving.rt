@@ -1,16 +1,15 @@
 //! Saving a first part of an input.
 
 ghost use Rattle.std.specs.Prelude.{◌≡◌, IfOk, OnErr};
-ghost use Rattle.sb_feed.specs.Reads.{FaultCause};
+ghost use Rattle.sb_run.specs.one_feed.Reads.{FaultCause};
 ghost use Rattle.sb_checkpoint.specs.Reach.{HasNoSession};
 ghost use Rattle.sb_cut.specs.Saves.{Saves, SavesNone, cut_stop};
 
 use crate::first_part::FirstPart;
 use crate::gathering::{Gathered, gather};
 use sb_checkpoint::Checkpoint;
-use sb_outside::Source;
-use sb_pipeline::Plan;
-use sb_record::{Dropped, NoMemory, Stop};
+use sb_run::sb_base::{Dropped, NoMemory, Plan, Stop};
+use sb_run::sb_outside::Source;
 use std::alloc::Global;
 
 /// The checkpoint of a first part of an input, and where reading it stopped.

@@ -6,10 +6,9 @@ ghost use Rattle.sb_run.specs.RunEnds.{AreSizes};
 
 use crate::{CutEnd, Saved, run_part, run_rest, save};
 use sb_checkpoint::{RowsFrom, has_session, write_checkpoint};
-use sb_emit::Printing;
-use sb_outside::{MemSink, MemSource};
-use sb_pipeline::sum_plan;
-use sb_record::{Refusal, Stop};
+use sb_run::sb_base::{Refusal, Stop, sum_plan};
+use sb_run::sb_emit::Printing;
+use sb_run::sb_outside::{MemSink, MemSource};
 use sb_run::{MAX_WORKERS, RunEnd, Sizes};
 use std::alloc::{AllocError, Global};
 use std::test::Fail;

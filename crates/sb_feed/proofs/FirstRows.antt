@@ -2,23 +2,23 @@
 use Rattle.std.proofs.Common.{◌≡◌, ℕ, ◌≤◌, List, [], ◌∷◌, ◌++◌, length, arith, refl, sym, ap, subst, ◌∙◌, append_assoc}
 use Rattle.std.specs.List.{AllByRecursion, flat_map}
 use Rattle.std.proofs.lemmas.List.Concat.{flat_map-append}
-use Rattle.sb_record.specs.declared.item.TheConstants.{END_MARK}
-use Rattle.sb_record.specs.declared.item.Record.{Record}
-use Rattle.sb_record.specs.declared.item.Stream.{Stream}
-use Rattle.sb_record.specs.declared.item.Stream.TheVariants.{A, B}
-use Rattle.sb_record.specs.declared.item.Item.{Item}
-use Rattle.sb_record.specs.declared.item.Item.TheVariants.{Rec, Mark, Skip, Late}
-use Rattle.sb_record.specs.Streams.{records_of, record_in, last_watermark, last_or, watermark_in}
-use Rattle.sb_record.specs.Records.{before, sorted_records, at_least}
-use Rattle.sb_record.proofs.Elements.{All-join}
-use Rattle.sb_record.proofs.Earlier.{sorted_before-front}
-use Rattle.sb_bundle.specs.Calls as calls
-use Rattle.sb_bundle.specs.Calls.{Call, records_in_order, parts_of}
-use Rattle.sb_bundle.specs.Laws.{bundles_of}
-use Rattle.sb_bundle.proofs.Runs.{new_keeps}
-use Rattle.sb_pipeline.specs.Shapes.{Shape}
-use Rattle.sb_pipeline.specs.Flow.{sent_from, arrivals_at, from_stream}
-use Rattle.sb_pipeline.specs.Results.{rows_below, output_of, output_at}
+use Rattle.sb_base.specs.records.declared.item.TheConstants.{END_MARK}
+use Rattle.sb_base.specs.records.declared.item.Record.{Record}
+use Rattle.sb_base.specs.records.declared.item.Stream.{Stream}
+use Rattle.sb_base.specs.records.declared.item.Stream.TheVariants.{A, B}
+use Rattle.sb_base.specs.records.declared.item.Item.{Item}
+use Rattle.sb_base.specs.records.declared.item.Item.TheVariants.{Rec, Mark, Skip, Late}
+use Rattle.sb_base.specs.records.Streams.{records_of, record_in, last_watermark, last_or, watermark_in}
+use Rattle.sb_base.specs.records.Records.{before, sorted_records, at_least}
+use Rattle.sb_base.proofs.records.Elements.{All-join}
+use Rattle.sb_base.proofs.records.Earlier.{sorted_before-front}
+use Rattle.sb_base.specs.bundle.Calls as calls
+use Rattle.sb_base.specs.bundle.Calls.{Call, records_in_order, parts_of}
+use Rattle.sb_base.specs.bundle.Laws.{bundles_of}
+use Rattle.sb_base.proofs.bundle.Runs.{new_keeps}
+use Rattle.sb_base.specs.pipeline.Shapes.{Shape}
+use Rattle.sb_base.specs.pipeline.Flow.{sent_from, arrivals_at, from_stream}
+use Rattle.sb_base.specs.pipeline.Results.{rows_below, output_of, output_at}
 use Rattle.sb_feed.specs.Feeds.{Fed, IsFrom, AreRowsSoFar, records_of_feed, floor_in, marks_in}
 use Rattle.sb_feed.specs.Calls.{calls_of}
 use Rattle.sb_feed.specs.Due.{AreFirstRows, streams_in}

@@ -1,7 +1,7 @@
 -- How the causes of givings add up.
 use Rattle.std.proofs.Common.{◌≡◌, Bool, true, false, List, [], ◌++◌, append-nil, Ok, Err, Result, refl, sym, subst, ◌∙◌, arith}
 use Rattle.std.specs.Prelude.{IsErrOf}
-use Rattle.sb_record.specs.declared.item.Record.{Record}
+use Rattle.sb_base.specs.records.declared.item.Record.{Record}
 use Rattle.sb_outside.specs.Sinks.{SinkCause, SinkState}
 use Rattle.sb_feed.specs.declared.give.GiveStop.{GiveStop}
 use Rattle.sb_feed.specs.declared.give.GiveStop.TheVariants as stop

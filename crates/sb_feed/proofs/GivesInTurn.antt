@@ -1,7 +1,7 @@
 -- Giving out, one call after another.
 use Rattle.std.proofs.Common.{List, [], ◌++◌, Ok, Err, Result, sym, subst, append_assoc, append-nil}
-use Rattle.sb_record.specs.declared.item.Record.{Record}
-use Rattle.sb_pipeline.specs.Shapes.{Shape}
+use Rattle.sb_base.specs.records.declared.item.Record.{Record}
+use Rattle.sb_base.specs.pipeline.Shapes.{Shape}
 use Rattle.sb_emit.specs.Taps.{TapState}
 use Rattle.sb_feed.specs.declared.give.GiveStop.{GiveStop}
 use Rattle.sb_feed.specs.declared.give.GiveStop.TheVariants as stop

@@ -2,18 +2,18 @@
 use Rattle.std.proofs.Common.{◌≡◌, ◌≤◌, ◌+◌, ℕ, Bool, true, false, List, [], ◌∷◌, ◌++◌, length, Ok, Err, Result, refl, sym, ap, subst, ◌∙◌, append_assoc, append-nil, length-append, arith}
 use Rattle.std.specs.Prelude.{if◌then◌else◌}
 use Rattle.std.proofs.lemmas.List.Concat.{flat_map-append}
-use Rattle.sb_record.specs.declared.item.Record.{Record}
-use Rattle.sb_record.specs.declared.item.Item.{Item}
-use Rattle.sb_record.specs.declared.item.Item.TheVariants as item
-use Rattle.sb_record.specs.declared.item.Stream.{Stream}
-use Rattle.sb_record.specs.declared.item.Stream.TheVariants.{A, B}
-use Rattle.sb_record.specs.declared.item.Streams.{Streams}
-use Rattle.sb_record.specs.declared.item.TheConstants.{END_MARK}
-use Rattle.sb_record.specs.declared.intake.Stop.{Stop}
-use Rattle.sb_record.specs.declared.intake.Stop.TheVariants.{End, Refused, Fault}
-use Rattle.sb_record.specs.declared.intake.TheConstants.{MAX_LINES}
-use Rattle.sb_record.specs.Streams.{last_watermark, records_of, record_in, uses}
-use Rattle.sb_pipeline.specs.Shapes.{Shape, streams_of}
+use Rattle.sb_base.specs.records.declared.item.Record.{Record}
+use Rattle.sb_base.specs.records.declared.item.Item.{Item}
+use Rattle.sb_base.specs.records.declared.item.Item.TheVariants as item
+use Rattle.sb_base.specs.records.declared.item.Stream.{Stream}
+use Rattle.sb_base.specs.records.declared.item.Stream.TheVariants.{A, B}
+use Rattle.sb_base.specs.records.declared.item.Streams.{Streams}
+use Rattle.sb_base.specs.records.declared.item.TheConstants.{END_MARK}
+use Rattle.sb_base.specs.records.declared.intake.Stop.{Stop}
+use Rattle.sb_base.specs.records.declared.intake.Stop.TheVariants.{End, Refused, Fault}
+use Rattle.sb_base.specs.records.declared.intake.TheConstants.{MAX_LINES}
+use Rattle.sb_base.specs.records.Streams.{last_watermark, records_of, record_in, uses}
+use Rattle.sb_base.specs.pipeline.Shapes.{Shape, streams_of}
 use Rattle.sb_emit.specs.Taps.{TapState}
 use Rattle.sb_feed.specs.declared.cutters.Cutters.{Cutters}
 use Rattle.sb_feed.specs.declared.give.GiveStop.{GiveStop}

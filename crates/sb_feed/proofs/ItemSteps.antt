@@ -3,24 +3,24 @@ use Rattle.std.proofs.Common.{◌≡◌, ℕ, ◌+◌, ◌≤◌, ◌<◌, Bool,
 use Rattle.std.specs.List.{flat_map, AllByRecursion}
 use Rattle.std.specs.Prelude.{if◌then◌else◌}
 use Rattle.std.proofs.lemmas.List.Concat.{flat_map-append}
-use Rattle.sb_record.specs.declared.item.TheConstants.{END_MARK}
-use Rattle.sb_record.specs.declared.item.Record.{Record}
-use Rattle.sb_record.specs.declared.item.Stream.{Stream}
-use Rattle.sb_record.specs.declared.item.Stream.TheVariants.{A, B}
-use Rattle.sb_record.specs.declared.item.Item.{Item}
-use Rattle.sb_record.specs.declared.item.Item.TheVariants as item
-use Rattle.sb_record.specs.Streams.{last_or, last_watermark, watermark_in, uses}
-use Rattle.sb_record.proofs.Elements.{All-join}
-use Rattle.sb_bundle.specs.declared.bundle.Bundle.{Bundle}
-use Rattle.sb_bundle.specs.Cutting.{Cutting}
-use Rattle.sb_bundle.specs.Bundles.{IsBundleOf}
-use Rattle.sb_bundle.specs.Cuts.{first_cutting, given_with, after_record, given_at_mark, after_mark, fills, with_record, bundle_of, bundle_of_some}
-use Rattle.sb_bundle.specs.Calls.{Call, given_by, after, and_then, bundles_by, after_all}
-use Rattle.sb_bundle.specs.Calls.Call.{Push, Mark}
-use Rattle.sb_bundle.specs.Laws.{bundles_of, cutting_after}
-use Rattle.sb_pipeline.specs.Shapes.{Shape, streams_of}
+use Rattle.sb_base.specs.records.declared.item.TheConstants.{END_MARK}
+use Rattle.sb_base.specs.records.declared.item.Record.{Record}
+use Rattle.sb_base.specs.records.declared.item.Stream.{Stream}
+use Rattle.sb_base.specs.records.declared.item.Stream.TheVariants.{A, B}
+use Rattle.sb_base.specs.records.declared.item.Item.{Item}
+use Rattle.sb_base.specs.records.declared.item.Item.TheVariants as item
+use Rattle.sb_base.specs.records.Streams.{last_or, last_watermark, watermark_in, uses}
+use Rattle.sb_base.proofs.records.Elements.{All-join}
+use Rattle.sb_base.specs.bundle.declared.bundle.Bundle.{Bundle}
+use Rattle.sb_base.specs.bundle.Cutting.{Cutting}
+use Rattle.sb_base.specs.bundle.Bundles.{IsBundleOf}
+use Rattle.sb_base.specs.bundle.Cuts.{first_cutting, given_with, after_record, given_at_mark, after_mark, fills, with_record, bundle_of, bundle_of_some}
+use Rattle.sb_base.specs.bundle.Calls.{Call, given_by, after, and_then, bundles_by, after_all}
+use Rattle.sb_base.specs.bundle.Calls.Call.{Push, Mark}
+use Rattle.sb_base.specs.bundle.Laws.{bundles_of, cutting_after}
+use Rattle.sb_base.specs.pipeline.Shapes.{Shape, streams_of}
 use Rattle.sb_feed.specs.Feeds.{Fed, IsFrom, MayArrive, MaySeal, bundles_in, marks_in, floor_in, with_bundle, with_mark, nothing_fed}
-use Rattle.sb_record.specs.declared.intake.TheConstants.{MAX_LINES}
+use Rattle.sb_base.specs.records.declared.intake.TheConstants.{MAX_LINES}
 use Rattle.sb_feed.specs.Calls.{call_in, calls_of}
 use Rattle.sb_feed.specs.FedByItems.{IsFedBy, IsStreamFedBy, cutter_of, with_cutter}
 use Rattle.sb_feed.specs.declared.cutters.Cutters.{Cutters}

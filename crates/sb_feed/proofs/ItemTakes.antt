@@ -3,17 +3,17 @@ use Rattle.std.proofs.Common.{◌≡◌, ℕ, List, [], ◌∷◌, ◌++◌, Ok,
 use Rattle.std.specs.Prelude.{IfSome}
 use Rattle.std.specs.List.{AllByRecursion}
 use Rattle.std.proofs.lemmas.List.Concat.{flat_map-append}
-use Rattle.sb_record.specs.declared.item.Record.{Record}
-use Rattle.sb_record.specs.declared.item.Item.{Item}
-use Rattle.sb_record.specs.declared.item.Item.TheVariants as item
-use Rattle.sb_record.specs.declared.item.Stream.{Stream}
-use Rattle.sb_record.specs.declared.item.Stream.TheVariants.{A, B}
-use Rattle.sb_record.specs.Streams.{last_watermark, records_of, record_in, watermark_in}
-use Rattle.sb_record.proofs.Elements.{All-join}
-use Rattle.sb_bundle.specs.declared.bundle.Bundle.{Bundle}
-use Rattle.sb_bundle.specs.Bundles.{IsBundleOf}
-use Rattle.sb_bundle.specs.Cuts.{given_with, after_record, given_at_mark, after_mark}
-use Rattle.sb_pipeline.specs.Shapes.{Shape, streams_of}
+use Rattle.sb_base.specs.records.declared.item.Record.{Record}
+use Rattle.sb_base.specs.records.declared.item.Item.{Item}
+use Rattle.sb_base.specs.records.declared.item.Item.TheVariants as item
+use Rattle.sb_base.specs.records.declared.item.Stream.{Stream}
+use Rattle.sb_base.specs.records.declared.item.Stream.TheVariants.{A, B}
+use Rattle.sb_base.specs.records.Streams.{last_watermark, records_of, record_in, watermark_in}
+use Rattle.sb_base.proofs.records.Elements.{All-join}
+use Rattle.sb_base.specs.bundle.declared.bundle.Bundle.{Bundle}
+use Rattle.sb_base.specs.bundle.Bundles.{IsBundleOf}
+use Rattle.sb_base.specs.bundle.Cuts.{given_with, after_record, given_at_mark, after_mark}
+use Rattle.sb_base.specs.pipeline.Shapes.{Shape, streams_of}
 use Rattle.sb_emit.specs.Taps.{TapState}
 use Rattle.sb_feed.specs.declared.cutters.Cutters.{Cutters}
 use Rattle.sb_feed.specs.declared.give.GiveStop.{GiveStop}

@@ -4,25 +4,25 @@ use Rattle.std.specs.List.{AllByRecursion}
 use Rattle.std.specs.Prelude.{nat_le, nat_lt}
 use Rattle.std.proofs.lemmas.Bool.{cases_Bool}
 use Rattle.std.proofs.lemmas.Bool.Decides.{nat_tests}
-use Rattle.sb_record.specs.declared.item.TheConstants.{MAX_TIME, END_MARK}
-use Rattle.sb_record.specs.declared.item.Record.{Record}
-use Rattle.sb_record.specs.declared.item.Stream.{Stream}
-use Rattle.sb_record.specs.declared.item.Stream.TheVariants.{A, B}
-use Rattle.sb_record.specs.declared.item.Item.{Item}
-use Rattle.sb_record.specs.declared.item.Item.TheVariants.{Rec, Mark, Skip, Late}
-use Rattle.sb_record.specs.declared.intake.LatePolicy.{LatePolicy}
-use Rattle.sb_record.specs.declared.intake.LatePolicy.TheVariants as late
-use Rattle.sb_record.specs.declared.intake.Refusal.{Refusal}
-use Rattle.sb_record.specs.Progress.{Progress}
-use Rattle.sb_record.specs.Intake.{answer_to, timely, timely_if, when_late, after, mark_of}
-use Rattle.sb_record.specs.Inputs.{Accepted, progress_of, accepted_if, accepted_after, accepted}
-use Rattle.sb_record.specs.Lines.{IsItemInRange}
-use Rattle.sb_record.specs.Reading.{item_of}
-use Rattle.sb_record.specs.Streams.{uses, last_watermark, record_in, records_of}
-use Rattle.sb_record.proofs.Elements.{All-join, every}
-use Rattle.sb_record.proofs.Grammar.{item_some}
-use Rattle.sb_record.proofs.InputLemmas.{progress-more, text_in_range}
-use Rattle.sb_pipeline.specs.Shapes.{Shape, streams_of}
+use Rattle.sb_base.specs.records.declared.item.TheConstants.{MAX_TIME, END_MARK}
+use Rattle.sb_base.specs.records.declared.item.Record.{Record}
+use Rattle.sb_base.specs.records.declared.item.Stream.{Stream}
+use Rattle.sb_base.specs.records.declared.item.Stream.TheVariants.{A, B}
+use Rattle.sb_base.specs.records.declared.item.Item.{Item}
+use Rattle.sb_base.specs.records.declared.item.Item.TheVariants.{Rec, Mark, Skip, Late}
+use Rattle.sb_base.specs.records.declared.intake.LatePolicy.{LatePolicy}
+use Rattle.sb_base.specs.records.declared.intake.LatePolicy.TheVariants as late
+use Rattle.sb_base.specs.records.declared.intake.Refusal.{Refusal}
+use Rattle.sb_base.specs.records.Progress.{Progress}
+use Rattle.sb_base.specs.records.Intake.{answer_to, timely, timely_if, when_late, after, mark_of}
+use Rattle.sb_base.specs.records.Inputs.{Accepted, progress_of, accepted_if, accepted_after, accepted}
+use Rattle.sb_base.specs.records.Lines.{IsItemInRange}
+use Rattle.sb_base.specs.records.Reading.{item_of}
+use Rattle.sb_base.specs.records.Streams.{uses, last_watermark, record_in, records_of}
+use Rattle.sb_base.proofs.records.Elements.{All-join, every}
+use Rattle.sb_base.proofs.records.Grammar.{item_some}
+use Rattle.sb_base.proofs.records.InputLemmas.{progress-more, text_in_range}
+use Rattle.sb_base.specs.pipeline.Shapes.{Shape, streams_of}
 use Rattle.sb_feed.specs.FedByItems.{IsTimely}
 use Rattle.sb_feed.specs.Feeds.{IsFrom}
 

@@ -10,3 +10,5 @@ pub mod ItemTakes
 pub mod RowsSoFar
 pub mod InputEnds
 pub mod FedSoFar
+pub use Rattle.sb_outside.proofs as outside
+pub use Rattle.sb_base.proofs as base

@@ -2,7 +2,7 @@
 use Rattle.std.proofs.Common.{◌≡◌, ◌≤◌, ◌<◌, ◌+◌, ℕ, Bool, true, false, not, ◌&&◌, cond, List, [], ◌∷◌, ◌++◌, filter, length, take, drop, get_or, refl, sym, ap, subst, ◌∙◌, arith, append_assoc, append-nil}
 use Rattle.std.proofs.lemmas.List.{take_more, take_all, drop_more, take-append-drop}
 use Rattle.std.specs.List.{AllZip}
-use Rattle.sb_record.specs.declared.item.Record.{Record}
+use Rattle.sb_base.specs.records.declared.item.Record.{Record}
 use Rattle.sb_emit.specs.declared.tap.TapFault.TheVariants as fault
 use Rattle.sb_emit.specs.Offers.{LeavesThoseThatWantMore, StopsAt}
 use Rattle.sb_emit.specs.Taps.{TapState, SawRow, wants_more_after}

@@ -1,19 +1,19 @@
 -- How far the reading of an input has come.
 use Rattle.std.proofs.Common.{◌≡◌, ℕ, ◌+◌, ◌<◌, ◌≤◌, Bool, List, [], ◌∷◌, ◌++◌, Option, Some, None, Ok, Err, refl, sym, ap, subst, ◌∙◌, arith, append_assoc}
 use Rattle.std.specs.Io.KnownBytes.{Consumes}
-use Rattle.sb_record.specs.declared.item.Item.{Item}
-use Rattle.sb_record.specs.declared.item.Item.TheVariants.{Rec, Mark, Skip, Late}
-use Rattle.sb_record.specs.declared.item.Stream.TheVariants.{A, B}
-use Rattle.sb_record.specs.declared.intake.Refusal.{Refusal}
-use Rattle.sb_record.specs.declared.intake.TheConstants.{MAX_LINES}
-use Rattle.sb_record.specs.declared.intake.Stop.{Stop}
-use Rattle.sb_record.specs.declared.intake.Stop.TheVariants.{End, Refused, Fault}
-use Rattle.sb_record.specs.Progress.{Progress}
-use Rattle.sb_record.specs.Intake.{answer_to, after}
-use Rattle.sb_record.specs.Inputs.{Accepted, accepted_if, stop_of}
-use Rattle.sb_record.proofs.InputLemmas.{progress-more}
+use Rattle.sb_base.specs.records.declared.item.Item.{Item}
+use Rattle.sb_base.specs.records.declared.item.Item.TheVariants.{Rec, Mark, Skip, Late}
+use Rattle.sb_base.specs.records.declared.item.Stream.TheVariants.{A, B}
+use Rattle.sb_base.specs.records.declared.intake.Refusal.{Refusal}
+use Rattle.sb_base.specs.records.declared.intake.TheConstants.{MAX_LINES}
+use Rattle.sb_base.specs.records.declared.intake.Stop.{Stop}
+use Rattle.sb_base.specs.records.declared.intake.Stop.TheVariants.{End, Refused, Fault}
+use Rattle.sb_base.specs.records.Progress.{Progress}
+use Rattle.sb_base.specs.records.Intake.{answer_to, after}
+use Rattle.sb_base.specs.records.Inputs.{Accepted, accepted_if, stop_of}
+use Rattle.sb_base.proofs.records.InputLemmas.{progress-more}
 use Rattle.sb_outside.specs.Lines.{lines}
-use Rattle.sb_pipeline.specs.Shapes.{Shape, streams_of}
+use Rattle.sb_base.specs.pipeline.Shapes.{Shape, streams_of}
 use Rattle.sb_outside.specs.Readings.{Held, MayCome, reading, rest_of_lines}
 use Rattle.std.proofs.KnownBytes.{Consumes-nil, Consumes-trans}
 use Rattle.sb_feed.specs.Given.{Given, items_of, stop_at}

@@ -3,11 +3,11 @@ use Rattle.std.proofs.Common.{◌≡◌, ℕ, ◌++◌, List, [], ◌∷◌, Boo
 use Rattle.std.specs.Prelude.{nat_le, IfSome}
 use Rattle.std.specs.Io.KnownBytes.{IsAtEnd}
 use Rattle.std.proofs.lemmas.Bool.{cases_Bool}
-use Rattle.sb_record.specs.declared.item.Item.{Item}
-use Rattle.sb_record.specs.declared.intake.Refusal.{Refusal}
-use Rattle.sb_record.specs.declared.intake.Stop.TheVariants.{Refused}
-use Rattle.sb_record.specs.Progress.{Progress}
-use Rattle.sb_record.specs.Intake.{answer_to, too_long, after}
+use Rattle.sb_base.specs.records.declared.item.Item.{Item}
+use Rattle.sb_base.specs.records.declared.intake.Refusal.{Refusal}
+use Rattle.sb_base.specs.records.declared.intake.Stop.TheVariants.{Refused}
+use Rattle.sb_base.specs.records.Progress.{Progress}
+use Rattle.sb_base.specs.records.Intake.{answer_to, too_long, after}
 use Rattle.sb_outside.specs.Lines.{lines, is_too_long}
 use Rattle.sb_outside.specs.declared.lines.Halt.{Halt}
 use Rattle.sb_outside.specs.declared.lines.Halt.TheVariants as halt

@@ -3,14 +3,14 @@ use Rattle.std.proofs.Common.{◌≡◌, ◌≤◌, ℕ, List, [], ◌∷◌, �
 use Rattle.std.proofs.lemmas.List.{map-append}
 use Rattle.std.proofs.lemmas.List.Concat.{flat_map-append}
 use Rattle.std.specs.List.{AllByRecursion}
-use Rattle.sb_record.specs.declared.item.Record.{Record}
-use Rattle.sb_record.specs.declared.item.Stream.{Stream}
-use Rattle.sb_record.specs.declared.item.Stream.TheVariants.{A, B}
-use Rattle.sb_record.specs.Streams.{last_or}
-use Rattle.sb_record.proofs.Elements.{All-join}
-use Rattle.sb_bundle.specs.declared.bundle.Bundle.{Bundle}
-use Rattle.sb_bundle.specs.Calls.{records_in_order, parts_of}
-use Rattle.sb_pipeline.specs.Shapes.{Shape}
+use Rattle.sb_base.specs.records.declared.item.Record.{Record}
+use Rattle.sb_base.specs.records.declared.item.Stream.{Stream}
+use Rattle.sb_base.specs.records.declared.item.Stream.TheVariants.{A, B}
+use Rattle.sb_base.specs.records.Streams.{last_or}
+use Rattle.sb_base.proofs.records.Elements.{All-join}
+use Rattle.sb_base.specs.bundle.declared.bundle.Bundle.{Bundle}
+use Rattle.sb_base.specs.bundle.Calls.{records_in_order, parts_of}
+use Rattle.sb_base.specs.pipeline.Shapes.{Shape}
 use Rattle.sb_feed.specs.Feeds.{Fed, AreRowsSoFar, IsFrom, MayArrive, records_of_feed, floor_in, with_bundle, with_mark}
 use Rattle.sb_feed.proofs.FirstRows.{rows_same}
 use Rattle.sb_feed.proofs.LaterItems.{from_later}

@@ -1,11 +1,11 @@
 -- What the items of an input say to the cutter of a stream.
 use Rattle.std.specs.Prelude.{List, [], ◌∷◌, flat_map}
-use Rattle.sb_record.specs.declared.item.Item.{Item}
-use Rattle.sb_record.specs.declared.item.Item.TheVariants as item
-use Rattle.sb_record.specs.declared.item.Stream.{Stream}
-use Rattle.sb_record.specs.declared.item.Stream.TheVariants.{A, B}
-use Rattle.sb_bundle.specs.Calls.{Call}
-use Rattle.sb_bundle.specs.Calls.Call.{Push, Mark}
+use Rattle.sb_base.specs.records.declared.item.Item.{Item}
+use Rattle.sb_base.specs.records.declared.item.Item.TheVariants as item
+use Rattle.sb_base.specs.records.declared.item.Stream.{Stream}
+use Rattle.sb_base.specs.records.declared.item.Stream.TheVariants.{A, B}
+use Rattle.sb_base.specs.bundle.Calls.{Call}
+use Rattle.sb_base.specs.bundle.Calls.Call.{Push, Mark}
 
 -- what an item says to the cutter of a stream
 abbrev pub call_in : Stream → Item → List Call

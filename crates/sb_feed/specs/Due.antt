@@ -1,15 +1,15 @@
 -- The rows that a plan gives over items, and those that are due where reading stopped.
 use Rattle.std.specs.Prelude.{◌≡◌, ℕ, List, ◌++◌}
-use Rattle.sb_record.specs.declared.intake.Stop.{Stop}
-use Rattle.sb_record.specs.declared.intake.Stop.TheVariants.{End, Refused, Fault}
-use Rattle.sb_record.specs.declared.item.Dropped.{Dropped}
-use Rattle.sb_record.specs.declared.item.Item.{Item}
-use Rattle.sb_record.specs.declared.item.Record.{Record}
-use Rattle.sb_record.specs.declared.item.Stream.{Stream}
-use Rattle.sb_record.specs.declared.item.TheConstants.{END_MARK}
-use Rattle.sb_record.specs.Streams.{dropped_of, low_watermark, records_of}
-use Rattle.sb_pipeline.specs.Shapes.{Shape, streams_of}
-use Rattle.sb_pipeline.specs.Results as result
+use Rattle.sb_base.specs.records.declared.intake.Stop.{Stop}
+use Rattle.sb_base.specs.records.declared.intake.Stop.TheVariants.{End, Refused, Fault}
+use Rattle.sb_base.specs.records.declared.item.Dropped.{Dropped}
+use Rattle.sb_base.specs.records.declared.item.Item.{Item}
+use Rattle.sb_base.specs.records.declared.item.Record.{Record}
+use Rattle.sb_base.specs.records.declared.item.Stream.{Stream}
+use Rattle.sb_base.specs.records.declared.item.TheConstants.{END_MARK}
+use Rattle.sb_base.specs.records.Streams.{dropped_of, low_watermark, records_of}
+use Rattle.sb_base.specs.pipeline.Shapes.{Shape, streams_of}
+use Rattle.sb_base.specs.pipeline.Results as result
 
 -- the records of each stream among the items
 abbrev pub streams_in : List Item → Stream → List Record

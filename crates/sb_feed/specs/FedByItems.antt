@@ -1,19 +1,19 @@
 -- What was fed of the items of an input.
 use Rattle.std.specs.Prelude.{◌≡◌, ◌≤◌, ◌++◌, ℕ, true, if◌then◌else◌, List, [], ◌∷◌, flat_map, length, ⊤}
 use Rattle.std.specs.List.{AllByRecursion}
-use Rattle.sb_record.specs.declared.item.Item.{Item}
-use Rattle.sb_record.specs.declared.item.Item.TheVariants as item
-use Rattle.sb_record.specs.declared.item.Record.{Record}
-use Rattle.sb_record.specs.declared.item.Stream.{Stream}
-use Rattle.sb_record.specs.declared.item.Stream.TheVariants.{A, B}
-use Rattle.sb_record.specs.declared.item.Streams.{Streams}
-use Rattle.sb_record.specs.declared.item.TheConstants.{END_MARK}
-use Rattle.sb_record.specs.declared.intake.Stop.{Stop}
-use Rattle.sb_record.specs.declared.intake.Stop.TheVariants.{End, Refused, Fault}
-use Rattle.sb_record.specs.Streams.{uses, watermark_in, last_watermark, records_of}
-use Rattle.sb_bundle.specs.Cuts.{first_cutting}
-use Rattle.sb_bundle.specs.Cutting.{Cutting}
-use Rattle.sb_bundle.specs.Laws.{bundles_of, cutting_after}
+use Rattle.sb_base.specs.records.declared.item.Item.{Item}
+use Rattle.sb_base.specs.records.declared.item.Item.TheVariants as item
+use Rattle.sb_base.specs.records.declared.item.Record.{Record}
+use Rattle.sb_base.specs.records.declared.item.Stream.{Stream}
+use Rattle.sb_base.specs.records.declared.item.Stream.TheVariants.{A, B}
+use Rattle.sb_base.specs.records.declared.item.Streams.{Streams}
+use Rattle.sb_base.specs.records.declared.item.TheConstants.{END_MARK}
+use Rattle.sb_base.specs.records.declared.intake.Stop.{Stop}
+use Rattle.sb_base.specs.records.declared.intake.Stop.TheVariants.{End, Refused, Fault}
+use Rattle.sb_base.specs.records.Streams.{uses, watermark_in, last_watermark, records_of}
+use Rattle.sb_base.specs.bundle.Cuts.{first_cutting}
+use Rattle.sb_base.specs.bundle.Cutting.{Cutting}
+use Rattle.sb_base.specs.bundle.Laws.{bundles_of, cutting_after}
 use Rattle.sb_feed.specs.declared.cutters.Cutters.{Cutters}
 use Rattle.sb_feed.specs.Calls.{calls_of}
 use Rattle.sb_feed.specs.Feeds.{Fed, bundles_in, marks_in, floor_in, records_of_feed, IsFrom}

@@ -1,15 +1,15 @@
 -- What was fed to an engine: the bundles that arrived of each stream and the watermarks that were sealed, in order.
 use Rattle.std.specs.Prelude.{◌≡◌, ◌≤◌, ◌<◌, ◌^◌, ◌-◌, ℕ, List, [], ◌∷◌, ◌++◌, length, true}
 use Rattle.std.specs.List.{AllByRecursion}
-use Rattle.sb_record.specs.declared.item.Record.{Record}
-use Rattle.sb_record.specs.declared.item.Stream.{Stream}
-use Rattle.sb_record.specs.declared.item.Stream.TheVariants.{A, B}
-use Rattle.sb_record.specs.declared.item.TheConstants.{END_MARK, MAX_TIME}
-use Rattle.sb_record.specs.Streams.{last_or, uses}
-use Rattle.sb_bundle.specs.declared.bundle.Bundle.{Bundle}
-use Rattle.sb_bundle.specs.Calls.{parts_of, records_in_order}
-use Rattle.sb_pipeline.specs.Shapes.{Shape, streams_of}
-use Rattle.sb_pipeline.specs.Results.{rows_below}
+use Rattle.sb_base.specs.records.declared.item.Record.{Record}
+use Rattle.sb_base.specs.records.declared.item.Stream.{Stream}
+use Rattle.sb_base.specs.records.declared.item.Stream.TheVariants.{A, B}
+use Rattle.sb_base.specs.records.declared.item.TheConstants.{END_MARK, MAX_TIME}
+use Rattle.sb_base.specs.records.Streams.{last_or, uses}
+use Rattle.sb_base.specs.bundle.declared.bundle.Bundle.{Bundle}
+use Rattle.sb_base.specs.bundle.Calls.{parts_of, records_in_order}
+use Rattle.sb_base.specs.pipeline.Shapes.{Shape, streams_of}
+use Rattle.sb_base.specs.pipeline.Results.{rows_below}
 
 pub record Fed : Type 0 where
   pub bundles_a : List Bundle

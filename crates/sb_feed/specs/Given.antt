@@ -1,11 +1,11 @@
 -- What a source gave in a call, and what is accepted of it.
 use Rattle.std.specs.Prelude.{◌≡◌, ℕ, Bool, true, List, Option}
 use Rattle.std.specs.Io.KnownBytes.{Consumes, IsAtEnd}
-use Rattle.sb_record.specs.declared.item.Item.{Item}
-use Rattle.sb_record.specs.declared.intake.Stop.{Stop}
-use Rattle.sb_record.specs.Inputs.{Accepted, accepted, stop_of}
+use Rattle.sb_base.specs.records.declared.item.Item.{Item}
+use Rattle.sb_base.specs.records.declared.intake.Stop.{Stop}
+use Rattle.sb_base.specs.records.Inputs.{Accepted, accepted, stop_of}
 use Rattle.sb_outside.specs.Lines.{lines}
-use Rattle.sb_pipeline.specs.Shapes.{Shape, streams_of}
+use Rattle.sb_base.specs.pipeline.Shapes.{Shape, streams_of}
 
 -- the bytes that a source gave, where it is told, and whether it has said that no more follow
 pub record Given (left left' : Option (List ℕ)) : Type 0 where

@@ -1,7 +1,7 @@
 -- What giving out rows does to an output and to taps, in one call and where an engine is fed.
 use Rattle.std.specs.Prelude.{◌≡◌, List, ◌++◌, Result, Ok, Err, ⊤}
-use Rattle.sb_record.specs.declared.item.Record.{Record}
-use Rattle.sb_pipeline.specs.Shapes.{Shape}
+use Rattle.sb_base.specs.records.declared.item.Record.{Record}
+use Rattle.sb_base.specs.pipeline.Shapes.{Shape}
 use Rattle.sb_emit.specs.Taps.{TapState}
 use Rattle.sb_feed.specs.declared.give.GiveStop.{GiveStop}
 use Rattle.sb_feed.specs.declared.give.GiveStop.TheVariants as stop

@@ -1,10 +1,10 @@
 -- What feeding the lines of a whole input does.
 use Rattle.std.specs.Prelude.{◌≡◌, ◌++◌, ℕ, List, [], Option, Result, Ok, Err}
-use Rattle.sb_record.specs.declared.item.Dropped.{Dropped}
-use Rattle.sb_record.specs.declared.item.Record.{Record}
-use Rattle.sb_record.specs.declared.intake.Stop.{Stop}
-use Rattle.sb_record.specs.Streams.{dropped_of}
-use Rattle.sb_pipeline.specs.Shapes.{Shape, streams_of}
+use Rattle.sb_base.specs.records.declared.item.Dropped.{Dropped}
+use Rattle.sb_base.specs.records.declared.item.Record.{Record}
+use Rattle.sb_base.specs.records.declared.intake.Stop.{Stop}
+use Rattle.sb_base.specs.records.Streams.{dropped_of}
+use Rattle.sb_base.specs.pipeline.Shapes.{Shape, streams_of}
 use Rattle.sb_emit.specs.Taps.{TapState}
 use Rattle.sb_feed.specs.declared.cutters.Cutters.{Cutters}
 use Rattle.sb_feed.specs.declared.give.GiveStop.{GiveStop}

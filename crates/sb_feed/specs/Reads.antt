@@ -1,11 +1,11 @@
 -- What reading an input gives.
 use Rattle.std.specs.Prelude.{◌≡◌, ℕ, Bool, true, false, List, [], ◌∷◌, ◌++◌, Option, Some, None, Result, Ok, Err, ⊤}
 use Rattle.std.specs.Io.KnownBytes.{Consumes, IsAtEnd}
-use Rattle.sb_record.specs.declared.item.Item.{Item}
-use Rattle.sb_record.specs.declared.intake.Stop.{Stop}
-use Rattle.sb_record.specs.declared.intake.Stop.TheVariants.{End, Refused, Fault}
-use Rattle.sb_record.specs.Progress.{Progress}
-use Rattle.sb_record.specs.Intake.{answer_to, after}
+use Rattle.sb_base.specs.records.declared.item.Item.{Item}
+use Rattle.sb_base.specs.records.declared.intake.Stop.{Stop}
+use Rattle.sb_base.specs.records.declared.intake.Stop.TheVariants.{End, Refused, Fault}
+use Rattle.sb_base.specs.records.Progress.{Progress}
+use Rattle.sb_base.specs.records.Intake.{answer_to, after}
 use Rattle.sb_outside.specs.Sources.{Rose}
 use Rattle.sb_outside.specs.declared.lines.Halt.{Halt}
 use Rattle.sb_outside.specs.declared.lines.Halt.TheVariants as halt

@@ -1,7 +1,7 @@
 -- What offers of many rows leave of a list of taps.
 use Rattle.std.specs.Prelude.{◌≡◌, ◌≤◌, ℕ, Bool, true, not, ◌&&◌, List, [], ◌∷◌, ◌++◌, filter}
 use Rattle.std.specs.List.{AllZip}
-use Rattle.sb_record.specs.declared.item.Record.{Record}
+use Rattle.sb_base.specs.records.declared.item.Record.{Record}
 use Rattle.sb_emit.specs.declared.tap.TapFault.TheVariants as fault
 use Rattle.sb_emit.specs.Offers.{StopsAt}
 use Rattle.sb_emit.specs.Taps.{TapState}

@@ -1,12 +1,11 @@
 //! A cutter for each stream.
 
 ghost use Rattle.std.specs.Prelude.{◌≡◌, ◌≤◌, ◌<◌, IfOk, OnErr, IfSome};
-ghost use Rattle.sb_bundle.specs.Bundles.{IsBundleOf};
-ghost use Rattle.sb_bundle.specs.Cuts.{given_with, after_record, given_at_mark, after_mark};
+ghost use Rattle.sb_base.specs.bundle.Bundles.{IsBundleOf};
+ghost use Rattle.sb_base.specs.bundle.Cuts.{given_with, after_record, given_at_mark, after_mark};
 ghost use Rattle.sb_feed.specs.FedByItems.{cutter_of, new_cutters, with_cutter};
 
-use sb_bundle::{Bundle, Cutter, MAX_BUNDLE};
-use sb_record::{NoMemory, Record, Stream};
+use sb_base::{Bundle, Cutter, MAX_BUNDLE, NoMemory, Record, Stream};
 use std::alloc::Global;
 
 /// A cutter for each of the two streams.

@@ -1,9 +1,9 @@
 //! Listing late records that are dropped.
 
 ghost use Rattle.std.specs.Prelude.{◌≡◌, ◌++◌, OnOk, OnErr};
-ghost use Rattle.sb_record.specs.Streams.{dropped_in};
+ghost use Rattle.sb_base.specs.records.Streams.{dropped_in};
 
-use sb_record::{Dropped, Item, NoMemory};
+use sb_base::{Dropped, Item, NoMemory};
 
 /// Adds what is left of the item to the end of the list, if it is a late record that was dropped, and nothing of any
 /// other item.

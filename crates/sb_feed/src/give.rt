@@ -5,9 +5,9 @@ ghost use Rattle.sb_feed.specs.declared.give.GiveStop.TheVariants as stop;
 ghost use Rattle.sb_feed.specs.GiveCauses.{GiveCause};
 ghost use Rattle.sb_feed.specs.Gives.{OffersRows, WritesRows};
 
+use sb_base::{END_MARK, Record};
 use sb_emit::{RowOut, Tap, TapStop, offer};
 use sb_outside::SinkFault;
-use sb_record::{END_MARK, Record};
 use std::error::Error;
 use std::fmt;
 

@@ -18,3 +18,8 @@ pub use reading::next_item;
 
 #[cfg(test)]
 mod tests;
+
+// What the crates above name of the crates below.
+pub use sb_base;
+pub use sb_emit;
+pub use sb_outside;

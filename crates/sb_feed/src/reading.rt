@@ -5,8 +5,8 @@ ghost use Rattle.sb_outside.specs.declared.lines.Halt.TheVariants as halt;
 ghost use Rattle.sb_outside.specs.Readings.{reading};
 ghost use Rattle.sb_feed.specs.Reads.{IsGoing, TakesNext, FaultCause};
 
+use sb_base::{Intake, Item, MAX_LINES, Stop};
 use sb_outside::{LineBuffer, Source, Step};
-use sb_record::{Intake, Item, MAX_LINES, Stop};
 
 /// The item of the next line, or where reading stops. It may be called again only after an item.
 ///

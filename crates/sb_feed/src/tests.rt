@@ -3,9 +3,9 @@
 ghost use Rattle.std.specs.Prelude.{◌≡◌, ◌<◌, All, IsTrue};
 
 use crate::{GiveStop, give_out};
+use sb_base::{END_MARK, Key, Record};
 use sb_emit::{CountTap, HeadTap, Printing, Tap};
 use sb_outside::MemSink;
-use sb_record::{END_MARK, Key, Record};
 use std::alloc::{AllocError, Global};
 use std::test::Fail;
 

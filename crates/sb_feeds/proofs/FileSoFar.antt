@@ -2,21 +2,21 @@
 use Rattle.std.proofs.Common.{◌≡◌, ◌≢◌, ◌<◌, ◌≤◌, ◌+◌, ℕ, Bool, true, false, List, [], ◌∷◌, ◌++◌, Option, Some, None, Ok, Err, refl, sym, ap, ◌∙◌, arith, append_assoc, append-nil}
 use Rattle.std.specs.Prelude.{flat_map}
 use Rattle.std.proofs.lemmas.List.Concat.{flat_map-append}
-use Rattle.sb_record.specs.declared.intake.Refusal.{Refusal}
-use Rattle.sb_record.specs.declared.intake.Stop.{Stop}
-use Rattle.sb_record.specs.declared.intake.Stop.TheVariants.{End, Refused, Fault}
-use Rattle.sb_record.specs.declared.intake.TheConstants.{MAX_LINES}
-use Rattle.sb_record.specs.declared.item.Item.{Item}
-use Rattle.sb_record.specs.declared.item.Item.TheVariants.{Rec, Mark, Skip, Late}
-use Rattle.sb_record.specs.declared.item.Stream.TheVariants.{A, B}
-use Rattle.sb_record.specs.Inputs.{Accepted, accepted, accepted_after, accepted_if, progress_of}
-use Rattle.sb_record.specs.Intake.{after, answer_to}
-use Rattle.sb_record.specs.Progress.{Progress}
-use Rattle.sb_record.proofs.InputLemmas.{progress-more}
-use Rattle.sb_outside.specs.Lines.{lines}
-use Rattle.sb_outside.specs.Readings.{Held, MayCome, reading, rest_of_lines}
-use Rattle.sb_outside.specs.declared.lines.Halt.{Halt}
-use Rattle.sb_outside.specs.declared.lines.Halt.TheVariants as halt
+use Rattle.sb_feed.specs.base.records.declared.intake.Refusal.{Refusal}
+use Rattle.sb_feed.specs.base.records.declared.intake.Stop.{Stop}
+use Rattle.sb_feed.specs.base.records.declared.intake.Stop.TheVariants.{End, Refused, Fault}
+use Rattle.sb_feed.specs.base.records.declared.intake.TheConstants.{MAX_LINES}
+use Rattle.sb_feed.specs.base.records.declared.item.Item.{Item}
+use Rattle.sb_feed.specs.base.records.declared.item.Item.TheVariants.{Rec, Mark, Skip, Late}
+use Rattle.sb_feed.specs.base.records.declared.item.Stream.TheVariants.{A, B}
+use Rattle.sb_feed.specs.base.records.Inputs.{Accepted, accepted, accepted_after, accepted_if, progress_of}
+use Rattle.sb_feed.specs.base.records.Intake.{after, answer_to}
+use Rattle.sb_feed.specs.base.records.Progress.{Progress}
+use Rattle.sb_feed.proofs.base.records.InputLemmas.{progress-more}
+use Rattle.sb_feed.specs.outside.Lines.{lines}
+use Rattle.sb_feed.specs.outside.Readings.{Held, MayCome, reading, rest_of_lines}
+use Rattle.sb_feed.specs.outside.declared.lines.Halt.{Halt}
+use Rattle.sb_feed.specs.outside.declared.lines.Halt.TheVariants as halt
 use Rattle.sb_feed.specs.Reads.{FaultCause, IsGoing, StopsAt, StopsReading, TakesItem}
 use Rattle.sb_feeds.specs.declared.fed.FeedStop.{FeedStop}
 use Rattle.sb_feeds.specs.declared.fed.Fed.{Fed}

@@ -1,11 +1,11 @@
 -- The first line of bytes, where more bytes follow them.
 use Rattle.std.proofs.Common.{◌≡◌, ◌==◌, ◌⊎◌, ℕ, ◌++◌, List, [], ◌∷◌, true, false, Err, refl, sym, ap, ◌∙◌, inl, inr}
 use Rattle.std.proofs.lemmas.Bool.{cases_Bool}
-use Rattle.sb_record.specs.declared.intake.Refusal.{Refusal}
-use Rattle.sb_record.specs.Intake.{answer_to}
-use Rattle.sb_record.specs.Progress.{Progress}
-use Rattle.sb_outside.specs.Lines.{without_cr, is_too_long, lines_from}
-use Rattle.sb_outside.proofs.FirstLines.{begun_too_long}
+use Rattle.sb_feed.specs.base.records.declared.intake.Refusal.{Refusal}
+use Rattle.sb_feed.specs.base.records.Intake.{answer_to}
+use Rattle.sb_feed.specs.base.records.Progress.{Progress}
+use Rattle.sb_feed.specs.outside.Lines.{without_cr, is_too_long, lines_from}
+use Rattle.sb_feed.proofs.outside.FirstLines.{begun_too_long}
 use Rattle.sb_feed.proofs.ReadSteps.{too_long_tested}
 
 -- the first of the lines is this one, or both are too long

@@ -1,3 +1,6 @@
 pub mod Stops
 pub mod FirstLines
 pub mod FileSoFar
+pub use Rattle.sb_feed.proofs.outside
+pub use Rattle.sb_feed.proofs.base
+pub use Rattle.sb_feed.proofs as one_feed

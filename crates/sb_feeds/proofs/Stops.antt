@@ -2,9 +2,9 @@
 use Rattle.std.proofs.Common.{◌≡◌, true, false, ◌||◌, List, [], ◌∷◌, ◌++◌, length, refl, sym, ap, ◌∙◌, append-nil, eqb-true}
 use mathlib.Core.List.{IsPrefix}
 use Rattle.std.specs.Prelude.{flat_map}
-use Rattle.sb_record.specs.declared.item.Item.{Item}
-use Rattle.sb_record.specs.declared.item.Item.TheVariants as item
-use Rattle.sb_record.specs.Inputs.{Accepted}
+use Rattle.sb_feed.specs.base.records.declared.item.Item.{Item}
+use Rattle.sb_feed.specs.base.records.declared.item.Item.TheVariants as item
+use Rattle.sb_feed.specs.base.records.Inputs.{Accepted}
 use Rattle.sb_feeds.specs.declared.fed.Fed.{Fed}
 use Rattle.sb_feeds.specs.declared.fed.Fed.TheVariants as fed
 use Rattle.sb_feeds.specs.Fed.{ends_with_stop, values_of_item, values_of_accepted, has_stop, is_stop, stop_from}

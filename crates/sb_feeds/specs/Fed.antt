@@ -2,15 +2,15 @@
 use Rattle.std.specs.Prelude.{◌≡◌, ◌==◌, ℕ, Bool, true, false, List, [], ◌∷◌, ◌++◌, length, flat_map}
 use Rattle.std.specs.Prelude.{Option, Some, None}
 use Rattle.std.specs.List.{list_any}
-use Rattle.sb_record.specs.declared.intake.Refusal.{Refusal}
-use Rattle.sb_record.specs.declared.intake.Stop.{Stop}
-use Rattle.sb_record.specs.declared.intake.Stop.TheVariants.{End, Refused, Fault}
-use Rattle.sb_record.specs.declared.item.Item.{Item}
-use Rattle.sb_record.specs.declared.item.Item.TheVariants as item
-use Rattle.sb_record.specs.Inputs.{Accepted, accepted}
-use Rattle.sb_record.specs.Intake.{first_progress}
-use Rattle.sb_record.specs.Progress.{Progress}
-use Rattle.sb_outside.specs.Lines.{lines}
+use Rattle.sb_feed.specs.base.records.declared.intake.Refusal.{Refusal}
+use Rattle.sb_feed.specs.base.records.declared.intake.Stop.{Stop}
+use Rattle.sb_feed.specs.base.records.declared.intake.Stop.TheVariants.{End, Refused, Fault}
+use Rattle.sb_feed.specs.base.records.declared.item.Item.{Item}
+use Rattle.sb_feed.specs.base.records.declared.item.Item.TheVariants as item
+use Rattle.sb_feed.specs.base.records.Inputs.{Accepted, accepted}
+use Rattle.sb_feed.specs.base.records.Intake.{first_progress}
+use Rattle.sb_feed.specs.base.records.Progress.{Progress}
+use Rattle.sb_feed.specs.outside.Lines.{lines}
 use Rattle.sb_feeds.specs.declared.fed.FeedStop.{FeedStop}
 use Rattle.sb_feeds.specs.declared.fed.FeedStop.TheVariants as feed_stop
 use Rattle.sb_feeds.specs.declared.fed.Fed.{Fed}

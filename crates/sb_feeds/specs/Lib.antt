@@ -1,2 +1,6 @@
 pub mod Fed
 pub mod Ends
+pub use Rattle.sb_feed.specs.outside
+pub use Rattle.sb_feed.specs.emit
+pub use Rattle.sb_feed.specs.base
+pub use Rattle.sb_feed.specs as one_feed

@@ -2,7 +2,7 @@
 
 ghost use Rattle.std.specs.Prelude.{◌≡◌, ◌≢◌, ◌++◌, ◌∷◌, [], false};
 ghost use Rattle.rtrb.specs.Ring.{SameProducer, sent};
-ghost use Rattle.sb_record.specs.declared.intake.Stop.TheVariants as stop_spec;
+ghost use Rattle.sb_feed.specs.base.records.declared.intake.Stop.TheVariants as stop_spec;
 ghost use Rattle.sb_feeds.specs.Fed.{IsNew, values_of_file, values_of_item, has_stop, refusal_at, stop_from};
 ghost use Rattle.sb_feeds.specs.Ends.{values_fed, ring_of, ring_out, values_sent};
 
@@ -11,8 +11,8 @@ use crate::fed::{Fed, FeedStop};
 use crate::file::FileBytes;
 use rtrb::{Producer, PushError};
 use sb_feed::next_item;
-use sb_outside::LineBuffer;
-use sb_record::{Intake, Item, Stop};
+use sb_feed::sb_base::{Intake, Item, Stop};
+use sb_feed::sb_outside::LineBuffer;
 use std::alloc::Global;
 use std::sync::Wait;
 use std::thread;

@@ -5,7 +5,7 @@ ghost use Rattle.sb_feeds.specs.Ends.{ring_in, ring_of, ring_out, values_sent};
 ghost use Rattle.sb_feeds.specs.Fed.{IsNew};
 
 use crate::{Fed, FeedIn, FeedStop, feed, feed_pair};
-use sb_record::{Intake, Item, Key, Keys, LatePolicy, Record, Refusal, Stream, Streams};
+use sb_feed::sb_base::{Intake, Item, Key, Keys, LatePolicy, Record, Refusal, Stream, Streams};
 use std::alloc::{AllocError, Global};
 use std::sync::Wait;
 use std::test::Fail;

@@ -3,52 +3,52 @@ use Rattle.std.proofs.Common.{◌≡◌, ℕ, suc, ◌+◌, ◌≤◌, Bool, tru
 use Rattle.std.specs.Prelude.{◌||◌, Ok}
 use Rattle.std.specs.List.{slice_get, slice_set, list_any}
 use Rattle.std.proofs.lemmas.List.{map-set}
-use Rattle.sb_record.specs.declared.item.Record.{Record}
-use Rattle.sb_record.specs.Reading.{◌>>=◌}
-use Rattle.sb_record.specs.Records.{sorted_records, before}
-use Rattle.sb_record.specs.declared.element.KeptRec.{KeptRec}
-use Rattle.sb_pipeline.specs.Shapes.{Shape}
-use Rattle.sb_pipeline.specs.Plans.{IsPlan}
-use Rattle.sb_pipeline.specs.Operators.{Operator, operator_at, lanes_of}
-use Rattle.sb_pipeline.specs.Operators.Operator.{ParDo, Windowed, Sink}
-use Rattle.sb_pipeline.specs.Operators.WindowOperator.{Aggregated, Sessions, Joined}
-use Rattle.sb_core.specs.declared.moment.Cont.{Cont}
-use Rattle.sb_core.specs.declared.moment.CoreLane.{CoreLane}
-use Rattle.sb_core.specs.declared.moment.Node.{Node}
-use Rattle.sb_core.specs.declared.moment.Moment.{Moment}
-use Rattle.sb_core.specs.declared.held.Held.{Held}
-use Rattle.sb_core.specs.declared.held.Held.TheVariants.{Close}
-use Rattle.sb_core.specs.declared.event.Event.TheVariants.{Begin}
-use Rattle.sb_core.specs.Bounds.{bound_at}
-use Rattle.sb_core.specs.Closings.{kept_at, rows_at, rows_at_sink, is_sink}
-use Rattle.sb_core.specs.Events.{after}
-use Rattle.sb_core.specs.Lanes.{closable, with_first_closing}
-use Rattle.sb_core.specs.Marks.{before_closing, first_is_closing, least_begun_mark}
-use Rattle.sb_core.specs.Moments.{set_lane, is_close_of}
-use Rattle.sb_core.specs.Parts.{Part, part_after, with_part}
-use Rattle.sb_core.specs.Soundness.{IsSound}
-use Rattle.sb_core.proofs.sound.AfterSound.{events-keep_sound}
-use Rattle.sb_core.proofs.parts.PartsLaw.{parts-are_events}
-use Rattle.sb_lane.specs.declared.answers.LaneClose.{LaneClose}
-use Rattle.sb_lane.specs.Looks.{look_of}
-use Rattle.sb_lane.specs.LaneView.{LaneView, lane_of}
-use Rattle.sb_lane.specs.Placed.{conts_of}
+use Rattle.sb_node.specs.base.records.declared.item.Record.{Record}
+use Rattle.sb_node.specs.base.records.Reading.{◌>>=◌}
+use Rattle.sb_node.specs.base.records.Records.{sorted_records, before}
+use Rattle.sb_node.specs.base.records.declared.element.KeptRec.{KeptRec}
+use Rattle.sb_node.specs.base.pipeline.Shapes.{Shape}
+use Rattle.sb_node.specs.base.pipeline.Plans.{IsPlan}
+use Rattle.sb_node.specs.base.pipeline.Operators.{Operator, operator_at, lanes_of}
+use Rattle.sb_node.specs.base.pipeline.Operators.Operator.{ParDo, Windowed, Sink}
+use Rattle.sb_node.specs.base.pipeline.Operators.WindowOperator.{Aggregated, Sessions, Joined}
+use Rattle.sb_tally.specs.core.declared.moment.Cont.{Cont}
+use Rattle.sb_tally.specs.core.declared.moment.CoreLane.{CoreLane}
+use Rattle.sb_tally.specs.core.declared.moment.Node.{Node}
+use Rattle.sb_tally.specs.core.declared.moment.Moment.{Moment}
+use Rattle.sb_tally.specs.core.declared.held.Held.{Held}
+use Rattle.sb_tally.specs.core.declared.held.Held.TheVariants.{Close}
+use Rattle.sb_tally.specs.core.declared.event.Event.TheVariants.{Begin}
+use Rattle.sb_tally.specs.core.Bounds.{bound_at}
+use Rattle.sb_tally.specs.core.Closings.{kept_at, rows_at, rows_at_sink, is_sink}
+use Rattle.sb_tally.specs.core.Events.{after}
+use Rattle.sb_tally.specs.core.Lanes.{closable, with_first_closing}
+use Rattle.sb_tally.specs.core.Marks.{before_closing, first_is_closing, least_begun_mark}
+use Rattle.sb_tally.specs.core.Moments.{set_lane, is_close_of}
+use Rattle.sb_tally.specs.core.Parts.{Part, part_after, with_part}
+use Rattle.sb_tally.specs.core.Soundness.{IsSound}
+use Rattle.sb_tally.proofs.core.sound.AfterSound.{events-keep_sound}
+use Rattle.sb_tally.proofs.core.parts.PartsLaw.{parts-are_events}
+use Rattle.sb_node.specs.lane.declared.answers.LaneClose.{LaneClose}
+use Rattle.sb_node.specs.lane.Looks.{look_of}
+use Rattle.sb_node.specs.lane.LaneView.{LaneView, lane_of}
+use Rattle.sb_node.specs.lane.Placed.{conts_of}
 use Rattle.sb_node.specs.declared.closing.Closing.{Closing}
 use Rattle.sb_node.specs.declared.state.NodeState.{NodeState}
-use Rattle.sb_kept.specs.declared.kept.Kept.{Kept}
-use Rattle.sb_kept.specs.Keeping.{IsMadeFor, IsSpent, ShowsKept, closed_mark, output_from, gives}
+use Rattle.sb_node.specs.kept.declared.kept.Kept.{Kept}
+use Rattle.sb_node.specs.kept.Keeping.{IsMadeFor, IsSpent, ShowsKept, closed_mark, output_from, gives}
 use Rattle.sb_node.specs.Marking.{mark_for}
 use Rattle.sb_hand.specs.Runs.{close_of}
 use Rattle.sb_hand.specs.Sets.{HasLane, BeginsAt}
 use Rattle.sb_hand.specs.Showing.{ShowsNode, Stands, Reaches, Does, diaries_of}
 use Rattle.sb_hand.proofs.Calm.{node_is}
-use Rattle.sb_lane.proofs.InTheCore.{MayClose, may-close}
+use Rattle.sb_node.proofs.lane.InTheCore.{MayClose, may-close}
 use Rattle.sb_hand.proofs.ClosingMarks.{calm_before, mark_for-is}
 use Rattle.sb_hand.proofs.ShowsKept.{StandsFor, groups-at, rows-closes, shows-closes, rows-at}
 use Rattle.std.proofs.lemmas.Option.{get_or_from_slice_get}
-use Rattle.sb_core.specs.Moments.{empty_lane}
-use Rattle.sb_diary.specs.declared.event.DiaryEvent.{DiaryEvent}
-use Rattle.sb_diary.specs.declared.event.DiaryEvent.TheVariants as line
+use Rattle.sb_tally.specs.core.Moments.{empty_lane}
+use Rattle.sb_node.specs.diary.declared.event.DiaryEvent.{DiaryEvent}
+use Rattle.sb_node.specs.diary.declared.event.DiaryEvent.TheVariants as line
 use Rattle.sb_tally.specs.Written.{line_after}
 use Rattle.sb_hand.proofs.Single.{chain, passing, there-too, get-map, event-free}
 

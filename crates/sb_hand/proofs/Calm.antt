@@ -5,18 +5,18 @@ use Rattle.std.specs.List.{sum_by, slice_get, slice_set}
 use Rattle.std.proofs.lemmas.Bool.{eq-eqb, cases_eq}
 use Rattle.std.proofs.lemmas.List.{get_or_append_left}
 use Rattle.std.proofs.lemmas.Option.{get_or_from_slice_get}
-use Rattle.sb_pipeline.specs.Shapes.{Shape}
-use Rattle.sb_record.specs.Reading.{◌>>=◌}
-use Rattle.sb_core.specs.declared.moment.CoreLane.{CoreLane}
-use Rattle.sb_core.specs.declared.moment.Node.{Node}
-use Rattle.sb_core.specs.declared.moment.Moment.{Moment}
-use Rattle.sb_core.specs.Bounds.{bound_at}
-use Rattle.sb_core.specs.LaneOrder.{IsLane}
-use Rattle.sb_core.specs.Marks.{begun_count, last_of_first, least_begun_mark}
-use Rattle.sb_core.specs.Moments.{no_node, node_at}
-use Rattle.sb_core.specs.Soundness.{IsSound}
-use Rattle.sb_core.proofs.times.InTime.{begun_within}
-use Rattle.sb_core.proofs.exact.Nodes.{begun_mark, closed-set, sum_by-set_get}
+use Rattle.sb_node.specs.base.pipeline.Shapes.{Shape}
+use Rattle.sb_node.specs.base.records.Reading.{◌>>=◌}
+use Rattle.sb_tally.specs.core.declared.moment.CoreLane.{CoreLane}
+use Rattle.sb_tally.specs.core.declared.moment.Node.{Node}
+use Rattle.sb_tally.specs.core.declared.moment.Moment.{Moment}
+use Rattle.sb_tally.specs.core.Bounds.{bound_at}
+use Rattle.sb_tally.specs.core.LaneOrder.{IsLane}
+use Rattle.sb_tally.specs.core.Marks.{begun_count, last_of_first, least_begun_mark}
+use Rattle.sb_tally.specs.core.Moments.{no_node, node_at}
+use Rattle.sb_tally.specs.core.Soundness.{IsSound}
+use Rattle.sb_tally.proofs.core.times.InTime.{begun_within}
+use Rattle.sb_tally.proofs.core.exact.Nodes.{begun_mark, closed-set, sum_by-set_get}
 
 -- the marks are as before, or one more
 abbrev pub SameMarks : CoreLane → CoreLane → Type 0

@@ -3,28 +3,28 @@ use Rattle.std.proofs.Common.{◌≡◌, ℕ, suc, zero, eqb, ◌+◌, ◌-◌, 
 use Rattle.std.specs.List.{slice_get, AllByRecursion}
 use Rattle.std.specs.Option.{option_map}
 use Rattle.std.proofs.lemmas.Option.{same_Some}
-use Rattle.sb_diary.specs.declared.event.DiaryEvent.{DiaryEvent}
-use Rattle.sb_diary.specs.declared.event.DiaryEvent.TheVariants as line
-use Rattle.sb_record.specs.declared.item.Record.{Record}
-use Rattle.sb_pipeline.specs.declared.transform.Step.{Step}
-use Rattle.sb_pipeline.specs.declared.transform.Down.{Down}
-use Rattle.sb_pipeline.specs.Shapes.{Shape}
-use Rattle.sb_pipeline.specs.Plans.{IsPlan}
-use Rattle.sb_pipeline.specs.Operators.{operator_at}
-use Rattle.sb_pipeline.proofs.Feeding.{apart}
-use Rattle.sb_core.specs.Bounds.{bound_at}
-use Rattle.sb_core.specs.Closings.{is_pardo}
-use Rattle.sb_core.specs.Holdings.{IsCloseOf, IsClosing, IsHeld}
-use Rattle.sb_core.specs.declared.held.Held.{Held}
-use Rattle.sb_core.specs.LaneOrder.{IsLane}
-use Rattle.sb_core.specs.Lanes.{in_epoch, next_floor, with_arrival}
-use Rattle.sb_core.specs.Moments.{epoch_of, floor_of}
-use Rattle.sb_lane.specs.Changes.{StandsAt}
-use Rattle.sb_lane.specs.Laws.{FitsEpoch}
-use Rattle.sb_lane.specs.LaneView.{LaneView, lane_of}
-use Rattle.sb_lane.specs.Links.{link_in}
-use Rattle.sb_lane.specs.Placed.{conts_of}
-use Rattle.sb_lane.proofs.OrderKept.{next-fits, place-kept}
+use Rattle.sb_node.specs.diary.declared.event.DiaryEvent.{DiaryEvent}
+use Rattle.sb_node.specs.diary.declared.event.DiaryEvent.TheVariants as line
+use Rattle.sb_node.specs.base.records.declared.item.Record.{Record}
+use Rattle.sb_node.specs.base.pipeline.declared.transform.Step.{Step}
+use Rattle.sb_node.specs.base.pipeline.declared.transform.Down.{Down}
+use Rattle.sb_node.specs.base.pipeline.Shapes.{Shape}
+use Rattle.sb_node.specs.base.pipeline.Plans.{IsPlan}
+use Rattle.sb_node.specs.base.pipeline.Operators.{operator_at}
+use Rattle.sb_node.proofs.base.pipeline.Feeding.{apart}
+use Rattle.sb_tally.specs.core.Bounds.{bound_at}
+use Rattle.sb_tally.specs.core.Closings.{is_pardo}
+use Rattle.sb_tally.specs.core.Holdings.{IsCloseOf, IsClosing, IsHeld}
+use Rattle.sb_tally.specs.core.declared.held.Held.{Held}
+use Rattle.sb_tally.specs.core.LaneOrder.{IsLane}
+use Rattle.sb_tally.specs.core.Lanes.{in_epoch, next_floor, with_arrival}
+use Rattle.sb_tally.specs.core.Moments.{epoch_of, floor_of}
+use Rattle.sb_node.specs.lane.Changes.{StandsAt}
+use Rattle.sb_node.specs.lane.Laws.{FitsEpoch}
+use Rattle.sb_node.specs.lane.LaneView.{LaneView, lane_of}
+use Rattle.sb_node.specs.lane.Links.{link_in}
+use Rattle.sb_node.specs.lane.Placed.{conts_of}
+use Rattle.sb_node.proofs.lane.OrderKept.{next-fits, place-kept}
 use Rattle.sb_node.specs.declared.closing.Closing.{Closing}
 use Rattle.sb_node.specs.declared.state.NodeState.{NodeState}
 use Rattle.sb_node.specs.LinkChanges.{FindsPlace, LinksStay}

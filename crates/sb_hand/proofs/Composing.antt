@@ -1,20 +1,20 @@
 -- Lists of events, one after another.
 use Rattle.std.proofs.Common.{◌≡◌, ℕ, suc, zero, ◌+◌, List, [], ◌∷◌, ◌++◌, Some, None, Option, sym, refl, ap, subst, ◌∙◌, append_assoc, append-nil, zero-add, false, arith}
 use Rattle.std.specs.Prelude.{replicate}
-use Rattle.sb_record.specs.declared.item.Record.{Record}
-use Rattle.sb_record.specs.Reading.{◌>>=◌}
-use Rattle.sb_pipeline.specs.Shapes.{Shape}
-use Rattle.sb_core.specs.declared.moment.Moment.{Moment}
-use Rattle.sb_core.specs.declared.held.Held.{Held}
-use Rattle.sb_core.specs.declared.event.Event.{Event}
-use Rattle.sb_core.specs.Events.{after, run}
-use Rattle.sb_core.specs.declared.event.Event.TheVariants.{Deliver}
+use Rattle.sb_node.specs.base.records.declared.item.Record.{Record}
+use Rattle.sb_node.specs.base.records.Reading.{◌>>=◌}
+use Rattle.sb_node.specs.base.pipeline.Shapes.{Shape}
+use Rattle.sb_tally.specs.core.declared.moment.Moment.{Moment}
+use Rattle.sb_tally.specs.core.declared.held.Held.{Held}
+use Rattle.sb_tally.specs.core.declared.event.Event.{Event}
+use Rattle.sb_tally.specs.core.Events.{after, run}
+use Rattle.sb_tally.specs.core.declared.event.Event.TheVariants.{Deliver}
 use Rattle.sb_node.specs.declared.closing.Closing.{Closing}
 use Rattle.sb_hand.proofs.LeftToDo.{lowers-then, lowers-none}
 use Rattle.sb_hand.specs.Runs.{close_of, deliveries, Delivers}
 use Rattle.sb_node.specs.declared.state.NodeState.{NodeState}
 use Rattle.std.proofs.lemmas.Option.{same_Some}
-use Rattle.sb_diary.specs.declared.event.DiaryEvent.{DiaryEvent}
+use Rattle.sb_node.specs.diary.declared.event.DiaryEvent.{DiaryEvent}
 use Rattle.sb_tally.specs.Keeping.{diaries_after, if_some, diaries_by}
 use Rattle.sb_hand.specs.Showing.{Stands, CanStand, Does, diaries_of}
 

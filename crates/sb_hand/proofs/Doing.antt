@@ -3,28 +3,28 @@ use Rattle.std.proofs.Common.{◌≡◌, ℕ, ◌+◌, ◌-◌, ◌≤◌, ◌<�
 use Rattle.std.specs.Prelude.{◌&&◌, min}
 use Rattle.std.specs.List.{slice_get}
 use Rattle.std.proofs.lemmas.Bool.{eq-eqb, ne_eqb}
-use Rattle.sb_record.specs.declared.item.Record.{Record}
-use Rattle.sb_record.specs.Reading.{◌>>=◌}
-use Rattle.sb_bundle.specs.declared.bundle.Bundle.{Bundle}
-use Rattle.sb_pipeline.specs.declared.transform.Down.{Down}
-use Rattle.sb_pipeline.specs.declared.transform.Step.{Step}
-use Rattle.sb_pipeline.specs.Shapes.{Shape}
-use Rattle.sb_pipeline.specs.Plans.{IsPlan}
-use Rattle.sb_pipeline.specs.Operators.{operator_at}
-use Rattle.sb_core.specs.declared.moment.CoreLane.{CoreLane}
-use Rattle.sb_core.specs.declared.held.Held.{Held}
-use Rattle.sb_core.specs.declared.held.Held.TheVariants.{Work, Close}
-use Rattle.sb_core.specs.declared.event.Event.TheVariants.{Take, Deliver, Pass, End}
-use Rattle.sb_core.specs.Choices.{is_empty}
-use Rattle.sb_core.specs.Closings.{delivery}
-use Rattle.sb_core.specs.Events.{below}
-use Rattle.sb_core.specs.Lanes.{next_epoch, take_from, with_arrival, with_seal}
-use Rattle.sb_core.specs.Laws.{concerns}
-use Rattle.sb_core.specs.Moments.{set_lane}
-use Rattle.sb_core.specs.Parts.{only_node, put_in}
-use Rattle.sb_lane.specs.LaneView.{LaneView, lane_of}
-use Rattle.sb_lane.specs.Placed.{conts_of}
-use Rattle.sb_lane.specs.Taking.{take_first}
+use Rattle.sb_node.specs.base.records.declared.item.Record.{Record}
+use Rattle.sb_node.specs.base.records.Reading.{◌>>=◌}
+use Rattle.sb_node.specs.base.bundle.declared.bundle.Bundle.{Bundle}
+use Rattle.sb_node.specs.base.pipeline.declared.transform.Down.{Down}
+use Rattle.sb_node.specs.base.pipeline.declared.transform.Step.{Step}
+use Rattle.sb_node.specs.base.pipeline.Shapes.{Shape}
+use Rattle.sb_node.specs.base.pipeline.Plans.{IsPlan}
+use Rattle.sb_node.specs.base.pipeline.Operators.{operator_at}
+use Rattle.sb_tally.specs.core.declared.moment.CoreLane.{CoreLane}
+use Rattle.sb_tally.specs.core.declared.held.Held.{Held}
+use Rattle.sb_tally.specs.core.declared.held.Held.TheVariants.{Work, Close}
+use Rattle.sb_tally.specs.core.declared.event.Event.TheVariants.{Take, Deliver, Pass, End}
+use Rattle.sb_tally.specs.core.Choices.{is_empty}
+use Rattle.sb_tally.specs.core.Closings.{delivery}
+use Rattle.sb_tally.specs.core.Events.{below}
+use Rattle.sb_tally.specs.core.Lanes.{next_epoch, take_from, with_arrival, with_seal}
+use Rattle.sb_tally.specs.core.Laws.{concerns}
+use Rattle.sb_tally.specs.core.Moments.{set_lane}
+use Rattle.sb_tally.specs.core.Parts.{only_node, put_in}
+use Rattle.sb_node.specs.lane.LaneView.{LaneView, lane_of}
+use Rattle.sb_node.specs.lane.Placed.{conts_of}
+use Rattle.sb_node.specs.lane.Taking.{take_first}
 use Rattle.sb_node.specs.declared.state.NodeState.{NodeState}
 use Rattle.std.proofs.lemmas.List.{length-drop, take_min}
 use Rattle.std.proofs.lemmas.Bool.{cases_lt}
@@ -36,15 +36,15 @@ use Rattle.sb_hand.proofs.LeftToDo.{lowers-then, below-lowers, ends-lowers}
 use Rattle.sb_hand.specs.Sets.{HasLane, Turns, SetsLane}
 use Rattle.sb_hand.proofs.Having.{step-of, has-down}
 use Rattle.sb_hand.specs.Showing.{CanStand, Does}
-use Rattle.sb_diary.specs.declared.event.DiaryEvent.{DiaryEvent}
-use Rattle.sb_diary.specs.declared.event.DiaryEvent.TheVariants as line
+use Rattle.sb_node.specs.diary.declared.event.DiaryEvent.{DiaryEvent}
+use Rattle.sb_node.specs.diary.declared.event.DiaryEvent.TheVariants as line
 use Rattle.sb_tally.specs.Written as written
 use Rattle.sb_tally.specs.Written.{arrival_line, seal_line}
 use Rattle.sb_hand.proofs.LaneEvents.{lane_in, the_lane-is, lane-free, lane-held, put-is}
 use Rattle.sb_hand.proofs.Numbers.{work_number}
 use Rattle.sb_hand.proofs.SettingsStay.{settings-lane}
 use Rattle.sb_hand.proofs.Single.{chain, passing, there-too}
-use Rattle.sb_lane.proofs.InTheCore.{take_first-is}
+use Rattle.sb_node.proofs.lane.InTheCore.{take_first-is}
 
 pub below-is : (plan : Shape) (k : ℕ) (st : Step) → slice_get plan.steps k ≡ Some st → below plan k ≡ Some st.down
 below-is plan k st h = ap (λ (o : Option Step). o >>= λ s. Some s.down) h

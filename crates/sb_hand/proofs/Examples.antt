@@ -4,34 +4,34 @@ use Rattle.std.specs.Prelude.{replicate}
 use Rattle.std.specs.List.{AllByRecursion, slice_get}
 use Rattle.std.proofs.lemmas.List.{length-append, length-replicate, get_or-replicate}
 use Rattle.std.proofs.lemmas.Option.{same_Some, slice_get-get_or}
-use Rattle.sb_record.specs.declared.item.Record.{Record}
-use Rattle.sb_record.specs.declared.item.Stream.{Stream}
-use Rattle.sb_record.specs.declared.item.Stream.TheVariants.{A}
-use Rattle.sb_record.specs.declared.item.TheConstants.{MAX_TIME, END_MARK}
-use Rattle.sb_record.specs.Reading.{◌>>=◌}
-use Rattle.sb_record.proofs.Numbers.{bind_some}
-use Rattle.sb_pipeline.specs.declared.transform.Down.{Down}
-use Rattle.sb_pipeline.specs.Operators.{Operator, lanes_of, operator_at}
-use Rattle.sb_pipeline.specs.Operators.Operator.{ParDo, Windowed, Sink}
-use Rattle.sb_pipeline.specs.Operators.WindowOperator.{Aggregated, Sessions, Joined}
-use Rattle.sb_pipeline.specs.Plans.{IsPlace}
-use Rattle.sb_pipeline.specs.Shapes.{Shape, source}
-use Rattle.sb_core.specs.declared.event.Event.{Event}
-use Rattle.sb_core.specs.declared.event.Event.TheVariants.{Arrive, Seal}
-use Rattle.sb_core.specs.declared.moment.CoreLane.{CoreLane}
-use Rattle.sb_core.specs.declared.moment.Moment.{Moment}
-use Rattle.sb_core.specs.declared.moment.Node.{Node}
-use Rattle.sb_core.specs.Events.{after, run}
-use Rattle.sb_core.specs.MomentSteps.{after_arrive, after_seal}
-use Rattle.sb_core.specs.Lanes.{next_epoch, next_floor, with_arrival, with_seal}
-use Rattle.sb_core.specs.Moments.{empty_lane, epoch_at, epoch_of, first, floor_at, floor_of, lane_at, set_lane, with_lane}
-use Rattle.sb_core.proofs.exact.EventExact.{sealed_floor}
-use Rattle.sb_core.proofs.sound.FirstMoment.{at_node}
-use Rattle.sb_core.proofs.exact.Gives.{lane_at-parts, with_lane-is}
-use Rattle.sb_core.proofs.parts.MadeSteps.{arrive-made, seal-made}
-use Rattle.sb_core.proofs.containers.Lists.{cond_is_some}
-use Rattle.sb_core.proofs.exact.Nodes.{slice_get-set_same}
-use Rattle.sb_lane.specs.LaneView.{LaneView, lane_of}
+use Rattle.sb_node.specs.base.records.declared.item.Record.{Record}
+use Rattle.sb_node.specs.base.records.declared.item.Stream.{Stream}
+use Rattle.sb_node.specs.base.records.declared.item.Stream.TheVariants.{A}
+use Rattle.sb_node.specs.base.records.declared.item.TheConstants.{MAX_TIME, END_MARK}
+use Rattle.sb_node.specs.base.records.Reading.{◌>>=◌}
+use Rattle.sb_node.proofs.base.records.Numbers.{bind_some}
+use Rattle.sb_node.specs.base.pipeline.declared.transform.Down.{Down}
+use Rattle.sb_node.specs.base.pipeline.Operators.{Operator, lanes_of, operator_at}
+use Rattle.sb_node.specs.base.pipeline.Operators.Operator.{ParDo, Windowed, Sink}
+use Rattle.sb_node.specs.base.pipeline.Operators.WindowOperator.{Aggregated, Sessions, Joined}
+use Rattle.sb_node.specs.base.pipeline.Plans.{IsPlace}
+use Rattle.sb_node.specs.base.pipeline.Shapes.{Shape, source}
+use Rattle.sb_tally.specs.core.declared.event.Event.{Event}
+use Rattle.sb_tally.specs.core.declared.event.Event.TheVariants.{Arrive, Seal}
+use Rattle.sb_tally.specs.core.declared.moment.CoreLane.{CoreLane}
+use Rattle.sb_tally.specs.core.declared.moment.Moment.{Moment}
+use Rattle.sb_tally.specs.core.declared.moment.Node.{Node}
+use Rattle.sb_tally.specs.core.Events.{after, run}
+use Rattle.sb_tally.specs.core.MomentSteps.{after_arrive, after_seal}
+use Rattle.sb_tally.specs.core.Lanes.{next_epoch, next_floor, with_arrival, with_seal}
+use Rattle.sb_tally.specs.core.Moments.{empty_lane, epoch_at, epoch_of, first, floor_at, floor_of, lane_at, set_lane, with_lane}
+use Rattle.sb_tally.proofs.core.exact.EventExact.{sealed_floor}
+use Rattle.sb_tally.proofs.core.sound.FirstMoment.{at_node}
+use Rattle.sb_tally.proofs.core.exact.Gives.{lane_at-parts, with_lane-is}
+use Rattle.sb_tally.proofs.core.parts.MadeSteps.{arrive-made, seal-made}
+use Rattle.sb_tally.proofs.core.containers.Lists.{cond_is_some}
+use Rattle.sb_tally.proofs.core.exact.Nodes.{slice_get-set_same}
+use Rattle.sb_node.specs.lane.LaneView.{LaneView, lane_of}
 use Rattle.sb_hand.specs.declared.did.Did.{Did}
 use Rattle.sb_hand.specs.declared.did.Did.TheVariants as did
 use Rattle.sb_hand.specs.Feeding.{MayArrive, MaySeal, TakesStream}

@@ -2,18 +2,18 @@
 use Rattle.std.proofs.Common.{◌≡◌, ℕ, ◌+◌, ◌≤◌, List, [], length, Some, refl, sym, ap, subst, ◌∙◌, arith}
 use Rattle.std.specs.Prelude.{Result, Ok, Err, IfOk, IfErr, OnOk, OnErr}
 use Rattle.std.proofs.lemmas.Option.{same_Some}
-use Rattle.sb_record.specs.declared.item.Stream.{Stream}
-use Rattle.sb_bundle.specs.declared.bundle.Bundle.{Bundle}
-use Rattle.sb_diary.specs.declared.event.DiaryEvent.TheVariants as line
-use Rattle.sb_pipeline.specs.declared.transform.Down.{Down}
-use Rattle.sb_pipeline.specs.Shapes.{Shape, source}
-use Rattle.sb_pipeline.specs.Plans.{IsPlan}
-use Rattle.sb_pipeline.proofs.Feeding.{sources_apart}
-use Rattle.sb_core.specs.declared.moment.CoreLane.{CoreLane}
-use Rattle.sb_core.specs.Lanes.{next_epoch, with_seal}
-use Rattle.sb_lane.specs.declared.answers.ArriveStop.{ArriveStop}
-use Rattle.sb_lane.specs.LaneView.{LaneView, lane_of}
-use Rattle.sb_lane.specs.Placed.{conts_of}
+use Rattle.sb_node.specs.base.records.declared.item.Stream.{Stream}
+use Rattle.sb_node.specs.base.bundle.declared.bundle.Bundle.{Bundle}
+use Rattle.sb_node.specs.diary.declared.event.DiaryEvent.TheVariants as line
+use Rattle.sb_node.specs.base.pipeline.declared.transform.Down.{Down}
+use Rattle.sb_node.specs.base.pipeline.Shapes.{Shape, source}
+use Rattle.sb_node.specs.base.pipeline.Plans.{IsPlan}
+use Rattle.sb_node.proofs.base.pipeline.Feeding.{sources_apart}
+use Rattle.sb_tally.specs.core.declared.moment.CoreLane.{CoreLane}
+use Rattle.sb_tally.specs.core.Lanes.{next_epoch, with_seal}
+use Rattle.sb_node.specs.lane.declared.answers.ArriveStop.{ArriveStop}
+use Rattle.sb_node.specs.lane.LaneView.{LaneView, lane_of}
+use Rattle.sb_node.specs.lane.Placed.{conts_of}
 use Rattle.sb_node.specs.declared.state.NodeState.{NodeState}
 use Rattle.sb_hand.specs.Feeding.{ArrivesIn, ComesBack, TakesStream}
 use Rattle.sb_node.specs.LinkChanges.{GetsPlace, LinksStay}

@@ -1,10 +1,10 @@
 -- Events that feed nothing.
 use Rattle.std.proofs.Common.{◌≡◌, ℕ, suc, zero, true, false, List, [], ◌∷◌, ◌++◌, refl, ◌∙◌}
-use Rattle.sb_record.specs.declared.item.Record.{Record}
-use Rattle.sb_record.specs.declared.item.Stream.{Stream}
-use Rattle.sb_core.specs.declared.event.Event.{Event}
-use Rattle.sb_core.specs.declared.event.Event.TheVariants.{Take, Deliver, Finish, Begin, Pass, End}
-use Rattle.sb_core.specs.Laws.{records_fed_after}
+use Rattle.sb_node.specs.base.records.declared.item.Record.{Record}
+use Rattle.sb_node.specs.base.records.declared.item.Stream.{Stream}
+use Rattle.sb_tally.specs.core.declared.event.Event.{Event}
+use Rattle.sb_tally.specs.core.declared.event.Event.TheVariants.{Take, Deliver, Finish, Begin, Pass, End}
+use Rattle.sb_tally.specs.core.Laws.{records_fed_after}
 use Rattle.sb_tally.specs.Keeping.{feed_after}
 use Rattle.sb_tally.specs.Tally.{Feed}
 use Rattle.sb_hand.specs.HandLaws.{FeedNothing, BundlesFeedNothing, ClosingsFeedNothing}

@@ -5,34 +5,34 @@ use Rattle.std.specs.List.{slice_get, slice_set, list_all, AllByRecursion}
 use Rattle.std.proofs.lemmas.Bool.{cases_eq, le-leb}
 use Rattle.std.proofs.lemmas.List.{length-set, map-set}
 use Rattle.std.proofs.lemmas.Option.{same_Some}
-use Rattle.sb_record.specs.declared.item.Record.{Record}
-use Rattle.sb_record.specs.declared.item.Stream.{Stream}
-use Rattle.sb_record.specs.declared.item.TheConstants.{MAX_TIME, END_MARK}
-use Rattle.sb_record.specs.Reading.{◌>>=◌}
-use Rattle.sb_bundle.specs.declared.bundle.Bundle.{Bundle}
-use Rattle.sb_pipeline.specs.declared.transform.Down.{Down}
-use Rattle.sb_pipeline.specs.Operators.{operator_at}
-use Rattle.sb_pipeline.specs.Plans.{IsPlan}
-use Rattle.sb_pipeline.specs.Shapes.{Shape, source}
-use Rattle.sb_core.specs.declared.event.Event.{Event}
-use Rattle.sb_core.specs.declared.event.Event.TheVariants.{Arrive, Seal}
-use Rattle.sb_core.specs.declared.held.Held.{Held}
-use Rattle.sb_core.specs.declared.moment.CoreLane.{CoreLane}
-use Rattle.sb_core.specs.declared.moment.Moment.{Moment}
-use Rattle.sb_core.specs.declared.moment.Node.{Node}
-use Rattle.sb_core.specs.Choices.{is_empty}
-use Rattle.sb_core.specs.Lanes.{next_epoch, next_floor, with_arrival, with_seal}
-use Rattle.sb_core.specs.Moments.{set_lane}
-use Rattle.sb_core.specs.Parts.{only_node, put_in}
-use Rattle.sb_core.proofs.exact.Nodes.{slice_get-set_same, slice_get-set_other}
-use Rattle.sb_diary.specs.declared.event.DiaryEvent.{DiaryEvent}
-use Rattle.sb_diary.specs.declared.event.DiaryEvent.TheVariants as line
-use Rattle.sb_kept.specs.declared.kept.Kept.{Kept}
-use Rattle.sb_lane.specs.declared.answers.ArriveStop.{ArriveStop}
-use Rattle.sb_lane.specs.declared.answers.ArriveStop.TheVariants.{Full, Memory}
-use Rattle.sb_lane.specs.LaneView.{LaneView, lane_of}
-use Rattle.sb_lane.specs.Placed.{conts_of}
-use Rattle.sb_lane.specs.Unfinished.{unfinished_of}
+use Rattle.sb_node.specs.base.records.declared.item.Record.{Record}
+use Rattle.sb_node.specs.base.records.declared.item.Stream.{Stream}
+use Rattle.sb_node.specs.base.records.declared.item.TheConstants.{MAX_TIME, END_MARK}
+use Rattle.sb_node.specs.base.records.Reading.{◌>>=◌}
+use Rattle.sb_node.specs.base.bundle.declared.bundle.Bundle.{Bundle}
+use Rattle.sb_node.specs.base.pipeline.declared.transform.Down.{Down}
+use Rattle.sb_node.specs.base.pipeline.Operators.{operator_at}
+use Rattle.sb_node.specs.base.pipeline.Plans.{IsPlan}
+use Rattle.sb_node.specs.base.pipeline.Shapes.{Shape, source}
+use Rattle.sb_tally.specs.core.declared.event.Event.{Event}
+use Rattle.sb_tally.specs.core.declared.event.Event.TheVariants.{Arrive, Seal}
+use Rattle.sb_tally.specs.core.declared.held.Held.{Held}
+use Rattle.sb_tally.specs.core.declared.moment.CoreLane.{CoreLane}
+use Rattle.sb_tally.specs.core.declared.moment.Moment.{Moment}
+use Rattle.sb_tally.specs.core.declared.moment.Node.{Node}
+use Rattle.sb_tally.specs.core.Choices.{is_empty}
+use Rattle.sb_tally.specs.core.Lanes.{next_epoch, next_floor, with_arrival, with_seal}
+use Rattle.sb_tally.specs.core.Moments.{set_lane}
+use Rattle.sb_tally.specs.core.Parts.{only_node, put_in}
+use Rattle.sb_tally.proofs.core.exact.Nodes.{slice_get-set_same, slice_get-set_other}
+use Rattle.sb_node.specs.diary.declared.event.DiaryEvent.{DiaryEvent}
+use Rattle.sb_node.specs.diary.declared.event.DiaryEvent.TheVariants as line
+use Rattle.sb_node.specs.kept.declared.kept.Kept.{Kept}
+use Rattle.sb_node.specs.lane.declared.answers.ArriveStop.{ArriveStop}
+use Rattle.sb_node.specs.lane.declared.answers.ArriveStop.TheVariants.{Full, Memory}
+use Rattle.sb_node.specs.lane.LaneView.{LaneView, lane_of}
+use Rattle.sb_node.specs.lane.Placed.{conts_of}
+use Rattle.sb_node.specs.lane.Unfinished.{unfinished_of}
 use Rattle.sb_tally.specs.Written.{arrival_line, seal_line}
 use Rattle.sb_tally.specs.Written as written
 use Rattle.sb_node.specs.declared.state.NodeState.{NodeState}

@@ -4,47 +4,47 @@ use Rattle.std.specs.Prelude.{◌||◌, ◌&&◌}
 use Rattle.std.specs.List.{slice_get, slice_set, AllByRecursion}
 use Rattle.std.proofs.lemmas.Bool.{eq-eqb}
 use Rattle.std.proofs.lemmas.List.{map-set}
-use Rattle.sb_record.specs.declared.item.Record.{Record}
-use Rattle.sb_record.specs.Reading.{◌>>=◌}
-use Rattle.sb_record.specs.declared.element.KeptRec.{KeptRec}
-use Rattle.sb_record.specs.Elements.{on_lane}
-use Rattle.sb_pipeline.specs.Shapes.{Shape}
-use Rattle.sb_pipeline.specs.Plans.{IsPlan}
-use Rattle.sb_pipeline.specs.Operators.{Operator, operator_at}
-use Rattle.sb_pipeline.specs.Operators.Operator.{ParDo, Windowed, Sink}
-use Rattle.sb_core.specs.declared.moment.CoreLane.{CoreLane}
-use Rattle.sb_core.specs.declared.moment.Node.{Node}
-use Rattle.sb_core.specs.declared.moment.Moment.{Moment}
-use Rattle.sb_core.specs.declared.held.Held.{Held}
-use Rattle.sb_core.specs.declared.held.Held.TheVariants.{Work}
-use Rattle.sb_core.specs.declared.event.Event.TheVariants.{Finish}
-use Rattle.sb_core.specs.Bounds.{bound_at}
-use Rattle.sb_core.specs.Choices.{is_empty}
-use Rattle.sb_core.specs.Closings.{delivery, kept_elements, is_pardo}
-use Rattle.sb_core.specs.Holdings.{IsHeld, IsWork}
-use Rattle.sb_core.specs.LaneOrder.{IsWithin}
-use Rattle.sb_core.specs.Lanes.{finish_in}
-use Rattle.sb_core.specs.Laws.{concerns}
-use Rattle.sb_core.specs.Marks.{least_begun_mark}
-use Rattle.sb_core.specs.Moments.{set_lane}
-use Rattle.sb_core.specs.Parts.{Part, only_node, with_part}
-use Rattle.sb_core.specs.Soundness.{IsSound}
-use Rattle.sb_core.proofs.times.InTime.{work_floor, closed_least}
-use Rattle.sb_core.proofs.exact.Nodes.{begun_mark, slice_get-set_same}
-use Rattle.sb_lane.specs.LaneView.{LaneView, lane_of}
-use Rattle.sb_lane.specs.Placed.{conts_of}
-use Rattle.sb_lane.specs.Taking.{finish_first}
+use Rattle.sb_node.specs.base.records.declared.item.Record.{Record}
+use Rattle.sb_node.specs.base.records.Reading.{◌>>=◌}
+use Rattle.sb_node.specs.base.records.declared.element.KeptRec.{KeptRec}
+use Rattle.sb_node.specs.base.records.Elements.{on_lane}
+use Rattle.sb_node.specs.base.pipeline.Shapes.{Shape}
+use Rattle.sb_node.specs.base.pipeline.Plans.{IsPlan}
+use Rattle.sb_node.specs.base.pipeline.Operators.{Operator, operator_at}
+use Rattle.sb_node.specs.base.pipeline.Operators.Operator.{ParDo, Windowed, Sink}
+use Rattle.sb_tally.specs.core.declared.moment.CoreLane.{CoreLane}
+use Rattle.sb_tally.specs.core.declared.moment.Node.{Node}
+use Rattle.sb_tally.specs.core.declared.moment.Moment.{Moment}
+use Rattle.sb_tally.specs.core.declared.held.Held.{Held}
+use Rattle.sb_tally.specs.core.declared.held.Held.TheVariants.{Work}
+use Rattle.sb_tally.specs.core.declared.event.Event.TheVariants.{Finish}
+use Rattle.sb_tally.specs.core.Bounds.{bound_at}
+use Rattle.sb_tally.specs.core.Choices.{is_empty}
+use Rattle.sb_tally.specs.core.Closings.{delivery, kept_elements, is_pardo}
+use Rattle.sb_tally.specs.core.Holdings.{IsHeld, IsWork}
+use Rattle.sb_tally.specs.core.LaneOrder.{IsWithin}
+use Rattle.sb_tally.specs.core.Lanes.{finish_in}
+use Rattle.sb_tally.specs.core.Laws.{concerns}
+use Rattle.sb_tally.specs.core.Marks.{least_begun_mark}
+use Rattle.sb_tally.specs.core.Moments.{set_lane}
+use Rattle.sb_tally.specs.core.Parts.{Part, only_node, with_part}
+use Rattle.sb_tally.specs.core.Soundness.{IsSound}
+use Rattle.sb_tally.proofs.core.times.InTime.{work_floor, closed_least}
+use Rattle.sb_tally.proofs.core.exact.Nodes.{begun_mark, slice_get-set_same}
+use Rattle.sb_node.specs.lane.LaneView.{LaneView, lane_of}
+use Rattle.sb_node.specs.lane.Placed.{conts_of}
+use Rattle.sb_node.specs.lane.Taking.{finish_first}
 use Rattle.sb_node.specs.declared.state.NodeState.{NodeState}
-use Rattle.sb_window.specs.Groupings.{IsFrom}
-use Rattle.sb_kept.specs.declared.kept.Kept.{Kept}
-use Rattle.sb_kept.specs.Keeping.{IsMadeFor, IsSpent, IsPartFor, ShowsKept, closed_mark, gives}
-use Rattle.sb_work.specs.declared.outputs.Part.{Part as WorkPart}
+use Rattle.sb_node.specs.base.window.Groupings.{IsFrom}
+use Rattle.sb_node.specs.kept.declared.kept.Kept.{Kept}
+use Rattle.sb_node.specs.kept.Keeping.{IsMadeFor, IsSpent, IsPartFor, ShowsKept, closed_mark, gives}
+use Rattle.sb_node.specs.work.declared.outputs.Part.{Part as WorkPart}
 use Rattle.sb_hand.specs.Sets.{Turns, Absorbs}
-use Rattle.sb_diary.specs.declared.event.DiaryEvent.TheVariants as line
+use Rattle.sb_node.specs.diary.declared.event.DiaryEvent.TheVariants as line
 use Rattle.sb_hand.specs.Showing.{ShowsNode, Reaches, Does, diaries_of}
 use Rattle.sb_hand.proofs.Calm.{calm}
 use Rattle.sb_hand.proofs.LaneEvents.{lane_in, lane-held}
-use Rattle.sb_lane.proofs.InTheCore.{finish_first-is}
+use Rattle.sb_node.proofs.lane.InTheCore.{finish_first-is}
 use Rattle.sb_hand.proofs.ShowsKept.{StandsFor, shows-adds}
 use Rattle.sb_hand.proofs.Single.{chain, passing, there-too, get-map, event-held}
 

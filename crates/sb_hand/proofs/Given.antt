@@ -5,41 +5,41 @@ use Rattle.std.specs.List.{slice_get}
 use Rattle.std.specs.Option.{option_map}
 use Rattle.std.proofs.lemmas.Bool.{eq-eqb, ne_eqb}
 use Rattle.std.proofs.lemmas.Option.{same_Some, slice_get_within}
-use Rattle.sb_bundle.specs.declared.bundle.Bundle.{Bundle}
-use Rattle.sb_record.specs.declared.item.Record.{Record}
-use Rattle.sb_record.specs.Reading.{◌>>=◌}
-use Rattle.sb_pipeline.specs.declared.transform.Step.{Step}
-use Rattle.sb_pipeline.specs.declared.transform.Down.{Down}
-use Rattle.sb_pipeline.specs.Shapes.{Shape}
-use Rattle.sb_pipeline.specs.Plans.{IsPlan}
-use Rattle.sb_pipeline.specs.Operators.{Operator, operator_at, lanes_of}
-use Rattle.sb_pipeline.specs.Operators.Operator.{ParDo, Windowed, Sink}
-use Rattle.sb_core.specs.declared.moment.Cont.{Cont}
-use Rattle.sb_core.specs.declared.moment.CoreLane.{CoreLane}
-use Rattle.sb_core.specs.declared.moment.Node.{Node}
-use Rattle.sb_core.specs.declared.held.Held.{Held}
-use Rattle.sb_core.specs.declared.event.Event.TheVariants.{Deliver}
-use Rattle.sb_core.specs.Bounds.{bound_at}
-use Rattle.sb_core.specs.Choices.{is_empty}
-use Rattle.sb_core.specs.Closings.{delivery, is_pardo}
-use Rattle.sb_core.specs.Events.{after, below}
-use Rattle.sb_core.specs.Holdings.{IsWork}
-use Rattle.sb_core.specs.LaneOrder.{IsLane, cont_at}
-use Rattle.sb_core.specs.Lanes.{in_epoch, with_arrival}
-use Rattle.sb_core.specs.Laws.{concerns}
-use Rattle.sb_core.specs.Moments.{epoch_at, epoch_of, lane_at, set_lane, with_held}
-use Rattle.sb_core.specs.Parts.{Part, held_after, only_node, put_in, with_part}
-use Rattle.sb_core.specs.Soundness.{IsSound}
-use Rattle.sb_core.proofs.exact.AfterExact.{not_sealed}
-use Rattle.sb_core.proofs.sound.AfterSound.{events-keep_sound}
-use Rattle.sb_core.proofs.exact.Nodes.{slice_get-set_same}
-use Rattle.sb_core.proofs.sound.Orderly.{lawful_of}
-use Rattle.sb_core.proofs.parts.PartsLaw.{held-parts_are_events}
-use Rattle.sb_lane.specs.Changes.{StandsAt}
-use Rattle.sb_lane.specs.LaneView.{LaneView, lane_of, link_at}
-use Rattle.sb_lane.specs.Links.{Link, down_of, link_of, link_in, links_of}
-use Rattle.sb_lane.specs.Placed.{Placed, conts_of}
-use Rattle.sb_lane.proofs.OrderKept.{place-within}
+use Rattle.sb_node.specs.base.bundle.declared.bundle.Bundle.{Bundle}
+use Rattle.sb_node.specs.base.records.declared.item.Record.{Record}
+use Rattle.sb_node.specs.base.records.Reading.{◌>>=◌}
+use Rattle.sb_node.specs.base.pipeline.declared.transform.Step.{Step}
+use Rattle.sb_node.specs.base.pipeline.declared.transform.Down.{Down}
+use Rattle.sb_node.specs.base.pipeline.Shapes.{Shape}
+use Rattle.sb_node.specs.base.pipeline.Plans.{IsPlan}
+use Rattle.sb_node.specs.base.pipeline.Operators.{Operator, operator_at, lanes_of}
+use Rattle.sb_node.specs.base.pipeline.Operators.Operator.{ParDo, Windowed, Sink}
+use Rattle.sb_tally.specs.core.declared.moment.Cont.{Cont}
+use Rattle.sb_tally.specs.core.declared.moment.CoreLane.{CoreLane}
+use Rattle.sb_tally.specs.core.declared.moment.Node.{Node}
+use Rattle.sb_tally.specs.core.declared.held.Held.{Held}
+use Rattle.sb_tally.specs.core.declared.event.Event.TheVariants.{Deliver}
+use Rattle.sb_tally.specs.core.Bounds.{bound_at}
+use Rattle.sb_tally.specs.core.Choices.{is_empty}
+use Rattle.sb_tally.specs.core.Closings.{delivery, is_pardo}
+use Rattle.sb_tally.specs.core.Events.{after, below}
+use Rattle.sb_tally.specs.core.Holdings.{IsWork}
+use Rattle.sb_tally.specs.core.LaneOrder.{IsLane, cont_at}
+use Rattle.sb_tally.specs.core.Lanes.{in_epoch, with_arrival}
+use Rattle.sb_tally.specs.core.Laws.{concerns}
+use Rattle.sb_tally.specs.core.Moments.{epoch_at, epoch_of, lane_at, set_lane, with_held}
+use Rattle.sb_tally.specs.core.Parts.{Part, held_after, only_node, put_in, with_part}
+use Rattle.sb_tally.specs.core.Soundness.{IsSound}
+use Rattle.sb_tally.proofs.core.exact.AfterExact.{not_sealed}
+use Rattle.sb_tally.proofs.core.sound.AfterSound.{events-keep_sound}
+use Rattle.sb_tally.proofs.core.exact.Nodes.{slice_get-set_same}
+use Rattle.sb_tally.proofs.core.sound.Orderly.{lawful_of}
+use Rattle.sb_tally.proofs.core.parts.PartsLaw.{held-parts_are_events}
+use Rattle.sb_node.specs.lane.Changes.{StandsAt}
+use Rattle.sb_node.specs.lane.LaneView.{LaneView, lane_of, link_at}
+use Rattle.sb_node.specs.lane.Links.{Link, down_of, link_of, link_in, links_of}
+use Rattle.sb_node.specs.lane.Placed.{Placed, conts_of}
+use Rattle.sb_node.proofs.lane.OrderKept.{place-within}
 use Rattle.sb_node.specs.declared.state.NodeState.{NodeState}
 use Rattle.sb_hand.specs.Linking.{AreLinked, place_in}
 use Rattle.sb_hand.specs.Runs.{work_of}

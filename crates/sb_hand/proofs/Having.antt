@@ -5,24 +5,24 @@ use Rattle.std.specs.Option.{option_map}
 use Rattle.std.proofs.lemmas.List.{length-map}
 use Rattle.std.proofs.lemmas.Option.{same_Some, slice_get_read}
 use Rattle.sb_hand.proofs.Beginning.{lanes_two}
-use Rattle.sb_record.proofs.Numbers.{bind_some}
-use Rattle.sb_record.specs.declared.item.Record.{Record}
-use Rattle.sb_pipeline.specs.declared.transform.Step.{Step}
-use Rattle.sb_pipeline.specs.declared.transform.Down.{Down}
-use Rattle.sb_pipeline.specs.Shapes.{Shape}
-use Rattle.sb_pipeline.specs.Operators.{operator_at, lanes_of}
-use Rattle.sb_core.specs.declared.moment.CoreLane.{CoreLane}
-use Rattle.sb_core.specs.declared.moment.Node.{Node}
-use Rattle.sb_core.specs.declared.moment.Moment.{Moment}
-use Rattle.sb_core.specs.declared.held.Held.{Held}
-use Rattle.sb_core.specs.declared.held.Held.TheVariants.{Close}
-use Rattle.sb_core.specs.Bounds.{bound_at}
-use Rattle.sb_core.specs.Holdings.{IsHeld, IsClosing}
-use Rattle.sb_core.specs.Marks.{first_is_closing, begun_count}
-use Rattle.sb_core.specs.Moments.{lane_at}
-use Rattle.sb_core.proofs.times.InTime.{begun_within}
-use Rattle.sb_lane.specs.LaneView.{LaneView, lane_of}
-use Rattle.sb_lane.specs.Placed.{conts_of}
+use Rattle.sb_node.proofs.base.records.Numbers.{bind_some}
+use Rattle.sb_node.specs.base.records.declared.item.Record.{Record}
+use Rattle.sb_node.specs.base.pipeline.declared.transform.Step.{Step}
+use Rattle.sb_node.specs.base.pipeline.declared.transform.Down.{Down}
+use Rattle.sb_node.specs.base.pipeline.Shapes.{Shape}
+use Rattle.sb_node.specs.base.pipeline.Operators.{operator_at, lanes_of}
+use Rattle.sb_tally.specs.core.declared.moment.CoreLane.{CoreLane}
+use Rattle.sb_tally.specs.core.declared.moment.Node.{Node}
+use Rattle.sb_tally.specs.core.declared.moment.Moment.{Moment}
+use Rattle.sb_tally.specs.core.declared.held.Held.{Held}
+use Rattle.sb_tally.specs.core.declared.held.Held.TheVariants.{Close}
+use Rattle.sb_tally.specs.core.Bounds.{bound_at}
+use Rattle.sb_tally.specs.core.Holdings.{IsHeld, IsClosing}
+use Rattle.sb_tally.specs.core.Marks.{first_is_closing, begun_count}
+use Rattle.sb_tally.specs.core.Moments.{lane_at}
+use Rattle.sb_tally.proofs.core.times.InTime.{begun_within}
+use Rattle.sb_node.specs.lane.LaneView.{LaneView, lane_of}
+use Rattle.sb_node.specs.lane.Placed.{conts_of}
 use Rattle.sb_node.specs.declared.state.NodeState.{NodeState}
 use Rattle.sb_hand.specs.Sets.{HasLane}
 use Rattle.sb_hand.specs.Showing.{ShowsNode, Stands, CanStand}

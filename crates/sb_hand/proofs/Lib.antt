@@ -34,3 +34,11 @@ pub mod Stepwise
 pub mod Unsealed
 pub mod Whole
 pub mod Works
+pub use Rattle.sb_node.proofs.session
+pub use Rattle.sb_node.proofs.diary
+pub use Rattle.sb_node.proofs.emit
+pub use Rattle.sb_node.proofs.base
+pub use Rattle.sb_node.proofs.work
+pub use Rattle.sb_tally.proofs.core
+pub use Rattle.sb_node.proofs.lane
+pub use Rattle.sb_tally.proofs as tally

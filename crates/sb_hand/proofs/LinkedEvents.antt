@@ -3,18 +3,18 @@ use Rattle.std.proofs.Common.{◌≡◌, ℕ, ◌+◌, ◌≤◌, ◌<◌, true,
 use Rattle.std.specs.List.{slice_get}
 use Rattle.std.specs.Option.{option_map}
 use Rattle.std.proofs.lemmas.Bool.{cases_eq}
-use Rattle.sb_pipeline.specs.declared.transform.Down.{Down}
-use Rattle.sb_pipeline.specs.declared.transform.Step.{Step}
-use Rattle.sb_pipeline.specs.Shapes.{Shape}
-use Rattle.sb_pipeline.specs.Plans.{IsPlan}
-use Rattle.sb_pipeline.specs.Operators.{operator_at}
-use Rattle.sb_pipeline.proofs.Feeding.{apart}
-use Rattle.sb_core.specs.declared.moment.Cont.{Cont}
-use Rattle.sb_core.specs.Closings.{is_pardo}
-use Rattle.sb_lane.specs.LaneView.{LaneView, lane_of, link_at}
-use Rattle.sb_lane.specs.Links.{Link, link_in, links_of, with_place}
-use Rattle.sb_lane.specs.Links.{with_link as set_link}
-use Rattle.sb_lane.specs.Placed.{Placed, conts_of}
+use Rattle.sb_node.specs.base.pipeline.declared.transform.Down.{Down}
+use Rattle.sb_node.specs.base.pipeline.declared.transform.Step.{Step}
+use Rattle.sb_node.specs.base.pipeline.Shapes.{Shape}
+use Rattle.sb_node.specs.base.pipeline.Plans.{IsPlan}
+use Rattle.sb_node.specs.base.pipeline.Operators.{operator_at}
+use Rattle.sb_node.proofs.base.pipeline.Feeding.{apart}
+use Rattle.sb_tally.specs.core.declared.moment.Cont.{Cont}
+use Rattle.sb_tally.specs.core.Closings.{is_pardo}
+use Rattle.sb_node.specs.lane.LaneView.{LaneView, lane_of, link_at}
+use Rattle.sb_node.specs.lane.Links.{Link, link_in, links_of, with_place}
+use Rattle.sb_node.specs.lane.Links.{with_link as set_link}
+use Rattle.sb_node.specs.lane.Placed.{Placed, conts_of}
 use Rattle.sb_node.specs.declared.state.NodeState.{NodeState}
 use Rattle.sb_node.specs.LinkChanges.{DropsLink, GetsLink, LinksStay}
 use Rattle.sb_hand.specs.Linking.{AreLinked, KeepsLinks, LeadsTo, place_in}

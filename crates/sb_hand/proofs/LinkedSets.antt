@@ -4,15 +4,15 @@ use Rattle.std.specs.Prelude.{◌≢◌, ◌⊎◌}
 use Rattle.std.specs.List.{slice_get, slice_set}
 use Rattle.std.proofs.lemmas.Bool.{cases_eq}
 use Rattle.std.proofs.lemmas.Option.{same_Some}
-use Rattle.sb_diary.specs.declared.event.DiaryEvent.{DiaryEvent}
-use Rattle.sb_kept.specs.declared.kept.Kept.{Kept}
-use Rattle.sb_pipeline.specs.declared.transform.Step.{Step}
-use Rattle.sb_pipeline.specs.Shapes.{Shape}
-use Rattle.sb_pipeline.specs.Plans.{IsPlan}
-use Rattle.sb_pipeline.specs.Operators.{operator_at}
-use Rattle.sb_core.specs.Closings.{is_pardo}
-use Rattle.sb_core.proofs.exact.Nodes.{slice_get-set_same, slice_get-set_other}
-use Rattle.sb_lane.specs.LaneView.{LaneView}
+use Rattle.sb_node.specs.diary.declared.event.DiaryEvent.{DiaryEvent}
+use Rattle.sb_node.specs.kept.declared.kept.Kept.{Kept}
+use Rattle.sb_node.specs.base.pipeline.declared.transform.Step.{Step}
+use Rattle.sb_node.specs.base.pipeline.Shapes.{Shape}
+use Rattle.sb_node.specs.base.pipeline.Plans.{IsPlan}
+use Rattle.sb_node.specs.base.pipeline.Operators.{operator_at}
+use Rattle.sb_tally.specs.core.Closings.{is_pardo}
+use Rattle.sb_tally.proofs.core.exact.Nodes.{slice_get-set_same, slice_get-set_other}
+use Rattle.sb_node.specs.lane.LaneView.{LaneView}
 use Rattle.sb_node.specs.declared.state.NodeState.{NodeState}
 use Rattle.sb_hand.specs.Searching.{LooksFew, SearchesFew, SearchesStay}
 use Rattle.sb_hand.specs.Sets.{HasLane, SetsLane, SetsNode, StaysAt}

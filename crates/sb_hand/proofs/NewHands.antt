@@ -3,17 +3,17 @@ use Rattle.std.proofs.Common.{◌≡◌, ℕ, suc, zero, ◌+◌, ◌≤◌, Boo
 use Rattle.std.specs.Prelude.{◌⊎◌, replicate}
 use Rattle.std.specs.List.{slice_get}
 use Rattle.std.proofs.lemmas.Option.{same_Some, slice_get_within}
-use Rattle.sb_bundle.specs.declared.bundle.TheConstants.{MAX_BUNDLE}
-use Rattle.sb_pipeline.specs.declared.transform.Step.{Step}
-use Rattle.sb_pipeline.specs.Shapes.{Shape}
-use Rattle.sb_pipeline.specs.Operators.{Operator, operator_of, operator_at, lanes_of}
-use Rattle.sb_pipeline.specs.Operators.Operator.{ParDo, Windowed, Sink}
-use Rattle.sb_pipeline.specs.Operators.WindowOperator.{Aggregated, Sessions, Joined}
-use Rattle.sb_pipeline.specs.Plans.{IsPlan}
-use Rattle.sb_core.specs.Marks.{least_begun_mark}
-use Rattle.sb_core.specs.Moments as moments
-use Rattle.sb_core.proofs.sound.FirstMoment.{at_node, node_count, first-sound}
-use Rattle.sb_lane.specs.LaneView.{LaneView, empty_lane, lane_of}
+use Rattle.sb_node.specs.base.bundle.declared.bundle.TheConstants.{MAX_BUNDLE}
+use Rattle.sb_node.specs.base.pipeline.declared.transform.Step.{Step}
+use Rattle.sb_node.specs.base.pipeline.Shapes.{Shape}
+use Rattle.sb_node.specs.base.pipeline.Operators.{Operator, operator_of, operator_at, lanes_of}
+use Rattle.sb_node.specs.base.pipeline.Operators.Operator.{ParDo, Windowed, Sink}
+use Rattle.sb_node.specs.base.pipeline.Operators.WindowOperator.{Aggregated, Sessions, Joined}
+use Rattle.sb_node.specs.base.pipeline.Plans.{IsPlan}
+use Rattle.sb_tally.specs.core.Marks.{least_begun_mark}
+use Rattle.sb_tally.specs.core.Moments as moments
+use Rattle.sb_tally.proofs.core.sound.FirstMoment.{at_node, node_count, first-sound}
+use Rattle.sb_node.specs.lane.LaneView.{LaneView, empty_lane, lane_of}
 use Rattle.sb_node.specs.declared.state.NodeState.{NodeState}
 use Rattle.sb_hand.specs.Hands.{settings_at, settings_for}
 use Rattle.sb_hand.specs.NewNodes.{AreNewNodes, IsNewNode}

@@ -3,9 +3,9 @@ use Rattle.std.proofs.Common.{◌≡◌, ℕ, suc, zero, Bool, List, Some, sym, 
 use Rattle.std.specs.Prelude.{replicate}
 use Rattle.std.specs.List.{slice_get}
 use Rattle.std.proofs.lemmas.Option.{same_Some}
-use Rattle.sb_pipeline.specs.Operators.{lanes_of, operator_at}
-use Rattle.sb_pipeline.specs.Shapes.{Shape}
-use Rattle.sb_lane.specs.LaneView.{LaneView, empty_lane, link_at}
+use Rattle.sb_node.specs.base.pipeline.Operators.{lanes_of, operator_at}
+use Rattle.sb_node.specs.base.pipeline.Shapes.{Shape}
+use Rattle.sb_node.specs.lane.LaneView.{LaneView, empty_lane, link_at}
 use Rattle.sb_node.specs.declared.state.NodeState.{NodeState}
 use Rattle.sb_hand.specs.Linking.{AreLinked}
 use Rattle.sb_hand.specs.NewNodes.{AreNewNodes}

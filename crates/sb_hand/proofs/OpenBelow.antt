@@ -3,28 +3,28 @@ use Rattle.std.proofs.Common.{◌≡◌, ℕ, ◌≤◌, Bool, true, false, cond
 use Rattle.std.specs.Prelude.{◌||◌, ◌&&◌}
 use Rattle.std.specs.List.{slice_get, list_any, AllByRecursion}
 use Rattle.std.proofs.lemmas.Bool.{eqb-true}
-use Rattle.sb_record.specs.declared.item.Record.{Record}
-use Rattle.sb_record.specs.Reading.{◌>>=◌}
-use Rattle.sb_pipeline.specs.declared.transform.Step.{Step}
-use Rattle.sb_pipeline.specs.Shapes.{Shape}
-use Rattle.sb_pipeline.specs.Plans.{IsPlan}
-use Rattle.sb_pipeline.specs.Operators.{Operator, operator_at}
-use Rattle.sb_pipeline.specs.Operators.Operator.{ParDo, Windowed, Sink}
-use Rattle.sb_core.specs.declared.moment.CoreLane.{CoreLane}
-use Rattle.sb_core.specs.declared.moment.Node.{Node}
-use Rattle.sb_core.specs.declared.moment.Moment.{Moment}
-use Rattle.sb_core.specs.declared.held.Held.{Held}
-use Rattle.sb_core.specs.Bounds.{bound_at}
-use Rattle.sb_core.specs.Closings.{is_pardo}
-use Rattle.sb_core.specs.Holdings.{is_unpassed}
-use Rattle.sb_core.specs.LaneOrder.{IsLane}
-use Rattle.sb_core.specs.Moments.{lane_at, node_at}
-use Rattle.sb_core.specs.Soundness.{IsOpenBelow, IsSound, has_cont}
-use Rattle.sb_core.proofs.sound.Orderly.{lawful_of}
-use Rattle.sb_core.proofs.sound.PutSound.{lone_has}
-use Rattle.sb_lane.specs.LaneView.{LaneView, lane_of}
-use Rattle.sb_lane.specs.Links.{Link, link_of, link_in, links_of}
-use Rattle.sb_lane.specs.Placed.{Placed, conts_of}
+use Rattle.sb_node.specs.base.records.declared.item.Record.{Record}
+use Rattle.sb_node.specs.base.records.Reading.{◌>>=◌}
+use Rattle.sb_node.specs.base.pipeline.declared.transform.Step.{Step}
+use Rattle.sb_node.specs.base.pipeline.Shapes.{Shape}
+use Rattle.sb_node.specs.base.pipeline.Plans.{IsPlan}
+use Rattle.sb_node.specs.base.pipeline.Operators.{Operator, operator_at}
+use Rattle.sb_node.specs.base.pipeline.Operators.Operator.{ParDo, Windowed, Sink}
+use Rattle.sb_tally.specs.core.declared.moment.CoreLane.{CoreLane}
+use Rattle.sb_tally.specs.core.declared.moment.Node.{Node}
+use Rattle.sb_tally.specs.core.declared.moment.Moment.{Moment}
+use Rattle.sb_tally.specs.core.declared.held.Held.{Held}
+use Rattle.sb_tally.specs.core.Bounds.{bound_at}
+use Rattle.sb_tally.specs.core.Closings.{is_pardo}
+use Rattle.sb_tally.specs.core.Holdings.{is_unpassed}
+use Rattle.sb_tally.specs.core.LaneOrder.{IsLane}
+use Rattle.sb_tally.specs.core.Moments.{lane_at, node_at}
+use Rattle.sb_tally.specs.core.Soundness.{IsOpenBelow, IsSound, has_cont}
+use Rattle.sb_tally.proofs.core.sound.Orderly.{lawful_of}
+use Rattle.sb_tally.proofs.core.sound.PutSound.{lone_has}
+use Rattle.sb_node.specs.lane.LaneView.{LaneView, lane_of}
+use Rattle.sb_node.specs.lane.Links.{Link, link_of, link_in, links_of}
+use Rattle.sb_node.specs.lane.Placed.{Placed, conts_of}
 use Rattle.sb_node.specs.declared.state.NodeState.{NodeState}
 use Rattle.sb_hand.specs.Sets.{HasLane}
 use Rattle.sb_hand.specs.Showing.{ShowsNode, Stands}

@@ -5,24 +5,24 @@ use Rattle.std.specs.List.{slice_get, list_any, AllByRecursion}
 use Rattle.std.proofs.lemmas.Bool.{false≢true}
 use Rattle.std.proofs.lemmas.List.Sums.{sum_by-cons}
 use Rattle.std.proofs.lemmas.Option.{same_Some}
-use Rattle.sb_record.specs.declared.item.Record.{Record}
-use Rattle.sb_bundle.specs.declared.bundle.Bundle.{Bundle}
-use Rattle.sb_pipeline.specs.declared.transform.Down.{Down}
-use Rattle.sb_pipeline.specs.Shapes.{Shape}
-use Rattle.sb_core.specs.declared.moment.Cont.{Cont}
-use Rattle.sb_core.specs.declared.moment.CoreLane.{CoreLane}
-use Rattle.sb_core.specs.declared.moment.Moment.{Moment}
-use Rattle.sb_core.specs.Choices.{only_if, is_empty}
-use Rattle.sb_core.specs.Lanes.{closable}
-use Rattle.sb_core.specs.Marks.{first_is_closing}
-use Rattle.sb_core.specs.Moments.{lane_at, is_close_of}
-use Rattle.sb_core.proofs.ends.AtRest.{free}
-use Rattle.sb_lane.specs.declared.answers.NotYet.{NotYet}
-use Rattle.sb_lane.specs.LaneView.{lane_of}
-use Rattle.sb_lane.specs.Looks.{look_marked, look_closing, look_of}
-use Rattle.sb_lane.specs.Placed.{conts_of}
-use Rattle.sb_lane.specs.Taking.{first_taken, take_first}
-use Rattle.sb_lane.specs.Unfinished.{unfinished_in, unfinished_of}
+use Rattle.sb_node.specs.base.records.declared.item.Record.{Record}
+use Rattle.sb_node.specs.base.bundle.declared.bundle.Bundle.{Bundle}
+use Rattle.sb_node.specs.base.pipeline.declared.transform.Down.{Down}
+use Rattle.sb_node.specs.base.pipeline.Shapes.{Shape}
+use Rattle.sb_tally.specs.core.declared.moment.Cont.{Cont}
+use Rattle.sb_tally.specs.core.declared.moment.CoreLane.{CoreLane}
+use Rattle.sb_tally.specs.core.declared.moment.Moment.{Moment}
+use Rattle.sb_tally.specs.core.Choices.{only_if, is_empty}
+use Rattle.sb_tally.specs.core.Lanes.{closable}
+use Rattle.sb_tally.specs.core.Marks.{first_is_closing}
+use Rattle.sb_tally.specs.core.Moments.{lane_at, is_close_of}
+use Rattle.sb_tally.proofs.core.ends.AtRest.{free}
+use Rattle.sb_node.specs.lane.declared.answers.NotYet.{NotYet}
+use Rattle.sb_node.specs.lane.LaneView.{lane_of}
+use Rattle.sb_node.specs.lane.Looks.{look_marked, look_closing, look_of}
+use Rattle.sb_node.specs.lane.Placed.{conts_of}
+use Rattle.sb_node.specs.lane.Taking.{first_taken, take_first}
+use Rattle.sb_node.specs.lane.Unfinished.{unfinished_in, unfinished_of}
 use Rattle.sb_node.specs.declared.state.NodeState.{NodeState}
 use Rattle.sb_hand.specs.HandLaws.{AreIdle, IdleIsRest, IdleIsFinished}
 use Rattle.sb_hand.specs.Showing.{Stands}

@@ -3,9 +3,9 @@ use Rattle.std.proofs.Common.{◌≡◌, ℕ, suc, zero, List, [], ◌∷◌, ma
 use Rattle.std.specs.List.{slice_get, slice_set}
 use Rattle.std.proofs.lemmas.List.{map-set}
 use Rattle.std.proofs.lemmas.Option.{same_Some}
-use Rattle.sb_diary.specs.declared.event.DiaryEvent.{DiaryEvent}
-use Rattle.sb_kept.specs.declared.kept.Kept.{Kept}
-use Rattle.sb_lane.specs.LaneView.{LaneView}
+use Rattle.sb_node.specs.diary.declared.event.DiaryEvent.{DiaryEvent}
+use Rattle.sb_node.specs.kept.declared.kept.Kept.{Kept}
+use Rattle.sb_node.specs.lane.LaneView.{LaneView}
 use Rattle.sb_node.specs.declared.state.NodeState.{NodeState}
 use Rattle.sb_hand.specs.Sets.{SetsLane, SetsNode}
 use Rattle.sb_hand.specs.Showing.{Settings, settings_of}

@@ -5,26 +5,26 @@ use Rattle.std.specs.List.{filter, AllByRecursion}
 use Rattle.std.proofs.lemmas.Bool.{lt-ltb, le-ltb}
 use Rattle.std.proofs.lemmas.List.Sums.{sum_by-append}
 use Rattle.std.proofs.lemmas.List.Elements.{filter-append}
-use Rattle.sb_record.specs.declared.item.Record.{Record}
-use Rattle.sb_record.specs.declared.element.KeptRec.{KeptRec}
-use Rattle.sb_record.specs.Records.{record_cmp, sorted_records, before, at_least}
-use Rattle.sb_pipeline.specs.Operators.{Operator, operator_rows}
-use Rattle.sb_pipeline.specs.Operators.Operator.{ParDo, Windowed, Sink}
-use Rattle.sb_record.specs.Elements.{all_records}
-use Rattle.sb_core.specs.Closings.{still_open, kept_at, rows_at, is_sink}
-use Rattle.sb_record.proofs.Sums.{IsReordered-filter}
-use Rattle.sb_core.proofs.windows.Groupings.{all_records-append, all_records-filter}
-use Rattle.sb_core.proofs.windows.WindowOperators.{IsGrouping, closing}
-use Rattle.sb_core.proofs.windows.WindowsAt.{windows-at}
-use Rattle.sb_pipeline.specs.Shapes.{Shape}
-use Rattle.sb_pipeline.specs.Plans.{IsPlan}
-use Rattle.sb_pipeline.specs.Operators.{operator_at}
+use Rattle.sb_node.specs.base.records.declared.item.Record.{Record}
+use Rattle.sb_node.specs.base.records.declared.element.KeptRec.{KeptRec}
+use Rattle.sb_node.specs.base.records.Records.{record_cmp, sorted_records, before, at_least}
+use Rattle.sb_node.specs.base.pipeline.Operators.{Operator, operator_rows}
+use Rattle.sb_node.specs.base.pipeline.Operators.Operator.{ParDo, Windowed, Sink}
+use Rattle.sb_node.specs.base.records.Elements.{all_records}
+use Rattle.sb_tally.specs.core.Closings.{still_open, kept_at, rows_at, is_sink}
+use Rattle.sb_node.proofs.base.records.Sums.{IsReordered-filter}
+use Rattle.sb_tally.proofs.core.windows.Groupings.{all_records-append, all_records-filter}
+use Rattle.sb_tally.proofs.core.windows.WindowOperators.{IsGrouping, closing}
+use Rattle.sb_tally.proofs.core.windows.WindowsAt.{windows-at}
+use Rattle.sb_node.specs.base.pipeline.Shapes.{Shape}
+use Rattle.sb_node.specs.base.pipeline.Plans.{IsPlan}
+use Rattle.sb_node.specs.base.pipeline.Operators.{operator_at}
 use Rattle.std.specs.Prelude.{slice_get}
-use Rattle.sb_record.specs.Orders.{IsAscending}
-use Rattle.sb_record.proofs.Sorting.{IsReordered-in_order, records_total, in_order-ascending, sorted-unique}
-use Rattle.sb_record.specs.Reorderings.{IsReordered}
-use Rattle.sb_window.specs.Groupings.{IsFrom, Adds, Closes}
-use Rattle.sb_kept.specs.Keeping.{output_from}
+use Rattle.sb_node.specs.base.records.Orders.{IsAscending}
+use Rattle.sb_node.proofs.base.records.Sorting.{IsReordered-in_order, records_total, in_order-ascending, sorted-unique}
+use Rattle.sb_node.specs.base.records.Reorderings.{IsReordered}
+use Rattle.sb_node.specs.base.window.Groupings.{IsFrom, Adds, Closes}
+use Rattle.sb_node.specs.kept.Keeping.{output_from}
 
 pub all-append : {X : Type 0} (P : X → Type 0) (a b : List X) → AllByRecursion P a → AllByRecursion P b → AllByRecursion P (a ++ b)
 all-append P [] b h k = k

@@ -5,29 +5,29 @@ use Rattle.std.specs.List.{slice_get, slice_set}
 use Rattle.std.proofs.lemmas.Bool.{cases_eq}
 use Rattle.std.proofs.lemmas.List.{length-set}
 use Rattle.std.proofs.lemmas.Option.{same_Some}
-use Rattle.sb_record.specs.declared.item.Record.{Record}
-use Rattle.sb_record.specs.Reading.{◌>>=◌}
-use Rattle.sb_pipeline.specs.Shapes.{Shape}
-use Rattle.sb_pipeline.specs.Plans.{IsPlan}
-use Rattle.sb_pipeline.specs.Operators.{operator_at}
-use Rattle.sb_core.specs.declared.moment.Node.{Node}
-use Rattle.sb_core.specs.declared.moment.Moment.{Moment}
-use Rattle.sb_core.specs.declared.held.Held.{Held}
-use Rattle.sb_core.specs.declared.event.Event.{Event}
-use Rattle.sb_core.specs.Choices.{only_if}
-use Rattle.sb_core.specs.Events.{after, run}
-use Rattle.sb_core.specs.Laws.{place_of, concerns}
-use Rattle.sb_core.specs.Moments.{with_held, node_at}
-use Rattle.sb_core.specs.Parts.{Part, part_after, held_after, with_part}
-use Rattle.sb_core.specs.Soundness.{IsSound}
-use Rattle.sb_core.proofs.sound.AfterSound.{events-keep_sound}
-use Rattle.sb_core.proofs.exact.Nodes.{slice_get-set_same, slice_get-set_other}
-use Rattle.sb_core.proofs.parts.PartsLaw.{parts-are_events, held-parts_are_events}
+use Rattle.sb_node.specs.base.records.declared.item.Record.{Record}
+use Rattle.sb_node.specs.base.records.Reading.{◌>>=◌}
+use Rattle.sb_node.specs.base.pipeline.Shapes.{Shape}
+use Rattle.sb_node.specs.base.pipeline.Plans.{IsPlan}
+use Rattle.sb_node.specs.base.pipeline.Operators.{operator_at}
+use Rattle.sb_tally.specs.core.declared.moment.Node.{Node}
+use Rattle.sb_tally.specs.core.declared.moment.Moment.{Moment}
+use Rattle.sb_tally.specs.core.declared.held.Held.{Held}
+use Rattle.sb_tally.specs.core.declared.event.Event.{Event}
+use Rattle.sb_tally.specs.core.Choices.{only_if}
+use Rattle.sb_tally.specs.core.Events.{after, run}
+use Rattle.sb_tally.specs.core.Laws.{place_of, concerns}
+use Rattle.sb_tally.specs.core.Moments.{with_held, node_at}
+use Rattle.sb_tally.specs.core.Parts.{Part, part_after, held_after, with_part}
+use Rattle.sb_tally.specs.core.Soundness.{IsSound}
+use Rattle.sb_tally.proofs.core.sound.AfterSound.{events-keep_sound}
+use Rattle.sb_tally.proofs.core.exact.Nodes.{slice_get-set_same, slice_get-set_other}
+use Rattle.sb_tally.proofs.core.parts.PartsLaw.{parts-are_events, held-parts_are_events}
 use Rattle.sb_node.specs.declared.state.NodeState.{NodeState}
 use Rattle.std.proofs.lemmas.List.{map-set}
 use Rattle.std.proofs.lemmas.Option.{get_or_from_slice_get}
-use Rattle.sb_core.specs.Choices.{first_and_rest}
-use Rattle.sb_diary.specs.declared.event.DiaryEvent.{DiaryEvent}
+use Rattle.sb_tally.specs.core.Choices.{first_and_rest}
+use Rattle.sb_node.specs.diary.declared.event.DiaryEvent.{DiaryEvent}
 use Rattle.sb_tally.specs.Written.{diaries_with, line_after, held_line}
 use Rattle.sb_tally.specs.Keeping.{line_at, diaries_with_line, diaries_after, if_some, diaries_by}
 use Rattle.sb_hand.specs.Showing.{ShowsNode, Stands, Reaches, diaries_of}

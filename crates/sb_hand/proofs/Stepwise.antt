@@ -1,7 +1,7 @@
 -- A step keeps what a hand knows of itself.
 use Rattle.std.proofs.Common.{◌≡◌, ℕ, List, [], ap, sym, subst}
-use Rattle.sb_record.specs.declared.item.Record.{Record}
-use Rattle.sb_pipeline.specs.Shapes.{Shape}
+use Rattle.sb_node.specs.base.records.declared.item.Record.{Record}
+use Rattle.sb_node.specs.base.pipeline.Shapes.{Shape}
 use Rattle.sb_hand.specs.declared.did.Did.{Did}
 use Rattle.sb_hand.specs.declared.did.Did.TheVariants.{Bundle, Closing, Nothing}
 use Rattle.sb_node.specs.declared.state.NodeState.{NodeState}

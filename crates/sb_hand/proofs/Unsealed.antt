@@ -4,16 +4,16 @@ use Rattle.std.specs.Prelude.{sum_by}
 use Rattle.std.proofs.lemmas.List.Sums.{sum_by-cons}
 use Rattle.std.proofs.lemmas.List.{length-drop}
 use Rattle.std.proofs.lemmas.Option.{same_Some}
-use Rattle.sb_bundle.specs.declared.bundle.Bundle.{Bundle}
-use Rattle.sb_record.specs.Reading.{◌>>=◌}
-use Rattle.sb_core.specs.declared.moment.Cont.{Cont}
-use Rattle.sb_core.specs.declared.moment.CoreLane.{CoreLane}
-use Rattle.sb_core.specs.LaneOrder.{IsLane, AreContainers}
-use Rattle.sb_core.specs.Lanes.{fresh, in_epoch, with_first_closing}
-use Rattle.sb_core.specs.Marks.{last_of_first}
-use Rattle.sb_lane.specs.Links.{link_of, link_in, links_of}
-use Rattle.sb_lane.specs.Placed.{Placed, conts_of}
-use Rattle.sb_lane.specs.Taking.{first_taken, take_first, finish_first, with_finished}
+use Rattle.sb_node.specs.base.bundle.declared.bundle.Bundle.{Bundle}
+use Rattle.sb_node.specs.base.records.Reading.{◌>>=◌}
+use Rattle.sb_tally.specs.core.declared.moment.Cont.{Cont}
+use Rattle.sb_tally.specs.core.declared.moment.CoreLane.{CoreLane}
+use Rattle.sb_tally.specs.core.LaneOrder.{IsLane, AreContainers}
+use Rattle.sb_tally.specs.core.Lanes.{fresh, in_epoch, with_first_closing}
+use Rattle.sb_tally.specs.core.Marks.{last_of_first}
+use Rattle.sb_node.specs.lane.Links.{link_of, link_in, links_of}
+use Rattle.sb_node.specs.lane.Placed.{Placed, conts_of}
+use Rattle.sb_node.specs.lane.Taking.{first_taken, take_first, finish_first, with_finished}
 use Rattle.sb_hand.specs.Searching.{unsealed_in}
 
 abbrev pub unsealed_of : List Cont → ℕ

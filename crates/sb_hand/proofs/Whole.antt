@@ -3,19 +3,19 @@ use Rattle.std.proofs.Common.{◌≡◌, ℕ, suc, zero, ◌+◌, ◌≤◌, ◌
 use Rattle.std.specs.Prelude.{Ok}
 use Rattle.std.specs.List.{slice_get}
 use Rattle.std.proofs.lemmas.Option.{same_Some, slice_get_past}
-use Rattle.sb_record.specs.declared.item.Record.{Record}
-use Rattle.sb_pipeline.specs.declared.transform.Step.{Step}
-use Rattle.sb_pipeline.specs.Shapes.{Shape}
-use Rattle.sb_pipeline.specs.Plans.{IsPlan}
-use Rattle.sb_pipeline.specs.Operators.{operator_at}
-use Rattle.sb_core.specs.declared.event.Event.TheVariants.{Begin, Pass, End}
-use Rattle.sb_core.specs.Closings.{is_sink}
-use Rattle.sb_core.specs.Marks.{first_is_closing}
-use Rattle.sb_core.proofs.times.Timely.{no_sink}
-use Rattle.sb_lane.specs.declared.answers.LaneClose.{LaneClose}
-use Rattle.sb_lane.specs.Looks.{look_of}
-use Rattle.sb_lane.specs.LaneView.{LaneView, lane_of}
-use Rattle.sb_lane.specs.Placed.{conts_of}
+use Rattle.sb_node.specs.base.records.declared.item.Record.{Record}
+use Rattle.sb_node.specs.base.pipeline.declared.transform.Step.{Step}
+use Rattle.sb_node.specs.base.pipeline.Shapes.{Shape}
+use Rattle.sb_node.specs.base.pipeline.Plans.{IsPlan}
+use Rattle.sb_node.specs.base.pipeline.Operators.{operator_at}
+use Rattle.sb_tally.specs.core.declared.event.Event.TheVariants.{Begin, Pass, End}
+use Rattle.sb_tally.specs.core.Closings.{is_sink}
+use Rattle.sb_tally.specs.core.Marks.{first_is_closing}
+use Rattle.sb_tally.proofs.core.times.Timely.{no_sink}
+use Rattle.sb_node.specs.lane.declared.answers.LaneClose.{LaneClose}
+use Rattle.sb_node.specs.lane.Looks.{look_of}
+use Rattle.sb_node.specs.lane.LaneView.{LaneView, lane_of}
+use Rattle.sb_node.specs.lane.Placed.{conts_of}
 use Rattle.sb_node.specs.declared.closing.Closing.{Closing}
 use Rattle.sb_node.specs.declared.state.NodeState.{NodeState}
 use Rattle.sb_node.specs.Marking.{mark_for}
@@ -24,14 +24,14 @@ use Rattle.sb_hand.specs.Runs.IsClosingRun.{OfTransform, OfSink}
 use Rattle.sb_hand.specs.Sets.{HasLane, BeginsAt, Turns}
 use Rattle.sb_hand.specs.Showing.{Does, CanStand}
 use Rattle.sb_hand.proofs.Beginning.{begin-does, begin-sink, rises}
-use Rattle.sb_diary.specs.declared.event.DiaryEvent.TheVariants as line
+use Rattle.sb_node.specs.diary.declared.event.DiaryEvent.TheVariants as line
 use Rattle.sb_hand.proofs.Composing.{does-then, can-after}
 use Rattle.sb_hand.proofs.Doing.{end-does}
 use Rattle.sb_hand.proofs.LeftToDo.{lowers-then, begins-lowers, ends-lowers}
 use Rattle.sb_hand.proofs.Having.{closing-lane, lanes-are}
 use Rattle.sb_hand.proofs.Beginning.{lanes_two}
 use Rattle.sb_hand.proofs.SettingsStay.{settings-lane, settings-node}
-use Rattle.sb_kept.specs.Keeping.{closed_mark}
+use Rattle.sb_node.specs.kept.Keeping.{closed_mark}
 use Rattle.sb_hand.proofs.Single.{there-too}
 
 pub transform-op : (steps : List Step) (k : ℕ) → k < length steps → is_sink (operator_at (slice_get steps k)) ≡ false

@@ -4,34 +4,34 @@ use Rattle.std.specs.Prelude.{Bool, All}
 use Rattle.std.specs.List.{slice_get, AllByRecursion}
 use Rattle.std.specs.Option.{option_map}
 use Rattle.std.proofs.lemmas.List.Elements.{All-from_recursion}
-use Rattle.sb_bundle.specs.declared.bundle.Bundle.{Bundle}
-use Rattle.sb_record.specs.declared.item.Record.{Record}
-use Rattle.sb_record.specs.declared.item.TheConstants.{END_MARK}
-use Rattle.sb_pipeline.specs.declared.transform.Step.{Step}
-use Rattle.sb_pipeline.specs.declared.transform.Down.{Down}
-use Rattle.sb_record.specs.Elements.{on_lane}
-use Rattle.sb_pipeline.specs.Shapes.{Shape}
-use Rattle.sb_pipeline.specs.Plans.{IsPlan}
-use Rattle.sb_pipeline.specs.Operators.{operator_at}
-use Rattle.sb_core.specs.declared.event.Event.TheVariants.{Take, Deliver, Finish}
-use Rattle.sb_core.specs.Bounds.{bound_at}
-use Rattle.sb_core.specs.Choices.{is_empty}
-use Rattle.sb_core.specs.Closings.{delivery, is_pardo}
-use Rattle.sb_core.specs.LaneOrder.{IsWithin}
-use Rattle.sb_core.specs.Lanes.{with_arrival}
-use Rattle.sb_core.proofs.times.TimeBounds.{bound-before_end}
-use Rattle.sb_lane.specs.LaneView.{LaneView, lane_of}
-use Rattle.sb_lane.specs.Placed.{conts_of}
-use Rattle.sb_lane.specs.Taking.{finish_first}
+use Rattle.sb_node.specs.base.bundle.declared.bundle.Bundle.{Bundle}
+use Rattle.sb_node.specs.base.records.declared.item.Record.{Record}
+use Rattle.sb_node.specs.base.records.declared.item.TheConstants.{END_MARK}
+use Rattle.sb_node.specs.base.pipeline.declared.transform.Step.{Step}
+use Rattle.sb_node.specs.base.pipeline.declared.transform.Down.{Down}
+use Rattle.sb_node.specs.base.records.Elements.{on_lane}
+use Rattle.sb_node.specs.base.pipeline.Shapes.{Shape}
+use Rattle.sb_node.specs.base.pipeline.Plans.{IsPlan}
+use Rattle.sb_node.specs.base.pipeline.Operators.{operator_at}
+use Rattle.sb_tally.specs.core.declared.event.Event.TheVariants.{Take, Deliver, Finish}
+use Rattle.sb_tally.specs.core.Bounds.{bound_at}
+use Rattle.sb_tally.specs.core.Choices.{is_empty}
+use Rattle.sb_tally.specs.core.Closings.{delivery, is_pardo}
+use Rattle.sb_tally.specs.core.LaneOrder.{IsWithin}
+use Rattle.sb_tally.specs.core.Lanes.{with_arrival}
+use Rattle.sb_tally.proofs.core.times.TimeBounds.{bound-before_end}
+use Rattle.sb_node.specs.lane.LaneView.{LaneView, lane_of}
+use Rattle.sb_node.specs.lane.Placed.{conts_of}
+use Rattle.sb_node.specs.lane.Taking.{finish_first}
 use Rattle.sb_node.specs.declared.state.NodeState.{NodeState}
 use Rattle.sb_hand.specs.Runs.{work_of, bundle_events, FinishesWork, WorksOff}
 use Rattle.sb_hand.specs.Sets.{HasLane, SetsLane, Takes, Turns, Absorbs}
-use Rattle.sb_diary.specs.declared.event.DiaryEvent.TheVariants as line
+use Rattle.sb_node.specs.diary.declared.event.DiaryEvent.TheVariants as line
 use Rattle.sb_hand.specs.Showing.{CanStand, Does, ShowsNode, settings_of}
-use Rattle.sb_kept.specs.Keeping.{IsPartFor}
-use Rattle.sb_window.specs.Groupings.{IsFrom}
-use Rattle.sb_work.specs.Processing.{IsPart}
-use Rattle.sb_work.specs.declared.outputs.Part.{Part}
+use Rattle.sb_node.specs.kept.Keeping.{IsPartFor}
+use Rattle.sb_node.specs.base.window.Groupings.{IsFrom}
+use Rattle.sb_node.specs.work.Processing.{IsPart}
+use Rattle.sb_node.specs.work.declared.outputs.Part.{Part}
 use Rattle.std.proofs.lemmas.Option.{same_Some, slice_get_within}
 use Rattle.sb_hand.proofs.SettingsStay.{settings-lane, settings-node}
 use Rattle.sb_hand.proofs.Single.{there-too}

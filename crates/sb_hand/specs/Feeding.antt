@@ -1,18 +1,18 @@
 -- What the feeder may bring, and what comes of it.
 use Rattle.std.specs.Prelude.{◌≡◌, ◌≤◌, ◌<◌, ℕ, ◌+◌, ◌-◌, ◌^◌, List, length, Some}
 use Rattle.std.specs.List.{AllByRecursion}
-use Rattle.sb_record.specs.declared.item.Stream.{Stream}
-use Rattle.sb_record.specs.declared.item.TheConstants.{MAX_TIME, END_MARK}
-use Rattle.sb_bundle.specs.declared.bundle.Bundle.{Bundle}
-use Rattle.sb_pipeline.specs.declared.transform.Down.{Down}
-use Rattle.sb_pipeline.specs.Shapes.{Shape, source}
-use Rattle.sb_core.specs.Lanes.{next_epoch, next_floor, with_arrival}
-use Rattle.sb_diary.specs.declared.event.DiaryEvent.TheVariants as line
-use Rattle.sb_lane.specs.declared.answers.ArriveStop.{ArriveStop}
-use Rattle.sb_lane.specs.declared.answers.ArriveStop.TheVariants.{Full, Memory}
-use Rattle.sb_lane.specs.Unfinished.{unfinished_of}
-use Rattle.sb_lane.specs.LaneView.{LaneView, lane_of}
-use Rattle.sb_lane.specs.Placed.{conts_of}
+use Rattle.sb_node.specs.base.records.declared.item.Stream.{Stream}
+use Rattle.sb_node.specs.base.records.declared.item.TheConstants.{MAX_TIME, END_MARK}
+use Rattle.sb_node.specs.base.bundle.declared.bundle.Bundle.{Bundle}
+use Rattle.sb_node.specs.base.pipeline.declared.transform.Down.{Down}
+use Rattle.sb_node.specs.base.pipeline.Shapes.{Shape, source}
+use Rattle.sb_tally.specs.core.Lanes.{next_epoch, next_floor, with_arrival}
+use Rattle.sb_node.specs.diary.declared.event.DiaryEvent.TheVariants as line
+use Rattle.sb_node.specs.lane.declared.answers.ArriveStop.{ArriveStop}
+use Rattle.sb_node.specs.lane.declared.answers.ArriveStop.TheVariants.{Full, Memory}
+use Rattle.sb_node.specs.lane.Unfinished.{unfinished_of}
+use Rattle.sb_node.specs.lane.LaneView.{LaneView, lane_of}
+use Rattle.sb_node.specs.lane.Placed.{conts_of}
 use Rattle.sb_node.specs.declared.state.NodeState.{NodeState}
 use Rattle.sb_node.specs.Coming.{IsBackFrom}
 use Rattle.sb_hand.specs.Sets.{HasLane, StaysAt, Turns}

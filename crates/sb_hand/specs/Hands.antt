@@ -1,11 +1,11 @@
 -- What contracts see of a hand.
 use Rattle.std.specs.Prelude.{◌≡◌, ℕ, ◌+◌, Bool, false, List, [], ◌∷◌, ◌++◌, All, length, map, replicate}
-use Rattle.sb_record.specs.declared.item.Record.{Record}
-use Rattle.sb_pipeline.specs.Shapes.{Shape}
-use Rattle.sb_pipeline.specs.Operators.{Operator, operator_of, lanes_of}
-use Rattle.sb_pipeline.specs.Operators.Operator.{Sink}
-use Rattle.sb_core.specs.declared.moment.Moment.{Moment}
-use Rattle.sb_core.specs.Moments.{first}
+use Rattle.sb_node.specs.base.records.declared.item.Record.{Record}
+use Rattle.sb_node.specs.base.pipeline.Shapes.{Shape}
+use Rattle.sb_node.specs.base.pipeline.Operators.{Operator, operator_of, lanes_of}
+use Rattle.sb_node.specs.base.pipeline.Operators.Operator.{Sink}
+use Rattle.sb_tally.specs.core.declared.moment.Moment.{Moment}
+use Rattle.sb_tally.specs.core.Moments.{first}
 use Rattle.sb_node.specs.declared.state.NodeState.{NodeState}
 use Rattle.sb_hand.specs.Showing.{Settings, Stands, diaries_of, settings_of}
 

@@ -1,6 +1,6 @@
 -- What becomes of a lane of a node, whatever it was.
 use Rattle.std.specs.Prelude.{ℕ, List}
-use Rattle.sb_lane.specs.LaneView.{LaneView}
+use Rattle.sb_node.specs.lane.LaneView.{LaneView}
 use Rattle.sb_node.specs.declared.state.NodeState.{NodeState}
 use Rattle.sb_hand.specs.Sets.{HasLane}
 

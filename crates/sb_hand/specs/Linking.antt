@@ -1,13 +1,13 @@
 -- How the containers of a transform of single records are linked to those below that take their output.
 use Rattle.std.specs.Prelude.{◌≡◌, ◌≤◌, ℕ, true, List, length, Option, Some, None, slice_get}
 use Rattle.std.specs.Option.{option_map}
-use Rattle.sb_pipeline.specs.declared.transform.Step.{Step}
-use Rattle.sb_pipeline.specs.Shapes.{Shape}
-use Rattle.sb_pipeline.specs.Operators.{operator_at}
-use Rattle.sb_core.specs.Closings.{is_pardo}
-use Rattle.sb_lane.specs.Changes.{StandsAt}
-use Rattle.sb_lane.specs.LaneView.{LaneView, link_at}
-use Rattle.sb_lane.specs.Links.{Link, link_in, links_of}
+use Rattle.sb_node.specs.base.pipeline.declared.transform.Step.{Step}
+use Rattle.sb_node.specs.base.pipeline.Shapes.{Shape}
+use Rattle.sb_node.specs.base.pipeline.Operators.{operator_at}
+use Rattle.sb_tally.specs.core.Closings.{is_pardo}
+use Rattle.sb_node.specs.lane.Changes.{StandsAt}
+use Rattle.sb_node.specs.lane.LaneView.{LaneView, link_at}
+use Rattle.sb_node.specs.lane.Links.{Link, link_in, links_of}
 use Rattle.sb_node.specs.declared.state.NodeState.{NodeState}
 use Rattle.sb_hand.specs.Searching.{SearchesFew}
 use Rattle.sb_hand.specs.Sets.{HasLane}

@@ -1,14 +1,14 @@
 -- What the calls on a bundle or a closing in hand rely on.
 use Rattle.std.specs.Prelude.{◌≡◌, ◌<◌, ℕ, true, false, List, [], ◌∷◌, length, slice_get}
-use Rattle.sb_record.specs.declared.item.Record.{Record}
-use Rattle.sb_pipeline.specs.Shapes.{Shape}
-use Rattle.sb_pipeline.specs.Plans.{IsPlan}
-use Rattle.sb_pipeline.specs.Operators.{operator_at}
-use Rattle.sb_core.specs.Closings.{delivery, is_pardo}
-use Rattle.sb_core.specs.declared.held.Held.{Held}
+use Rattle.sb_node.specs.base.records.declared.item.Record.{Record}
+use Rattle.sb_node.specs.base.pipeline.Shapes.{Shape}
+use Rattle.sb_node.specs.base.pipeline.Plans.{IsPlan}
+use Rattle.sb_node.specs.base.pipeline.Operators.{operator_at}
+use Rattle.sb_tally.specs.core.Closings.{delivery, is_pardo}
+use Rattle.sb_tally.specs.core.declared.held.Held.{Held}
 use Rattle.sb_node.specs.declared.closing.Closing.{Closing}
 use Rattle.sb_node.specs.declared.state.NodeState.{NodeState}
-use Rattle.sb_work.specs.declared.claim.Claim.{Claim}
+use Rattle.sb_node.specs.work.declared.claim.Claim.{Claim}
 use Rattle.sb_hand.specs.Linking.{AreLinked, NoneBelow}
 use Rattle.sb_hand.specs.Runs.{close_of, work_of}
 use Rattle.sb_hand.specs.Showing.{CanStand}

@@ -1,12 +1,12 @@
 -- Lists of events of one node.
 use Rattle.std.specs.Prelude.{◌≡◌, ◌<◌, ℕ, Bool, List, [], ◌∷◌, ◌++◌, length, replicate, true, false, drop}
-use Rattle.sb_bundle.specs.declared.bundle.Bundle.{Bundle}
-use Rattle.sb_record.specs.declared.item.Record.{Record}
-use Rattle.sb_pipeline.specs.Shapes.{Shape}
-use Rattle.sb_core.specs.declared.event.Event.{Event}
-use Rattle.sb_core.specs.declared.event.Event.TheVariants.{Take, Deliver, Finish, Begin, Pass, End}
-use Rattle.sb_core.specs.declared.held.Held.{Held}
-use Rattle.sb_core.specs.declared.held.Held.TheVariants.{Work, Close}
+use Rattle.sb_node.specs.base.bundle.declared.bundle.Bundle.{Bundle}
+use Rattle.sb_node.specs.base.records.declared.item.Record.{Record}
+use Rattle.sb_node.specs.base.pipeline.Shapes.{Shape}
+use Rattle.sb_tally.specs.core.declared.event.Event.{Event}
+use Rattle.sb_tally.specs.core.declared.event.Event.TheVariants.{Take, Deliver, Finish, Begin, Pass, End}
+use Rattle.sb_tally.specs.core.declared.held.Held.{Held}
+use Rattle.sb_tally.specs.core.declared.held.Held.TheVariants.{Work, Close}
 use Rattle.sb_node.specs.declared.closing.Closing.{Closing}
 use Rattle.sb_node.specs.declared.state.NodeState.{NodeState}
 use Rattle.sb_hand.specs.Showing.{Does, settings_of}

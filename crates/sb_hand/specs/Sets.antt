@@ -1,22 +1,22 @@
 -- A change of one lane of one node.
 use Rattle.std.specs.Prelude.{◌≡◌, ℕ, ◌+◌, List, [], ◌∷◌, ◌++◌, length, Some, slice_get, slice_set, map}
-use Rattle.sb_diary.specs.declared.event.DiaryEvent.{DiaryEvent}
-use Rattle.sb_diary.specs.declared.event.DiaryEvent.TheVariants as line
-use Rattle.sb_bundle.specs.declared.bundle.Bundle.{Bundle}
-use Rattle.sb_core.specs.declared.moment.CoreLane.{CoreLane}
-use Rattle.sb_lane.specs.LaneView.{LaneView, lane_of}
-use Rattle.sb_lane.specs.Placed.{conts_of}
-use Rattle.sb_lane.specs.Taking.{take_first, finish_first}
-use Rattle.sb_core.specs.Lanes.{with_first_closing}
-use Rattle.sb_record.specs.declared.item.Record.{Record}
-use Rattle.sb_record.specs.Elements.{on_lane}
-use Rattle.sb_window.specs.Groupings.{Adds, Closes}
-use Rattle.sb_pipeline.specs.Operators.{Operator}
-use Rattle.sb_work.specs.declared.outputs.Part.{Part}
-use Rattle.sb_core.specs.Marks.{before_closing}
+use Rattle.sb_node.specs.diary.declared.event.DiaryEvent.{DiaryEvent}
+use Rattle.sb_node.specs.diary.declared.event.DiaryEvent.TheVariants as line
+use Rattle.sb_node.specs.base.bundle.declared.bundle.Bundle.{Bundle}
+use Rattle.sb_tally.specs.core.declared.moment.CoreLane.{CoreLane}
+use Rattle.sb_node.specs.lane.LaneView.{LaneView, lane_of}
+use Rattle.sb_node.specs.lane.Placed.{conts_of}
+use Rattle.sb_node.specs.lane.Taking.{take_first, finish_first}
+use Rattle.sb_tally.specs.core.Lanes.{with_first_closing}
+use Rattle.sb_node.specs.base.records.declared.item.Record.{Record}
+use Rattle.sb_node.specs.base.records.Elements.{on_lane}
+use Rattle.sb_node.specs.base.window.Groupings.{Adds, Closes}
+use Rattle.sb_node.specs.base.pipeline.Operators.{Operator}
+use Rattle.sb_node.specs.work.declared.outputs.Part.{Part}
+use Rattle.sb_tally.specs.core.Marks.{before_closing}
 use Rattle.sb_node.specs.Marking.{mark_for}
-use Rattle.sb_kept.specs.declared.kept.Kept.{Kept}
-use Rattle.sb_kept.specs.Keeping.{IsSpent, IsMadeFor, IsPartFor, closed_mark, gives}
+use Rattle.sb_node.specs.kept.declared.kept.Kept.{Kept}
+use Rattle.sb_node.specs.kept.Keeping.{IsSpent, IsMadeFor, IsPartFor, closed_mark, gives}
 use Rattle.sb_node.specs.declared.closing.Closing.{Closing}
 use Rattle.sb_node.specs.declared.state.NodeState.{NodeState}
 

@@ -1,20 +1,20 @@
 -- What the state of a node shows of a moment, and what all nodes show.
 use Rattle.std.specs.Prelude.{◌≡◌, ℕ, Bool, List, ◌++◌, length, map, Some, slice_get}
-use Rattle.sb_record.specs.declared.item.Record.{Record}
-use Rattle.sb_pipeline.specs.Shapes.{Shape}
-use Rattle.sb_pipeline.specs.Operators.{Operator, operator_at}
-use Rattle.sb_core.specs.declared.moment.Node.{Node}
-use Rattle.sb_core.specs.declared.moment.Moment.{Moment}
-use Rattle.sb_core.specs.declared.held.Held.{Held}
-use Rattle.sb_core.specs.declared.event.Event.{Event}
-use Rattle.sb_core.specs.Events.{run}
-use Rattle.sb_core.specs.Marks.{least_begun_mark}
-use Rattle.sb_core.specs.Soundness.{IsSound}
-use Rattle.sb_diary.specs.declared.event.DiaryEvent.{DiaryEvent}
+use Rattle.sb_node.specs.base.records.declared.item.Record.{Record}
+use Rattle.sb_node.specs.base.pipeline.Shapes.{Shape}
+use Rattle.sb_node.specs.base.pipeline.Operators.{Operator, operator_at}
+use Rattle.sb_tally.specs.core.declared.moment.Node.{Node}
+use Rattle.sb_tally.specs.core.declared.moment.Moment.{Moment}
+use Rattle.sb_tally.specs.core.declared.held.Held.{Held}
+use Rattle.sb_tally.specs.core.declared.event.Event.{Event}
+use Rattle.sb_tally.specs.core.Events.{run}
+use Rattle.sb_tally.specs.core.Marks.{least_begun_mark}
+use Rattle.sb_tally.specs.core.Soundness.{IsSound}
+use Rattle.sb_node.specs.diary.declared.event.DiaryEvent.{DiaryEvent}
 use Rattle.sb_tally.specs.Keeping.{diaries_by}
-use Rattle.sb_lane.specs.LaneView.{lane_of}
-use Rattle.sb_kept.specs.declared.kept.Kept.{Kept}
-use Rattle.sb_kept.specs.Keeping.{IsSpent, IsMadeFor, ShowsKept, closed_mark}
+use Rattle.sb_node.specs.lane.LaneView.{lane_of}
+use Rattle.sb_node.specs.kept.declared.kept.Kept.{Kept}
+use Rattle.sb_node.specs.kept.Keeping.{IsSpent, IsMadeFor, ShowsKept, closed_mark}
 use Rattle.sb_node.specs.declared.state.NodeState.{NodeState}
 
 -- what is kept is any list that the node's grouping stands for

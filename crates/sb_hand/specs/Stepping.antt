@@ -1,12 +1,12 @@
 -- What a step of a node does.
 use Rattle.std.specs.Prelude.{◌≡◌, ℕ, true, is_some, List, All, Some, Ok, slice_get}
-use Rattle.sb_record.specs.declared.item.Record.{Record}
-use Rattle.sb_pipeline.specs.Shapes.{Shape}
-use Rattle.sb_lane.specs.declared.answers.LaneClose.{LaneClose}
-use Rattle.sb_lane.specs.Looks.{look_of}
-use Rattle.sb_lane.specs.LaneView.{LaneView}
-use Rattle.sb_lane.specs.Placed.{conts_of}
-use Rattle.sb_lane.specs.Taking.{take_first}
+use Rattle.sb_node.specs.base.records.declared.item.Record.{Record}
+use Rattle.sb_node.specs.base.pipeline.Shapes.{Shape}
+use Rattle.sb_node.specs.lane.declared.answers.LaneClose.{LaneClose}
+use Rattle.sb_node.specs.lane.Looks.{look_of}
+use Rattle.sb_node.specs.lane.LaneView.{LaneView}
+use Rattle.sb_node.specs.lane.Placed.{conts_of}
+use Rattle.sb_node.specs.lane.Taking.{take_first}
 use Rattle.sb_hand.specs.declared.did.Did.{Did}
 use Rattle.sb_hand.specs.declared.did.Did.TheVariants.{Bundle, Closing, Nothing}
 use Rattle.sb_node.specs.declared.state.NodeState.{NodeState}

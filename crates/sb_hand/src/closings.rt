@@ -1,12 +1,12 @@
 //! Whole closings.
 
 ghost use Rattle.std.specs.Prelude.{◌≡◌, ◌<◌, ◌≤◌, ◌++◌, ◌+◌, ◌∷◌, [], true, false, length, drop, take, OnOk, IfOk, Ok};
-ghost use Rattle.sb_core.specs.Marks.{first_is_closing};
-ghost use Rattle.sb_diary.specs.declared.event.DiaryEvent.TheVariants as line;
-ghost use Rattle.sb_lane.specs.LaneView.{LaneView, lane_of};
-ghost use Rattle.sb_lane.specs.Looks.{look_of};
-ghost use Rattle.sb_lane.specs.Placed.{conts_of};
-ghost use Rattle.sb_lane.specs.declared.answers.LaneClose.{LaneClose as AClose};
+ghost use Rattle.sb_tally.specs.core.Marks.{first_is_closing};
+ghost use Rattle.sb_node.specs.diary.declared.event.DiaryEvent.TheVariants as line;
+ghost use Rattle.sb_node.specs.lane.LaneView.{LaneView, lane_of};
+ghost use Rattle.sb_node.specs.lane.Looks.{look_of};
+ghost use Rattle.sb_node.specs.lane.Placed.{conts_of};
+ghost use Rattle.sb_node.specs.lane.declared.answers.LaneClose.{LaneClose as AClose};
 ghost use Rattle.sb_node.specs.LinkChanges.{DropsLink};
 ghost use Rattle.sb_hand.specs.LaneGoing.{LaneGoes};
 ghost use Rattle.sb_hand.specs.Linking.{KeepsLinks, StandsBelow};
@@ -15,10 +15,8 @@ ghost use Rattle.sb_hand.specs.Runs.{close_of, Delivers, Ends, ClosesNode};
 ghost use Rattle.sb_hand.specs.Sets.{HasLane, Turns};
 
 use crate::events::{begin_at, end_at, put_at, put_first, seal_at};
-use sb_bundle::Bundle;
+use sb_node::sb_base::{Bundle, NoMemory, Plan, Record, Sequence};
 use sb_node::{Closing, NodeState};
-use sb_pipeline::Plan;
-use sb_record::{NoMemory, Record, Sequence};
 use std::alloc::Global;
 
 /// The first records of a list.

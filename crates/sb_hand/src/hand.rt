@@ -3,10 +3,10 @@
 ghost use Rattle.std.specs.Prelude.{◌≡◌, ◌≤◌, ◌<◌, ◌+◌, ◌↔◌, IsTrue, true, false, [], ◌∷◌, length, slice_get, Some};
 ghost use Rattle.std.specs.Prelude.{IfOk, IfErr, OnOk, OnErr};
 ghost use Rattle.std.specs.Option.{option_map};
-ghost use Rattle.sb_core.specs.declared.event.Event.TheVariants as event;
-ghost use Rattle.sb_lane.specs.LaneView.{LaneView};
-ghost use Rattle.sb_lane.specs.Placed.{conts_of};
-ghost use Rattle.sb_lane.specs.Unfinished.{unfinished_of};
+ghost use Rattle.sb_tally.specs.core.declared.event.Event.TheVariants as event;
+ghost use Rattle.sb_node.specs.lane.LaneView.{LaneView};
+ghost use Rattle.sb_node.specs.lane.Placed.{conts_of};
+ghost use Rattle.sb_node.specs.lane.Unfinished.{unfinished_of};
 ghost use Rattle.sb_hand.specs.Feeding.{IsTurnedBack, MayArrive, MaySeal, TakesStream};
 ghost use Rattle.sb_hand.specs.Hands.{IsNewHand, KeepsAllButNodes, NoneLeft};
 ghost use Rattle.sb_hand.specs.HandParts.{IsMadeOf};
@@ -21,12 +21,10 @@ use crate::feeding;
 use crate::making::new_nodes;
 use crate::settling::is_none_left;
 use crate::steps::step_node;
-use sb_bundle::{Bundle, MAX_BUNDLE};
-use sb_diary::Diary;
-use sb_lane::ArriveStop;
 use sb_node::NodeState;
-use sb_pipeline::Plan;
-use sb_record::{NoMemory, Record, Stream};
+use sb_node::sb_base::{Bundle, MAX_BUNDLE, NoMemory, Plan, Record, Stream};
+use sb_node::sb_diary::Diary;
+use sb_node::sb_lane::ArriveStop;
 use std::alloc::Global;
 use std::marker::Model;
 
@@ -53,7 +51,7 @@ impl Model for Hand {
     ghost use Rattle.sb_hand.specs.Linking.{AreLinked};
     ghost use Rattle.sb_hand.specs.Showing.{CanStand};
     ghost use Rattle.std.specs.Coded.{codes};
-    ghost use Rattle.sb_pipeline.specs.contracts.transform.Step as step;
+    ghost use Rattle.sb_node.specs.base.pipeline.contracts.transform.Step as step;
     ghost use Rattle.sb_node.specs.contracts.state.NodeState as state;
 
     ghost Value = { HandView };

@@ -1,16 +1,15 @@
 //! The nodes of a new hand.
 
 ghost use Rattle.std.specs.Prelude.{◌≡◌, ◌≤◌, ◌+◌, IfOk, length, replicate, slice_get};
-ghost use Rattle.sb_lane.specs.LaneView.{empty_lane};
-ghost use Rattle.sb_pipeline.specs.Operators.{operator_at};
+ghost use Rattle.sb_node.specs.lane.LaneView.{empty_lane};
+ghost use Rattle.sb_node.specs.base.pipeline.Operators.{operator_at};
 ghost use Rattle.sb_hand.specs.NewNodes.{AreNewNodes, IsNewNode};
 
-use sb_diary::Diary;
-use sb_kept::Kept;
-use sb_lane::Lane;
 use sb_node::NodeState;
-use sb_pipeline::Plan;
-use sb_record::NoMemory;
+use sb_node::sb_base::{NoMemory, Plan};
+use sb_node::sb_diary::Diary;
+use sb_node::sb_kept::Kept;
+use sb_node::sb_lane::Lane;
 use std::alloc::Global;
 
 /// So many lanes in which nothing has arrived.

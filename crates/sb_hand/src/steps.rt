@@ -2,11 +2,11 @@
 
 ghost use Rattle.std.specs.Prelude.{◌≡◌, ◌≤◌, [], true, length, All, Some, Ok, slice_get, is_some};
 ghost use Rattle.std.specs.Prelude.{IfOk, OnOk, IfSome, IfNone};
-ghost use Rattle.sb_lane.specs.declared.answers.LaneClose.{LaneClose as AClose};
-ghost use Rattle.sb_lane.specs.Looks.{look_of};
-ghost use Rattle.sb_lane.specs.LaneView.{LaneView};
-ghost use Rattle.sb_lane.specs.Placed.{conts_of};
-ghost use Rattle.sb_lane.specs.Taking.{take_first};
+ghost use Rattle.sb_node.specs.lane.declared.answers.LaneClose.{LaneClose as AClose};
+ghost use Rattle.sb_node.specs.lane.Looks.{look_of};
+ghost use Rattle.sb_node.specs.lane.LaneView.{LaneView};
+ghost use Rattle.sb_node.specs.lane.Placed.{conts_of};
+ghost use Rattle.sb_node.specs.lane.Taking.{take_first};
 ghost use Rattle.sb_node.specs.declared.state.NodeState.{NodeState as ANode};
 ghost use Rattle.sb_hand.specs.Linking.{KeepsLinks};
 ghost use Rattle.sb_hand.specs.Readiness.{IsReady};
@@ -16,10 +16,9 @@ ghost use Rattle.sb_node.specs.Looking.{CannotClose, NoneWaits};
 use crate::bundles::work_off;
 use crate::closings::close_node;
 use crate::did::Did;
-use sb_lane::Lane;
 use sb_node::NodeState;
-use sb_pipeline::Plan;
-use sb_record::{NoMemory, Record};
+use sb_node::sb_base::{NoMemory, Plan, Record};
+use sb_node::sb_lane::Lane;
 use std::alloc::Global;
 
 /// The first lane whose oldest container can close, and that container's epoch.

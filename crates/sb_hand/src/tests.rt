@@ -1,21 +1,19 @@
 //! A hand by example: it is fed, stepped and drained.
 
 ghost use Rattle.std.specs.Prelude.{◌≡◌, ◌≤◌, ◌+◌, [], Some, IfOk, OnOk, length};
-ghost use Rattle.sb_core.specs.declared.moment.Moment.{Moment};
-ghost use Rattle.sb_core.specs.Moments.{epoch_at, floor_at};
-ghost use Rattle.sb_pipeline.specs.declared.transform.Down.{Down as ADown};
-ghost use Rattle.sb_pipeline.specs.Shapes.{source};
-ghost use Rattle.sb_record.specs.declared.item.Stream.TheVariants as stream;
+ghost use Rattle.sb_tally.specs.core.declared.moment.Moment.{Moment};
+ghost use Rattle.sb_tally.specs.core.Moments.{epoch_at, floor_at};
+ghost use Rattle.sb_node.specs.base.pipeline.declared.transform.Down.{Down as ADown};
+ghost use Rattle.sb_node.specs.base.pipeline.Shapes.{source};
+ghost use Rattle.sb_node.specs.base.records.declared.item.Stream.TheVariants as stream;
 ghost use Rattle.sb_hand.specs.Hands.{Shows};
 
 use crate::{Did, Hand, MAX_PENDING};
-use sb_aggregate::Agg;
-use sb_bundle::{Bundle, MAX_BUNDLE};
-use sb_lane::ArriveStop;
-use sb_pardo::Op;
-use sb_pipeline::{Down, Kind, Plan, Step, sum_plan};
-use sb_record::{END_MARK, Key, MAX_TIME, NoMemory, Record, Sequence, Stream};
-use sb_window::Windows;
+use sb_node::sb_base::{
+    Agg, Bundle, Down, END_MARK, Key, Kind, MAX_BUNDLE, MAX_TIME, NoMemory, Op, Plan, Record,
+    Sequence, Step, Stream, Windows, sum_plan,
+};
+use sb_node::sb_lane::ArriveStop;
 use std::alloc::Global;
 use std::test::Fail;
 

@@ -3,20 +3,20 @@ use Rattle.std.proofs.Common.{◌≡◌, ◌<◌, ℕ, zero, suc, List, append-n
 use Rattle.std.specs.Prelude.{sum_by, OnOk}
 use Rattle.std.specs.declared.result.Result.{Result}
 use Rattle.std.specs.declared.vec.Vec.{Vec}
-use Rattle.sb_record.specs.declared.element.KeptRec.{KeptRec}
-use Rattle.sb_record.specs.declared.item.NoMemory.{NoMemory}
-use Rattle.sb_record.specs.declared.item.Record.{Record}
-use Rattle.sb_record.specs.Elements.{all_records, on_lane}
-use Rattle.sb_record.proofs.OnLanes.{all_records-on_lane}
-use Rattle.sb_window.specs.Groupings.{IsFrom, Adds}
-use Rattle.sb_aggregate.specs.Groups as aggregate
+use Rattle.sb_work.specs.base.records.declared.element.KeptRec.{KeptRec}
+use Rattle.sb_work.specs.base.records.declared.item.NoMemory.{NoMemory}
+use Rattle.sb_work.specs.base.records.declared.item.Record.{Record}
+use Rattle.sb_work.specs.base.records.Elements.{all_records, on_lane}
+use Rattle.sb_work.proofs.base.records.OnLanes.{all_records-on_lane}
+use Rattle.sb_work.specs.base.window.Groupings.{IsFrom, Adds}
+use Rattle.sb_work.specs.base.aggregate.Groups as aggregate
 use Rattle.sb_emit.specs.Sinks as sink
-use Rattle.sb_join.specs.Kept as join
+use Rattle.sb_work.specs.base.join.Kept as join
 use Rattle.sb_session.specs.SessionStates as session
-use Rattle.sb_join.specs.declared.kept.JoinPart.{JoinPart}
-use Rattle.sb_pipeline.specs.Operators.{Operator, lanes_of}
-use Rattle.sb_pipeline.specs.Operators.Operator.{ParDo, Windowed, Sink}
-use Rattle.sb_pipeline.specs.Operators.WindowOperator.{Aggregated, Sessions, Joined}
+use Rattle.sb_work.specs.base.join.declared.kept.JoinPart.{JoinPart}
+use Rattle.sb_work.specs.base.pipeline.Operators.{Operator, lanes_of}
+use Rattle.sb_work.specs.base.pipeline.Operators.Operator.{ParDo, Windowed, Sink}
+use Rattle.sb_work.specs.base.pipeline.Operators.WindowOperator.{Aggregated, Sessions, Joined}
 use Rattle.sb_work.specs.declared.outputs.Part.{Part}
 use Rattle.sb_work.specs.declared.outputs.Part.TheVariants as part
 use Rattle.sb_work.specs.Processing.{IsPart, side_of}

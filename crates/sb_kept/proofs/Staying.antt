@@ -1,14 +1,14 @@
 -- What a grouping is at the start, and what it stays.
 use Rattle.std.proofs.Common.{◌≡◌, ℕ, [], refl, sym, ap, subst, ◌∙◌}
 use Rattle.std.specs.Prelude.{sum_by}
-use Rattle.sb_record.specs.Elements.{all_records}
-use Rattle.sb_aggregate.specs.declared.aggregate.Agg.{Agg}
-use Rattle.sb_aggregate.specs.Groups.{Absorbed, Grouped, IsLike}
-use Rattle.sb_aggregate.specs.Sessions.{session_rows}
-use Rattle.sb_join.proofs.KeptLaws.{fresh-all}
-use Rattle.sb_pipeline.specs.Operators.{Operator}
-use Rattle.sb_pipeline.specs.Operators.Operator.{ParDo, Windowed, Sink}
-use Rattle.sb_pipeline.specs.Operators.WindowOperator.{Aggregated, Sessions, Joined}
+use Rattle.sb_work.specs.base.records.Elements.{all_records}
+use Rattle.sb_work.specs.base.aggregate.declared.aggregate.Agg.{Agg}
+use Rattle.sb_work.specs.base.aggregate.Groups.{Absorbed, Grouped, IsLike}
+use Rattle.sb_work.specs.base.aggregate.Sessions.{session_rows}
+use Rattle.sb_work.proofs.base.join.KeptLaws.{fresh-all}
+use Rattle.sb_work.specs.base.pipeline.Operators.{Operator}
+use Rattle.sb_work.specs.base.pipeline.Operators.Operator.{ParDo, Windowed, Sink}
+use Rattle.sb_work.specs.base.pipeline.Operators.WindowOperator.{Aggregated, Sessions, Joined}
 use Rattle.sb_session.specs.SessionStates.{SessionState, fresh}
 use Rattle.sb_kept.specs.declared.kept.Kept.TheVariants as kept
 use Rattle.sb_kept.specs.Keeping.{IsMadeFor, ShowsKept}

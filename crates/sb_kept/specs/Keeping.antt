@@ -1,19 +1,19 @@
 -- What a node keeps between two closings, by its kind.
 use Rattle.std.specs.Prelude.{◌≡◌, ◌<◌, ℕ, true, All, List, [], ◌++◌}
-use Rattle.sb_record.specs.declared.element.KeptRec.{KeptRec}
-use Rattle.sb_record.specs.declared.item.Record.{Record}
-use Rattle.sb_record.specs.declared.item.TheConstants.{END_MARK}
-use Rattle.sb_record.specs.Elements.{all_records, on_lane}
-use Rattle.sb_record.specs.Records.{at_least}
-use Rattle.sb_record.specs.Reorderings.{IsReordered}
-use Rattle.sb_window.specs.Groupings.{IsFrom}
-use Rattle.sb_aggregate.specs.Groups as aggregate
+use Rattle.sb_work.specs.base.records.declared.element.KeptRec.{KeptRec}
+use Rattle.sb_work.specs.base.records.declared.item.Record.{Record}
+use Rattle.sb_work.specs.base.records.declared.item.TheConstants.{END_MARK}
+use Rattle.sb_work.specs.base.records.Elements.{all_records, on_lane}
+use Rattle.sb_work.specs.base.records.Records.{at_least}
+use Rattle.sb_work.specs.base.records.Reorderings.{IsReordered}
+use Rattle.sb_work.specs.base.window.Groupings.{IsFrom}
+use Rattle.sb_work.specs.base.aggregate.Groups as aggregate
 use Rattle.sb_emit.specs.Sinks as sink
-use Rattle.sb_join.specs.Kept as join
+use Rattle.sb_work.specs.base.join.Kept as join
 use Rattle.sb_session.specs.SessionStates as session
-use Rattle.sb_pipeline.specs.Operators.{Operator, operator_rows, lanes_of}
-use Rattle.sb_pipeline.specs.Operators.Operator.{ParDo, Windowed, Sink}
-use Rattle.sb_pipeline.specs.Operators.WindowOperator.{Aggregated, Sessions, Joined}
+use Rattle.sb_work.specs.base.pipeline.Operators.{Operator, operator_rows, lanes_of}
+use Rattle.sb_work.specs.base.pipeline.Operators.Operator.{ParDo, Windowed, Sink}
+use Rattle.sb_work.specs.base.pipeline.Operators.WindowOperator.{Aggregated, Sessions, Joined}
 use Rattle.sb_work.specs.declared.outputs.Part.{Part}
 use Rattle.sb_work.specs.Processing.{IsPart}
 use Rattle.sb_kept.specs.declared.kept.Kept.{Kept}

@@ -1,20 +1,16 @@
 //! The grouping of a node of any kind.
 
 ghost use Rattle.std.specs.Prelude.{◌≡◌, ◌≤◌, ℕ, true, List, [], length, slice_get, OnOk, OnErr, IfOk};
-ghost use Rattle.sb_record.specs.declared.item.Record.{Record as ARecord};
-ghost use Rattle.sb_record.specs.Elements.{on_lane};
-ghost use Rattle.sb_window.specs.Groupings.{Adds, Closes};
-ghost use Rattle.sb_pipeline.specs.Operators.{Operator, operator_at};
+ghost use Rattle.sb_work.specs.base.records.declared.item.Record.{Record as ARecord};
+ghost use Rattle.sb_work.specs.base.records.Elements.{on_lane};
+ghost use Rattle.sb_work.specs.base.window.Groupings.{Adds, Closes};
+ghost use Rattle.sb_work.specs.base.pipeline.Operators.{Operator, operator_at};
 ghost use Rattle.sb_kept.specs.Keeping.{IsSpent, IsMadeFor, IsPartFor, ShowsKept, closed_mark, gives};
 
-use sb_aggregate::Aggregate;
 use sb_emit::SinkKept;
-use sb_join::JoinKept;
-use sb_pipeline::{Kind, Plan};
-use sb_record::{NoMemory, Record};
 use sb_session::Session;
-use sb_window::Grouping;
 use sb_work::Part;
+use sb_work::sb_base::{Aggregate, Grouping, JoinKept, Kind, NoMemory, Plan, Record};
 use std::alloc::Global;
 
 /// What a node keeps between two closings.

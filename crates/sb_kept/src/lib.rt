@@ -11,3 +11,7 @@ mod kept;
 mod tests;
 
 pub use kept::Kept;
+
+// What the crates above name of the crates below.
+pub use sb_work;
+pub use sb_work::sb_base;

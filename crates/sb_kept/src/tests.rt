@@ -1,17 +1,14 @@
 //! What nodes of each kind keep and give.
 
 ghost use Rattle.std.specs.Prelude.{◌≡◌, ◌≤◌, length, slice_get, OnOk, IfOk};
-ghost use Rattle.sb_pipeline.specs.Operators.{operator_at};
+ghost use Rattle.sb_work.specs.base.pipeline.Operators.{operator_at};
 ghost use Rattle.sb_kept.specs.Keeping.{IsSpent, IsMadeFor, closed_mark};
 
 use crate::Kept;
-use sb_aggregate::Agg;
-use sb_bundle::Bundle;
-use sb_join::Combine;
-use sb_pardo::Op;
-use sb_pipeline::{Down, Kind, Plan, Step};
-use sb_record::{END_MARK, Key, NoMemory, Record, Sequence};
-use sb_window::Windows;
+use sb_work::sb_base::{
+    Agg, Bundle, Combine, Down, END_MARK, Key, Kind, NoMemory, Op, Plan, Record, Sequence, Step,
+    Windows,
+};
 use sb_work::{Claim, Output, process};
 use std::alloc::Global;
 use std::test::Fail;

@@ -6,8 +6,8 @@ use Rattle.std.proofs.lemmas.List.{length-map}
 use Rattle.std.specs.List.{insert}
 use Rattle.sb_core.specs.Lanes.{fresh, with_first_closing}
 use Rattle.sb_core.specs.Marks.{first_is_closing}
-use Rattle.sb_record.specs.Reading.{◌>>=◌}
-use Rattle.sb_bundle.specs.declared.bundle.Bundle.{Bundle}
+use Rattle.sb_core.specs.base.records.Reading.{◌>>=◌}
+use Rattle.sb_core.specs.base.bundle.declared.bundle.Bundle.{Bundle}
 use Rattle.sb_core.specs.declared.moment.Cont.{Cont}
 use Rattle.sb_lane.specs.Finding.{LowerBefore, OthersBefore, NoneWaitsBefore}
 use Rattle.sb_lane.specs.Changes.{HasRoomAt, StandsWithRoom}

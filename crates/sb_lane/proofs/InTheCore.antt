@@ -5,8 +5,8 @@ use Rattle.std.specs.List.{list_any}
 use Rattle.std.proofs.lemmas.Bool.{eq-eqb, ne_eqb, eqb-true}
 use Rattle.std.proofs.lemmas.List.{length-drop}
 use Rattle.std.proofs.lemmas.Option.{same_Some}
-use Rattle.sb_record.specs.Reading.{◌>>=◌}
-use Rattle.sb_bundle.specs.declared.bundle.Bundle.{Bundle}
+use Rattle.sb_core.specs.base.records.Reading.{◌>>=◌}
+use Rattle.sb_core.specs.base.bundle.declared.bundle.Bundle.{Bundle}
 use Rattle.sb_core.specs.declared.moment.Cont.{Cont}
 use Rattle.sb_core.specs.declared.moment.CoreLane.{CoreLane}
 use Rattle.sb_core.specs.Choices.{first_and_rest, only_if, is_empty}

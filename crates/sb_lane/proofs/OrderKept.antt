@@ -4,9 +4,9 @@ use Rattle.std.specs.Prelude.{Ok, filter, not}
 use Rattle.std.specs.List.{AllByRecursion}
 use Rattle.std.proofs.lemmas.List.{length-drop}
 use Rattle.std.proofs.lemmas.Option.{same_Some}
-use Rattle.sb_record.specs.declared.item.Record.{Record}
-use Rattle.sb_record.proofs.Numbers.{bind_some}
-use Rattle.sb_bundle.specs.declared.bundle.Bundle.{Bundle}
+use Rattle.sb_core.specs.base.records.declared.item.Record.{Record}
+use Rattle.sb_core.proofs.base.records.Numbers.{bind_some}
+use Rattle.sb_core.specs.base.bundle.declared.bundle.Bundle.{Bundle}
 use Rattle.sb_core.specs.declared.moment.Cont.{Cont}
 use Rattle.sb_core.specs.declared.moment.CoreLane.{CoreLane}
 use Rattle.sb_core.specs.LaneOrder.{IsLane, IsWithin, IsBundleOf, AreContainers, IsReady}

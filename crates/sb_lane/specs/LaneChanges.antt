@@ -1,6 +1,6 @@
 -- What becomes of a lane at a call.
 use Rattle.std.specs.Prelude.{◌≡◌, ℕ, ◌+◌, List, drop}
-use Rattle.sb_bundle.specs.declared.bundle.Bundle.{Bundle}
+use Rattle.sb_core.specs.base.bundle.declared.bundle.Bundle.{Bundle}
 use Rattle.sb_core.specs.declared.moment.Cont.{Cont}
 use Rattle.sb_core.specs.declared.moment.CoreLane.{CoreLane}
 use Rattle.sb_core.specs.Lanes.{with_arrival, with_seal}

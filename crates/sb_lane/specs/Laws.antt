@@ -1,8 +1,8 @@
 -- The laws of lanes: each change keeps the order in a lane, and each is one of the core's.
 use Rattle.std.specs.Prelude.{◌≡◌, ℕ, ◌+◌, ◌≤◌, ◌<◌, true, List, length, drop, Some, Ok}
 use Rattle.std.specs.List.{AllByRecursion}
-use Rattle.sb_record.specs.declared.item.Record.{Record}
-use Rattle.sb_bundle.specs.declared.bundle.Bundle.{Bundle}
+use Rattle.sb_core.specs.base.records.declared.item.Record.{Record}
+use Rattle.sb_core.specs.base.bundle.declared.bundle.Bundle.{Bundle}
 use Rattle.sb_core.specs.declared.moment.Cont.{Cont}
 use Rattle.sb_core.specs.declared.moment.CoreLane.{CoreLane}
 use Rattle.sb_core.specs.LaneOrder.{IsLane, IsWithin}

@@ -11,3 +11,4 @@ pub mod KeptMarks
 pub mod Looks
 pub mod Arriving
 pub mod Laws
+pub use Rattle.sb_core.specs as core

@@ -1,7 +1,7 @@
 -- The first waiting bundle of the oldest container that has one; and the first container of an epoch.
 use Rattle.std.specs.Prelude.{ℕ, List, [], ◌∷◌, ◌++◌, Option, Some, None, filter, not, ◌==◌, if◌then◌else◌}
-use Rattle.sb_bundle.specs.declared.bundle.Bundle.{Bundle}
-use Rattle.sb_record.specs.Reading.{◌>>=◌}
+use Rattle.sb_core.specs.base.bundle.declared.bundle.Bundle.{Bundle}
+use Rattle.sb_core.specs.base.records.Reading.{◌>>=◌}
 use Rattle.sb_core.specs.declared.moment.Cont.{Cont}
 
 -- by the bundles that wait in a container, and by what is taken from later ones

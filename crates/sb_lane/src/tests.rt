@@ -3,8 +3,7 @@
 ghost use Rattle.std.specs.Prelude.{◌≡◌};
 
 use crate::{ArriveStop, Lane, LaneClose, NotYet};
-use sb_bundle::Bundle;
-use sb_record::Sequence;
+use sb_core::sb_base::{Bundle, Sequence};
 use std::alloc::{AllocError, Global};
 use std::test::Fail;
 

@@ -1,14 +1,14 @@
 -- What an event makes of a node: one lane of it changes, and its diary has a line more.
 use Rattle.std.specs.Prelude.{◌≡◌, ℕ, ◌+◌, List, length, map, Some, slice_get, slice_set}
-use Rattle.sb_record.specs.declared.item.Record.{Record}
-use Rattle.sb_record.specs.Elements.{on_lane}
-use Rattle.sb_bundle.specs.declared.bundle.Bundle.{Bundle}
-use Rattle.sb_window.specs.Groupings.{Adds, Closes}
-use Rattle.sb_pipeline.specs.Operators.{Operator}
-use Rattle.sb_work.specs.declared.outputs.Part.{Part}
-use Rattle.sb_core.specs.declared.moment.CoreLane.{CoreLane}
-use Rattle.sb_core.specs.Lanes.{with_first_closing}
-use Rattle.sb_core.specs.Marks.{before_closing}
+use Rattle.sb_kept.specs.base.records.declared.item.Record.{Record}
+use Rattle.sb_kept.specs.base.records.Elements.{on_lane}
+use Rattle.sb_kept.specs.base.bundle.declared.bundle.Bundle.{Bundle}
+use Rattle.sb_kept.specs.base.window.Groupings.{Adds, Closes}
+use Rattle.sb_kept.specs.base.pipeline.Operators.{Operator}
+use Rattle.sb_kept.specs.work.declared.outputs.Part.{Part}
+use Rattle.sb_lane.specs.core.declared.moment.CoreLane.{CoreLane}
+use Rattle.sb_lane.specs.core.Lanes.{with_first_closing}
+use Rattle.sb_lane.specs.core.Marks.{before_closing}
 use Rattle.sb_diary.specs.Diaries.{with_line}
 use Rattle.sb_diary.specs.declared.event.DiaryEvent.{DiaryEvent}
 use Rattle.sb_diary.specs.declared.event.DiaryEvent.TheVariants as line

@@ -1,8 +1,8 @@
 //! Bundles come into a lane: of a stream, and of the node above.
 
 ghost use Rattle.std.specs.Prelude.{◌≡◌, ℕ, ◌<◌, ◌≤◌, ◌+◌, ◌-◌, ◌^◌, length, OnErr, IfErr, IfOk};
-ghost use Rattle.sb_core.specs.LaneOrder.{IsLane};
-ghost use Rattle.sb_core.specs.Lanes.{in_epoch, with_arrival};
+ghost use Rattle.sb_lane.specs.core.LaneOrder.{IsLane};
+ghost use Rattle.sb_lane.specs.core.Lanes.{in_epoch, with_arrival};
 ghost use Rattle.sb_diary.specs.declared.event.DiaryEvent.TheVariants as line;
 ghost use Rattle.sb_lane.specs.Changes.{StandsAt};
 ghost use Rattle.sb_lane.specs.LaneChanges.{IsUnchanged};
@@ -14,10 +14,9 @@ ghost use Rattle.sb_node.specs.Coming.{IsBackFrom};
 ghost use Rattle.sb_node.specs.LinkChanges.{FindsPlace, GetsPlace, LinksStay};
 
 use crate::state::NodeState;
-use sb_bundle::Bundle;
 use sb_diary::DiaryEvent;
+use sb_kept::sb_base::{Bundle, NoMemory};
 use sb_lane::{ArriveStop, Lane};
-use sb_record::NoMemory;
 
 /// Puts a bundle into the container of its epoch, which stands at a place of a lane.
 fn deliver_there(lane: &mut Lane, place: u64, bundle: Bundle) -> Result<u64, NoMemory>

@@ -1,6 +1,6 @@
 //! A closing in hand.
 
-use sb_record::Record;
+use sb_kept::sb_base::Record;
 
 /// A closing that has begun.
 #[derive(Drop)]

@@ -17,3 +17,9 @@ mod working;
 
 pub use closing::Closing;
 pub use state::NodeState;
+
+// What the crates above name of the crates below.
+pub use sb_diary;
+pub use sb_kept;
+pub use sb_kept::{sb_base, sb_work};
+pub use sb_lane;

@@ -1,8 +1,8 @@
 //! Watermarks of a lane: its next epoch is sealed, and its oldest container is closed.
 
 ghost use Rattle.std.specs.Prelude.{◌≡◌, ◌≤◌, ◌<◌, ◌+◌, true, length, drop, map, Ok, OnErr, OnOk, IfOk};
-ghost use Rattle.sb_core.specs.Lanes.{next_epoch, with_seal};
-ghost use Rattle.sb_core.specs.Marks.{before_closing, first_is_closing};
+ghost use Rattle.sb_lane.specs.core.Lanes.{next_epoch, with_seal};
+ghost use Rattle.sb_lane.specs.core.Marks.{before_closing, first_is_closing};
 ghost use Rattle.sb_diary.specs.declared.event.DiaryEvent.TheVariants as line;
 ghost use Rattle.sb_kept.specs.Keeping.{IsSpent, closed_mark};
 ghost use Rattle.sb_lane.specs.LaneView.{LaneView, lane_of};
@@ -16,8 +16,8 @@ ghost use Rattle.sb_node.specs.Marking as spec;
 use crate::closing::Closing;
 use crate::state::NodeState;
 use sb_diary::DiaryEvent;
+use sb_kept::sb_base::{NoMemory, Record};
 use sb_lane::Lane;
-use sb_record::{NoMemory, Record};
 
 /// The mark up to which a node is closed once the oldest container of a lane is closing.
 fn mark_for(lanes: &[Lane], lane: u32) -> u64

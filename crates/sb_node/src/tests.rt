@@ -4,16 +4,14 @@ ghost use Rattle.std.specs.Prelude.{◌≡◌, ◌≤◌, [], ◌∷◌, IfOk, I
 ghost use Rattle.sb_kept.specs.Keeping.{IsMadeFor, closed_mark};
 ghost use Rattle.sb_lane.specs.LaneView.{LaneView, empty_lane};
 ghost use Rattle.sb_node.specs.Changes.{HasLane};
-ghost use Rattle.sb_pipeline.specs.Operators.{operator_at};
+ghost use Rattle.sb_kept.specs.base.pipeline.Operators.{operator_at};
 
 use crate::{Closing, NodeState};
-use sb_bundle::Bundle;
 use sb_diary::{Diary, DiaryEvent};
 use sb_kept::Kept;
+use sb_kept::sb_base::{Bundle, END_MARK, Key, NoMemory, Plan, Record, Sequence, sum_plan};
+use sb_kept::sb_work::{Claim, Output, process};
 use sb_lane::{ArriveStop, Lane, NotYet};
-use sb_pipeline::{Plan, sum_plan};
-use sb_record::{END_MARK, Key, NoMemory, Record, Sequence};
-use sb_work::{Claim, Output, process};
 use std::alloc::Global;
 use std::test::Fail;
 

@@ -2,7 +2,7 @@
 
 ghost use Rattle.std.specs.Prelude.{◌≡◌, ◌≤◌, ℕ, true, List, length, is_some, OnErr, OnOk};
 ghost use Rattle.sb_diary.specs.declared.event.DiaryEvent.TheVariants as line;
-ghost use Rattle.sb_record.specs.declared.item.Record.{Record as ARecord};
+ghost use Rattle.sb_kept.specs.base.records.declared.item.Record.{Record as ARecord};
 ghost use Rattle.sb_kept.specs.Keeping.{IsPartFor, IsSpent};
 ghost use Rattle.sb_lane.specs.LaneView.{LaneView, lane_of};
 ghost use Rattle.sb_lane.specs.Links.{down_of, links_of};
@@ -12,10 +12,9 @@ ghost use Rattle.sb_node.specs.Changes.{Absorbs, GetsDown, HasLane, LosesKept, T
 ghost use Rattle.sb_node.specs.LinkChanges.{LinksStay};
 
 use crate::state::NodeState;
-use sb_bundle::Bundle;
 use sb_diary::DiaryEvent;
-use sb_record::NoMemory;
-use sb_work::Part;
+use sb_kept::sb_base::{Bundle, NoMemory};
+use sb_kept::sb_work::Part;
 
 impl NodeState {
     /// Takes the first waiting bundle of a lane in which one waits. It takes no memory.

@@ -3,35 +3,35 @@ use Rattle.std.proofs.Common.{◌≡◌, ℕ, Bool, true, false, List, [], ◌�
 use Rattle.std.specs.Prelude.{is_some, if◌then◌else◌, flat_map}
 use Rattle.std.proofs.lemmas.Bool.{true≢false}
 use Rattle.std.proofs.lemmas.List.Concat.{flat_map-append}
-use Rattle.sb_record.specs.declared.item.Item.{Item}
-use Rattle.sb_record.specs.declared.item.Item.TheVariants as item
-use Rattle.sb_record.specs.declared.item.Stream.{Stream}
-use Rattle.sb_record.specs.declared.item.Stream.TheVariants.{A, B}
-use Rattle.sb_record.specs.declared.item.Streams.{Streams}
-use Rattle.sb_record.specs.declared.item.TheConstants.{END_MARK}
-use Rattle.sb_record.specs.declared.intake.Refusal.{Refusal}
-use Rattle.sb_record.specs.declared.intake.Stop.TheVariants.{End}
-use Rattle.sb_record.specs.Inputs.{accepted_if}
-use Rattle.sb_record.specs.Intake.{answer_to}
-use Rattle.sb_record.specs.Streams.{last_or, records_of, uses, watermark_in}
-use Rattle.sb_outside.specs.Lines.{lines}
-use Rattle.sb_bundle.specs.declared.bundle.Bundle.{Bundle}
-use Rattle.sb_bundle.specs.Calls as calls
-use Rattle.sb_bundle.specs.Calls.{Call, records_in_order, parts_of}
-use Rattle.sb_bundle.specs.Calls.Call.{Mark, Push}
-use Rattle.sb_bundle.specs.Cuts.{first_cutting}
-use Rattle.sb_bundle.specs.Laws.{bundles_of}
-use Rattle.sb_pipeline.specs.Shapes.{Shape, streams_of}
-use Rattle.sb_tally.specs.Whole.{marks_of}
-use Rattle.sb_tally.proofs.Cutters.{cutter-records}
-use Rattle.sb_feed.specs.declared.cutters.Cutters.{Cutters}
-use Rattle.sb_feed.specs.Calls.{call_in, calls_of}
-use Rattle.sb_feed.specs.FedByItems.{IsFedBy, IsStreamFedBy, IsTimely, cutter_of, end_items}
-use Rattle.sb_feed.specs.Feeds.{Fed, bundles_in, records_of_feed, floor_in, marks_in}
-use Rattle.sb_feed.specs.Given.{Given, items_of}
-use Rattle.sb_feed.proofs.FirstRows.{pushed}
-use Rattle.sb_feed.proofs.ItemSteps.{fed_stream}
-use Rattle.sb_feed.proofs.LaterItems.{following, said_by, tested_is_timely}
+use Rattle.sb_feeds.specs.base.records.declared.item.Item.{Item}
+use Rattle.sb_feeds.specs.base.records.declared.item.Item.TheVariants as item
+use Rattle.sb_feeds.specs.base.records.declared.item.Stream.{Stream}
+use Rattle.sb_feeds.specs.base.records.declared.item.Stream.TheVariants.{A, B}
+use Rattle.sb_feeds.specs.base.records.declared.item.Streams.{Streams}
+use Rattle.sb_feeds.specs.base.records.declared.item.TheConstants.{END_MARK}
+use Rattle.sb_feeds.specs.base.records.declared.intake.Refusal.{Refusal}
+use Rattle.sb_feeds.specs.base.records.declared.intake.Stop.TheVariants.{End}
+use Rattle.sb_feeds.specs.base.records.Inputs.{accepted_if}
+use Rattle.sb_feeds.specs.base.records.Intake.{answer_to}
+use Rattle.sb_feeds.specs.base.records.Streams.{last_or, records_of, uses, watermark_in}
+use Rattle.sb_feeds.specs.outside.Lines.{lines}
+use Rattle.sb_feeds.specs.base.bundle.declared.bundle.Bundle.{Bundle}
+use Rattle.sb_feeds.specs.base.bundle.Calls as calls
+use Rattle.sb_feeds.specs.base.bundle.Calls.{Call, records_in_order, parts_of}
+use Rattle.sb_feeds.specs.base.bundle.Calls.Call.{Mark, Push}
+use Rattle.sb_feeds.specs.base.bundle.Cuts.{first_cutting}
+use Rattle.sb_feeds.specs.base.bundle.Laws.{bundles_of}
+use Rattle.sb_feeds.specs.base.pipeline.Shapes.{Shape, streams_of}
+use Rattle.sb_worker.specs.tally.Whole.{marks_of}
+use Rattle.sb_worker.proofs.tally.Cutters.{cutter-records}
+use Rattle.sb_feeds.specs.one_feed.declared.cutters.Cutters.{Cutters}
+use Rattle.sb_feeds.specs.one_feed.Calls.{call_in, calls_of}
+use Rattle.sb_feeds.specs.one_feed.FedByItems.{IsFedBy, IsStreamFedBy, IsTimely, cutter_of, end_items}
+use Rattle.sb_feeds.specs.one_feed.Feeds.{Fed, bundles_in, records_of_feed, floor_in, marks_in}
+use Rattle.sb_feeds.specs.one_feed.Given.{Given, items_of}
+use Rattle.sb_feeds.proofs.one_feed.FirstRows.{pushed}
+use Rattle.sb_feeds.proofs.one_feed.ItemSteps.{fed_stream}
+use Rattle.sb_feeds.proofs.one_feed.LaterItems.{following, said_by, tested_is_timely}
 use Rattle.sb_run.proofs.Standing.{last_more}
 
 -- ---- a stream that the plan does not use has no item

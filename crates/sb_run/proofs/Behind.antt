@@ -3,30 +3,30 @@ use Rattle.std.proofs.Common.{◌≡◌, ℕ, suc, zero, ◌≤◌, ◌<◌, Boo
 use Rattle.std.specs.Prelude.{◌&&◌, ◌||◌}
 use Rattle.std.specs.List.{slice_get, list_any, AllByRecursion}
 use Rattle.std.proofs.lemmas.Bool.{eqb-true}
-use Rattle.sb_record.specs.declared.item.Stream.{Stream}
-use Rattle.sb_pipeline.specs.declared.transform.Down.{Down}
-use Rattle.sb_pipeline.specs.declared.transform.Step.{Step}
-use Rattle.sb_pipeline.specs.Operators.{operator_at}
-use Rattle.sb_pipeline.specs.Plans.{IsPlan}
-use Rattle.sb_pipeline.specs.Shapes.{Shape, source}
-use Rattle.sb_pipeline.proofs.Feeding
-use Rattle.sb_core.specs.declared.held.Held.{Held}
-use Rattle.sb_core.specs.declared.held.Held.TheVariants.{Work, Close}
-use Rattle.sb_core.specs.declared.moment.CoreLane.{CoreLane}
-use Rattle.sb_core.specs.declared.moment.Moment.{Moment}
-use Rattle.sb_core.specs.Bounds.{bound_at}
-use Rattle.sb_core.specs.Holdings.{IsHeld, is_unpassed}
-use Rattle.sb_core.specs.Laws.{written_to}
-use Rattle.sb_core.specs.Marks.{least_begun_mark}
-use Rattle.sb_core.specs.Moments.{floor_at, floor_of, lane_at, node_at}
-use Rattle.sb_core.specs.Soundness.{IsSound}
-use Rattle.sb_core.proofs.ends.AtRest.{in_place}
-use Rattle.sb_pipeline.specs.Operators.{Operator, lanes_of}
-use Rattle.sb_pipeline.specs.Operators.Operator.{ParDo, Windowed, Sink}
-use Rattle.sb_pipeline.specs.Operators.WindowOperator.{Aggregated, Sessions, Joined}
-use Rattle.sb_core.proofs.times.InTime.{begun_behind, closed_least}
-use Rattle.sb_core.proofs.times.LawfulTimely.{lane_of, of_node}
-use Rattle.sb_core.proofs.sound.Orderly.{lawful_of}
+use Rattle.sb_feeds.specs.base.records.declared.item.Stream.{Stream}
+use Rattle.sb_feeds.specs.base.pipeline.declared.transform.Down.{Down}
+use Rattle.sb_feeds.specs.base.pipeline.declared.transform.Step.{Step}
+use Rattle.sb_feeds.specs.base.pipeline.Operators.{operator_at}
+use Rattle.sb_feeds.specs.base.pipeline.Plans.{IsPlan}
+use Rattle.sb_feeds.specs.base.pipeline.Shapes.{Shape, source}
+use Rattle.sb_feeds.proofs.base.pipeline.Feeding
+use Rattle.sb_worker.specs.core.declared.held.Held.{Held}
+use Rattle.sb_worker.specs.core.declared.held.Held.TheVariants.{Work, Close}
+use Rattle.sb_worker.specs.core.declared.moment.CoreLane.{CoreLane}
+use Rattle.sb_worker.specs.core.declared.moment.Moment.{Moment}
+use Rattle.sb_worker.specs.core.Bounds.{bound_at}
+use Rattle.sb_worker.specs.core.Holdings.{IsHeld, is_unpassed}
+use Rattle.sb_worker.specs.core.Laws.{written_to}
+use Rattle.sb_worker.specs.core.Marks.{least_begun_mark}
+use Rattle.sb_worker.specs.core.Moments.{floor_at, floor_of, lane_at, node_at}
+use Rattle.sb_worker.specs.core.Soundness.{IsSound}
+use Rattle.sb_worker.proofs.core.ends.AtRest.{in_place}
+use Rattle.sb_feeds.specs.base.pipeline.Operators.{Operator, lanes_of}
+use Rattle.sb_feeds.specs.base.pipeline.Operators.Operator.{ParDo, Windowed, Sink}
+use Rattle.sb_feeds.specs.base.pipeline.Operators.WindowOperator.{Aggregated, Sessions, Joined}
+use Rattle.sb_worker.proofs.core.times.InTime.{begun_behind, closed_least}
+use Rattle.sb_worker.proofs.core.times.LawfulTimely.{lane_of, of_node}
+use Rattle.sb_worker.proofs.core.sound.Orderly.{lawful_of}
 
 some_lane : (o : Operator) → 1 ≤ lanes_of o
 some_lane (ParDo op) = omega arith

@@ -3,31 +3,31 @@ use Rattle.std.proofs.Common.{◌≡◌, ◌≤◌, ℕ, zero, suc, Bool, true, 
 use Rattle.std.specs.Prelude.{is_some}
 use Rattle.std.specs.List.{AllByRecursion, slice_get}
 use Rattle.std.proofs.lemmas.List.Elements.{All-from_recursion}
-use Rattle.sb_record.specs.declared.item.Record.{Record}
-use Rattle.sb_record.specs.declared.item.Stream.{Stream}
-use Rattle.sb_record.specs.declared.item.Stream.TheVariants.{A, B}
-use Rattle.sb_record.specs.declared.item.TheConstants.{MAX_TIME}
-use Rattle.sb_record.specs.Streams.{last_or, uses}
-use Rattle.sb_bundle.specs.declared.bundle.Bundle.{Bundle}
-use Rattle.sb_pipeline.specs.declared.transform.Down.{Down}
-use Rattle.sb_pipeline.specs.declared.transform.Step.{Step}
-use Rattle.sb_pipeline.specs.Operators.{lanes_of, operator_of}
-use Rattle.sb_pipeline.specs.Operators.Operator.{Sink}
-use Rattle.sb_pipeline.specs.Shapes.{Shape, source, streams_of}
-use Rattle.sb_core.specs.Lanes.{next_floor}
-use Rattle.sb_lane.specs.LaneView.{LaneView, lane_of}
-use Rattle.sb_lane.specs.Placed.{conts_of}
-use Rattle.sb_lane.specs.Unfinished.{unfinished_of}
-use Rattle.sb_node.specs.declared.state.NodeState.{NodeState}
-use Rattle.sb_hand.specs.Feeding.{MayArrive, MaySeal, TakesStream}
-use Rattle.sb_hand.specs.Hands.{HandView, settings_at, settings_for}
-use Rattle.sb_hand.specs.Sets.{HasLane}
-use Rattle.sb_hand.specs.Showing.{Settings, diaries_of, settings_of}
-use Rattle.sb_hand.proofs.Resting.{idle-is-finished}
-use Rattle.sb_hand.proofs.ShownLanes.{one-of-all, shows-sources, takes-sources}
-use Rattle.sb_hand.proofs.Single.{get-map}
-use Rattle.sb_feed.specs.Feeds as feeder
-use Rattle.sb_feed.specs.Feeds.{Fed, IsFrom, floor_in, marks_in}
+use Rattle.sb_feeds.specs.base.records.declared.item.Record.{Record}
+use Rattle.sb_feeds.specs.base.records.declared.item.Stream.{Stream}
+use Rattle.sb_feeds.specs.base.records.declared.item.Stream.TheVariants.{A, B}
+use Rattle.sb_feeds.specs.base.records.declared.item.TheConstants.{MAX_TIME}
+use Rattle.sb_feeds.specs.base.records.Streams.{last_or, uses}
+use Rattle.sb_feeds.specs.base.bundle.declared.bundle.Bundle.{Bundle}
+use Rattle.sb_feeds.specs.base.pipeline.declared.transform.Down.{Down}
+use Rattle.sb_feeds.specs.base.pipeline.declared.transform.Step.{Step}
+use Rattle.sb_feeds.specs.base.pipeline.Operators.{lanes_of, operator_of}
+use Rattle.sb_feeds.specs.base.pipeline.Operators.Operator.{Sink}
+use Rattle.sb_feeds.specs.base.pipeline.Shapes.{Shape, source, streams_of}
+use Rattle.sb_worker.specs.core.Lanes.{next_floor}
+use Rattle.sb_worker.specs.lane.LaneView.{LaneView, lane_of}
+use Rattle.sb_worker.specs.lane.Placed.{conts_of}
+use Rattle.sb_worker.specs.lane.Unfinished.{unfinished_of}
+use Rattle.sb_worker.specs.node.declared.state.NodeState.{NodeState}
+use Rattle.sb_worker.specs.hand.Feeding.{MayArrive, MaySeal, TakesStream}
+use Rattle.sb_worker.specs.hand.Hands.{HandView, settings_at, settings_for}
+use Rattle.sb_worker.specs.hand.Sets.{HasLane}
+use Rattle.sb_worker.specs.hand.Showing.{Settings, diaries_of, settings_of}
+use Rattle.sb_worker.proofs.hand.Resting.{idle-is-finished}
+use Rattle.sb_worker.proofs.hand.ShownLanes.{one-of-all, shows-sources, takes-sources}
+use Rattle.sb_worker.proofs.hand.Single.{get-map}
+use Rattle.sb_feeds.specs.one_feed.Feeds as feeder
+use Rattle.sb_feeds.specs.one_feed.Feeds.{Fed, IsFrom, floor_in, marks_in}
 use Rattle.sb_run.specs.Rested.{IsRested, IsWhole}
 use Rattle.sb_run.proofs.SoFar.{floor_is, marks_of_lane}
 

@@ -1,44 +1,44 @@
 -- The ends of a run.
 use Rattle.std.proofs.Common.{◌≡◌, ℕ, true, false, List, [], ◌∷◌, ◌++◌, length, map, Option, Some, Result, Ok, Err, refl, sym, ap, subst, ◌∙◌, append-nil, arith}
 use Rattle.std.specs.Prelude.{is_some, ⊤}
-use Rattle.sb_record.specs.declared.intake.Stop.{Stop}
-use Rattle.sb_record.specs.declared.intake.Stop.TheVariants as at
-use Rattle.sb_record.specs.declared.item.Dropped.{Dropped}
-use Rattle.sb_record.specs.declared.item.Item.{Item}
-use Rattle.sb_record.specs.declared.item.Record.{Record}
-use Rattle.sb_record.specs.declared.item.Stream.{Stream}
-use Rattle.sb_record.specs.declared.item.Stream.TheVariants.{A, B}
-use Rattle.sb_record.specs.declared.item.TheConstants.{END_MARK}
-use Rattle.sb_record.specs.Streams.{last_or, least_of, low_watermark, uses}
-use Rattle.sb_bundle.specs.Calls as calls
-use Rattle.sb_bundle.specs.Calls.Call.{Mark}
-use Rattle.sb_bundle.specs.Laws.{bundles_of}
-use Rattle.sb_pipeline.specs.declared.transform.Down.{Down}
-use Rattle.sb_pipeline.specs.Results as result
-use Rattle.sb_pipeline.specs.Shapes.{Shape, source, streams_of}
-use Rattle.sb_core.specs.Laws.{IsDone}
-use Rattle.sb_core.specs.Rest.{AreAtTheEnd}
-use Rattle.sb_core.proofs.ends.NoneLeft.{settles-all}
-use Rattle.sb_core.proofs.ends.SoundRows.{rows-at_the_end}
-use Rattle.sb_tally.specs.Whole.{Tallies, fed_bundle}
-use Rattle.sb_tally.proofs.Ends.{end-is_tallied}
-use Rattle.sb_tally.proofs.Settling.{end-is_settled}
-use Rattle.sb_tally.proofs.Telling.{diaries-tell}
-use Rattle.sb_emit.specs.Taps.{TapState}
-use Rattle.sb_hand.specs.Hands.{HandView, settings_at}
-use Rattle.sb_hand.specs.Showing.{diaries_of, settings_of}
-use Rattle.sb_hand.proofs.ShownLanes.{done-is-empty}
-use Rattle.sb_feed.specs.declared.cutters.Cutters.{Cutters}
-use Rattle.sb_feed.specs.declared.give.GiveStop.{GiveStop}
-use Rattle.sb_feed.specs.declared.give.GiveStop.TheVariants as stop
-use Rattle.sb_feed.specs.Calls.{calls_of}
-use Rattle.sb_feed.specs.Due.{due_rows, rows_below, streams_in}
-use Rattle.sb_feed.specs.FedByItems.{IsFedBy, end_items}
-use Rattle.sb_feed.specs.Feeds.{Fed, bundles_in, records_of_feed}
-use Rattle.sb_feed.specs.Given.{items_of}
-use Rattle.sb_feed.specs.InputFeeds.{Feeds, FeedsAll, FeedsSome}
-use Rattle.sb_feed.specs.TapLists.{LeavesThoseThatStay, StopsIn}
-use Rattle.sb_feed.proofs.FirstRows.{fed_covers, rows_same}
+use Rattle.sb_feeds.specs.base.records.declared.intake.Stop.{Stop}
+use Rattle.sb_feeds.specs.base.records.declared.intake.Stop.TheVariants as at
+use Rattle.sb_feeds.specs.base.records.declared.item.Dropped.{Dropped}
+use Rattle.sb_feeds.specs.base.records.declared.item.Item.{Item}
+use Rattle.sb_feeds.specs.base.records.declared.item.Record.{Record}
+use Rattle.sb_feeds.specs.base.records.declared.item.Stream.{Stream}
+use Rattle.sb_feeds.specs.base.records.declared.item.Stream.TheVariants.{A, B}
+use Rattle.sb_feeds.specs.base.records.declared.item.TheConstants.{END_MARK}
+use Rattle.sb_feeds.specs.base.records.Streams.{last_or, least_of, low_watermark, uses}
+use Rattle.sb_feeds.specs.base.bundle.Calls as calls
+use Rattle.sb_feeds.specs.base.bundle.Calls.Call.{Mark}
+use Rattle.sb_feeds.specs.base.bundle.Laws.{bundles_of}
+use Rattle.sb_feeds.specs.base.pipeline.declared.transform.Down.{Down}
+use Rattle.sb_feeds.specs.base.pipeline.Results as result
+use Rattle.sb_feeds.specs.base.pipeline.Shapes.{Shape, source, streams_of}
+use Rattle.sb_worker.specs.core.Laws.{IsDone}
+use Rattle.sb_worker.specs.core.Rest.{AreAtTheEnd}
+use Rattle.sb_worker.proofs.core.ends.NoneLeft.{settles-all}
+use Rattle.sb_worker.proofs.core.ends.SoundRows.{rows-at_the_end}
+use Rattle.sb_worker.specs.tally.Whole.{Tallies, fed_bundle}
+use Rattle.sb_worker.proofs.tally.Ends.{end-is_tallied}
+use Rattle.sb_worker.proofs.tally.Settling.{end-is_settled}
+use Rattle.sb_worker.proofs.tally.Telling.{diaries-tell}
+use Rattle.sb_feeds.specs.emit.Taps.{TapState}
+use Rattle.sb_worker.specs.hand.Hands.{HandView, settings_at}
+use Rattle.sb_worker.specs.hand.Showing.{diaries_of, settings_of}
+use Rattle.sb_worker.proofs.hand.ShownLanes.{done-is-empty}
+use Rattle.sb_feeds.specs.one_feed.declared.cutters.Cutters.{Cutters}
+use Rattle.sb_feeds.specs.one_feed.declared.give.GiveStop.{GiveStop}
+use Rattle.sb_feeds.specs.one_feed.declared.give.GiveStop.TheVariants as stop
+use Rattle.sb_feeds.specs.one_feed.Calls.{calls_of}
+use Rattle.sb_feeds.specs.one_feed.Due.{due_rows, rows_below, streams_in}
+use Rattle.sb_feeds.specs.one_feed.FedByItems.{IsFedBy, end_items}
+use Rattle.sb_feeds.specs.one_feed.Feeds.{Fed, bundles_in, records_of_feed}
+use Rattle.sb_feeds.specs.one_feed.Given.{items_of}
+use Rattle.sb_feeds.specs.one_feed.InputFeeds.{Feeds, FeedsAll, FeedsSome}
+use Rattle.sb_feeds.specs.one_feed.TapLists.{LeavesThoseThatStay, StopsIn}
+use Rattle.sb_feeds.proofs.one_feed.FirstRows.{fed_covers, rows_same}
 use Rattle.sb_run.specs.declared.sizes.Sizes.{Sizes}
 use Rattle.sb_run.specs.Ending.{end_by}
 use Rattle.sb_run.specs.Rested.{IsRested, feed_of}

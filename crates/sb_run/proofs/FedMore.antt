@@ -3,30 +3,30 @@ use Rattle.std.proofs.Common.{◌≡◌, ◌≤◌, ◌<◌, ℕ, List, [], ◌�
 use Rattle.std.specs.Prelude.{All}
 use Rattle.std.specs.List.{AllByRecursion, flat_map}
 use Rattle.std.proofs.lemmas.List.Elements.{All-from_recursion}
-use Rattle.sb_record.specs.declared.item.Record.{Record}
-use Rattle.sb_record.specs.declared.item.Stream.{Stream}
-use Rattle.sb_record.specs.declared.item.TheConstants.{END_MARK, MAX_TIME}
-use Rattle.sb_record.specs.Streams.{last_or}
-use Rattle.sb_bundle.specs.declared.bundle.Bundle.{Bundle}
-use Rattle.sb_bundle.specs.Calls.{records_in_order, parts_of}
-use Rattle.sb_core.specs.declared.event.Event.TheVariants.{Arrive, Seal}
-use Rattle.sb_core.specs.Exactness.{IsExact}
-use Rattle.sb_core.specs.Lanes.{next_floor}
-use Rattle.sb_tally.specs.Keeping.{feed_after}
-use Rattle.sb_tally.specs.Tally as tally
-use Rattle.sb_tally.specs.Tally.{IsTallied}
-use Rattle.sb_tally.specs.Whole.{fed_bundle}
-use Rattle.sb_cascade.specs.declared.cascade.Cascade.{Cascade}
-use Rattle.sb_cascade.specs.declared.pass.CascadePass.{CascadePass}
-use Rattle.sb_cascade.specs.declared.telling.Hands.{Hands}
-use Rattle.sb_cascade.specs.Bringing as bring
-use Rattle.sb_cascade.specs.Bringing.{sealed_lane}
-use Rattle.sb_cascade.specs.Calls.{IsEmptyHanded, IsFeeder, IsReady, IsSame, hands, plan_of, setting_of}
-use Rattle.sb_cascade.specs.Found.{IsDrained}
-use Rattle.sb_cascade.specs.Views as view
-use Rattle.sb_cascade.proofs.feeds.FeedOfChanges.{bundle-dry, bundle-fed, drained-fed, mark-dry, mark-fed}
-use Rattle.sb_feed.specs.Feeds.{AreRowsSoFar, Fed, MayArrive, MaySeal, bundles_in, records_of_feed, floor_in, marks_in, with_bundle, with_mark}
-use Rattle.sb_feed.proofs.RowsSoFar.{so_far_bundle, so_far_mark}
+use Rattle.sb_feeds.specs.base.records.declared.item.Record.{Record}
+use Rattle.sb_feeds.specs.base.records.declared.item.Stream.{Stream}
+use Rattle.sb_feeds.specs.base.records.declared.item.TheConstants.{END_MARK, MAX_TIME}
+use Rattle.sb_feeds.specs.base.records.Streams.{last_or}
+use Rattle.sb_feeds.specs.base.bundle.declared.bundle.Bundle.{Bundle}
+use Rattle.sb_feeds.specs.base.bundle.Calls.{records_in_order, parts_of}
+use Rattle.sb_worker.specs.core.declared.event.Event.TheVariants.{Arrive, Seal}
+use Rattle.sb_worker.specs.core.Exactness.{IsExact}
+use Rattle.sb_worker.specs.core.Lanes.{next_floor}
+use Rattle.sb_worker.specs.tally.Keeping.{feed_after}
+use Rattle.sb_worker.specs.tally.Tally as tally
+use Rattle.sb_worker.specs.tally.Tally.{IsTallied}
+use Rattle.sb_worker.specs.tally.Whole.{fed_bundle}
+use Rattle.sb_worker.specs.cascade.declared.cascade.Cascade.{Cascade}
+use Rattle.sb_worker.specs.cascade.declared.pass.CascadePass.{CascadePass}
+use Rattle.sb_worker.specs.cascade.declared.telling.Hands.{Hands}
+use Rattle.sb_worker.specs.cascade.Bringing as bring
+use Rattle.sb_worker.specs.cascade.Bringing.{sealed_lane}
+use Rattle.sb_worker.specs.cascade.Calls.{IsEmptyHanded, IsFeeder, IsReady, IsSame, hands, plan_of, setting_of}
+use Rattle.sb_worker.specs.cascade.Found.{IsDrained}
+use Rattle.sb_worker.specs.cascade.Views as view
+use Rattle.sb_worker.proofs.cascade.feeds.FeedOfChanges.{bundle-dry, bundle-fed, drained-fed, mark-dry, mark-fed}
+use Rattle.sb_feeds.specs.one_feed.Feeds.{AreRowsSoFar, Fed, MayArrive, MaySeal, bundles_in, records_of_feed, floor_in, marks_in, with_bundle, with_mark}
+use Rattle.sb_feeds.proofs.one_feed.RowsSoFar.{so_far_bundle, so_far_mark}
 use Rattle.sb_run.specs.Feeders.{HasFed, IsStill}
 use Rattle.sb_run.specs.Rested.{feed_of}
 use Rattle.sb_run.proofs.Coming.{goes}

@@ -6,23 +6,23 @@ use mathlib.Core.List.{IsPrefix}
 use Rattle.std.proofs.lemmas.Bool.{and_from, false≢true, true≢false}
 use Rattle.std.proofs.lemmas.Bool.Decides.{nat_tests}
 use Rattle.std.proofs.lemmas.List.Concat.{flat_map-append}
-use Rattle.sb_record.specs.declared.intake.Refusal.{Refusal}
-use Rattle.sb_record.specs.declared.item.Item.{Item}
-use Rattle.sb_record.specs.declared.item.Item.TheVariants as item
-use Rattle.sb_record.specs.declared.item.Record.{Record}
-use Rattle.sb_record.specs.declared.item.Stream.{Stream}
-use Rattle.sb_record.specs.declared.item.Stream.TheVariants.{A, B}
-use Rattle.sb_record.specs.declared.item.Streams.{Streams}
-use Rattle.sb_record.specs.declared.item.TheConstants.{END_MARK, MAX_TIME}
-use Rattle.sb_record.specs.Inputs.{Accepted, accepted_if}
-use Rattle.sb_record.specs.Intake.{answer_to}
-use Rattle.sb_record.specs.Streams.{last_or, last_watermark, record_in, records_of, uses, watermark_in}
-use Rattle.sb_record.proofs.Elements.{All-join}
-use Rattle.sb_outside.specs.Lines.{lines, lines_from, without_cr}
-use Rattle.sb_pipeline.specs.Shapes.{Shape, streams_of}
-use Rattle.sb_feed.specs.FedByItems.{IsTimely}
-use Rattle.sb_feed.specs.Feeds.{IsFrom}
-use Rattle.sb_feed.proofs.LaterItems.{following, from_later, mark_rises, said_by, tested_is_timely}
+use Rattle.sb_feeds.specs.base.records.declared.intake.Refusal.{Refusal}
+use Rattle.sb_feeds.specs.base.records.declared.item.Item.{Item}
+use Rattle.sb_feeds.specs.base.records.declared.item.Item.TheVariants as item
+use Rattle.sb_feeds.specs.base.records.declared.item.Record.{Record}
+use Rattle.sb_feeds.specs.base.records.declared.item.Stream.{Stream}
+use Rattle.sb_feeds.specs.base.records.declared.item.Stream.TheVariants.{A, B}
+use Rattle.sb_feeds.specs.base.records.declared.item.Streams.{Streams}
+use Rattle.sb_feeds.specs.base.records.declared.item.TheConstants.{END_MARK, MAX_TIME}
+use Rattle.sb_feeds.specs.base.records.Inputs.{Accepted, accepted_if}
+use Rattle.sb_feeds.specs.base.records.Intake.{answer_to}
+use Rattle.sb_feeds.specs.base.records.Streams.{last_or, last_watermark, record_in, records_of, uses, watermark_in}
+use Rattle.sb_feeds.proofs.base.records.Elements.{All-join}
+use Rattle.sb_feeds.specs.outside.Lines.{lines, lines_from, without_cr}
+use Rattle.sb_feeds.specs.base.pipeline.Shapes.{Shape, streams_of}
+use Rattle.sb_feeds.specs.one_feed.FedByItems.{IsTimely}
+use Rattle.sb_feeds.specs.one_feed.Feeds.{IsFrom}
+use Rattle.sb_feeds.proofs.one_feed.LaterItems.{following, from_later, mark_rises, said_by, tested_is_timely}
 use Rattle.sb_feeds.specs.declared.fed.Fed.{Fed}
 use Rattle.sb_feeds.specs.declared.fed.Fed.TheVariants as fed
 use Rattle.sb_feeds.specs.declared.fed.FeedStop.{FeedStop}

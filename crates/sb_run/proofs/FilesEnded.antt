@@ -4,44 +4,44 @@ use Rattle.std.specs.Prelude.{◌⊎◌, flat_map, ⊤}
 use Rattle.std.specs.List.{AllByRecursion}
 use mathlib.Core.List.{IsPrefix}
 use Rattle.std.proofs.lemmas.List.Concat.{flat_map-append}
-use Rattle.sb_record.specs.declared.intake.Refusal.{Refusal}
-use Rattle.sb_record.specs.declared.intake.Stop.{Stop}
-use Rattle.sb_record.specs.declared.intake.Stop.TheVariants as at
-use Rattle.sb_record.specs.declared.item.Dropped.{Dropped}
-use Rattle.sb_record.specs.declared.item.Item.{Item}
-use Rattle.sb_record.specs.declared.item.Item.TheVariants as item
-use Rattle.sb_record.specs.declared.item.Record.{Record}
-use Rattle.sb_record.specs.declared.item.Stream.{Stream}
-use Rattle.sb_record.specs.declared.item.Stream.TheVariants.{A, B}
-use Rattle.sb_record.specs.declared.item.TheConstants.{END_MARK}
-use Rattle.sb_record.specs.Records.{at_least, before, sorted_records}
-use Rattle.sb_record.specs.Streams.{dropped_in, dropped_of, last_or, last_watermark, least_of, low_watermark, record_in, records_of, uses, watermark_in}
-use Rattle.sb_record.proofs.Earlier.{sorted_before-front}
-use Rattle.sb_record.proofs.Elements.{All-join}
-use Rattle.sb_outside.specs.Sinks.{SinkState}
-use Rattle.sb_pipeline.specs.Results.{output_of}
-use Rattle.sb_pipeline.specs.Results as result
-use Rattle.sb_pipeline.specs.Shapes.{Shape, streams_of}
-use Rattle.sb_tally.specs.Whole.{Tallies}
-use Rattle.sb_emit.specs.Taps.{TapState}
-use Rattle.sb_hand.specs.Hands.{HandView, settings_at}
-use Rattle.sb_hand.specs.Showing.{diaries_of, settings_of}
-use Rattle.sb_cascade.specs.declared.cascade.Cascade.{Cascade}
-use Rattle.sb_cascade.specs.declared.pass.CascadePass.{CascadePass}
-use Rattle.sb_cascade.specs.Calls.{plan_of, setting_of}
-use Rattle.sb_cascade.specs.Lives.{IsShared}
-use Rattle.sb_feed.specs.declared.give.GiveStop.{GiveStop}
-use Rattle.sb_feed.specs.declared.give.GiveStop.TheVariants as give
-use Rattle.sb_feed.specs.Calls.{call_in, calls_of}
-use Rattle.sb_feed.specs.Due.{AreFirstDropped, AreFirstRows, due_rows, rows_below, streams_in}
-use Rattle.sb_feed.specs.FedByItems.{IsFedBy, end_items}
-use Rattle.sb_feed.specs.Feeds.{AreRowsSoFar, Fed, IsFrom, records_of_feed, floor_in}
-use Rattle.sb_feed.specs.GiveCauses.{GiveCause}
-use Rattle.sb_feed.specs.Gives.{GivesOut}
-use Rattle.sb_feed.specs.TapLists.{LeavesThoseThatStay, StopsIn}
-use Rattle.sb_feed.proofs.FirstRows.{rows_same}
-use Rattle.sb_feed.proofs.GivesInTurn.{AddsUp, gives_both}
-use Rattle.sb_feed.proofs.LaterItems.{from_later}
+use Rattle.sb_feeds.specs.base.records.declared.intake.Refusal.{Refusal}
+use Rattle.sb_feeds.specs.base.records.declared.intake.Stop.{Stop}
+use Rattle.sb_feeds.specs.base.records.declared.intake.Stop.TheVariants as at
+use Rattle.sb_feeds.specs.base.records.declared.item.Dropped.{Dropped}
+use Rattle.sb_feeds.specs.base.records.declared.item.Item.{Item}
+use Rattle.sb_feeds.specs.base.records.declared.item.Item.TheVariants as item
+use Rattle.sb_feeds.specs.base.records.declared.item.Record.{Record}
+use Rattle.sb_feeds.specs.base.records.declared.item.Stream.{Stream}
+use Rattle.sb_feeds.specs.base.records.declared.item.Stream.TheVariants.{A, B}
+use Rattle.sb_feeds.specs.base.records.declared.item.TheConstants.{END_MARK}
+use Rattle.sb_feeds.specs.base.records.Records.{at_least, before, sorted_records}
+use Rattle.sb_feeds.specs.base.records.Streams.{dropped_in, dropped_of, last_or, last_watermark, least_of, low_watermark, record_in, records_of, uses, watermark_in}
+use Rattle.sb_feeds.proofs.base.records.Earlier.{sorted_before-front}
+use Rattle.sb_feeds.proofs.base.records.Elements.{All-join}
+use Rattle.sb_feeds.specs.outside.Sinks.{SinkState}
+use Rattle.sb_feeds.specs.base.pipeline.Results.{output_of}
+use Rattle.sb_feeds.specs.base.pipeline.Results as result
+use Rattle.sb_feeds.specs.base.pipeline.Shapes.{Shape, streams_of}
+use Rattle.sb_worker.specs.tally.Whole.{Tallies}
+use Rattle.sb_feeds.specs.emit.Taps.{TapState}
+use Rattle.sb_worker.specs.hand.Hands.{HandView, settings_at}
+use Rattle.sb_worker.specs.hand.Showing.{diaries_of, settings_of}
+use Rattle.sb_worker.specs.cascade.declared.cascade.Cascade.{Cascade}
+use Rattle.sb_worker.specs.cascade.declared.pass.CascadePass.{CascadePass}
+use Rattle.sb_worker.specs.cascade.Calls.{plan_of, setting_of}
+use Rattle.sb_worker.specs.cascade.Lives.{IsShared}
+use Rattle.sb_feeds.specs.one_feed.declared.give.GiveStop.{GiveStop}
+use Rattle.sb_feeds.specs.one_feed.declared.give.GiveStop.TheVariants as give
+use Rattle.sb_feeds.specs.one_feed.Calls.{call_in, calls_of}
+use Rattle.sb_feeds.specs.one_feed.Due.{AreFirstDropped, AreFirstRows, due_rows, rows_below, streams_in}
+use Rattle.sb_feeds.specs.one_feed.FedByItems.{IsFedBy, end_items}
+use Rattle.sb_feeds.specs.one_feed.Feeds.{AreRowsSoFar, Fed, IsFrom, records_of_feed, floor_in}
+use Rattle.sb_feeds.specs.one_feed.GiveCauses.{GiveCause}
+use Rattle.sb_feeds.specs.one_feed.Gives.{GivesOut}
+use Rattle.sb_feeds.specs.one_feed.TapLists.{LeavesThoseThatStay, StopsIn}
+use Rattle.sb_feeds.proofs.one_feed.FirstRows.{rows_same}
+use Rattle.sb_feeds.proofs.one_feed.GivesInTurn.{AddsUp, gives_both}
+use Rattle.sb_feeds.proofs.one_feed.LaterItems.{from_later}
 use Rattle.sb_feeds.specs.declared.fed.Fed.{Fed as AValue}
 use Rattle.sb_feeds.specs.Fed.{values_of_accepted, has_stop, stop_from}
 use Rattle.sb_run.specs.declared.files.TheConstants.{MAX_FILE_LENGTH}

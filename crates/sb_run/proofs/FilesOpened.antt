@@ -1,16 +1,16 @@
 -- What came out of the rings of two files, against what their threads fed.
 use Rattle.std.proofs.Common.{◌≡◌, true, List, [], ℕ, subst, sym, ◌∙◌}
 use mathlib.Core.List.{IsPrefix}
-use Rattle.sb_record.specs.declared.intake.LatePolicy.{LatePolicy}
-use Rattle.sb_record.specs.declared.item.Stream.{Stream}
-use Rattle.sb_record.specs.declared.item.Stream.TheVariants.{A, B}
-use Rattle.sb_record.specs.declared.item.Streams.{Streams}
-use Rattle.sb_record.specs.declared.key.Keys.{Keys}
-use Rattle.sb_record.specs.Inputs.{accepted}
-use Rattle.sb_record.specs.Intake.{first_progress}
-use Rattle.sb_record.specs.Progress.{Progress}
-use Rattle.sb_outside.specs.Lines.{lines}
-use Rattle.sb_pipeline.specs.Shapes.{Shape, streams_of}
+use Rattle.sb_feeds.specs.base.records.declared.intake.LatePolicy.{LatePolicy}
+use Rattle.sb_feeds.specs.base.records.declared.item.Stream.{Stream}
+use Rattle.sb_feeds.specs.base.records.declared.item.Stream.TheVariants.{A, B}
+use Rattle.sb_feeds.specs.base.records.declared.item.Streams.{Streams}
+use Rattle.sb_feeds.specs.base.records.declared.key.Keys.{Keys}
+use Rattle.sb_feeds.specs.base.records.Inputs.{accepted}
+use Rattle.sb_feeds.specs.base.records.Intake.{first_progress}
+use Rattle.sb_feeds.specs.base.records.Progress.{Progress}
+use Rattle.sb_feeds.specs.outside.Lines.{lines}
+use Rattle.sb_feeds.specs.base.pipeline.Shapes.{Shape, streams_of}
 use Rattle.sb_feeds.specs.declared.ends.FeedDone.{FeedDone}
 use Rattle.sb_feeds.specs.Ends.{values_fed, values_received, ring_in, ring_of}
 use Rattle.sb_feeds.specs.Fed.{values_of_file, values_of_accepted}
@@ -20,7 +20,7 @@ use Rattle.sb_run.specs.declared.files.reading.FilePart.{FilePart}
 use Rattle.sb_run.specs.declared.files.reading.Files.{Files}
 use Rattle.sb_run.specs.declared.files.reading.FilesDone.{FilesDone}
 use Rattle.sb_run.specs.Files.{accepted_of_file, stream_alone}
-use Rattle.sb_slow.specs.Inputs.{by_stream}
+use Rattle.sb_worker.specs.slow.Inputs.{by_stream}
 use Rattle.sb_run.specs.FilesRead.{AreFedWhole, AreNew, AreOpened, IsFedWhole, IsOpened}
 use Rattle.sb_run.specs.Pops.{AreInlets, values_of}
 

@@ -2,30 +2,30 @@
 use Rattle.std.proofs.Common.{◌≡◌, ◌≤◌, ◌<◌, ◌+◌, ℕ, true, List, [], ◌∷◌, ◌++◌, length, Option, Some, None, Result, Ok, Err, refl, sym, ap, subst, ◌∙◌, append_assoc, append-nil, inl, inr, arith}
 use Rattle.std.specs.Prelude.{IfOk}
 use Rattle.std.proofs.lemmas.List.Concat.{flat_map-append}
-use Rattle.sb_record.specs.declared.intake.TheConstants.{MAX_LINES}
-use Rattle.sb_record.specs.declared.item.Dropped.{Dropped}
-use Rattle.sb_record.specs.declared.item.Item.{Item}
-use Rattle.sb_record.specs.declared.item.Record.{Record}
-use Rattle.sb_record.specs.declared.item.Stream.{Stream}
-use Rattle.sb_record.specs.declared.item.Stream.TheVariants.{A, B}
-use Rattle.sb_record.specs.declared.item.TheConstants.{END_MARK}
-use Rattle.sb_record.specs.Streams.{dropped_in, dropped_of, last_or, last_watermark, uses}
-use Rattle.sb_pipeline.specs.Shapes.{Shape, streams_of}
-use Rattle.sb_emit.specs.Taps.{TapState}
-use Rattle.sb_feed.specs.declared.cutters.Cutters.{Cutters}
-use Rattle.sb_feed.specs.declared.give.GiveStop.{GiveStop}
-use Rattle.sb_feed.specs.declared.give.GiveStop.TheVariants as give
-use Rattle.sb_feed.specs.FedByItems.{Covers, IsFedBy, IsTimely, end_items, new_cutters}
-use Rattle.sb_feed.specs.Feeds.{AreRowsSoFar, Fed, floor_in, nothing_fed}
-use Rattle.sb_feed.specs.Gives.{StopsOut}
-use Rattle.sb_feed.specs.TapLists.{LeavesThoseThatStay}
-use Rattle.sb_feed.specs.Takes.{Fails, MayEnd, MayTake, Takes, TakesOrFails}
-use Rattle.sb_feed.proofs.FirstRows.{fed_covers}
-use Rattle.sb_feed.proofs.GivesInTurn.{AddsUp, stops_none, stops_then, taps_behind}
-use Rattle.sb_feed.proofs.InputEnds.{same_records}
-use Rattle.sb_feed.proofs.ItemSteps.{fed_nothing}
-use Rattle.sb_feed.proofs.LaterItems.{mark_within}
-use Rattle.sb_feed.proofs.OfferedRows.{both_offered, none_offered}
+use Rattle.sb_feeds.specs.base.records.declared.intake.TheConstants.{MAX_LINES}
+use Rattle.sb_feeds.specs.base.records.declared.item.Dropped.{Dropped}
+use Rattle.sb_feeds.specs.base.records.declared.item.Item.{Item}
+use Rattle.sb_feeds.specs.base.records.declared.item.Record.{Record}
+use Rattle.sb_feeds.specs.base.records.declared.item.Stream.{Stream}
+use Rattle.sb_feeds.specs.base.records.declared.item.Stream.TheVariants.{A, B}
+use Rattle.sb_feeds.specs.base.records.declared.item.TheConstants.{END_MARK}
+use Rattle.sb_feeds.specs.base.records.Streams.{dropped_in, dropped_of, last_or, last_watermark, uses}
+use Rattle.sb_feeds.specs.base.pipeline.Shapes.{Shape, streams_of}
+use Rattle.sb_feeds.specs.emit.Taps.{TapState}
+use Rattle.sb_feeds.specs.one_feed.declared.cutters.Cutters.{Cutters}
+use Rattle.sb_feeds.specs.one_feed.declared.give.GiveStop.{GiveStop}
+use Rattle.sb_feeds.specs.one_feed.declared.give.GiveStop.TheVariants as give
+use Rattle.sb_feeds.specs.one_feed.FedByItems.{Covers, IsFedBy, IsTimely, end_items, new_cutters}
+use Rattle.sb_feeds.specs.one_feed.Feeds.{AreRowsSoFar, Fed, floor_in, nothing_fed}
+use Rattle.sb_feeds.specs.one_feed.Gives.{StopsOut}
+use Rattle.sb_feeds.specs.one_feed.TapLists.{LeavesThoseThatStay}
+use Rattle.sb_feeds.specs.one_feed.Takes.{Fails, MayEnd, MayTake, Takes, TakesOrFails}
+use Rattle.sb_feeds.proofs.one_feed.FirstRows.{fed_covers}
+use Rattle.sb_feeds.proofs.one_feed.GivesInTurn.{AddsUp, stops_none, stops_then, taps_behind}
+use Rattle.sb_feeds.proofs.one_feed.InputEnds.{same_records}
+use Rattle.sb_feeds.proofs.one_feed.ItemSteps.{fed_nothing}
+use Rattle.sb_feeds.proofs.one_feed.LaterItems.{mark_within}
+use Rattle.sb_feeds.proofs.one_feed.OfferedRows.{both_offered, none_offered}
 use Rattle.sb_feeds.specs.declared.fed.Fed.{Fed as AValue}
 use Rattle.sb_feeds.specs.declared.fed.FeedStop.{FeedStop}
 use Rattle.sb_feeds.specs.Fed.{has_stop}

@@ -1,17 +1,17 @@
 -- Working off what a hand has, and giving out its rows.
 use Rattle.std.proofs.Common.{◌≡◌, ◌≤◌, ◌<◌, ℕ, List, [], ◌++◌, length, Ok, Err, Result, refl, sym, ap, subst, ◌∙◌, append-nil}
 use Rattle.std.specs.Prelude.{All}
-use Rattle.sb_record.specs.declared.item.Record.{Record}
-use Rattle.sb_record.specs.declared.item.TheConstants.{END_MARK}
-use Rattle.sb_pipeline.specs.Shapes.{Shape}
-use Rattle.sb_emit.specs.Taps.{TapState}
-use Rattle.sb_hand.specs.HandLaws.{AreIdle}
-use Rattle.sb_hand.specs.Hands.{HandView}
-use Rattle.sb_hand.specs.Stepping.{IsIdle}
-use Rattle.sb_feed.specs.declared.give.GiveStop.{GiveStop}
-use Rattle.sb_feed.specs.declared.give.GiveStop.TheVariants as stop
-use Rattle.sb_feed.specs.Feeds.{AreRowsSoFar, Fed}
-use Rattle.sb_feed.specs.Gives.{Gives, OffersRows, WritesRows}
+use Rattle.sb_feeds.specs.base.records.declared.item.Record.{Record}
+use Rattle.sb_feeds.specs.base.records.declared.item.TheConstants.{END_MARK}
+use Rattle.sb_feeds.specs.base.pipeline.Shapes.{Shape}
+use Rattle.sb_feeds.specs.emit.Taps.{TapState}
+use Rattle.sb_worker.specs.hand.HandLaws.{AreIdle}
+use Rattle.sb_worker.specs.hand.Hands.{HandView}
+use Rattle.sb_worker.specs.hand.Stepping.{IsIdle}
+use Rattle.sb_feeds.specs.one_feed.declared.give.GiveStop.{GiveStop}
+use Rattle.sb_feeds.specs.one_feed.declared.give.GiveStop.TheVariants as stop
+use Rattle.sb_feeds.specs.one_feed.Feeds.{AreRowsSoFar, Fed}
+use Rattle.sb_feeds.specs.one_feed.Gives.{Gives, OffersRows, WritesRows}
 use Rattle.sb_run.specs.Rested.{HasSameSetting, IsRested, IsWhole}
 use Rattle.sb_run.proofs.SoFar.{rested_so_far, times_below}
 use Rattle.sb_run.proofs.Standing.{whole-drained}

@@ -1,10 +1,10 @@
 -- What one pop of a ring does.
 use Rattle.std.proofs.Common.{◌≡◌, ◌+◌, Bool, true, false, List, [], ◌∷◌, ◌++◌, length, Option, Some, None, refl, sym, ap, subst, ◌∙◌, append_assoc, append-nil, length-append}
 use Rattle.std.specs.Prelude.{IfSome, if◌then◌else◌}
-use Rattle.sb_record.specs.declared.item.Item.{Item}
-use Rattle.sb_record.specs.declared.item.Stream.{Stream}
-use Rattle.sb_record.specs.declared.item.Streams.{Streams}
-use Rattle.sb_record.specs.Streams.{last_watermark, uses}
+use Rattle.sb_feeds.specs.base.records.declared.item.Item.{Item}
+use Rattle.sb_feeds.specs.base.records.declared.item.Stream.{Stream}
+use Rattle.sb_feeds.specs.base.records.declared.item.Streams.{Streams}
+use Rattle.sb_feeds.specs.base.records.Streams.{last_watermark, uses}
 use Rattle.sb_feeds.specs.declared.ends.FeedIn.{FeedIn}
 use Rattle.sb_feeds.specs.declared.fed.Fed.{Fed}
 use Rattle.sb_feeds.specs.declared.fed.Fed.TheVariants as fed

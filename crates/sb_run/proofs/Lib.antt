@@ -21,3 +21,7 @@ pub mod Standing
 pub mod Starting
 pub mod TakenItems
 pub mod Through
+pub use Rattle.sb_feeds.proofs.outside
+pub use Rattle.sb_worker.proofs.diary
+pub use Rattle.sb_feeds.proofs.base
+pub use Rattle.sb_feeds.proofs.one_feed

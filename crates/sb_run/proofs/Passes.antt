@@ -3,18 +3,18 @@ use Rattle.std.proofs.Common.{◌≡◌, ◌<◌, ◌+◌, cond, eqb, ℕ, List,
 use Rattle.std.specs.List.{AllByRecursion}
 use mathlib.Core.Option.{some}
 use lib.ListN.{get_elem?}
-use Rattle.sb_record.specs.declared.item.Record.{Record}
-use Rattle.sb_turn.specs.declared.turns.View.{View}
-use Rattle.sb_turn.specs.Turning.{joined_with, opening_view, saw, split_off}
-use Rattle.sb_turn.specs.Passes.{ShowsEmpty}
-use Rattle.sb_cascade.specs.declared.cascade.Cascade.{Cascade}
-use Rattle.sb_cascade.specs.declared.pass.CascadePass.{CascadePass}
-use Rattle.sb_cascade.specs.declared.telling.Change.{Change}
-use Rattle.sb_cascade.specs.declared.telling.Hands.{Hands}
-use Rattle.sb_cascade.specs.Calls.{HasSame, IsEmptyHanded, IsFeeder, IsReady, IsSame, passes_out, view_of}
-use Rattle.sb_cascade.specs.SharedNodes.{SharedView}
-use Rattle.sb_cascade.specs.Views.{idle_hands}
-use Rattle.sb_feed.specs.Feeds.{Fed}
+use Rattle.sb_feeds.specs.base.records.declared.item.Record.{Record}
+use Rattle.sb_worker.specs.turn.declared.turns.View.{View}
+use Rattle.sb_worker.specs.turn.Turning.{joined_with, opening_view, saw, split_off}
+use Rattle.sb_worker.specs.turn.Passes.{ShowsEmpty}
+use Rattle.sb_worker.specs.cascade.declared.cascade.Cascade.{Cascade}
+use Rattle.sb_worker.specs.cascade.declared.pass.CascadePass.{CascadePass}
+use Rattle.sb_worker.specs.cascade.declared.telling.Change.{Change}
+use Rattle.sb_worker.specs.cascade.declared.telling.Hands.{Hands}
+use Rattle.sb_worker.specs.cascade.Calls.{HasSame, IsEmptyHanded, IsFeeder, IsReady, IsSame, passes_out, view_of}
+use Rattle.sb_worker.specs.cascade.SharedNodes.{SharedView}
+use Rattle.sb_worker.specs.cascade.Views.{idle_hands}
+use Rattle.sb_feeds.specs.one_feed.Feeds.{Fed}
 use Rattle.sb_run.specs.Feeders.{HasFed}
 use Rattle.sb_run.proofs.FedMore.{fed-still}
 use Rattle.sb_worker.specs.Helping.{IsFirst, IsHelper}

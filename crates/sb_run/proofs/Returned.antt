@@ -1,45 +1,45 @@
 -- A shared cascade comes back to one hand, and the run ends over it.
 use Rattle.std.proofs.Common.{◌≡◌, ◌≤◌, ℕ, false, List, [], ◌++◌, Option, Result, Ok, Err, refl, sym, ap, subst, ◌∙◌, append-nil, inl, inr}
 use Rattle.std.specs.Prelude.{⊤}
-use Rattle.sb_record.specs.declared.intake.Stop.{Stop}
-use Rattle.sb_record.specs.declared.intake.Stop.TheVariants as at
-use Rattle.sb_record.specs.declared.item.Dropped.{Dropped}
-use Rattle.sb_record.specs.declared.item.Item.{Item}
-use Rattle.sb_record.specs.declared.item.Record.{Record}
-use Rattle.sb_record.specs.declared.item.Stream.{Stream}
-use Rattle.sb_record.specs.declared.item.Stream.TheVariants.{A, B}
-use Rattle.sb_record.specs.declared.item.TheConstants.{END_MARK}
-use Rattle.sb_record.specs.Streams.{dropped_of}
-use Rattle.sb_outside.specs.Sinks.{SinkState}
-use Rattle.sb_pipeline.specs.Plans.{IsPlan}
-use Rattle.sb_pipeline.specs.Shapes.{Shape, streams_of}
-use Rattle.sb_core.specs.Exactness.{IsExact}
-use Rattle.sb_tally.specs.Tally as tally
-use Rattle.sb_tally.specs.Tally.{IsTallied}
-use Rattle.sb_emit.specs.Taps.{TapState}
-use Rattle.sb_hand.specs.Hands.{HandView, IsNewHand, Shows, settings_at}
-use Rattle.sb_hand.specs.Showing.{diaries_of, settings_of}
-use Rattle.sb_turn.specs.Turning.{opening_view}
-use Rattle.sb_cascade.specs.declared.cascade.Cascade.{Cascade}
-use Rattle.sb_cascade.specs.declared.pass.CascadePass.{CascadePass}
-use Rattle.sb_cascade.specs.Calls.{IsEmptyHanded, IsFeeder, IsReady, plan_of, setting_of, view_of}
-use Rattle.sb_cascade.specs.Lives.{GivesBack, IsShared}
-use Rattle.sb_cascade.specs.Views as view
-use Rattle.sb_feed.specs.declared.cutters.Cutters.{Cutters}
-use Rattle.sb_feed.specs.declared.give.GiveStop.{GiveStop}
-use Rattle.sb_feed.specs.declared.give.GiveStop.TheVariants as give
-use Rattle.sb_feed.specs.Due.{AreFirstRows, streams_in}
-use Rattle.sb_feed.specs.FedByItems.{IsFedBy, end_items}
-use Rattle.sb_feed.specs.Feeds.{AreRowsSoFar, Fed, records_of_feed, nothing_fed}
-use Rattle.sb_feed.specs.GiveCauses.{GiveCause}
-use Rattle.sb_feed.specs.Given.{items_of}
-use Rattle.sb_feed.specs.Gives.{Gives, StopsOut}
-use Rattle.sb_feed.specs.InputFeeds.{Feeds, FeedsAll, FeedsSome}
-use Rattle.sb_feed.specs.TapLists.{StopsIn}
-use Rattle.sb_feed.proofs.FirstRows.{fed_covers, rows_are_first, rows_same}
-use Rattle.sb_feed.proofs.GivesInTurn.{AddsUp, gives_both, stops_none, stops_then}
-use Rattle.sb_feed.proofs.InputEnds.{same_records}
-use Rattle.sb_feed.proofs.LaterItems.{no_more}
+use Rattle.sb_feeds.specs.base.records.declared.intake.Stop.{Stop}
+use Rattle.sb_feeds.specs.base.records.declared.intake.Stop.TheVariants as at
+use Rattle.sb_feeds.specs.base.records.declared.item.Dropped.{Dropped}
+use Rattle.sb_feeds.specs.base.records.declared.item.Item.{Item}
+use Rattle.sb_feeds.specs.base.records.declared.item.Record.{Record}
+use Rattle.sb_feeds.specs.base.records.declared.item.Stream.{Stream}
+use Rattle.sb_feeds.specs.base.records.declared.item.Stream.TheVariants.{A, B}
+use Rattle.sb_feeds.specs.base.records.declared.item.TheConstants.{END_MARK}
+use Rattle.sb_feeds.specs.base.records.Streams.{dropped_of}
+use Rattle.sb_feeds.specs.outside.Sinks.{SinkState}
+use Rattle.sb_feeds.specs.base.pipeline.Plans.{IsPlan}
+use Rattle.sb_feeds.specs.base.pipeline.Shapes.{Shape, streams_of}
+use Rattle.sb_worker.specs.core.Exactness.{IsExact}
+use Rattle.sb_worker.specs.tally.Tally as tally
+use Rattle.sb_worker.specs.tally.Tally.{IsTallied}
+use Rattle.sb_feeds.specs.emit.Taps.{TapState}
+use Rattle.sb_worker.specs.hand.Hands.{HandView, IsNewHand, Shows, settings_at}
+use Rattle.sb_worker.specs.hand.Showing.{diaries_of, settings_of}
+use Rattle.sb_worker.specs.turn.Turning.{opening_view}
+use Rattle.sb_worker.specs.cascade.declared.cascade.Cascade.{Cascade}
+use Rattle.sb_worker.specs.cascade.declared.pass.CascadePass.{CascadePass}
+use Rattle.sb_worker.specs.cascade.Calls.{IsEmptyHanded, IsFeeder, IsReady, plan_of, setting_of, view_of}
+use Rattle.sb_worker.specs.cascade.Lives.{GivesBack, IsShared}
+use Rattle.sb_worker.specs.cascade.Views as view
+use Rattle.sb_feeds.specs.one_feed.declared.cutters.Cutters.{Cutters}
+use Rattle.sb_feeds.specs.one_feed.declared.give.GiveStop.{GiveStop}
+use Rattle.sb_feeds.specs.one_feed.declared.give.GiveStop.TheVariants as give
+use Rattle.sb_feeds.specs.one_feed.Due.{AreFirstRows, streams_in}
+use Rattle.sb_feeds.specs.one_feed.FedByItems.{IsFedBy, end_items}
+use Rattle.sb_feeds.specs.one_feed.Feeds.{AreRowsSoFar, Fed, records_of_feed, nothing_fed}
+use Rattle.sb_feeds.specs.one_feed.GiveCauses.{GiveCause}
+use Rattle.sb_feeds.specs.one_feed.Given.{items_of}
+use Rattle.sb_feeds.specs.one_feed.Gives.{Gives, StopsOut}
+use Rattle.sb_feeds.specs.one_feed.InputFeeds.{Feeds, FeedsAll, FeedsSome}
+use Rattle.sb_feeds.specs.one_feed.TapLists.{StopsIn}
+use Rattle.sb_feeds.proofs.one_feed.FirstRows.{fed_covers, rows_are_first, rows_same}
+use Rattle.sb_feeds.proofs.one_feed.GivesInTurn.{AddsUp, gives_both, stops_none, stops_then}
+use Rattle.sb_feeds.proofs.one_feed.InputEnds.{same_records}
+use Rattle.sb_feeds.proofs.one_feed.LaterItems.{no_more}
 use Rattle.sb_run.specs.declared.run_end.RunEnd.TheVariants as run
 use Rattle.sb_run.specs.declared.sizes.Sizes.{Sizes}
 use Rattle.sb_run.specs.Ending.{early_by, end_by}

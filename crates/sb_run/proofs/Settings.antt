@@ -1,8 +1,8 @@
 -- What a hand was made with stays, call after call.
 use Rattle.std.proofs.Common.{◌≡◌, Bool, true, false, refl, sym, ◌∙◌}
 use Rattle.std.proofs.lemmas.Bool.{true≢false}
-use Rattle.sb_hand.specs.Hands.{HandView, KeepsAllButNodes}
-use Rattle.sb_hand.specs.Showing.{settings_of}
+use Rattle.sb_worker.specs.hand.Hands.{HandView, KeepsAllButNodes}
+use Rattle.sb_worker.specs.hand.Showing.{settings_of}
 use Rattle.sb_run.specs.Rested.{HasSameSetting}
 
 pub same_then : (a b c : HandView) → HasSameSetting a b → HasSameSetting b c → HasSameSetting a c

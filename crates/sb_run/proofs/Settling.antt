@@ -1,13 +1,13 @@
 -- Steps one after another, until nothing is left to do.
 use Rattle.std.proofs.Common.{◌≡◌, ◌<◌, ℕ, List, refl, ap, ◌∙◌, arith}
 use Rattle.std.specs.List.{slice_get}
-use Rattle.sb_record.specs.declared.item.Record.{Record}
-use Rattle.sb_pipeline.specs.Shapes.{Shape}
-use Rattle.sb_hand.specs.declared.did.Did.{Did}
-use Rattle.sb_hand.specs.declared.did.Did.TheVariants as did
-use Rattle.sb_node.specs.declared.state.NodeState.{NodeState}
-use Rattle.sb_hand.specs.Stepping.{IsIdle, Steps}
-use Rattle.sb_hand.specs.Todo.{todo_at}
+use Rattle.sb_feeds.specs.base.records.declared.item.Record.{Record}
+use Rattle.sb_feeds.specs.base.pipeline.Shapes.{Shape}
+use Rattle.sb_worker.specs.hand.declared.did.Did.{Did}
+use Rattle.sb_worker.specs.hand.declared.did.Did.TheVariants as did
+use Rattle.sb_worker.specs.node.declared.state.NodeState.{NodeState}
+use Rattle.sb_worker.specs.hand.Stepping.{IsIdle, Steps}
+use Rattle.sb_worker.specs.hand.Todo.{todo_at}
 
 -- a step leaves the nodes before as they were
 pub earlier-kept : (plan : Shape) (bundle node : ℕ) (old new : List NodeState) (tray later : List Record) (what : Did)

@@ -1,14 +1,14 @@
 -- What is given out while a bundle waits for room, and what becomes of it.
 use Rattle.std.proofs.Common.{ℕ, List, ◌++◌}
-use Rattle.sb_record.specs.declared.item.Record.{Record}
-use Rattle.sb_record.specs.declared.item.Stream.{Stream}
-use Rattle.sb_bundle.specs.declared.bundle.Bundle.{Bundle}
-use Rattle.sb_pipeline.specs.Shapes.{Shape}
-use Rattle.sb_emit.specs.Taps.{TapState}
-use Rattle.sb_feed.specs.declared.give.GiveStop.{GiveStop}
-use Rattle.sb_feed.specs.Feeds.{Fed, MayArrive, with_bundle}
-use Rattle.sb_feed.specs.Gives.{GivesOut, StopsOut}
-use Rattle.sb_feed.proofs.RowsSoFar.{so_far_bundle}
+use Rattle.sb_feeds.specs.base.records.declared.item.Record.{Record}
+use Rattle.sb_feeds.specs.base.records.declared.item.Stream.{Stream}
+use Rattle.sb_feeds.specs.base.bundle.declared.bundle.Bundle.{Bundle}
+use Rattle.sb_feeds.specs.base.pipeline.Shapes.{Shape}
+use Rattle.sb_feeds.specs.emit.Taps.{TapState}
+use Rattle.sb_feeds.specs.one_feed.declared.give.GiveStop.{GiveStop}
+use Rattle.sb_feeds.specs.one_feed.Feeds.{Fed, MayArrive, with_bundle}
+use Rattle.sb_feeds.specs.one_feed.Gives.{GivesOut, StopsOut}
+use Rattle.sb_feeds.proofs.one_feed.RowsSoFar.{so_far_bundle}
 
 -- rows that stopped coming out before a bundle was fed are as right if it counts as fed
 pub stops_more : {O : Type 0} (plan : Shape) (size : ℕ) (part : O → List Record → O → Type 0) (o p : O) (a b : List TapState) (s : Stream) (k : Bundle) (f : Fed) (rows : List Record) (why : GiveStop)

@@ -4,35 +4,35 @@ use Rattle.std.specs.Prelude.{All, is_some, min}
 use Rattle.std.specs.List.{AllByRecursion, slice_get}
 use Rattle.std.proofs.lemmas.List.Elements.{All-from_recursion}
 use Rattle.std.proofs.lemmas.Option.{get_or_from_slice_get, slice_get_within}
-use Rattle.sb_record.specs.declared.item.Record.{Record}
-use Rattle.sb_record.specs.declared.item.Stream.{Stream}
-use Rattle.sb_record.specs.declared.item.Stream.TheVariants.{A, B}
-use Rattle.sb_record.specs.declared.item.TheConstants.{END_MARK}
-use Rattle.sb_record.specs.declared.item.Streams.{Streams}
-use Rattle.sb_record.specs.Streams.{last_or, least_of}
-use Rattle.sb_record.proofs.Numbers.{bind_some}
-use Rattle.sb_pipeline.specs.declared.transform.Down.{Down}
-use Rattle.sb_pipeline.specs.Shapes.{Shape, source, streams_of}
-use Rattle.sb_pipeline.specs.Results.{rows_below}
-use Rattle.sb_core.specs.declared.moment.CoreLane.{CoreLane}
-use Rattle.sb_core.specs.declared.moment.Moment.{Moment}
-use Rattle.sb_core.specs.declared.moment.Node.{Node}
-use Rattle.sb_core.specs.Exactness.{IsAdmissible, IsExact}
-use Rattle.sb_core.specs.Laws.{written_to}
-use Rattle.sb_core.specs.Moments.{floor_at, floor_of, lane_at, no_node, node_at}
-use Rattle.sb_core.specs.Rest.{IsAtRest, floor_where, low_mark}
-use Rattle.sb_core.specs.Soundness.{IsSound}
-use Rattle.sb_core.proofs.ends.AtRest.{closes-low}
-use Rattle.sb_core.proofs.ends.SoundRows.{rows-are_the_plans}
-use Rattle.sb_diary.specs.declared.event.DiaryEvent.{DiaryEvent}
-use Rattle.sb_pipeline.specs.Plans.{IsPlan}
-use Rattle.sb_tally.specs.Tally.{IsTallied}
-use Rattle.sb_tally.proofs.Telling.{diaries-tell}
-use Rattle.sb_hand.specs.HandLaws.{AreIdle}
-use Rattle.sb_hand.specs.Hands.{HandView}
-use Rattle.sb_hand.specs.Showing.{diaries_of}
-use Rattle.sb_hand.proofs.Resting.{idle-is-rest}
-use Rattle.sb_feed.specs.Feeds.{AreRowsSoFar, Fed, IsComing, IsFrom, records_of_feed, floor_in, marks_in}
+use Rattle.sb_feeds.specs.base.records.declared.item.Record.{Record}
+use Rattle.sb_feeds.specs.base.records.declared.item.Stream.{Stream}
+use Rattle.sb_feeds.specs.base.records.declared.item.Stream.TheVariants.{A, B}
+use Rattle.sb_feeds.specs.base.records.declared.item.TheConstants.{END_MARK}
+use Rattle.sb_feeds.specs.base.records.declared.item.Streams.{Streams}
+use Rattle.sb_feeds.specs.base.records.Streams.{last_or, least_of}
+use Rattle.sb_feeds.proofs.base.records.Numbers.{bind_some}
+use Rattle.sb_feeds.specs.base.pipeline.declared.transform.Down.{Down}
+use Rattle.sb_feeds.specs.base.pipeline.Shapes.{Shape, source, streams_of}
+use Rattle.sb_feeds.specs.base.pipeline.Results.{rows_below}
+use Rattle.sb_worker.specs.core.declared.moment.CoreLane.{CoreLane}
+use Rattle.sb_worker.specs.core.declared.moment.Moment.{Moment}
+use Rattle.sb_worker.specs.core.declared.moment.Node.{Node}
+use Rattle.sb_worker.specs.core.Exactness.{IsAdmissible, IsExact}
+use Rattle.sb_worker.specs.core.Laws.{written_to}
+use Rattle.sb_worker.specs.core.Moments.{floor_at, floor_of, lane_at, no_node, node_at}
+use Rattle.sb_worker.specs.core.Rest.{IsAtRest, floor_where, low_mark}
+use Rattle.sb_worker.specs.core.Soundness.{IsSound}
+use Rattle.sb_worker.proofs.core.ends.AtRest.{closes-low}
+use Rattle.sb_worker.proofs.core.ends.SoundRows.{rows-are_the_plans}
+use Rattle.sb_worker.specs.diary.declared.event.DiaryEvent.{DiaryEvent}
+use Rattle.sb_feeds.specs.base.pipeline.Plans.{IsPlan}
+use Rattle.sb_worker.specs.tally.Tally.{IsTallied}
+use Rattle.sb_worker.proofs.tally.Telling.{diaries-tell}
+use Rattle.sb_worker.specs.hand.HandLaws.{AreIdle}
+use Rattle.sb_worker.specs.hand.Hands.{HandView}
+use Rattle.sb_worker.specs.hand.Showing.{diaries_of}
+use Rattle.sb_worker.proofs.hand.Resting.{idle-is-rest}
+use Rattle.sb_feeds.specs.one_feed.Feeds.{AreRowsSoFar, Fed, IsComing, IsFrom, records_of_feed, floor_in, marks_in}
 use Rattle.sb_run.specs.Rested.{IsRested, IsWhole, feed_of}
 use Rattle.sb_run.proofs.Behind.{written_behind}
 

@@ -2,38 +2,38 @@
 use Rattle.std.proofs.Common.{◌≡◌, ◌≤◌, ℕ, Bool, false, List, [], ◌∷◌, ◌++◌, length, map, refl, sym, ap, subst, ◌∙◌, append_assoc, append-nil, arith}
 use Rattle.std.proofs.lemmas.List.{map-append}
 use Rattle.std.proofs.lemmas.List.Concat.{flat_map-append}
-use Rattle.sb_record.specs.declared.item.Record.{Record}
-use Rattle.sb_record.specs.declared.item.Stream.{Stream}
-use Rattle.sb_record.specs.declared.item.Stream.TheVariants.{A, B}
-use Rattle.sb_record.specs.declared.item.TheConstants.{END_MARK}
-use Rattle.sb_record.specs.Streams.{last_or}
-use Rattle.sb_bundle.specs.declared.bundle.Bundle.{Bundle}
-use Rattle.sb_bundle.specs.declared.bundle.TheConstants.{MAX_BUNDLE}
-use Rattle.sb_bundle.specs.Calls.{records_in_order, parts_of}
-use Rattle.sb_pipeline.specs.Shapes.{Shape}
-use Rattle.sb_pipeline.specs.Plans.{IsPlan}
-use Rattle.sb_core.specs.declared.event.Event.{Event}
-use Rattle.sb_core.specs.declared.event.Event.TheVariants.{Arrive, Seal}
-use Rattle.sb_core.specs.Exactness.{IsExact}
-use Rattle.sb_core.specs.Laws.{records_fed_after, records_fed_by}
-use Rattle.sb_core.specs.Moments.{first}
-use Rattle.sb_core.proofs.sound.AfterSound.{runs-keep}
-use Rattle.sb_core.proofs.sound.FirstMoment.{runs-are_sound}
-use Rattle.sb_tally.specs.Keeping.{feed_by, no_feed, one_more_of}
-use Rattle.sb_tally.specs.Tally.{Feed, IsTallied}
-use Rattle.sb_tally.specs.Tally as tally
-use Rattle.sb_tally.specs.Whole.{fed_bundle}
-use Rattle.sb_tally.proofs.EventsKeep.{runs-keep_tally}
-use Rattle.sb_tally.proofs.First.{first-is_tallied}
-use Rattle.sb_hand.specs.declared.did.Did.{Did}
-use Rattle.sb_hand.specs.declared.did.Did.TheVariants as did
-use Rattle.sb_node.specs.declared.state.NodeState.{NodeState}
-use Rattle.sb_hand.specs.Hands.{HandView, IsNewHand, KeepsAllButNodes, settings_at}
-use Rattle.sb_hand.specs.Runs.{bundle_events}
-use Rattle.sb_hand.specs.Showing.{Does, Stands, diaries_of, settings_of}
-use Rattle.sb_hand.specs.Stepping.{Steps}
-use Rattle.sb_hand.proofs.FeedingNothing.{bundles-feed_nothing, closings-feed_nothing}
-use Rattle.sb_feed.specs.Feeds.{Fed, bundles_in, records_of_feed, floor_in, marks_in, nothing_fed, with_bundle, with_mark}
+use Rattle.sb_feeds.specs.base.records.declared.item.Record.{Record}
+use Rattle.sb_feeds.specs.base.records.declared.item.Stream.{Stream}
+use Rattle.sb_feeds.specs.base.records.declared.item.Stream.TheVariants.{A, B}
+use Rattle.sb_feeds.specs.base.records.declared.item.TheConstants.{END_MARK}
+use Rattle.sb_feeds.specs.base.records.Streams.{last_or}
+use Rattle.sb_feeds.specs.base.bundle.declared.bundle.Bundle.{Bundle}
+use Rattle.sb_feeds.specs.base.bundle.declared.bundle.TheConstants.{MAX_BUNDLE}
+use Rattle.sb_feeds.specs.base.bundle.Calls.{records_in_order, parts_of}
+use Rattle.sb_feeds.specs.base.pipeline.Shapes.{Shape}
+use Rattle.sb_feeds.specs.base.pipeline.Plans.{IsPlan}
+use Rattle.sb_worker.specs.core.declared.event.Event.{Event}
+use Rattle.sb_worker.specs.core.declared.event.Event.TheVariants.{Arrive, Seal}
+use Rattle.sb_worker.specs.core.Exactness.{IsExact}
+use Rattle.sb_worker.specs.core.Laws.{records_fed_after, records_fed_by}
+use Rattle.sb_worker.specs.core.Moments.{first}
+use Rattle.sb_worker.proofs.core.sound.AfterSound.{runs-keep}
+use Rattle.sb_worker.proofs.core.sound.FirstMoment.{runs-are_sound}
+use Rattle.sb_worker.specs.tally.Keeping.{feed_by, no_feed, one_more_of}
+use Rattle.sb_worker.specs.tally.Tally.{Feed, IsTallied}
+use Rattle.sb_worker.specs.tally.Tally as tally
+use Rattle.sb_worker.specs.tally.Whole.{fed_bundle}
+use Rattle.sb_worker.proofs.tally.EventsKeep.{runs-keep_tally}
+use Rattle.sb_worker.proofs.tally.First.{first-is_tallied}
+use Rattle.sb_worker.specs.hand.declared.did.Did.{Did}
+use Rattle.sb_worker.specs.hand.declared.did.Did.TheVariants as did
+use Rattle.sb_worker.specs.node.declared.state.NodeState.{NodeState}
+use Rattle.sb_worker.specs.hand.Hands.{HandView, IsNewHand, KeepsAllButNodes, settings_at}
+use Rattle.sb_worker.specs.hand.Runs.{bundle_events}
+use Rattle.sb_worker.specs.hand.Showing.{Does, Stands, diaries_of, settings_of}
+use Rattle.sb_worker.specs.hand.Stepping.{Steps}
+use Rattle.sb_worker.proofs.hand.FeedingNothing.{bundles-feed_nothing, closings-feed_nothing}
+use Rattle.sb_feeds.specs.one_feed.Feeds.{Fed, bundles_in, records_of_feed, floor_in, marks_in, nothing_fed, with_bundle, with_mark}
 use Rattle.sb_run.specs.Rested.{HasSameSetting, IsWhole, feed_of}
 
 -- the hand with other nodes and another tray

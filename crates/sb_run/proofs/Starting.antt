@@ -3,37 +3,37 @@ use Rattle.std.proofs.Common.{◌≡◌, ◌≤◌, ℕ, zero, suc, Bool, false,
 use Rattle.std.specs.List.{AllByRecursion, slice_get}
 use Rattle.std.proofs.KnownBytes.{Consumes-nil}
 use Rattle.std.proofs.lemmas.List.Elements.{All-from_recursion}
-use Rattle.sb_record.specs.declared.intake.Stop.{Stop}
-use Rattle.sb_record.specs.declared.intake.Stop.TheVariants as at
-use Rattle.sb_record.specs.declared.item.Dropped.{Dropped}
-use Rattle.sb_record.specs.declared.item.Record.{Record}
-use Rattle.sb_record.specs.declared.item.TheConstants.{END_MARK}
-use Rattle.sb_record.specs.Streams.{dropped_of}
-use Rattle.sb_outside.specs.Sinks.{SinkState}
-use Rattle.sb_pipeline.specs.Operators.{lanes_of, operator_at}
-use Rattle.sb_pipeline.specs.Plans.{IsPlan}
-use Rattle.sb_pipeline.specs.Shapes.{Shape}
-use Rattle.sb_core.specs.declared.moment.CoreLane.{CoreLane}
-use Rattle.sb_core.specs.Moments.{empty_lane, empty_node, first}
-use Rattle.sb_core.proofs.sound.FirstMoment.{at_node}
-use Rattle.sb_lane.specs.declared.answers.NotYet.TheVariants.{NoContainer}
-use Rattle.sb_lane.specs.LaneView.{LaneView, lane_of}
-use Rattle.sb_lane.specs.Looks.{look_of}
-use Rattle.sb_lane.specs.Taking.{take_first}
-use Rattle.sb_emit.specs.Taps.{TapState}
-use Rattle.sb_hand.specs.HandLaws.{AreIdle}
-use Rattle.sb_hand.specs.Hands.{HandView, IsNewHand, settings_at}
-use Rattle.sb_hand.specs.Showing.{settings_of}
-use Rattle.sb_node.specs.Looking.{CannotClose, NoneWaits}
-use Rattle.sb_hand.proofs.ShownLanes.{all-of-each, one-of-all}
-use Rattle.sb_hand.proofs.Single.{get-map, there-too}
-use Rattle.sb_feed.specs.declared.give.GiveStop.{GiveStop}
-use Rattle.sb_feed.specs.declared.give.GiveStop.TheVariants as stop
-use Rattle.sb_feed.specs.Due.{rows_below}
-use Rattle.sb_feed.specs.Feeds.{nothing_fed}
-use Rattle.sb_feed.specs.GiveCauses.{GiveCause}
-use Rattle.sb_feed.specs.Given.{Given, items_of}
-use Rattle.sb_feed.specs.InputFeeds.{FeedCause, Feeds}
+use Rattle.sb_feeds.specs.base.records.declared.intake.Stop.{Stop}
+use Rattle.sb_feeds.specs.base.records.declared.intake.Stop.TheVariants as at
+use Rattle.sb_feeds.specs.base.records.declared.item.Dropped.{Dropped}
+use Rattle.sb_feeds.specs.base.records.declared.item.Record.{Record}
+use Rattle.sb_feeds.specs.base.records.declared.item.TheConstants.{END_MARK}
+use Rattle.sb_feeds.specs.base.records.Streams.{dropped_of}
+use Rattle.sb_feeds.specs.outside.Sinks.{SinkState}
+use Rattle.sb_feeds.specs.base.pipeline.Operators.{lanes_of, operator_at}
+use Rattle.sb_feeds.specs.base.pipeline.Plans.{IsPlan}
+use Rattle.sb_feeds.specs.base.pipeline.Shapes.{Shape}
+use Rattle.sb_worker.specs.core.declared.moment.CoreLane.{CoreLane}
+use Rattle.sb_worker.specs.core.Moments.{empty_lane, empty_node, first}
+use Rattle.sb_worker.proofs.core.sound.FirstMoment.{at_node}
+use Rattle.sb_worker.specs.lane.declared.answers.NotYet.TheVariants.{NoContainer}
+use Rattle.sb_worker.specs.lane.LaneView.{LaneView, lane_of}
+use Rattle.sb_worker.specs.lane.Looks.{look_of}
+use Rattle.sb_worker.specs.lane.Taking.{take_first}
+use Rattle.sb_feeds.specs.emit.Taps.{TapState}
+use Rattle.sb_worker.specs.hand.HandLaws.{AreIdle}
+use Rattle.sb_worker.specs.hand.Hands.{HandView, IsNewHand, settings_at}
+use Rattle.sb_worker.specs.hand.Showing.{settings_of}
+use Rattle.sb_worker.specs.node.Looking.{CannotClose, NoneWaits}
+use Rattle.sb_worker.proofs.hand.ShownLanes.{all-of-each, one-of-all}
+use Rattle.sb_worker.proofs.hand.Single.{get-map, there-too}
+use Rattle.sb_feeds.specs.one_feed.declared.give.GiveStop.{GiveStop}
+use Rattle.sb_feeds.specs.one_feed.declared.give.GiveStop.TheVariants as stop
+use Rattle.sb_feeds.specs.one_feed.Due.{rows_below}
+use Rattle.sb_feeds.specs.one_feed.Feeds.{nothing_fed}
+use Rattle.sb_feeds.specs.one_feed.GiveCauses.{GiveCause}
+use Rattle.sb_feeds.specs.one_feed.Given.{Given, items_of}
+use Rattle.sb_feeds.specs.one_feed.InputFeeds.{FeedCause, Feeds}
 use Rattle.sb_run.specs.declared.run_end.RunEnd.TheVariants as run
 use Rattle.sb_run.specs.declared.sizes.Sizes.{Sizes}
 use Rattle.sb_run.specs.Ending.{end_by}

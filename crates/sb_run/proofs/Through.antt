@@ -1,14 +1,14 @@
 -- How a run ends, said in other words.
 use Rattle.std.proofs.Common.{◌≡◌, ℕ, List, Option, Result, Ok, Err, inl, refl}
-use Rattle.sb_record.specs.declared.intake.Stop.{Stop}
-use Rattle.sb_record.specs.declared.intake.Stop.TheVariants as at
-use Rattle.sb_record.specs.declared.item.Dropped.{Dropped}
-use Rattle.sb_record.specs.declared.item.Record.{Record}
-use Rattle.sb_pipeline.specs.Shapes.{Shape}
-use Rattle.sb_emit.specs.Taps.{TapState}
-use Rattle.sb_hand.specs.Hands.{HandView}
-use Rattle.sb_feed.specs.declared.give.GiveStop.{GiveStop}
-use Rattle.sb_feed.specs.declared.give.GiveStop.TheVariants as stop
+use Rattle.sb_feeds.specs.base.records.declared.intake.Stop.{Stop}
+use Rattle.sb_feeds.specs.base.records.declared.intake.Stop.TheVariants as at
+use Rattle.sb_feeds.specs.base.records.declared.item.Dropped.{Dropped}
+use Rattle.sb_feeds.specs.base.records.declared.item.Record.{Record}
+use Rattle.sb_feeds.specs.base.pipeline.Shapes.{Shape}
+use Rattle.sb_feeds.specs.emit.Taps.{TapState}
+use Rattle.sb_worker.specs.hand.Hands.{HandView}
+use Rattle.sb_feeds.specs.one_feed.declared.give.GiveStop.{GiveStop}
+use Rattle.sb_feeds.specs.one_feed.declared.give.GiveStop.TheVariants as stop
 use Rattle.sb_run.specs.Ending.{end_by}
 use Rattle.sb_run.specs.declared.run_end.RunEnd.{RunEnd}
 use Rattle.sb_run.specs.declared.run_end.RunEnd.TheVariants.{Done, Refused, Input, Output, Tap, Memory}

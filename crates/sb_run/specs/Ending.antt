@@ -1,10 +1,10 @@
 -- How a run ends, by where feeding stopped.
 use Rattle.std.specs.Prelude.{Result, Ok, Err}
-use Rattle.sb_record.specs.declared.intake.Stop.{Stop}
-use Rattle.sb_record.specs.declared.intake.Stop.TheVariants as at
-use Rattle.sb_hand.specs.Hands.{HandView}
-use Rattle.sb_feed.specs.declared.give.GiveStop.{GiveStop}
-use Rattle.sb_feed.specs.declared.give.GiveStop.TheVariants as stop
+use Rattle.sb_feeds.specs.base.records.declared.intake.Stop.{Stop}
+use Rattle.sb_feeds.specs.base.records.declared.intake.Stop.TheVariants as at
+use Rattle.sb_worker.specs.hand.Hands.{HandView}
+use Rattle.sb_feeds.specs.one_feed.declared.give.GiveStop.{GiveStop}
+use Rattle.sb_feeds.specs.one_feed.declared.give.GiveStop.TheVariants as stop
 use Rattle.sb_run.specs.declared.run_end.RunEnd.{RunEnd}
 use Rattle.sb_run.specs.declared.run_end.RunEnd.TheVariants.{Done, Refused, Input, Output, Tap, Memory}
 

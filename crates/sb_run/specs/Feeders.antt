@@ -1,23 +1,23 @@
 -- What the feeder's pass of a shared cascade stands for between two lines of an input.
 use Rattle.std.specs.Prelude.{◌≡◌, ◌≤◌, List, [], length, Result, Ok, Err}
 use Rattle.std.specs.List.{AllByRecursion}
-use Rattle.sb_record.specs.declared.item.Record.{Record}
-use Rattle.sb_record.specs.declared.item.Stream.{Stream}
-use Rattle.sb_record.specs.declared.item.TheConstants.{END_MARK}
-use Rattle.sb_pipeline.specs.Plans.{IsPlan}
-use Rattle.sb_pipeline.specs.Shapes.{Shape}
-use Rattle.sb_cascade.specs.declared.cascade.Cascade.{Cascade}
-use Rattle.sb_cascade.specs.declared.pass.CascadePass.{CascadePass}
-use Rattle.sb_cascade.specs.declared.telling.Setting.{Setting}
-use Rattle.sb_cascade.specs.Calls.{IsEmptyHanded, IsFeeder, IsReady, hands, passes_out, plan_of, setting_of}
-use Rattle.sb_cascade.specs.Lives.{IsShared}
-use Rattle.sb_cascade.specs.Views as view
-use Rattle.sb_emit.specs.Taps.{TapState}
-use Rattle.sb_feed.specs.declared.give.GiveStop.{GiveStop}
-use Rattle.sb_feed.specs.Feeds.{AreRowsSoFar, Fed, floor_in, nothing_fed}
-use Rattle.sb_feed.specs.Gives.{GivesOut, StopsOut}
-use Rattle.sb_hand.specs.Hands.{HandView, settings_at}
-use Rattle.sb_hand.specs.Showing.{settings_of}
+use Rattle.sb_feeds.specs.base.records.declared.item.Record.{Record}
+use Rattle.sb_feeds.specs.base.records.declared.item.Stream.{Stream}
+use Rattle.sb_feeds.specs.base.records.declared.item.TheConstants.{END_MARK}
+use Rattle.sb_feeds.specs.base.pipeline.Plans.{IsPlan}
+use Rattle.sb_feeds.specs.base.pipeline.Shapes.{Shape}
+use Rattle.sb_worker.specs.cascade.declared.cascade.Cascade.{Cascade}
+use Rattle.sb_worker.specs.cascade.declared.pass.CascadePass.{CascadePass}
+use Rattle.sb_worker.specs.cascade.declared.telling.Setting.{Setting}
+use Rattle.sb_worker.specs.cascade.Calls.{IsEmptyHanded, IsFeeder, IsReady, hands, passes_out, plan_of, setting_of}
+use Rattle.sb_worker.specs.cascade.Lives.{IsShared}
+use Rattle.sb_worker.specs.cascade.Views as view
+use Rattle.sb_feeds.specs.emit.Taps.{TapState}
+use Rattle.sb_feeds.specs.one_feed.declared.give.GiveStop.{GiveStop}
+use Rattle.sb_feeds.specs.one_feed.Feeds.{AreRowsSoFar, Fed, floor_in, nothing_fed}
+use Rattle.sb_feeds.specs.one_feed.Gives.{GivesOut, StopsOut}
+use Rattle.sb_worker.specs.hand.Hands.{HandView, settings_at}
+use Rattle.sb_worker.specs.hand.Showing.{settings_of}
 use Rattle.sb_run.specs.declared.sizes.Sizes.{Sizes}
 use Rattle.sb_run.specs.Rested.{IsRested, feed_of}
 use Rattle.sb_worker.specs.Helping.{IsFirst, IsHelper}

@@ -1,13 +1,13 @@
 -- Two record files, one of each stream, and what a plan accepts of them.
 use Rattle.std.specs.Prelude.{◌≡◌, true, false, ℕ, List, ◌++◌, None, Some}
-use Rattle.sb_record.specs.declared.intake.Refusal.{Refusal}
-use Rattle.sb_record.specs.declared.item.Item.{Item}
-use Rattle.sb_record.specs.declared.item.Stream.{Stream}
-use Rattle.sb_record.specs.declared.item.Stream.TheVariants.{A, B}
-use Rattle.sb_record.specs.declared.item.Streams.{Streams}
-use Rattle.sb_record.specs.Inputs.{Accepted, accepted}
-use Rattle.sb_outside.specs.Lines.{lines}
-use Rattle.sb_pipeline.specs.Shapes.{Shape, streams_of}
+use Rattle.sb_feeds.specs.base.records.declared.intake.Refusal.{Refusal}
+use Rattle.sb_feeds.specs.base.records.declared.item.Item.{Item}
+use Rattle.sb_feeds.specs.base.records.declared.item.Stream.{Stream}
+use Rattle.sb_feeds.specs.base.records.declared.item.Stream.TheVariants.{A, B}
+use Rattle.sb_feeds.specs.base.records.declared.item.Streams.{Streams}
+use Rattle.sb_feeds.specs.base.records.Inputs.{Accepted, accepted}
+use Rattle.sb_feeds.specs.outside.Lines.{lines}
+use Rattle.sb_feeds.specs.base.pipeline.Shapes.{Shape, streams_of}
 
 -- the stream alone, if it is one of these
 abbrev pub stream_alone : Stream → Streams → Streams

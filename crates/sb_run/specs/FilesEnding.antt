@@ -1,7 +1,7 @@
 -- How a run over two record files ends, by why the reading of the files stopped.
-use Rattle.sb_hand.specs.Hands.{HandView}
-use Rattle.sb_feed.specs.declared.give.GiveStop.{GiveStop}
-use Rattle.sb_feed.specs.declared.give.GiveStop.TheVariants as stop
+use Rattle.sb_worker.specs.hand.Hands.{HandView}
+use Rattle.sb_feeds.specs.one_feed.declared.give.GiveStop.{GiveStop}
+use Rattle.sb_feeds.specs.one_feed.declared.give.GiveStop.TheVariants as stop
 use Rattle.sb_run.specs.declared.files.inlets.FilesStop.{FilesStop}
 use Rattle.sb_run.specs.declared.files.inlets.FilesStop.TheVariants as at
 use Rattle.sb_run.specs.declared.files.two_end.TwoEnd.{TwoEnd}

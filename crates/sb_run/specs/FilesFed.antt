@@ -1,21 +1,21 @@
 -- What feeding the values of two rings does.
 use Rattle.std.specs.Prelude.{◌≡◌, ◌≤◌, ◌⊎◌, ℕ, true, List, [], ◌++◌, Result, Ok, Err, Some}
 use Rattle.std.specs.List.{AllByRecursion}
-use Rattle.sb_record.specs.declared.item.Dropped.{Dropped}
-use Rattle.sb_record.specs.declared.item.Item.{Item}
-use Rattle.sb_record.specs.declared.item.Record.{Record}
-use Rattle.sb_record.specs.declared.item.Stream.{Stream}
-use Rattle.sb_record.specs.declared.item.Stream.TheVariants.{A, B}
-use Rattle.sb_record.specs.declared.item.Streams.{Streams}
-use Rattle.sb_record.specs.Streams.{dropped_of, last_watermark, records_of}
-use Rattle.sb_pipeline.specs.Shapes.{Shape, streams_of}
-use Rattle.sb_emit.specs.Taps.{TapState}
-use Rattle.sb_feed.specs.declared.cutters.Cutters.{Cutters}
-use Rattle.sb_feed.specs.declared.give.GiveStop.{GiveStop}
-use Rattle.sb_feed.specs.Due.{AreFirstDropped}
-use Rattle.sb_feed.specs.FedByItems.{IsFedBy, end_items}
-use Rattle.sb_feed.specs.Feeds.{AreRowsSoFar, Fed, IsFrom, records_of_feed, floor_in}
-use Rattle.sb_feed.specs.Gives.{GivesOut, TapsAt}
+use Rattle.sb_feeds.specs.base.records.declared.item.Dropped.{Dropped}
+use Rattle.sb_feeds.specs.base.records.declared.item.Item.{Item}
+use Rattle.sb_feeds.specs.base.records.declared.item.Record.{Record}
+use Rattle.sb_feeds.specs.base.records.declared.item.Stream.{Stream}
+use Rattle.sb_feeds.specs.base.records.declared.item.Stream.TheVariants.{A, B}
+use Rattle.sb_feeds.specs.base.records.declared.item.Streams.{Streams}
+use Rattle.sb_feeds.specs.base.records.Streams.{dropped_of, last_watermark, records_of}
+use Rattle.sb_feeds.specs.base.pipeline.Shapes.{Shape, streams_of}
+use Rattle.sb_feeds.specs.emit.Taps.{TapState}
+use Rattle.sb_feeds.specs.one_feed.declared.cutters.Cutters.{Cutters}
+use Rattle.sb_feeds.specs.one_feed.declared.give.GiveStop.{GiveStop}
+use Rattle.sb_feeds.specs.one_feed.Due.{AreFirstDropped}
+use Rattle.sb_feeds.specs.one_feed.FedByItems.{IsFedBy, end_items}
+use Rattle.sb_feeds.specs.one_feed.Feeds.{AreRowsSoFar, Fed, IsFrom, records_of_feed, floor_in}
+use Rattle.sb_feeds.specs.one_feed.Gives.{GivesOut, TapsAt}
 use Rattle.sb_feeds.specs.declared.fed.Fed.{Fed as AValue}
 use Rattle.sb_feeds.specs.Fed.{has_stop}
 use Rattle.sb_run.specs.declared.files.inlets.FilesStop.{FilesStop}

@@ -1,11 +1,11 @@
 -- The threads that read two record files, and their rings.
 use Rattle.std.specs.Prelude.{◌≡◌, ℕ, List, [], Option, Some, None, ⊤}
-use Rattle.sb_record.specs.declared.intake.LatePolicy.{LatePolicy}
-use Rattle.sb_record.specs.declared.item.Stream.{Stream}
-use Rattle.sb_record.specs.declared.item.Stream.TheVariants.{A, B}
-use Rattle.sb_record.specs.declared.item.Streams.{Streams}
-use Rattle.sb_record.specs.declared.key.Keys.{Keys}
-use Rattle.sb_record.specs.Intake.{first_progress}
+use Rattle.sb_feeds.specs.base.records.declared.intake.LatePolicy.{LatePolicy}
+use Rattle.sb_feeds.specs.base.records.declared.item.Stream.{Stream}
+use Rattle.sb_feeds.specs.base.records.declared.item.Stream.TheVariants.{A, B}
+use Rattle.sb_feeds.specs.base.records.declared.item.Streams.{Streams}
+use Rattle.sb_feeds.specs.base.records.declared.key.Keys.{Keys}
+use Rattle.sb_feeds.specs.base.records.Intake.{first_progress}
 use Rattle.sb_feeds.specs.declared.ends.FeedDone.{FeedDone}
 use Rattle.sb_feeds.specs.Ends.{values_fed, values_received, ring_in, ring_of, ring_out, values_sent}
 use Rattle.sb_feeds.specs.Fed.{IsNew, values_of_file}

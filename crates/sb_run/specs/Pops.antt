@@ -1,16 +1,16 @@
 -- What comes out of the rings of two record files, and which of it is taken.
 use Rattle.std.specs.Prelude.{◌≡◌, ℕ, Bool, true, false, ◌&&◌, ◌+◌, nat_le, nat_lt, if◌then◌else◌, List, [], ◌∷◌, ◌++◌}
 use Rattle.std.specs.Prelude.{length, flat_map, Option, Some, None}
-use Rattle.sb_record.specs.declared.intake.Stop.{Stop}
-use Rattle.sb_record.specs.declared.intake.Stop.TheVariants as at
-use Rattle.sb_record.specs.declared.item.Item.{Item}
-use Rattle.sb_record.specs.declared.item.Item.TheVariants as item
-use Rattle.sb_record.specs.declared.item.Stream.{Stream}
-use Rattle.sb_record.specs.declared.item.Stream.TheVariants.{A, B}
-use Rattle.sb_record.specs.declared.item.Streams.{Streams}
-use Rattle.sb_record.specs.declared.item.TheConstants.{END_MARK, MAX_TIME}
-use Rattle.sb_record.specs.Streams.{last_watermark, records_of, uses, watermark_in}
-use Rattle.sb_feed.specs.Calls.{calls_of}
+use Rattle.sb_feeds.specs.base.records.declared.intake.Stop.{Stop}
+use Rattle.sb_feeds.specs.base.records.declared.intake.Stop.TheVariants as at
+use Rattle.sb_feeds.specs.base.records.declared.item.Item.{Item}
+use Rattle.sb_feeds.specs.base.records.declared.item.Item.TheVariants as item
+use Rattle.sb_feeds.specs.base.records.declared.item.Stream.{Stream}
+use Rattle.sb_feeds.specs.base.records.declared.item.Stream.TheVariants.{A, B}
+use Rattle.sb_feeds.specs.base.records.declared.item.Streams.{Streams}
+use Rattle.sb_feeds.specs.base.records.declared.item.TheConstants.{END_MARK, MAX_TIME}
+use Rattle.sb_feeds.specs.base.records.Streams.{last_watermark, records_of, uses, watermark_in}
+use Rattle.sb_feeds.specs.one_feed.Calls.{calls_of}
 use Rattle.sb_feeds.specs.declared.fed.Fed.{Fed}
 use Rattle.sb_feeds.specs.declared.fed.Fed.TheVariants as fed
 use Rattle.sb_feeds.specs.declared.fed.FeedStop.{FeedStop}
@@ -21,7 +21,7 @@ use Rattle.sb_run.specs.declared.files.inlet.Inlet.{Inlet}
 use Rattle.sb_run.specs.declared.files.inlets.Inlets.{Inlets}
 use Rattle.sb_run.specs.declared.files.inlets.FilesStop.{FilesStop}
 use Rattle.sb_run.specs.declared.files.inlets.FilesStop.TheVariants.{End, Refused}
-use Rattle.sb_slow.specs.Inputs.{by_stream}
+use Rattle.sb_worker.specs.slow.Inputs.{by_stream}
 
 -- whether the two are the same stream
 abbrev pub is_stream : Stream → Stream → Bool

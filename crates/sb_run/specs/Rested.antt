@@ -1,17 +1,17 @@
 -- What a hand stands for between two lines of an input.
 use Rattle.std.specs.Prelude.{◌≡◌, ◌≤◌, Bool, true, false, List, [], map}
-use Rattle.sb_record.specs.declared.item.Record.{Record}
-use Rattle.sb_record.specs.declared.item.Stream.{Stream}
-use Rattle.sb_record.specs.declared.item.TheConstants.{END_MARK}
-use Rattle.sb_pipeline.specs.Plans.{IsPlan}
-use Rattle.sb_core.specs.declared.moment.Moment.{Moment}
-use Rattle.sb_core.specs.Exactness.{IsExact}
-use Rattle.sb_tally.specs.Tally.{Feed, IsTallied}
-use Rattle.sb_tally.specs.Whole.{fed_bundle}
-use Rattle.sb_hand.specs.HandLaws.{AreIdle}
-use Rattle.sb_hand.specs.Hands.{HandView, Shows, settings_at}
-use Rattle.sb_hand.specs.Showing.{diaries_of, settings_of}
-use Rattle.sb_feed.specs.Feeds.{Fed, bundles_in, records_of_feed, floor_in, marks_in}
+use Rattle.sb_feeds.specs.base.records.declared.item.Record.{Record}
+use Rattle.sb_feeds.specs.base.records.declared.item.Stream.{Stream}
+use Rattle.sb_feeds.specs.base.records.declared.item.TheConstants.{END_MARK}
+use Rattle.sb_feeds.specs.base.pipeline.Plans.{IsPlan}
+use Rattle.sb_worker.specs.core.declared.moment.Moment.{Moment}
+use Rattle.sb_worker.specs.core.Exactness.{IsExact}
+use Rattle.sb_worker.specs.tally.Tally.{Feed, IsTallied}
+use Rattle.sb_worker.specs.tally.Whole.{fed_bundle}
+use Rattle.sb_worker.specs.hand.HandLaws.{AreIdle}
+use Rattle.sb_worker.specs.hand.Hands.{HandView, Shows, settings_at}
+use Rattle.sb_worker.specs.hand.Showing.{diaries_of, settings_of}
+use Rattle.sb_feeds.specs.one_feed.Feeds.{Fed, bundles_in, records_of_feed, floor_in, marks_in}
 
 -- what was fed, as the tally counts it: rows that were drained are rows of the moment still, so none counts as drained
 abbrev pub feed_of : Fed → Feed

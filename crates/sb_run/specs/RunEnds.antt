@@ -1,29 +1,29 @@
 -- How a run ends: what was written and dropped, and what the taps have seen, over the accepted items.
 use Rattle.std.specs.Prelude.{◌≡◌, ◌≤◌, ◌⊎◌, ℕ, true, false, List, ◌++◌, length, Option, slice_get, Result, Ok, Err, ⊤}
-use Rattle.sb_record.specs.declared.intake.Stop.{Stop}
-use Rattle.sb_record.specs.declared.intake.Stop.TheVariants as stop
-use Rattle.sb_record.specs.declared.item.Dropped.{Dropped}
-use Rattle.sb_record.specs.declared.item.Item.{Item}
-use Rattle.sb_record.specs.declared.item.Record.{Record}
-use Rattle.sb_record.specs.Streams.{dropped_of}
-use Rattle.sb_outside.specs.Sinks.{SinkState}
-use Rattle.sb_outside.specs.Sources.{Rose}
-use Rattle.sb_bundle.specs.declared.bundle.TheConstants.{MAX_BUNDLE}
-use Rattle.sb_pipeline.specs.Operators.{lanes_of, operator_at}
-use Rattle.sb_pipeline.specs.Shapes.{Shape}
-use Rattle.sb_diary.specs.Legal.{IsLegal, IsSettled}
-use Rattle.sb_tally.specs.Whole.{Tallies}
-use Rattle.sb_tally.specs.Written.{diary_at}
-use Rattle.sb_emit.specs.Taps.{TapState}
-use Rattle.sb_hand.specs.declared.hand.TheConstants.{MAX_PENDING}
-use Rattle.sb_hand.specs.Hands.{HandView, NoneLeft, settings_at}
-use Rattle.sb_hand.specs.Showing.{diaries_of, settings_of}
-use Rattle.sb_feed.specs.Calls.{calls_of}
-use Rattle.sb_feed.specs.Due.{AreFirstDropped, AreFirstRows, due_rows}
-use Rattle.sb_feed.specs.declared.give.GiveStop.{GiveStop}
-use Rattle.sb_feed.specs.Given.{Given, items_of, stop_at}
-use Rattle.sb_feed.specs.Reads.{FaultCause}
-use Rattle.sb_feed.specs.TapLists.{LeavesThoseThatStay, StopsIn}
+use Rattle.sb_feeds.specs.base.records.declared.intake.Stop.{Stop}
+use Rattle.sb_feeds.specs.base.records.declared.intake.Stop.TheVariants as stop
+use Rattle.sb_feeds.specs.base.records.declared.item.Dropped.{Dropped}
+use Rattle.sb_feeds.specs.base.records.declared.item.Item.{Item}
+use Rattle.sb_feeds.specs.base.records.declared.item.Record.{Record}
+use Rattle.sb_feeds.specs.base.records.Streams.{dropped_of}
+use Rattle.sb_feeds.specs.outside.Sinks.{SinkState}
+use Rattle.sb_feeds.specs.outside.Sources.{Rose}
+use Rattle.sb_feeds.specs.base.bundle.declared.bundle.TheConstants.{MAX_BUNDLE}
+use Rattle.sb_feeds.specs.base.pipeline.Operators.{lanes_of, operator_at}
+use Rattle.sb_feeds.specs.base.pipeline.Shapes.{Shape}
+use Rattle.sb_worker.specs.diary.Legal.{IsLegal, IsSettled}
+use Rattle.sb_worker.specs.tally.Whole.{Tallies}
+use Rattle.sb_worker.specs.tally.Written.{diary_at}
+use Rattle.sb_feeds.specs.emit.Taps.{TapState}
+use Rattle.sb_worker.specs.hand.declared.hand.TheConstants.{MAX_PENDING}
+use Rattle.sb_worker.specs.hand.Hands.{HandView, NoneLeft, settings_at}
+use Rattle.sb_worker.specs.hand.Showing.{diaries_of, settings_of}
+use Rattle.sb_feeds.specs.one_feed.Calls.{calls_of}
+use Rattle.sb_feeds.specs.one_feed.Due.{AreFirstDropped, AreFirstRows, due_rows}
+use Rattle.sb_feeds.specs.one_feed.declared.give.GiveStop.{GiveStop}
+use Rattle.sb_feeds.specs.one_feed.Given.{Given, items_of, stop_at}
+use Rattle.sb_feeds.specs.one_feed.Reads.{FaultCause}
+use Rattle.sb_feeds.specs.one_feed.TapLists.{LeavesThoseThatStay, StopsIn}
 use Rattle.sb_run.specs.declared.sizes.Sizes.{Sizes}
 use Rattle.sb_run.specs.declared.sizes.TheConstants.{MAX_WORKERS}
 use Rattle.sb_run.specs.declared.run_end.RunEnd.{RunEnd}

@@ -1,16 +1,16 @@
 -- How a run over two record files ends: what was written and dropped, and what the taps have seen, over the accepted
 -- items of both files.
 use Rattle.std.specs.Prelude.{◌≡◌, ℕ, List, ◌++◌, ⊤}
-use Rattle.sb_record.specs.declared.intake.Stop.{Stop}
-use Rattle.sb_record.specs.declared.intake.Stop.TheVariants as stop
-use Rattle.sb_record.specs.declared.item.Dropped.{Dropped}
-use Rattle.sb_record.specs.declared.item.Record.{Record}
-use Rattle.sb_record.specs.declared.item.Stream.{Stream}
-use Rattle.sb_record.specs.Streams.{dropped_of}
-use Rattle.sb_pipeline.specs.Shapes.{Shape}
-use Rattle.sb_emit.specs.Taps.{TapState}
-use Rattle.sb_feed.specs.Due.{AreFirstDropped, AreFirstRows, due_rows}
-use Rattle.sb_feed.specs.TapLists.{LeavesThoseThatStay, StopsIn}
+use Rattle.sb_feeds.specs.base.records.declared.intake.Stop.{Stop}
+use Rattle.sb_feeds.specs.base.records.declared.intake.Stop.TheVariants as stop
+use Rattle.sb_feeds.specs.base.records.declared.item.Dropped.{Dropped}
+use Rattle.sb_feeds.specs.base.records.declared.item.Record.{Record}
+use Rattle.sb_feeds.specs.base.records.declared.item.Stream.{Stream}
+use Rattle.sb_feeds.specs.base.records.Streams.{dropped_of}
+use Rattle.sb_feeds.specs.base.pipeline.Shapes.{Shape}
+use Rattle.sb_feeds.specs.emit.Taps.{TapState}
+use Rattle.sb_feeds.specs.one_feed.Due.{AreFirstDropped, AreFirstRows, due_rows}
+use Rattle.sb_feeds.specs.one_feed.TapLists.{LeavesThoseThatStay, StopsIn}
 use Rattle.sb_run.specs.declared.sizes.Sizes.{Sizes}
 use Rattle.sb_run.specs.declared.run_end.RunEnd.{RunEnd}
 use Rattle.sb_run.specs.declared.run_end.RunEnd.TheVariants as run

@@ -7,11 +7,10 @@ use crate::ending::end_of;
 use crate::feeding::feed;
 use crate::run_end::RunEnd;
 use crate::sizes::Sizes;
-use sb_emit::{RowOut, Tap};
-use sb_hand::Hand;
-use sb_outside::Source;
-use sb_pipeline::Plan;
-use sb_record::{Dropped, NoMemory};
+use sb_feeds::sb_base::{Dropped, NoMemory, Plan};
+use sb_feeds::sb_emit::{RowOut, Tap};
+use sb_feeds::sb_outside::Source;
+use sb_worker::sb_hand::Hand;
 use std::alloc::Global;
 
 /// Runs a plan over an input with one worker: it waits for nobody, starts no thread, and always returns.

@@ -4,9 +4,9 @@ ghost use Rattle.std.specs.Prelude.{◌≡◌};
 ghost use Rattle.sb_run.specs.Ending.{early_by, end_by};
 
 use crate::run_end::RunEnd;
-use sb_feed::GiveStop;
-use sb_hand::Hand;
-use sb_record::Stop;
+use sb_feeds::sb_base::Stop;
+use sb_feeds::sb_feed::GiveStop;
+use sb_worker::sb_hand::Hand;
 
 /// How a run ends that stopped early.
 pub(crate) fn early_end(why: GiveStop) -> RunEnd

@@ -1,7 +1,7 @@
 //! How a run of the engine ends.
 
-use sb_hand::Hand;
-use sb_record::Refusal;
+use sb_feeds::sb_base::Refusal;
+use sb_worker::sb_hand::Hand;
 
 /// How a run of the engine ends. Where several ends hold, `Memory` comes before `Output` and `Tap`, and these before
 /// `Refused` and `Input`.

@@ -6,14 +6,12 @@ mod holding;
 mod two_files;
 
 use crate::{MAX_WORKERS, RunEnd, Sizes, execute, execute_alone};
-use sb_aggregate::Agg;
-use sb_bundle::MAX_BUNDLE;
-use sb_emit::{CountTap, Printing, Tap};
-use sb_outside::{MemSink, MemSource};
-use sb_pipeline::{Down, Kind, Plan, Step};
-use sb_record::{Dropped, LatePolicy, Refusal};
-use sb_window::Windows;
-use sb_work::{Gate, OpenGate};
+use sb_feeds::sb_base::{
+    Agg, Down, Dropped, Kind, LatePolicy, MAX_BUNDLE, Plan, Refusal, Step, Windows,
+};
+use sb_feeds::sb_emit::{CountTap, Printing, Tap};
+use sb_feeds::sb_outside::{MemSink, MemSource};
+use sb_worker::sb_work::{Gate, OpenGate};
 use std::alloc::{AllocError, Global};
 use std::sync::Wait;
 use std::test::Fail;

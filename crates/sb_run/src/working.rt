@@ -1,19 +1,18 @@
 //! Feeding a hand: each bundle and each watermark is worked off at once, and the rows are given out.
 
 ghost use Rattle.std.specs.Prelude.{◌≡◌, ◌≤◌, ◌<◌, ◌^◌, ℕ, List, map, length, slice_get, OnOk};
-ghost use Rattle.sb_record.specs.declared.item.Record.{Record as ARecord};
-ghost use Rattle.sb_hand.specs.Stepping.{IsIdle};
-ghost use Rattle.sb_feed.specs.Feeds.{AreRowsSoFar, Fed, MayArrive, MaySeal, with_bundle, with_mark};
-ghost use Rattle.sb_feed.specs.GiveCauses.{GiveCause};
-ghost use Rattle.sb_feed.specs.Gives.{Gives};
+ghost use Rattle.sb_feeds.specs.base.records.declared.item.Record.{Record as ARecord};
+ghost use Rattle.sb_worker.specs.hand.Stepping.{IsIdle};
+ghost use Rattle.sb_feeds.specs.one_feed.Feeds.{AreRowsSoFar, Fed, MayArrive, MaySeal, with_bundle, with_mark};
+ghost use Rattle.sb_feeds.specs.one_feed.GiveCauses.{GiveCause};
+ghost use Rattle.sb_feeds.specs.one_feed.Gives.{Gives};
 ghost use Rattle.sb_run.specs.Rested.{HasSameSetting, IsRested, IsWhole};
 
-use sb_bundle::Bundle;
-use sb_emit::{RowOut, Tap};
-use sb_feed::{GiveStop, give_out};
-use sb_hand::{Did, Hand};
-use sb_lane::ArriveStop;
-use sb_record::{NoMemory, Stream};
+use sb_feeds::sb_base::{Bundle, NoMemory, Stream};
+use sb_feeds::sb_emit::{RowOut, Tap};
+use sb_feeds::sb_feed::{GiveStop, give_out};
+use sb_worker::sb_hand::{Did, Hand};
+use sb_worker::sb_lane::ArriveStop;
 
 // Steps a node until nothing is left to do there.
 fn settle_node(hand: &mut Hand, node: u32) -> Result<(), NoMemory>

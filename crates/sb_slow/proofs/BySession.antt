@@ -14,19 +14,19 @@ use Rattle.std.proofs.lemmas.Option.{cond_some}
 use Rattle.std.proofs.lemmas.Map.Views.{All-found, tells_apart}
 use Rattle.std.proofs.lemmas.Map.Made.{is_some-lookup}
 use Rattle.std.proofs.lemmas.Map.Lookups.{btree_set_from_contains}
-use Rattle.sb_record.specs.declared.item.Record.{Record}
-use Rattle.sb_record.specs.Keys.{same_key}
-use Rattle.sb_record.proofs.KeyOrder.{exact_keys}
-use Rattle.sb_record.proofs.Sums.{none_pass}
-use Rattle.sb_record.proofs.Distinct.{distinct-sorted}
-use Rattle.sb_window.specs.declared.keyed_window.KeyedWindow.{KeyedWindow}
-use Rattle.sb_window.specs.Windows.{keyed_window_cmp}
-use Rattle.sb_window.specs.Gatherings.{rows_of_entries}
-use Rattle.sb_window.proofs.Rows.{keyed_windows_total, exact_keyed_windows, same_keyed_window}
-use Rattle.sb_aggregate.specs.declared.aggregate.Agg.{Agg}
-use Rattle.sb_aggregate.specs.Aggregates.{aggregate_values}
-use Rattle.sb_aggregate.specs.Sessions.{session_end, session_of, sessions_of, is_in_session, values_in_session, session_rows}
-use Rattle.sb_aggregate.proofs.SessionRows.{any_sessions}
+use Rattle.sb_base.specs.records.declared.item.Record.{Record}
+use Rattle.sb_base.specs.records.Keys.{same_key}
+use Rattle.sb_base.proofs.records.KeyOrder.{exact_keys}
+use Rattle.sb_base.proofs.records.Sums.{none_pass}
+use Rattle.sb_base.proofs.records.Distinct.{distinct-sorted}
+use Rattle.sb_base.specs.window.declared.keyed_window.KeyedWindow.{KeyedWindow}
+use Rattle.sb_base.specs.window.Windows.{keyed_window_cmp}
+use Rattle.sb_base.specs.window.Gatherings.{rows_of_entries}
+use Rattle.sb_base.proofs.window.Rows.{keyed_windows_total, exact_keyed_windows, same_keyed_window}
+use Rattle.sb_base.specs.aggregate.declared.aggregate.Agg.{Agg}
+use Rattle.sb_base.specs.aggregate.Aggregates.{aggregate_values}
+use Rattle.sb_base.specs.aggregate.Sessions.{session_end, session_of, sessions_of, is_in_session, values_in_session, session_rows}
+use Rattle.sb_base.proofs.aggregate.SessionRows.{any_sessions}
 use Rattle.sb_slow.specs.Gathered.{values_with, session_values_at}
 
 -- one record more

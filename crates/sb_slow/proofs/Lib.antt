@@ -5,3 +5,4 @@ pub mod Pairs
 pub mod Walking
 pub mod BySession
 pub mod TakingOut
+pub use Rattle.sb_base.proofs as base

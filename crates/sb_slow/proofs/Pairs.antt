@@ -2,14 +2,14 @@
 use Rattle.std.proofs.Common.{◌≡◌, ℤ, ◌-◌, Bool, true, false, cond, List, [], ◌∷◌, ◌++◌, map, Some, None, unwrap_or, refl, sym, ap, ◌∙◌}
 use Rattle.std.specs.List.{flat_map, list_any}
 use Rattle.std.specs.BTreeMap.{BTreeMap, IsOrdered, get}
-use Rattle.sb_record.specs.declared.item.Record.{Record}
-use Rattle.sb_window.specs.declared.keyed_window.KeyedWindow.{KeyedWindow}
-use Rattle.sb_window.specs.Spacing.{Spacing}
-use Rattle.sb_window.specs.Windows.{is_in, keyed_window_cmp, keyed_windows, values_in}
-use Rattle.sb_record.proofs.Sums.{none_pass}
-use Rattle.sb_window.proofs.Gathering.{entries-keyed_windows}
-use Rattle.sb_join.specs.declared.join.Combine.{Combine}
-use Rattle.sb_join.specs.Joins.{pair_values, pairs, join_rows}
+use Rattle.sb_base.specs.records.declared.item.Record.{Record}
+use Rattle.sb_base.specs.window.declared.keyed_window.KeyedWindow.{KeyedWindow}
+use Rattle.sb_base.specs.window.Spacing.{Spacing}
+use Rattle.sb_base.specs.window.Windows.{is_in, keyed_window_cmp, keyed_windows, values_in}
+use Rattle.sb_base.proofs.records.Sums.{none_pass}
+use Rattle.sb_base.proofs.window.Gathering.{entries-keyed_windows}
+use Rattle.sb_base.specs.join.declared.join.Combine.{Combine}
+use Rattle.sb_base.specs.join.Joins.{pair_values, pairs, join_rows}
 use Rattle.sb_slow.specs.Gathered.{values_at, rows_of_pairs}
 
 -- a left value has no pair where there is no right one

@@ -6,21 +6,21 @@ use Rattle.std.proofs.NetLemmas.Options.{map_some}
 use Rattle.std.proofs.lemmas.Option.{slice_get_past, slice_get_within, get_or_from_slice_get}
 use Rattle.std.proofs.lemmas.List.{drop_more}
 use Rattle.std.proofs.lemmas.List.Elements.{All-from_recursion, recursion_from_All}
-use Rattle.sb_record.specs.declared.item.Record.{Record}
-use Rattle.sb_record.specs.declared.item.Stream.{Stream}
-use Rattle.sb_record.specs.declared.item.Stream.TheVariants.{A, B}
-use Rattle.sb_record.specs.declared.item.TheConstants.{MAX_TIME, END_MARK}
-use Rattle.sb_record.proofs.Elements.{every}
-use Rattle.sb_pipeline.specs.declared.transform.Down.{Down}
-use Rattle.sb_record.specs.declared.element.KeptRec.{KeptRec}
-use Rattle.sb_pipeline.specs.declared.transform.Step.{Step}
-use Rattle.sb_record.specs.Elements.{all_records}
-use Rattle.sb_pipeline.specs.Flow.{Sent, arrivals_at, from_streams, sent_from}
-use Rattle.sb_pipeline.specs.Operators.{operator_at, output}
-use Rattle.sb_pipeline.specs.Plans.{IsPlan}
-use Rattle.sb_pipeline.specs.Results.{output_at, output_of}
-use Rattle.sb_pipeline.specs.Shapes.{Shape}
-use Rattle.sb_pipeline.proofs.Times.{AreTimely, IsInTime, arriving-times, from_streams-timely, sent-step-timely, output_of-times}
+use Rattle.sb_base.specs.records.declared.item.Record.{Record}
+use Rattle.sb_base.specs.records.declared.item.Stream.{Stream}
+use Rattle.sb_base.specs.records.declared.item.Stream.TheVariants.{A, B}
+use Rattle.sb_base.specs.records.declared.item.TheConstants.{MAX_TIME, END_MARK}
+use Rattle.sb_base.proofs.records.Elements.{every}
+use Rattle.sb_base.specs.pipeline.declared.transform.Down.{Down}
+use Rattle.sb_base.specs.records.declared.element.KeptRec.{KeptRec}
+use Rattle.sb_base.specs.pipeline.declared.transform.Step.{Step}
+use Rattle.sb_base.specs.records.Elements.{all_records}
+use Rattle.sb_base.specs.pipeline.Flow.{Sent, arrivals_at, from_streams, sent_from}
+use Rattle.sb_base.specs.pipeline.Operators.{operator_at, output}
+use Rattle.sb_base.specs.pipeline.Plans.{IsPlan}
+use Rattle.sb_base.specs.pipeline.Results.{output_at, output_of}
+use Rattle.sb_base.specs.pipeline.Shapes.{Shape}
+use Rattle.sb_base.proofs.pipeline.Times.{AreTimely, IsInTime, arriving-times, from_streams-timely, sent-step-timely, output_of-times}
 
 -- the transform at this place, by where it sends
 step-at : (steps : List Step) (k : ℕ) (down : Down) → option_map (λ s. s.down) (slice_get steps k) ≡ Some down → (s : Step) × (slice_get steps k ≡ Some s) × (s.down ≡ down)

@@ -6,16 +6,16 @@ use Rattle.std.proofs.lemmas.Bool.{eqb-true, and_parts, false_from_ne_true}
 use Rattle.std.proofs.lemmas.List.{map-append}
 use Rattle.std.proofs.lemmas.List.Elements.{filter-append}
 use Rattle.std.proofs.lemmas.List.Concat.{flat_map-append}
-use Rattle.sb_record.specs.declared.item.Record.{Record}
-use Rattle.sb_record.specs.declared.element.KeptRec.{KeptRec}
-use Rattle.sb_record.specs.Elements.{on_lane, all_records, of_lane}
-use Rattle.sb_record.proofs.OnLanes.{all_records-on_lane, All-all_records, All-of_lane}
-use Rattle.sb_pipeline.specs.declared.transform.Down.{Down}
-use Rattle.sb_pipeline.specs.declared.transform.Kind.{Kind}
-use Rattle.sb_pipeline.specs.declared.transform.Kind.TheVariants.{Do, Group, Session, Join}
-use Rattle.sb_pipeline.specs.Flow.{Sent, arrivals_at}
-use Rattle.sb_pipeline.specs.Operators.{operator_of, output}
-use Rattle.sb_pipeline.specs.Plans.{is_join}
+use Rattle.sb_base.specs.records.declared.item.Record.{Record}
+use Rattle.sb_base.specs.records.declared.element.KeptRec.{KeptRec}
+use Rattle.sb_base.specs.records.Elements.{on_lane, all_records, of_lane}
+use Rattle.sb_base.proofs.records.OnLanes.{all_records-on_lane, All-all_records, All-of_lane}
+use Rattle.sb_base.specs.pipeline.declared.transform.Down.{Down}
+use Rattle.sb_base.specs.pipeline.declared.transform.Kind.{Kind}
+use Rattle.sb_base.specs.pipeline.declared.transform.Kind.TheVariants.{Do, Group, Session, Join}
+use Rattle.sb_base.specs.pipeline.Flow.{Sent, arrivals_at}
+use Rattle.sb_base.specs.pipeline.Operators.{operator_of, output}
+use Rattle.sb_base.specs.pipeline.Plans.{is_join}
 use Rattle.sb_slow.specs.Taken.{first_lane, first_input, second_input, given_for}
 use Rattle.sb_slow.specs.Sendings.{is_to, records_to, sent_elsewhere}
 

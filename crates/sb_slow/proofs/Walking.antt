@@ -11,23 +11,23 @@ use Rattle.std.specs.Set.{is_member}
 use Rattle.std.proofs.lemmas.Map.Made.{All-is_member}
 use Rattle.std.proofs.lemmas.List.Elements.{recursion_from_All}
 use Rattle.std.proofs.lemmas.List.Folds.{list_any_at}
-use Rattle.sb_record.proofs.Sums.{any_reordered}
+use Rattle.sb_base.proofs.records.Sums.{any_reordered}
 use Rattle.std.proofs.lemmas.Cmp.{then_total, on_total}
 use Rattle.std.proofs.lemmas.Bool.{ltb-true, ltb-false, eqb-true, eq-eqb, and_parts, false_from_ne_true}
 use Rattle.std.proofs.lemmas.Bool.Decides.{nat_tests}
 use Rattle.std.proofs.lemmas.Map.Lookups.{CmpEqualImpliesEq, exact_pairs, exact_unsigned}
 use Rattle.std.proofs.lemmas.Map.Views.{tells_apart}
 use Rattle.std.proofs.lemmas.List.Sorted.{ranks_by}
-use Rattle.sb_record.specs.declared.item.Record.{Record}
-use Rattle.sb_record.specs.declared.key.Key.{Key}
-use Rattle.sb_record.specs.Keys.{key_cmp, same_key}
-use Rattle.sb_record.specs.KeyOrder.{key_cmp_total}
-use Rattle.sb_record.proofs.KeyOrder.{exact_keys}
-use Rattle.sb_record.proofs.Sorting.{equal_by}
-use Rattle.sb_record.specs.Orders.{IsAscending}
-use Rattle.sb_record.proofs.Elements.{every, All-any}
-use Rattle.sb_aggregate.specs.Sessions.{end_from, times_from, session_end}
-use Rattle.sb_aggregate.proofs.SessionEnds.{not_less, is_same_key, IsEndOf, has_time, end-is, end-unique, end-on, end-cut}
+use Rattle.sb_base.specs.records.declared.item.Record.{Record}
+use Rattle.sb_base.specs.records.declared.key.Key.{Key}
+use Rattle.sb_base.specs.records.Keys.{key_cmp, same_key}
+use Rattle.sb_base.specs.records.KeyOrder.{key_cmp_total}
+use Rattle.sb_base.proofs.records.KeyOrder.{exact_keys}
+use Rattle.sb_base.proofs.records.Sorting.{equal_by}
+use Rattle.sb_base.specs.records.Orders.{IsAscending}
+use Rattle.sb_base.proofs.records.Elements.{every, All-any}
+use Rattle.sb_base.specs.aggregate.Sessions.{end_from, times_from, session_end}
+use Rattle.sb_base.proofs.aggregate.SessionEnds.{not_less, is_same_key, IsEndOf, has_time, end-is, end-unique, end-on, end-cut}
 use Rattle.sb_slow.specs.declared.sessions.KeyedTime.{KeyedTime}
 use Rattle.sb_slow.specs.declared.sessions.Ended.{Ended}
 use Rattle.sb_slow.specs.SessionEnds.{keyed_time_cmp, time_of, end_before, AreLatestFirst}

@@ -1,13 +1,13 @@
 -- The values of each keyed window.
 use Rattle.std.specs.Prelude.{ℕ, ℤ, ◌-◌, if◌then◌else◌, List, [], ◌++◌, map, filter, Option, Some, None, unwrap_or}
 use Rattle.std.specs.List.{flat_map, list_any}
-use Rattle.sb_record.specs.declared.item.Record.{Record}
-use Rattle.sb_window.specs.declared.keyed_window.KeyedWindow.{KeyedWindow}
-use Rattle.sb_window.specs.Spacing.{Spacing}
-use Rattle.sb_window.specs.Gatherings.{gathered_value, joined_value}
-use Rattle.sb_aggregate.specs.Sessions.{is_in_session}
-use Rattle.sb_join.specs.declared.join.Combine.{Combine}
-use Rattle.sb_join.specs.Joins.{pair_values}
+use Rattle.sb_base.specs.records.declared.item.Record.{Record}
+use Rattle.sb_base.specs.window.declared.keyed_window.KeyedWindow.{KeyedWindow}
+use Rattle.sb_base.specs.window.Spacing.{Spacing}
+use Rattle.sb_base.specs.window.Gatherings.{gathered_value, joined_value}
+use Rattle.sb_base.specs.aggregate.Sessions.{is_in_session}
+use Rattle.sb_base.specs.join.declared.join.Combine.{Combine}
+use Rattle.sb_base.specs.join.Joins.{pair_values}
 
 -- the values of the records that lie in a keyed window, where there are any
 abbrev pub values_at : Spacing → List Record → KeyedWindow → Option (List ℤ)

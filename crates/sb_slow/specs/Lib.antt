@@ -3,3 +3,4 @@ pub mod Inputs
 pub mod Sendings
 pub mod SessionEnds
 pub mod Taken
+pub use Rattle.sb_base.specs as base

@@ -1,8 +1,8 @@
 -- Lists that were sent, by where they go.
 use Rattle.std.specs.Prelude.{ℕ, Bool, not, ◌==◌, ◌&&◌, List, [], if◌then◌else◌, filter, flat_map, Option, Some, None}
-use Rattle.sb_record.specs.declared.item.Record.{Record}
-use Rattle.sb_pipeline.specs.declared.transform.Down.{Down}
-use Rattle.sb_pipeline.specs.Flow.{Sent}
+use Rattle.sb_base.specs.records.declared.item.Record.{Record}
+use Rattle.sb_base.specs.pipeline.declared.transform.Down.{Down}
+use Rattle.sb_base.specs.pipeline.Flow.{Sent}
 
 -- whether the place is this lane of the node, or where no lane is named any lane of it
 abbrev pub is_to : ℕ → Option ℕ → Down → Bool

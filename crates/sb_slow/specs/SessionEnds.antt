@@ -2,10 +2,10 @@
 use Rattle.std.specs.Prelude.{ℕ, ◌+◌, nat_lt, ◌&&◌, if◌then◌else◌, List, Option, Some, None}
 use Rattle.std.specs.Ordering.{nat_cmp, ordering_then, flip_args}
 use Rattle.std.specs.declared.cmp.Ordering.{Ordering}
-use Rattle.sb_record.specs.declared.item.Record.{Record}
-use Rattle.sb_record.specs.Keys.{key_cmp, same_key}
-use Rattle.sb_record.specs.Orders.{IsAscending}
-use Rattle.sb_record.specs.Reorderings.{IsReordered}
+use Rattle.sb_base.specs.records.declared.item.Record.{Record}
+use Rattle.sb_base.specs.records.Keys.{key_cmp, same_key}
+use Rattle.sb_base.specs.records.Orders.{IsAscending}
+use Rattle.sb_base.specs.records.Reorderings.{IsReordered}
 use Rattle.sb_slow.specs.declared.sessions.KeyedTime.{KeyedTime}
 use Rattle.sb_slow.specs.declared.sessions.Ended.{Ended}
 

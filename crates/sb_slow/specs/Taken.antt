@@ -1,15 +1,15 @@
 -- What a transform takes of what arrives at its node, and what it gives for that.
 use Rattle.std.specs.Prelude.{ℕ, List, [], if◌then◌else◌, flat_map, Option, Some, None}
-use Rattle.sb_record.specs.declared.item.Record.{Record}
-use Rattle.sb_record.specs.declared.element.KeptRec.{KeptRec}
-use Rattle.sb_record.specs.Elements.{all_records, of_lane}
-use Rattle.sb_pardo.specs.Outputs.{outputs_of}
-use Rattle.sb_aggregate.specs.Aggregates.{aggregate_rows}
-use Rattle.sb_aggregate.specs.Sessions.{session_rows}
-use Rattle.sb_join.specs.Joins.{join_rows}
-use Rattle.sb_pipeline.specs.declared.transform.Kind.{Kind}
-use Rattle.sb_pipeline.specs.declared.transform.Kind.TheVariants.{Do, Group, Session, Join}
-use Rattle.sb_pipeline.specs.Plans.{is_join}
+use Rattle.sb_base.specs.records.declared.item.Record.{Record}
+use Rattle.sb_base.specs.records.declared.element.KeptRec.{KeptRec}
+use Rattle.sb_base.specs.records.Elements.{all_records, of_lane}
+use Rattle.sb_base.specs.pardo.Outputs.{outputs_of}
+use Rattle.sb_base.specs.aggregate.Aggregates.{aggregate_rows}
+use Rattle.sb_base.specs.aggregate.Sessions.{session_rows}
+use Rattle.sb_base.specs.join.Joins.{join_rows}
+use Rattle.sb_base.specs.pipeline.declared.transform.Kind.{Kind}
+use Rattle.sb_base.specs.pipeline.declared.transform.Kind.TheVariants.{Do, Group, Session, Join}
+use Rattle.sb_base.specs.pipeline.Plans.{is_join}
 
 -- the lane whose records a transform takes first: a join takes those of lane 0, any other takes those of all lanes
 abbrev pub first_lane : Kind → Option ℕ

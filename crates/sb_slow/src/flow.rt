@@ -1,19 +1,18 @@
 //! How records flow through a plan, where each transform takes whole lists.
 
 ghost use Rattle.std.specs.Prelude.{◌≡◌, ◌≤◌, ◌<◌, ◌++◌, [], ◌∷◌, ℕ, All, IfOk};
-ghost use Rattle.sb_record.specs.Streams as streams_spec;
-ghost use Rattle.sb_pipeline.specs.Flow as flow;
-ghost use Rattle.sb_pipeline.specs.Operators as operators;
-ghost use Rattle.sb_pipeline.specs.Plans.{IsValidKind};
-ghost use Rattle.sb_pipeline.specs.Results as results;
+ghost use Rattle.sb_base.specs.records.Streams as streams_spec;
+ghost use Rattle.sb_base.specs.pipeline.Flow as flow;
+ghost use Rattle.sb_base.specs.pipeline.Operators as operators;
+ghost use Rattle.sb_base.specs.pipeline.Plans.{IsValidKind};
+ghost use Rattle.sb_base.specs.pipeline.Results as results;
 ghost use Rattle.sb_slow.specs.Inputs.{by_stream};
 
 use crate::gather::records_of;
 use crate::operate::{first_lane, given_for};
 use crate::rows::sort_below;
 use crate::sent::{Sent, from_streams, send, take_sent};
-use sb_pipeline::{Down, Kind, Plan};
-use sb_record::{END_MARK, Item, MAX_TIME, NoMemory, Record, Stream};
+use sb_base::{Down, END_MARK, Item, Kind, MAX_TIME, NoMemory, Plan, Record, Stream};
 use std::alloc::Global;
 
 /// The rows with a time below `below` that the plan gives for the records of the items, in order.

@@ -2,15 +2,13 @@
 
 ghost use Rattle.std.specs.Prelude.{◌≡◌, ◌≤◌, ◌<◌, ◌++◌, [], ◌∷◌, ℕ, All, Some, if◌then◌else◌, OnOk, IfOk};
 ghost use Rattle.std.specs.BTreeMap.{get, is_at};
-ghost use Rattle.sb_record.specs.Streams as streams_spec;
-ghost use Rattle.sb_window.specs.declared.keyed_window.KeyedWindow.{KeyedWindow as Window};
-ghost use Rattle.sb_window.specs.Windows.{keyed_window_cmp};
+ghost use Rattle.sb_base.specs.records.Streams as streams_spec;
+ghost use Rattle.sb_base.specs.window.declared.keyed_window.KeyedWindow.{KeyedWindow as Window};
+ghost use Rattle.sb_base.specs.window.Windows.{keyed_window_cmp};
 ghost use Rattle.sb_slow.specs.Gathered as spec;
 
 use crate::sessions::session_ends;
-use sb_pipeline::MAX_GAP;
-use sb_record::{END_MARK, Item, NoMemory, Record, Sequence, Stream};
-use sb_window::{KeyedWindow, Windows};
+use sb_base::{END_MARK, Item, KeyedWindow, MAX_GAP, NoMemory, Record, Sequence, Stream, Windows};
 use std::alloc::{AllocError, Global};
 use std::collections::BTreeMap;
 

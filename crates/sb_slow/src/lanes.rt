@@ -1,10 +1,10 @@
 //! Records that are put on a lane, and taken from it.
 
 ghost use Rattle.std.specs.Prelude.{◌≡◌, ◌+◌, ◌≤◌, ◌<◌, ◌++◌, ℕ, length, take, vec_len, vec_capacity, IsOk, OnOk, OnErr, IfOk};
-ghost use Rattle.sb_record.specs.Elements.{on_lane};
-ghost use Rattle.sb_record.specs.Elements as elements_spec;
+ghost use Rattle.sb_base.specs.records.Elements.{on_lane};
+ghost use Rattle.sb_base.specs.records.Elements as elements_spec;
 
-use sb_record::{KeptRec, NoMemory, Record};
+use sb_base::{KeptRec, NoMemory, Record};
 use std::alloc::Global;
 
 /// Appends the records, on a lane. It takes no memory if there is room for all of them.

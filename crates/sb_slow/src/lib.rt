@@ -21,3 +21,6 @@ pub use lanes::{all_records, push_on_lane};
 pub use operate::{output, session_rows};
 pub use rows::sort_below;
 pub use sessions::session_ends;
+
+// What the crates above name of the crates below.
+pub use sb_base;

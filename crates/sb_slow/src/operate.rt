@@ -2,26 +2,24 @@
 
 ghost use Rattle.std.specs.Prelude.{◌≡◌, ◌≤◌, ◌<◌, ◌-◌, ◌++◌, [], All, map, unwrap_or, OnOk, IfOk, flat_map};
 ghost use Rattle.std.specs.BTreeMap.{IsOrdered, get};
-ghost use Rattle.sb_window.specs.Gatherings.{rows_of_entries};
-ghost use Rattle.sb_window.specs.Windows.{keyed_window_cmp};
-ghost use Rattle.sb_pardo.specs.Validity.{IsValid};
-ghost use Rattle.sb_pardo.specs.Outputs.{outputs_of};
-ghost use Rattle.sb_aggregate.specs.Aggregates.{aggregate_rows, aggregate_values};
-ghost use Rattle.sb_aggregate.specs.Sessions as session_spec;
-ghost use Rattle.sb_join.specs.Joins.{join_rows};
-ghost use Rattle.sb_pipeline.specs.Operators as operators;
-ghost use Rattle.sb_pipeline.specs.Plans.{IsValidKind};
+ghost use Rattle.sb_base.specs.window.Gatherings.{rows_of_entries};
+ghost use Rattle.sb_base.specs.window.Windows.{keyed_window_cmp};
+ghost use Rattle.sb_base.specs.pardo.Validity.{IsValid};
+ghost use Rattle.sb_base.specs.pardo.Outputs.{outputs_of};
+ghost use Rattle.sb_base.specs.aggregate.Aggregates.{aggregate_rows, aggregate_values};
+ghost use Rattle.sb_base.specs.aggregate.Sessions as session_spec;
+ghost use Rattle.sb_base.specs.join.Joins.{join_rows};
+ghost use Rattle.sb_base.specs.pipeline.Operators as operators;
+ghost use Rattle.sb_base.specs.pipeline.Plans.{IsValidKind};
 ghost use Rattle.sb_slow.specs.Gathered.{rows_of_pairs};
 ghost use Rattle.sb_slow.specs.Taken as taken;
 
 use crate::gather::{values_by_session, values_by_window};
 use crate::lanes::{all_records, of_lane};
-use sb_aggregate::{Agg, aggregated};
-use sb_join::{Combine, pair_values};
-use sb_pardo::{Op, apply};
-use sb_pipeline::{Kind, MAX_GAP};
-use sb_record::{END_MARK, KeptRec, NoMemory, Record, Sequence};
-use sb_window::{KeyedWindow, Windows};
+use sb_base::{
+    Agg, Combine, END_MARK, KeptRec, KeyedWindow, Kind, MAX_GAP, NoMemory, Op, Record, Sequence,
+    Windows, aggregated, apply, pair_values,
+};
 use std::alloc::Global;
 use std::collections::BTreeMap;
 

@@ -1,9 +1,9 @@
 //! Rows put in order, and cut off at a time.
 
 ghost use Rattle.std.specs.Prelude.{◌≡◌, OnOk, OnErr};
-ghost use Rattle.sb_record.specs.Records.{before, sorted_records};
+ghost use Rattle.sb_base.specs.records.Records.{before, sorted_records};
 
-use sb_record::{NoMemory, Record};
+use sb_base::{NoMemory, Record};
 use std::alloc::AllocError;
 
 /// Keeps the rows with a time below the mark, and puts them in order.

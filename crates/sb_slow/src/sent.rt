@@ -2,13 +2,12 @@
 //! node has taken it, so that a run holds no record twice.
 
 ghost use Rattle.std.specs.Prelude.{◌≡◌, ◌++◌, [], ◌∷◌, OnOk, IfOk};
-ghost use Rattle.sb_pipeline.specs.Flow as flow;
-ghost use Rattle.sb_pipeline.specs.Shapes.{source};
+ghost use Rattle.sb_base.specs.pipeline.Flow as flow;
+ghost use Rattle.sb_base.specs.pipeline.Shapes.{source};
 ghost use Rattle.sb_slow.specs.Inputs.{by_stream};
 ghost use Rattle.sb_slow.specs.Sendings as spec;
 
-use sb_pipeline::{Down, Plan};
-use sb_record::{NoMemory, Record, Sequence, Stream};
+use sb_base::{Down, NoMemory, Plan, Record, Sequence, Stream};
 use std::alloc::Global;
 use std::marker::Model;
 
@@ -20,7 +19,7 @@ pub(crate) struct Sent {
 }
 
 impl Model for Sent {
-    ghost use Rattle.sb_pipeline.specs.Flow as flow;
+    ghost use Rattle.sb_base.specs.pipeline.Flow as flow;
 
     ghost Value = { flow.Sent };
 

@@ -5,11 +5,10 @@
 
 ghost use Rattle.std.specs.Prelude.{◌≡◌, ◌≤◌, ◌<◌, ◌+◌, All, Some, IfOk, map, unwrap_or};
 ghost use Rattle.std.specs.BTreeMap.{get};
-ghost use Rattle.sb_aggregate.specs.Sessions.{session_end};
+ghost use Rattle.sb_base.specs.aggregate.Sessions.{session_end};
 ghost use Rattle.sb_slow.specs.SessionEnds as spec;
 
-use sb_pipeline::MAX_GAP;
-use sb_record::{END_MARK, Key, NoMemory, Record};
+use sb_base::{END_MARK, Key, MAX_GAP, NoMemory, Record};
 use std::alloc::Global;
 use std::collections::BTreeMap;
 

@@ -1,15 +1,13 @@
 //! What plans give, by example.
 
 ghost use Rattle.std.specs.Prelude.{All, IfOk};
-ghost use Rattle.sb_record.specs.Lines.{IsItemInRange};
+ghost use Rattle.sb_base.specs.records.Lines.{IsItemInRange};
 
 use crate::slow_rows;
-use sb_aggregate::{Agg, MAX_TOP};
-use sb_join::Combine;
-use sb_pardo::{Change, Field, Op, Table, Test};
-use sb_pipeline::{Down, Kind, Plan, Step};
-use sb_record::{END_MARK, Item, Key, Keys, MAX_KEY, Record, Sequence, read_line};
-use sb_window::{BadWindow, Windows};
+use sb_base::{
+    Agg, BadWindow, Change, Combine, Down, END_MARK, Field, Item, Key, Keys, Kind, MAX_KEY,
+    MAX_TOP, Op, Plan, Record, Sequence, Step, Table, Test, Windows, read_line,
+};
 use std::alloc::{AllocError, Global};
 use std::test::Fail;
 

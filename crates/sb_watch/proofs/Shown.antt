@@ -3,21 +3,21 @@ use Rattle.std.proofs.Common.{◌≡◌, ◌⊎◌, ℕ, false, List, [], ◌∷
 use Rattle.std.specs.Result.{IsErr}
 use Rattle.std.specs.List.{AllZip, filter}
 use Rattle.std.proofs.KnownBytes.{Consumes-nil}
-use Rattle.sb_record.specs.declared.intake.Stop.{Stop}
-use Rattle.sb_record.specs.declared.item.Dropped.{Dropped}
-use Rattle.sb_record.specs.declared.item.Record.{Record}
-use Rattle.sb_record.specs.declared.item.TheConstants.{END_MARK}
-use Rattle.sb_record.specs.declared.key.Key.{Key}
-use Rattle.sb_record.specs.declared.key.Keys.{Keys}
-use Rattle.sb_record.specs.Records.{before}
-use Rattle.sb_record.specs.Streams.{dropped_of}
-use Rattle.sb_outside.specs.Sources.{Rose}
-use Rattle.sb_pipeline.specs.Shapes.{Shape}
-use Rattle.sb_pipeline.specs.Results.{output_of}
-use Rattle.sb_emit.specs.Taps.{TapState}
-use Rattle.sb_feed.specs.Due.{streams_in}
-use Rattle.sb_feed.specs.Given.{Given, items_of}
-use Rattle.sb_feed.specs.TapLists.{SawRows, StopsIn, stays_for}
+use Rattle.sb_run.specs.base.records.declared.intake.Stop.{Stop}
+use Rattle.sb_run.specs.base.records.declared.item.Dropped.{Dropped}
+use Rattle.sb_run.specs.base.records.declared.item.Record.{Record}
+use Rattle.sb_run.specs.base.records.declared.item.TheConstants.{END_MARK}
+use Rattle.sb_run.specs.base.records.declared.key.Key.{Key}
+use Rattle.sb_run.specs.base.records.declared.key.Keys.{Keys}
+use Rattle.sb_run.specs.base.records.Records.{before}
+use Rattle.sb_run.specs.base.records.Streams.{dropped_of}
+use Rattle.sb_run.specs.outside.Sources.{Rose}
+use Rattle.sb_run.specs.base.pipeline.Shapes.{Shape}
+use Rattle.sb_run.specs.base.pipeline.Results.{output_of}
+use Rattle.sb_run.specs.emit.Taps.{TapState}
+use Rattle.sb_run.specs.one_feed.Due.{streams_in}
+use Rattle.sb_run.specs.one_feed.Given.{Given, items_of}
+use Rattle.sb_run.specs.one_feed.TapLists.{SawRows, StopsIn, stays_for}
 use Rattle.sb_live.specs.declared.change.Change.{Change}
 use Rattle.sb_live.specs.Changes.{rows_in}
 use Rattle.sb_live.specs.Lasts.{last_if_any, last_of}

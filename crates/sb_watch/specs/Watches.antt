@@ -1,13 +1,13 @@
 -- What a run tells that is watched for a key.
 use Rattle.std.specs.Prelude.{◌≡◌, ℕ, List, ◌++◌, Option, Result, Ok, Err}
-use Rattle.sb_record.specs.declared.item.Dropped.{Dropped}
-use Rattle.sb_record.specs.Streams.{dropped_of}
-use Rattle.sb_pipeline.specs.Shapes.{Shape}
+use Rattle.sb_run.specs.base.records.declared.item.Dropped.{Dropped}
+use Rattle.sb_run.specs.base.records.Streams.{dropped_of}
+use Rattle.sb_run.specs.base.pipeline.Shapes.{Shape}
 use Rattle.sb_live.specs.Lasts.{last_if_any}
 use Rattle.sb_live.specs.Naming.{key_named}
-use Rattle.sb_feed.specs.Due.{AreFirstDropped, due_rows}
-use Rattle.sb_feed.specs.Given.{Given, items_of, stop_at}
-use Rattle.sb_feed.specs.Reads.{FaultCause}
+use Rattle.sb_run.specs.one_feed.Due.{AreFirstDropped, due_rows}
+use Rattle.sb_run.specs.one_feed.Given.{Given, items_of, stop_at}
+use Rattle.sb_run.specs.one_feed.Reads.{FaultCause}
 use Rattle.sb_run.specs.RunEnds.{MayHaveFailed}
 use Rattle.sb_watch.specs.declared.watching.Watched.{Watched}
 

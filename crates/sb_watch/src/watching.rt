@@ -7,9 +7,8 @@ ghost use Rattle.sb_run.specs.RunEnds.{AreSizes};
 ghost use Rattle.sb_watch.specs.Watches.{WatchCause, Watches};
 
 use sb_live::{LiveOut, LiveRows, key_named, live};
-use sb_outside::Source;
-use sb_pipeline::Plan;
-use sb_record::{Dropped, Key, NoMemory, Record, Stop};
+use sb_run::sb_base::{Dropped, Key, NoMemory, Plan, Record, Stop};
+use sb_run::sb_outside::Source;
 use sb_run::{RunEnd, Sizes, run};
 use std::alloc::Global;
 use std::sync::Wait;

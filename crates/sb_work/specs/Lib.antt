@@ -1,1 +1,2 @@
 pub mod Processing
+pub use Rattle.sb_base.specs as base

@@ -1,13 +1,13 @@
 -- What becomes of a bundle: what a transform of single records gives for it, or what a node that gathers records
 -- takes in.
 use Rattle.std.specs.Prelude.{◌≡◌, ℕ, ◌==◌, if◌then◌else◌, List, flat_map}
-use Rattle.sb_record.specs.declared.item.Record.{Record}
-use Rattle.sb_pardo.specs.Outputs.{outputs_of}
-use Rattle.sb_join.specs.declared.join.Side.{Side}
-use Rattle.sb_join.specs.declared.join.Side.TheVariants.{Left, Right}
-use Rattle.sb_pipeline.specs.Operators.{Operator}
-use Rattle.sb_pipeline.specs.Operators.Operator.{ParDo, Windowed, Sink}
-use Rattle.sb_pipeline.specs.Operators.WindowOperator.{Aggregated, Sessions, Joined}
+use Rattle.sb_base.specs.records.declared.item.Record.{Record}
+use Rattle.sb_base.specs.pardo.Outputs.{outputs_of}
+use Rattle.sb_base.specs.join.declared.join.Side.{Side}
+use Rattle.sb_base.specs.join.declared.join.Side.TheVariants.{Left, Right}
+use Rattle.sb_base.specs.pipeline.Operators.{Operator}
+use Rattle.sb_base.specs.pipeline.Operators.Operator.{ParDo, Windowed, Sink}
+use Rattle.sb_base.specs.pipeline.Operators.WindowOperator.{Aggregated, Sessions, Joined}
 use Rattle.sb_work.specs.declared.outputs.Output.{Output}
 use Rattle.sb_work.specs.declared.outputs.Output.TheVariants as output
 use Rattle.sb_work.specs.declared.outputs.Part.{Part}

@@ -1,6 +1,6 @@
 //! Bundles in the hand of a worker.
 
-use sb_bundle::Bundle;
+use sb_base::Bundle;
 
 /// A bundle that a worker has taken, and the lane of the node where it waited.
 #[derive(Drop)]

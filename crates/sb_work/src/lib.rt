@@ -14,3 +14,6 @@ mod tests;
 pub use claim::Claim;
 pub use gate::{Gate, OpenGate};
 pub use outputs::{Output, Part, process};
+
+// What the crates above name of the crates below.
+pub use sb_base;

@@ -1,16 +1,12 @@
 //! What becomes of a bundle.
 
 ghost use Rattle.std.specs.Prelude.{◌≡◌, ◌<◌, ◌≤◌, All, length, slice_get, IfOk};
-ghost use Rattle.sb_pipeline.specs.Operators.{operator_at};
+ghost use Rattle.sb_base.specs.pipeline.Operators.{operator_at};
 ghost use Rattle.sb_work.specs.Processing as spec;
 ghost use Rattle.sb_work.specs.Processing.{IsOutput};
 
 use crate::claim::Claim;
-use sb_aggregate::{AggPart, part_of};
-use sb_join::{JoinPart, Side};
-use sb_pardo::apply;
-use sb_pipeline::{Kind, Plan};
-use sb_record::{END_MARK, NoMemory, Record};
+use sb_base::{AggPart, END_MARK, JoinPart, Kind, NoMemory, Plan, Record, Side, apply, part_of};
 use std::alloc::Global;
 
 /// What a node that gathers records takes in of a bundle.

@@ -1,13 +1,10 @@
 //! Bundles at a node of each kind.
 
 use crate::{Claim, Gate, OpenGate, Output, Part, process};
-use sb_aggregate::Agg;
-use sb_bundle::Bundle;
-use sb_join::{Combine, Side};
-use sb_pardo::Op;
-use sb_pipeline::{Down, Kind, Plan, Step};
-use sb_record::{END_MARK, Key, NoMemory, Record, Sequence};
-use sb_window::Windows;
+use sb_base::{
+    Agg, Bundle, Combine, Down, END_MARK, Key, Kind, NoMemory, Op, Plan, Record, Sequence, Side,
+    Step, Windows,
+};
 use std::alloc::Global;
 use std::test::Fail;
 

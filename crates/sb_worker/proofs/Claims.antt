@@ -2,10 +2,10 @@
 use Rattle.std.proofs.Common.{◌≡◌, ℕ, ◌&&◌, ◌||◌, Bool, true, false, List, [], ◌∷◌, ◌++◌, Option, None, Some, inl, inr, refl, sym, ap, ◌∙◌, append-nil, ⊎_elim, length}
 use Rattle.std.specs.Prelude.{IfNone}
 use Rattle.std.proofs.lemmas.Bool.{eq-eqb}
-use Rattle.sb_turn.specs.declared.turns.Entry.{Entry}
-use Rattle.sb_turn.specs.declared.turns.Entry.TheVariants.{Left, Claimed}
-use Rattle.sb_turn.specs.Turning.{looks_from}
-use Rattle.sb_work.specs.declared.claim.Claim.{Claim}
+use Rattle.sb_cascade.specs.turn.declared.turns.Entry.{Entry}
+use Rattle.sb_cascade.specs.turn.declared.turns.Entry.TheVariants.{Left, Claimed}
+use Rattle.sb_cascade.specs.turn.Turning.{looks_from}
+use Rattle.sb_cascade.specs.work.declared.claim.Claim.{Claim}
 use Rattle.sb_cascade.specs.declared.pass.CascadePass.{CascadePass}
 use Rattle.sb_cascade.specs.declared.telling.Change.{Change}
 use Rattle.sb_cascade.specs.declared.telling.Change.TheVariants as change

@@ -3,9 +3,9 @@ use Rattle.std.proofs.Common.{◌≡◌, ℕ, ◌+◌, Bool, true, false, cond, 
 use Rattle.std.specs.List.{AllByRecursion, list_any}
 use Rattle.std.proofs.lemmas.List.Folds.{list_any-append}
 use Rattle.std.proofs.lemmas.List.Sums.{sum_by-append}
-use Rattle.sb_turn.specs.declared.turns.Entry.{Entry}
-use Rattle.sb_turn.specs.declared.turns.Entry.TheVariants.{Left, Looked}
-use Rattle.sb_turn.specs.Turning.{looks_from}
+use Rattle.sb_cascade.specs.turn.declared.turns.Entry.{Entry}
+use Rattle.sb_cascade.specs.turn.declared.turns.Entry.TheVariants.{Left, Looked}
+use Rattle.sb_cascade.specs.turn.Turning.{looks_from}
 use Rattle.sb_cascade.specs.declared.telling.Change.{Change}
 use Rattle.sb_cascade.specs.declared.telling.Change.TheVariants as change
 use Rattle.sb_cascade.specs.Shelving.{is_search}

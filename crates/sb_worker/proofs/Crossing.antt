@@ -3,7 +3,7 @@
 use mathlib.Core.List.{List, [], ◌∷◌}
 use Prim.Native.Nat.{ℕ}
 use mir.Syntax.{Sym}
-use denote.Builtin.{One, u32, u64}
+use denote.Builtin.{One, u64}
 use denote.Hole.{as_row}
 use denote.Param.{param}
 use denote.Param.Send.{AllSend, IsSend, IsSync, sendable}
@@ -17,27 +17,27 @@ use Rattle.std.specs.contracts.option.Option as option
 use Rattle.std.proofs.Crossing.{crosses, Vec-send, Vec-sync, send as heap-send, sync as heap-sync}
 use Rattle.std.proofs.MapsCrossing.{crosses as maps}
 use Rattle.atomic_table.proofs.shared.Seat.TheSendSync as seat_crossing
-use Rattle.sb_record.specs.contracts.item.Record as record_row
-use Rattle.sb_record.proofs.Crossing.{Trail-send, Trail-sync}
-use Rattle.sb_record.proofs.item.Record.TheSendSync as record_crossing
-use Rattle.sb_window.proofs.keyed_window.KeyedWindow.TheSendSync as window_crossing
-use Rattle.sb_window.proofs.windows.Windows.TheSendSync as windows_crossing
-use Rattle.sb_aggregate.specs.contracts.grouping.Aggregate as aggregate
-use Rattle.sb_aggregate.proofs.partial.Partial.TheSendSync as partial_crossing
-use Rattle.sb_session.proofs.session.Session.TheSendSync as session_crossing
-use Rattle.sb_join.proofs.kept.JoinKept.TheSendSync as join_crossing
-use Rattle.sb_emit.proofs.sink.SinkKept.TheSendSync as sink_crossing
-use Rattle.sb_work.specs.contracts.claim.Claim as claim
-use Rattle.sb_work.proofs.claim.Claim.TheSendSync as claim_crossing
-use Rattle.sb_lane.specs.contracts.lane.Lane as lane
-use Rattle.sb_lane.proofs.arena.Arena.TheSendSync as arena_crossing
-use Rattle.sb_diary.specs.contracts.diary.Diary as diary
-use Rattle.sb_diary.proofs.event.DiaryEvent.TheSendSync as event_crossing
-use Rattle.sb_kept.specs.contracts.kept.Kept as kept
-use Rattle.sb_node.specs.contracts.state.NodeState as node
-use Rattle.sb_turn.specs.contracts.turns.Slot as slot
-use Rattle.sb_turn.proofs.turns.Slot.TheSendSync as slot_crossing
-use Rattle.sb_turn.proofs.turns.Turns.TheSendSync as turns_crossing
+use Rattle.sb_cascade.specs.base.records.contracts.item.Record as record_row
+use Rattle.sb_cascade.proofs.base.records.Crossing.{Trail-send, Trail-sync}
+use Rattle.sb_cascade.proofs.base.records.item.Record.TheSendSync as record_crossing
+use Rattle.sb_cascade.proofs.base.window.keyed_window.KeyedWindow.TheSendSync as window_crossing
+use Rattle.sb_cascade.proofs.base.window.windows.Windows.TheSendSync as windows_crossing
+use Rattle.sb_cascade.specs.base.aggregate.contracts.grouping.Aggregate as aggregate
+use Rattle.sb_cascade.proofs.base.aggregate.partial.Partial.TheSendSync as partial_crossing
+use Rattle.sb_cascade.proofs.session.session.Session.TheSendSync as session_crossing
+use Rattle.sb_cascade.proofs.base.join.kept.JoinKept.TheSendSync as join_crossing
+use Rattle.sb_cascade.proofs.emit.sink.SinkKept.TheSendSync as sink_crossing
+use Rattle.sb_cascade.specs.work.contracts.claim.Claim as claim
+use Rattle.sb_cascade.proofs.work.claim.Claim.TheSendSync as claim_crossing
+use Rattle.sb_cascade.specs.lane.contracts.lane.Lane as lane
+use Rattle.sb_cascade.proofs.lane.arena.Arena.TheSendSync as arena_crossing
+use Rattle.sb_cascade.specs.diary.contracts.diary.Diary as diary
+use Rattle.sb_cascade.proofs.diary.event.DiaryEvent.TheSendSync as event_crossing
+use Rattle.sb_cascade.specs.kept.contracts.kept.Kept as kept
+use Rattle.sb_cascade.specs.node.contracts.state.NodeState as node
+use Rattle.sb_cascade.specs.turn.contracts.turns.Slot as slot
+use Rattle.sb_cascade.proofs.turn.turns.Slot.TheSendSync as slot_crossing
+use Rattle.sb_cascade.proofs.turn.turns.Turns.TheSendSync as turns_crossing
 use Rattle.sb_cascade.specs.contracts.shared_node.SharedNode as shared
 use Rattle.sb_cascade.specs.contracts.shared_node.SharedNode.TheInside as inside
 use Rattle.sb_cascade.specs.contracts.telling.Piece as piece
@@ -138,9 +138,6 @@ Heap-lent ℓ = search (sendable, heap-sync) depth 20
 pub Cascade-lent : (ℓ : NamedLft) → IsSend (shr_ref_field ℓ cascade.the_row tt).row
 Cascade-lent ℓ = search (sendable, Cascade-sync) depth 20
 
-pub Number-lent : (ℓ : NamedLft) → IsSend (shr_ref_field ℓ u32 tt).row
-Number-lent ℓ = search sendable depth 20
-
 -- a closure may be sent if what it captures may
 captured : (Ts : List RattleType) → AllSend Ts → FieldsHave IsSend (parts Ts)
 captured [] all = tt
@@ -151,7 +148,3 @@ Closure-send ν Ts all = declared_send (type_at ν Ts) (captured Ts all)
 
 pub Five-send : (ν : Sym) (A B C D E : RattleType) → IsSend A → IsSend B → IsSend C → IsSend D → IsSend E → IsSend (TupleAt ν (A ∷ B ∷ C ∷ D ∷ E ∷ []))
 Five-send ν A B C D E a b c d e = Closure-send ν (A ∷ B ∷ C ∷ D ∷ E ∷ []) (a, (b, (c, (d, (e, tt)))))
-
-pub Seven-send : (ν : Sym) (A B C D E F G : RattleType) → IsSend A → IsSend B → IsSend C → IsSend D → IsSend E → IsSend F → IsSend G
-    → IsSend (TupleAt ν (A ∷ B ∷ C ∷ D ∷ E ∷ F ∷ G ∷ []))
-Seven-send ν A B C D E F G a b c d e f g = Closure-send ν (A ∷ B ∷ C ∷ D ∷ E ∷ F ∷ G ∷ []) (a, (b, (c, (d, (e, (f, (g, tt)))))))

@@ -1,9 +1,9 @@
 -- What a step did, by its parts.
 use Rattle.std.proofs.Common.{◌≡◌, ℕ, ◌≤◌, Bool, true, false, List, [], ◌∷◌, ◌++◌, inl, inr, refl, ⊎_elim}
-use Rattle.sb_turn.specs.declared.turns.Entry.{Entry}
-use Rattle.sb_turn.specs.declared.turns.Entry.TheVariants.{Saw}
-use Rattle.sb_hand.specs.declared.did.Did.{Did}
-use Rattle.sb_hand.specs.declared.did.Did.TheVariants.{Bundle, Closing, Nothing}
+use Rattle.sb_cascade.specs.turn.declared.turns.Entry.{Entry}
+use Rattle.sb_cascade.specs.turn.declared.turns.Entry.TheVariants.{Saw}
+use Rattle.sb_cascade.specs.hand.declared.did.Did.{Did}
+use Rattle.sb_cascade.specs.hand.declared.did.Did.TheVariants.{Bundle, Closing, Nothing}
 use Rattle.sb_cascade.specs.declared.telling.Change.{Change}
 use Rattle.sb_worker.specs.Entries.{Does, FoundNoneFull, Gains, Has, is_claimed, is_idle_of, is_not_yet_of}
 use Rattle.sb_worker.specs.Steps.{IsBareAndIdle, IsClaiming, IsDone, IsIdle, IsNotYet, IsShelfBare}

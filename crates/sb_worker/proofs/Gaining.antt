@@ -1,6 +1,6 @@
 -- What the trace of a pass has more, after one call and then another.
 use Rattle.std.proofs.Common.{List, [], ◌++◌, ap, sym, ◌∙◌, append-nil, append_assoc}
-use Rattle.sb_turn.specs.declared.turns.Entry.{Entry}
+use Rattle.sb_cascade.specs.turn.declared.turns.Entry.{Entry}
 use Rattle.sb_cascade.specs.declared.pass.CascadePass.{CascadePass}
 use Rattle.sb_cascade.specs.declared.telling.Change.{Change}
 use Rattle.sb_cascade.specs.Calls.{view_of}

@@ -1,8 +1,8 @@
 -- The entries of a pass that left a node.
 use Rattle.std.proofs.Common.{ℕ, zero, suc, ◌+◌, cond, List, [], ◌∷◌, ◌++◌, replicate, refl, ◌∙◌, append_assoc}
-use Rattle.sb_turn.specs.declared.turns.Entry.{Entry}
-use Rattle.sb_turn.specs.declared.turns.Entry.TheVariants.{Held, Left}
-use Rattle.sb_node.specs.declared.closing.Closing.{Closing}
+use Rattle.sb_cascade.specs.turn.declared.turns.Entry.{Entry}
+use Rattle.sb_cascade.specs.turn.declared.turns.Entry.TheVariants.{Held, Left}
+use Rattle.sb_cascade.specs.node.declared.closing.Closing.{Closing}
 use Rattle.sb_cascade.specs.declared.pass.CascadePass.{CascadePass}
 use Rattle.sb_cascade.specs.declared.telling.Change.{Change}
 use Rattle.sb_cascade.specs.Calls.{LeftBy, view_of}

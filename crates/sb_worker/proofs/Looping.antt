@@ -1,7 +1,7 @@
 -- What holds of the entries of a loop over nodes, from the sink down to a node.
 use Rattle.std.proofs.Common.{ℕ, ◌<◌, ◌≤◌, ◌-◌, ◌≡◌, Bool, List, [], ◌++◌, ⊎_elim, arith, refl, subst}
 use Rattle.std.proofs.lemmas.Bool.{cases_lt}
-use Rattle.sb_turn.specs.declared.turns.Entry.{Entry}
+use Rattle.sb_cascade.specs.turn.declared.turns.Entry.{Entry}
 use Rattle.sb_cascade.specs.declared.telling.Change.{Change}
 use Rattle.sb_worker.specs.Entries.{Does, Has}
 use Rattle.sb_worker.proofs.Counting.{does-then, has-after, has-before}

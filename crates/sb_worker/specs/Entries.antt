@@ -1,10 +1,10 @@
 -- What stands in the trace of a pass.
 use Rattle.std.specs.Prelude.{◌≡◌, ◌≢◌, ◌==◌, ◌&&◌, ℕ, Bool, true, false, not, All, List, ◌++◌, length}
 use Rattle.std.specs.List.{count_by, list_any}
-use Rattle.sb_turn.specs.declared.shelf.TheConstants.{PLACES}
-use Rattle.sb_turn.specs.declared.turns.Entry.{Entry}
-use Rattle.sb_turn.specs.declared.turns.Entry.TheVariants.{Left, Saw, Raised, Claimed}
-use Rattle.sb_turn.specs.Turning.{looks_from}
+use Rattle.sb_cascade.specs.turn.declared.shelf.TheConstants.{PLACES}
+use Rattle.sb_cascade.specs.turn.declared.turns.Entry.{Entry}
+use Rattle.sb_cascade.specs.turn.declared.turns.Entry.TheVariants.{Left, Saw, Raised, Claimed}
+use Rattle.sb_cascade.specs.turn.Turning.{looks_from}
 use Rattle.sb_cascade.specs.declared.pass.CascadePass.{CascadePass}
 use Rattle.sb_cascade.specs.declared.telling.Change.{Change}
 use Rattle.sb_cascade.specs.declared.telling.Change.TheVariants as change

@@ -1,8 +1,8 @@
 -- What a worker's step did, by the entries that the trace of its pass has more.
 use Rattle.std.specs.Prelude.{◌≤◌, ◌⊎◌, ℕ, List}
-use Rattle.sb_turn.specs.declared.turns.Entry.{Entry}
-use Rattle.sb_hand.specs.declared.did.Did.{Did}
-use Rattle.sb_hand.specs.declared.did.Did.TheVariants.{Bundle, Closing, Nothing}
+use Rattle.sb_cascade.specs.turn.declared.turns.Entry.{Entry}
+use Rattle.sb_cascade.specs.hand.declared.did.Did.{Did}
+use Rattle.sb_cascade.specs.hand.declared.did.Did.TheVariants.{Bundle, Closing, Nothing}
 use Rattle.sb_cascade.specs.declared.telling.Change.{Change}
 use Rattle.sb_worker.specs.declared.step.OneStop.{OneStop}
 use Rattle.sb_worker.specs.declared.step.OneStop.TheVariants.{Stopped, Memory}

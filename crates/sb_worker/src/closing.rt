@@ -1,15 +1,15 @@
 //! A whole closing.
 
 ghost use Rattle.std.specs.Prelude.{◌≡◌, ◌<◌, ◌≤◌, true, false, [], length, IfOk, MatchBool, OnErr, OnOk};
-ghost use Rattle.sb_core.specs.Closings.{is_sink};
+ghost use Rattle.sb_cascade.specs.core.Closings.{is_sink};
 ghost use Rattle.sb_cascade.specs.Calls.{HasClosing, IsEmptyHanded, IsReady, IsSame, plan_of, rows_left, setting_of};
 ghost use Rattle.sb_cascade.specs.Shown.{operator_of};
 ghost use Rattle.sb_worker.specs.Entries.{Does, Gains, Grows};
 ghost use Rattle.sb_worker.specs.Steps.{IsNotYet, IsNotYetAt};
 
+use sb_cascade::sb_base::NoMemory;
+use sb_cascade::sb_node::Closing;
 use sb_cascade::{Cascade, CascadePass, CloseStop};
-use sb_node::Closing;
-use sb_record::NoMemory;
 use std::sync::Wait;
 
 /// All rows of a closing in hand go below.

@@ -6,9 +6,9 @@ ghost use Rattle.sb_worker.specs.Helping.{IsHelper};
 
 use crate::step::{First, OneStop, one_step};
 use crossbeam_utils::Backoff;
+use sb_cascade::sb_hand::Did;
+use sb_cascade::sb_work::Gate;
 use sb_cascade::{Cascade, CascadePass};
-use sb_hand::Did;
-use sb_work::Gate;
 use std::alloc::Global;
 use std::sync::Wait;
 use std::thread;

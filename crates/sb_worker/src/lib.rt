@@ -3,15 +3,16 @@
 
 mod claiming;
 mod closing;
-mod feeding;
 mod helping;
 #[cfg(test)]
 mod shelf_tests;
 mod step;
-#[cfg(test)]
-mod tests;
 mod working;
 
 pub use helping::help;
 pub use step::{First, OneStop, one_step};
 pub use working::work_off;
+
+// What the crates above name of the crates below.
+pub use sb_cascade;
+pub use sb_cascade::{sb_diary, sb_hand, sb_lane, sb_slow, sb_turn, sb_work};

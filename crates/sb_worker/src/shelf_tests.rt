@@ -1,36 +1,34 @@
 //! Bundles that lie on the shelf are worked off before a node is asked for another: a pass that fills takes all that
 //! wait.
 
-ghost use Rattle.std.specs.Prelude.{◌≡◌, IfOk, OnOk};
-ghost use Rattle.sb_cascade.specs.Calls.{hands, passes_out, setting_of};
-ghost use Rattle.sb_cascade.specs.Views.{nothing_fed};
-ghost use Rattle.sb_worker.specs.Feeding.{IsFeeding};
+ghost use Rattle.std.specs.Prelude.{◌≡◌, [], OnOk};
+ghost use Rattle.sb_cascade.specs.base.pipeline.Shapes.{sum_shape};
+ghost use Rattle.sb_cascade.specs.Calls.{hands, plan_of, setting_of};
 ghost use Rattle.sb_worker.specs.Helping.{IsFirst, IsHelper};
 
-use crate::feeding::{BothFed, Fed, Feeding, feed_next};
 use crate::step::{First, one_step};
+use sb_cascade::sb_base::{Bundle, Key, Record, Sequence, Stream, sum_plan};
+use sb_cascade::sb_diary::DiaryEvent;
+use sb_cascade::sb_hand::{Did, Hand};
+use sb_cascade::sb_work::OpenGate;
 use sb_cascade::{Cascade, CascadePass};
-use sb_diary::DiaryEvent;
-use sb_hand::{Did, Hand};
-use sb_pipeline::sum_plan;
-use sb_record::{Key, Record, Sequence, Stream};
-use sb_work::OpenGate;
 use std::alloc::Global;
 use std::sync::Wait;
 use std::test::Fail;
 
-/// A bundle of one record comes.
+/// A bundle of one record comes in the first epoch.
 fn bring_one<R: Wait>(
     rt: &R,
     alloc: Global,
     cascade: &Cascade,
     pass: &mut CascadePass,
-    both: BothFed,
-) -> Result<BothFed, Fail>
-    requires pass { IsFeeding cascade.now both pass.old }
+) -> Result<(), Fail>
+    requires plan { plan_of cascade.now ≡ sum_shape 10 }
     requires most { (setting_of cascade.now).bundle ≡ 1 }
-    ensures out { passes_out pass.new ≡ passes_out pass.old }
-    ensures feeding { IfOk result (λ both. IsFeeding cascade.now both pass.new) }
+    requires pass { IsFirst cascade.now 0 pass.old }
+    requires unsealed { (hands pass.old).feed.a.marks ≡ [] }
+    ensures pass { OnOk result (IsFirst cascade.now 0 pass.new) }
+    ensures unsealed { OnOk result ((hands pass.new).feed.a.marks ≡ []) }
 {
     let records = vec![in alloc;
         Record {
@@ -39,9 +37,14 @@ fn bring_one<R: Wait>(
             value: 5
         },
     ]?;
-    let next = Feeding::Records(Stream::A, Sequence::new(records));
-    match feed_next(rt, alloc, cascade, pass, &OpenGate, 1, both, &next) {
-        Ok(both) => Ok(both),
+    let bundle = Bundle {
+        number: 0,
+        epoch: 0,
+        floor: 0,
+        records: Sequence::new(records),
+    };
+    match cascade.arrive(rt, pass, Stream::A, bundle) {
+        Ok(_) => Ok(()),
         Err(_) => Err("it did not arrive".into()),
     }
 }
@@ -53,17 +56,15 @@ fn bring_three<R: Wait>(
     cascade: &Cascade,
     pass: &mut CascadePass,
 ) -> Result<(), Fail>
-    requires pass { IsFirst cascade.now 0 pass.old }
-    requires fed { ((hands pass.old).feed.a ≡ nothing_fed) × ((hands pass.old).feed.b ≡ nothing_fed) }
+    requires plan { plan_of cascade.now ≡ sum_shape 10 }
     requires most { (setting_of cascade.now).bundle ≡ 1 }
+    requires pass { IsFirst cascade.now 0 pass.old }
+    requires unsealed { (hands pass.old).feed.a.marks ≡ [] }
     ensures pass { OnOk result (IsFirst cascade.now 0 pass.new) }
 {
-    let start = Fed { epoch: 0, floor: 0 };
-    let both = BothFed { a: start, b: start };
-    let both = bring_one(rt, alloc, cascade, pass, both)?;
-    let both = bring_one(rt, alloc, cascade, pass, both)?;
-    bring_one(rt, alloc, cascade, pass, both)?;
-    Ok(())
+    bring_one(rt, alloc, cascade, pass)?;
+    bring_one(rt, alloc, cascade, pass)?;
+    bring_one(rt, alloc, cascade, pass)
 }
 
 /// A step of a worker that works off a bundle.

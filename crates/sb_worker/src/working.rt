@@ -1,17 +1,17 @@
 //! A bundle is worked off.
 
 ghost use Rattle.std.specs.Prelude.{◌≡◌, ◌≤◌, Bool, true, false, length, OnErr, IfOk, OnOk};
-ghost use Rattle.sb_core.specs.Closings.{delivery, is_pardo};
+ghost use Rattle.sb_cascade.specs.core.Closings.{delivery, is_pardo};
 ghost use Rattle.sb_cascade.specs.Calls.{HasBundle, IsEmptyHanded, IsReady, IsSame, plan_of, setting_of};
 ghost use Rattle.sb_cascade.specs.Found.{IsClaim};
 ghost use Rattle.sb_cascade.specs.Shown.{operator_of};
 ghost use Rattle.sb_cascade.specs.Working.{NeedsNoPart};
-ghost use Rattle.sb_work.specs.Processing.{IsOutput};
+ghost use Rattle.sb_cascade.specs.work.Processing.{IsOutput};
 ghost use Rattle.sb_worker.specs.Entries.{Does, Gains, Grows};
 
+use sb_cascade::sb_base::{NoMemory, Record};
+use sb_cascade::sb_work::{Claim, Gate, Output, process};
 use sb_cascade::{Cascade, CascadePass};
-use sb_record::{NoMemory, Record};
-use sb_work::{Claim, Gate, Output, process};
 use std::alloc::Global;
 use std::sync::Wait;
 

@@ -3,27 +3,27 @@ use Rattle.std.proofs.Common.{◌≡◌, ◌≤◌, ◌<◌, ℕ, ℤ, Bool, tru
 use Rattle.std.specs.List.{filter, flat_map}
 use Rattle.std.proofs.lemmas.Option.{same_Some}
 use Rattle.std.proofs.lemmas.List.Elements.{All-from_recursion, recursion_from_All}
-use Rattle.sb_record.specs.declared.item.Item.{Item}
-use Rattle.sb_record.specs.declared.item.Stream.{Stream}
-use Rattle.sb_record.specs.declared.item.Stream.TheVariants.{A}
-use Rattle.sb_record.specs.declared.item.TheConstants.{END_MARK, MAX_TIME}
-use Rattle.sb_record.specs.declared.key.Keys.TheVariants.{Numbers}
-use Rattle.sb_record.specs.Lines.{IsItemInRange}
-use Rattle.sb_record.specs.Records.{before, sorted_records}
-use Rattle.sb_record.specs.Streams.{records_of}
-use Rattle.sb_record.proofs.InputLemmas.{records-in_range}
-use Rattle.sb_window.specs.Aggregations.{sum_rows}
-use Rattle.sb_window.specs.declared.windows.TheConstants.{MAX_SIZE}
-use Rattle.sb_window.specs.Spacing.{AreWindows, fixed_windows}
-use Rattle.sb_pardo.specs.declared.operation.Field.TheVariants.{Value}
-use Rattle.sb_pardo.specs.declared.operation.Test.TheVariants.{AtLeast}
-use Rattle.sb_pardo.specs.declared.operation.Op.TheVariants.{Filter}
-use Rattle.sb_pardo.specs.Outputs.{outputs_of}
-use Rattle.sb_pipeline.specs.declared.transform.Step.{Step}
-use Rattle.sb_pipeline.specs.Plans.{IsPlace, IsPlan, IsValidKind}
-use Rattle.sb_pipeline.specs.Results.{all_rows}
-use Rattle.sb_pipeline.specs.Shapes.{feeds, shape_of}
-use Rattle.sb_record.proofs.OnLanes.{all_records-on_lane}
+use Rattle.sb_cli.specs.base.records.declared.item.Item.{Item}
+use Rattle.sb_cli.specs.base.records.declared.item.Stream.{Stream}
+use Rattle.sb_cli.specs.base.records.declared.item.Stream.TheVariants.{A}
+use Rattle.sb_cli.specs.base.records.declared.item.TheConstants.{END_MARK, MAX_TIME}
+use Rattle.sb_cli.specs.base.records.declared.key.Keys.TheVariants.{Numbers}
+use Rattle.sb_cli.specs.base.records.Lines.{IsItemInRange}
+use Rattle.sb_cli.specs.base.records.Records.{before, sorted_records}
+use Rattle.sb_cli.specs.base.records.Streams.{records_of}
+use Rattle.sb_cli.proofs.base.records.InputLemmas.{records-in_range}
+use Rattle.sb_cli.specs.base.window.Aggregations.{sum_rows}
+use Rattle.sb_cli.specs.base.window.declared.windows.TheConstants.{MAX_SIZE}
+use Rattle.sb_cli.specs.base.window.Spacing.{AreWindows, fixed_windows}
+use Rattle.sb_cli.specs.base.pardo.declared.operation.Field.TheVariants.{Value}
+use Rattle.sb_cli.specs.base.pardo.declared.operation.Test.TheVariants.{AtLeast}
+use Rattle.sb_cli.specs.base.pardo.declared.operation.Op.TheVariants.{Filter}
+use Rattle.sb_cli.specs.base.pardo.Outputs.{outputs_of}
+use Rattle.sb_cli.specs.base.pipeline.declared.transform.Step.{Step}
+use Rattle.sb_cli.specs.base.pipeline.Plans.{IsPlace, IsPlan, IsValidKind}
+use Rattle.sb_cli.specs.base.pipeline.Results.{all_rows}
+use Rattle.sb_cli.specs.base.pipeline.Shapes.{feeds, shape_of}
+use Rattle.sb_cli.proofs.base.records.OnLanes.{all_records-on_lane}
 use Rattle.uses.specs.LargeSums.{large_sums_steps, large_sums_plan, large_sums}
 
 -- each transform sends to a later node

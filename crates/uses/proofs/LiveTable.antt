@@ -1,28 +1,28 @@
 -- A live table beside a run: what its readers saw, and what it tells at the end.
 use Rattle.std.proofs.Common.{◌≡◌, ◌≤◌, ◌<◌, ◌+◌, ℕ, Bool, true, false, List, [], ◌++◌, Option, Some, None, refl, ap, subst, ◌∙◌, arith}
 use Rattle.std.specs.Prelude.{MatchOption}
-use Rattle.sb_record.specs.declared.intake.Refusal.{Refusal}
-use Rattle.sb_record.specs.declared.intake.Stop.TheVariants as stop
-use Rattle.sb_record.specs.declared.item.Dropped.{Dropped}
-use Rattle.sb_record.specs.declared.item.Record.{Record}
-use Rattle.sb_record.specs.declared.item.TheConstants.{END_MARK}
-use Rattle.sb_record.specs.declared.key.Key.{Key}
-use Rattle.sb_record.specs.Inputs.{stop_of}
-use Rattle.sb_pipeline.specs.Shapes.{Shape, sum_shape}
-use Rattle.sb_emit.specs.Taps.{TapState}
-use Rattle.sb_feed.specs.Due.{rows_below}
-use Rattle.sb_feed.specs.Given.{accepted_of}
-use Rattle.sb_generator.specs.declared.pattern.TheConstants.{MAX_RECORDS}
-use Rattle.sb_generator.specs.Generated.{generated_text}
-use Rattle.sb_generator.specs.Laws.{AreAccepted}
-use Rattle.sb_generator.proofs.Acceptance.{text_accepted}
-use Rattle.sb_live.specs.declared.change.Change.{Change}
-use Rattle.sb_live.specs.Changes.{rows_in}
-use Rattle.sb_live.specs.Lasts.{last_of, last_row}
-use Rattle.sb_live.specs.Rising.{IsNoEarlier}
-use Rattle.sb_live.specs.Showings.{Showing, ShowsAll, ShownRows}
-use Rattle.sb_live.proofs.Earlier.{rows_fold}
-use Rattle.sb_run.specs.RunEnds.{EndsAt}
+use Rattle.sb_cli.specs.base.records.declared.intake.Refusal.{Refusal}
+use Rattle.sb_cli.specs.base.records.declared.intake.Stop.TheVariants as stop
+use Rattle.sb_cli.specs.base.records.declared.item.Dropped.{Dropped}
+use Rattle.sb_cli.specs.base.records.declared.item.Record.{Record}
+use Rattle.sb_cli.specs.base.records.declared.item.TheConstants.{END_MARK}
+use Rattle.sb_cli.specs.base.records.declared.key.Key.{Key}
+use Rattle.sb_cli.specs.base.records.Inputs.{stop_of}
+use Rattle.sb_cli.specs.base.pipeline.Shapes.{Shape, sum_shape}
+use Rattle.sb_cli.specs.emit.Taps.{TapState}
+use Rattle.sb_cli.specs.one_feed.Due.{rows_below}
+use Rattle.sb_cli.specs.one_feed.Given.{accepted_of}
+use Rattle.sb_cli.specs.generator.declared.pattern.TheConstants.{MAX_RECORDS}
+use Rattle.sb_cli.specs.generator.Generated.{generated_text}
+use Rattle.sb_cli.specs.generator.Laws.{AreAccepted}
+use Rattle.sb_cli.proofs.generator.Acceptance.{text_accepted}
+use Rattle.sb_cli.specs.live.declared.change.Change.{Change}
+use Rattle.sb_cli.specs.live.Changes.{rows_in}
+use Rattle.sb_cli.specs.live.Lasts.{last_of, last_row}
+use Rattle.sb_cli.specs.live.Rising.{IsNoEarlier}
+use Rattle.sb_cli.specs.live.Showings.{Showing, ShowsAll, ShownRows}
+use Rattle.sb_cli.proofs.live.Earlier.{rows_fold}
+use Rattle.sb_cli.specs.run.RunEnds.{EndsAt}
 use Rattle.uses.specs.LiveTable.{TellsLast, made_sums}
 
 -- ---- what a reader saw

@@ -1,21 +1,21 @@
 -- What the program writes of a text that is read to its end.
 use Rattle.std.proofs.Common.{inl, inr, ◌≡◌, ℕ, Bool, true, false, List, [], ◌++◌, Option, Some, None, append-nil, refl, sym, ap, subst, ◌∙◌}
 use Rattle.std.specs.Io.KnownBytes.{Consumes, IsAtEnd}
-use Rattle.sb_record.specs.declared.intake.Refusal.{Refusal}
-use Rattle.sb_record.specs.declared.intake.Stop.TheVariants.{End}
-use Rattle.sb_record.specs.Inputs.{stop_of}
-use Rattle.sb_record.specs.Rows.{text_of}
-use Rattle.sb_outside.specs.Folders.{Files}
-use Rattle.sb_outside.specs.Lines.{lines}
-use Rattle.sb_pipeline.specs.Shapes.{sum_shape}
-use Rattle.sb_diary.specs.Texts.{NodeDiary}
-use Rattle.sb_feed.specs.Due.{due_rows}
-use Rattle.sb_feed.specs.Given.{items_of}
-use Rattle.sb_words.specs.declared.options.Options.{Options}
+use Rattle.sb_cli.specs.base.records.declared.intake.Refusal.{Refusal}
+use Rattle.sb_cli.specs.base.records.declared.intake.Stop.TheVariants.{End}
+use Rattle.sb_cli.specs.base.records.Inputs.{stop_of}
+use Rattle.sb_cli.specs.base.records.Rows.{text_of}
+use Rattle.sb_cli.specs.outside.Folders.{Files}
+use Rattle.sb_cli.specs.outside.Lines.{lines}
+use Rattle.sb_cli.specs.base.pipeline.Shapes.{sum_shape}
+use Rattle.sb_cli.specs.diary.Texts.{NodeDiary}
+use Rattle.sb_cli.specs.one_feed.Due.{due_rows}
+use Rattle.sb_cli.specs.one_feed.Given.{items_of}
+use Rattle.sb_cli.specs.words.declared.options.Options.{Options}
 use Rattle.sb_cli.specs.Answers.{IsAnswer, IsAnswerOf, ending_with}
 use Rattle.sb_cli.specs.declared.late.LateRecords.{LateRecords}
 use Rattle.sb_cli.specs.Pipelines.{all_rows}
-use Rattle.sb_words.specs.Words.Asked.{Sum}
+use Rattle.sb_cli.specs.words.Words.Asked.{Sum}
 use Rattle.sb_cli.specs.declared.status.Status.{Status}
 use Rattle.sb_cli.specs.declared.status.Status.TheVariants.{Done}
 use Rattle.uses.specs.Sums.{accepted_by, sums_of}

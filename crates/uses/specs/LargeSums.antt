@@ -1,21 +1,21 @@
 -- The sums of large values, and a plan that gives them.
 use Rattle.std.specs.Prelude.{ℕ, ℤ, List, [], ◌∷◌, filter, Some, None}
 use Rattle.std.specs.Ordering.{int_cmp, is_ge}
-use Rattle.sb_record.specs.declared.item.Item.{Item}
-use Rattle.sb_record.specs.declared.item.Record.{Record}
-use Rattle.sb_record.specs.declared.item.Stream.TheVariants.{A}
-use Rattle.sb_record.specs.declared.item.TheConstants.{END_MARK}
-use Rattle.sb_record.specs.Records.{before, sorted_records}
-use Rattle.sb_record.specs.Streams.{records_of}
-use Rattle.sb_window.specs.Aggregations.{sum_rows}
-use Rattle.sb_window.specs.Spacing.{fixed_windows}
-use Rattle.sb_pardo.specs.declared.operation.Field.TheVariants.{Value}
-use Rattle.sb_pardo.specs.declared.operation.Test.TheVariants.{AtLeast}
-use Rattle.sb_pardo.specs.declared.operation.Op.TheVariants.{Filter}
-use Rattle.sb_aggregate.specs.declared.aggregate.Agg.TheVariants.{Sum}
-use Rattle.sb_pipeline.specs.declared.transform.Kind.TheVariants.{Do, Group}
-use Rattle.sb_pipeline.specs.declared.transform.Step.{Step}
-use Rattle.sb_pipeline.specs.Shapes.{Shape, shape_of}
+use Rattle.sb_cli.specs.base.records.declared.item.Item.{Item}
+use Rattle.sb_cli.specs.base.records.declared.item.Record.{Record}
+use Rattle.sb_cli.specs.base.records.declared.item.Stream.TheVariants.{A}
+use Rattle.sb_cli.specs.base.records.declared.item.TheConstants.{END_MARK}
+use Rattle.sb_cli.specs.base.records.Records.{before, sorted_records}
+use Rattle.sb_cli.specs.base.records.Streams.{records_of}
+use Rattle.sb_cli.specs.base.window.Aggregations.{sum_rows}
+use Rattle.sb_cli.specs.base.window.Spacing.{fixed_windows}
+use Rattle.sb_cli.specs.base.pardo.declared.operation.Field.TheVariants.{Value}
+use Rattle.sb_cli.specs.base.pardo.declared.operation.Test.TheVariants.{AtLeast}
+use Rattle.sb_cli.specs.base.pardo.declared.operation.Op.TheVariants.{Filter}
+use Rattle.sb_cli.specs.base.aggregate.declared.aggregate.Agg.TheVariants.{Sum}
+use Rattle.sb_cli.specs.base.pipeline.declared.transform.Kind.TheVariants.{Do, Group}
+use Rattle.sb_cli.specs.base.pipeline.declared.transform.Step.{Step}
+use Rattle.sb_cli.specs.base.pipeline.Shapes.{Shape, shape_of}
 
 -- a filter of values of at least this, and a sum of what it gives over fixed windows of this size
 abbrev pub large_sums_steps : ℤ → ℕ → List Step

@@ -1,10 +1,10 @@
 -- The sums of a whole text, and an answer that gives them.
 use Rattle.std.specs.Prelude.{◌≡◌, ℕ, true, List}
-use Rattle.sb_record.specs.declared.item.Record.{Record}
-use Rattle.sb_record.specs.Inputs.{Accepted, accepted}
-use Rattle.sb_record.specs.Rows.{text_of}
-use Rattle.sb_outside.specs.Lines.{lines}
-use Rattle.sb_pipeline.specs.Shapes.{Shape, streams_of, sum_shape}
+use Rattle.sb_cli.specs.base.records.declared.item.Record.{Record}
+use Rattle.sb_cli.specs.base.records.Inputs.{Accepted, accepted}
+use Rattle.sb_cli.specs.base.records.Rows.{text_of}
+use Rattle.sb_cli.specs.outside.Lines.{lines}
+use Rattle.sb_cli.specs.base.pipeline.Shapes.{Shape, streams_of, sum_shape}
 use Rattle.sb_cli.specs.Pipelines.{all_rows}
 use Rattle.sb_cli.specs.declared.status.Status.TheVariants.{Done}
 use Rattle.uses.specs.declared.in_memory.Answer.{Answer}

@@ -1,14 +1,14 @@
 //! A source of one's own: two sources, one behind the other, as two logs that are read as one.
 
 ghost use Rattle.std.specs.Prelude.{ℕ, ◌++◌, IfOk};
-ghost use Rattle.sb_words.specs.declared.options.Options.{Options};
-ghost use Rattle.sb_words.specs.Texts.{texts};
-ghost use Rattle.sb_words.specs.Words.{IsCommand};
-ghost use Rattle.sb_words.specs.Words.Asked.{Sum};
+ghost use Rattle.sb_cli.specs.words.declared.options.Options.{Options};
+ghost use Rattle.sb_cli.specs.words.Texts.{texts};
+ghost use Rattle.sb_cli.specs.words.Words.{IsCommand};
+ghost use Rattle.sb_cli.specs.words.Words.Asked.{Sum};
 ghost use Rattle.uses.specs.Sums.{GivesSums};
 
 use crate::in_memory::{Answer, answer_to_source};
-use sb_outside::{MemSource, Source, SourceFault};
+use sb_cli::sb_outside::{MemSource, Source, SourceFault};
 use std::alloc::{AllocError, Global};
 use std::sync::Wait;
 use std::thread::Threads;

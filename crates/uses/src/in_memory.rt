@@ -1,14 +1,14 @@
 //! The whole program over memory: words, an input, and the rows as bytes.
 
 ghost use Rattle.std.specs.Prelude.{◌≡◌, ℕ, List, Some, IfOk};
-ghost use Rattle.sb_words.specs.declared.options.Options.{Options};
-ghost use Rattle.sb_words.specs.Texts.{texts};
-ghost use Rattle.sb_words.specs.Words.{IsCommand};
-ghost use Rattle.sb_words.specs.Words.Asked.{Sum};
+ghost use Rattle.sb_cli.specs.words.declared.options.Options.{Options};
+ghost use Rattle.sb_cli.specs.words.Texts.{texts};
+ghost use Rattle.sb_cli.specs.words.Words.{IsCommand};
+ghost use Rattle.sb_cli.specs.words.Words.Asked.{Sum};
 ghost use Rattle.uses.specs.Sums.{GivesSums};
 
+use sb_cli::sb_outside::{MemFolder, MemSink, MemSource, Source};
 use sb_cli::{Status, streambox};
-use sb_outside::{MemFolder, MemSink, MemSource, Source};
 use std::alloc::{AllocError, Global};
 use std::collections::BTreeMap;
 use std::sync::Wait;

@@ -4,18 +4,17 @@
 //! `Plan::new` gives needs no such proof.
 
 ghost use Rattle.std.specs.Prelude.{◌≡◌, ◌≤◌, All, IfOk};
-ghost use Rattle.sb_record.specs.Lines.{IsItemInRange};
-ghost use Rattle.sb_record.specs.declared.key.Keys.TheVariants.{Numbers};
-ghost use Rattle.sb_record.specs.Streams.{records_of};
-ghost use Rattle.sb_pipeline.specs.Results.{all_rows};
+ghost use Rattle.sb_cli.specs.base.records.Lines.{IsItemInRange};
+ghost use Rattle.sb_cli.specs.base.records.declared.key.Keys.TheVariants.{Numbers};
+ghost use Rattle.sb_cli.specs.base.records.Streams.{records_of};
+ghost use Rattle.sb_cli.specs.base.pipeline.Results.{all_rows};
 ghost use Rattle.uses.specs.LargeSums as spec;
 
-use sb_aggregate::Agg;
-use sb_pardo::{Field, Op, Test};
-use sb_pipeline::{Down, Kind, Plan, Step};
-use sb_record::{END_MARK, Item, NoMemory, Record};
-use sb_slow::slow_rows;
-use sb_window::{MAX_SIZE, Windows};
+use sb_cli::sb_base::{
+    Agg, Down, END_MARK, Field, Item, Kind, MAX_SIZE, NoMemory, Op, Plan, Record, Step, Test,
+    Windows,
+};
+use sb_cli::sb_slow::slow_rows;
 use std::alloc::Global;
 
 /// Two transforms, one after the other: a filter of values of at least `least`, and a sum over fixed windows.

@@ -4,20 +4,18 @@
 //! waits for ever, and if no thread can be made, the readers come after the run.
 
 ghost use Rattle.std.specs.Prelude.{◌≡◌, ◌≤◌, [], None, Some, false, IfOk, IsTrue};
-ghost use Rattle.sb_generator.specs.declared.pattern.TheConstants.{MAX_RECORDS};
-ghost use Rattle.sb_live.specs.Lasts.{last_row};
-ghost use Rattle.sb_live.specs.Rising.{IsNoEarlier};
-ghost use Rattle.sb_run.specs.RunEnds.{AreSizes};
-ghost use Rattle.sb_window.specs.declared.windows.TheConstants.{MAX_SIZE};
+ghost use Rattle.sb_cli.specs.generator.declared.pattern.TheConstants.{MAX_RECORDS};
+ghost use Rattle.sb_cli.specs.live.Lasts.{last_row};
+ghost use Rattle.sb_cli.specs.live.Rising.{IsNoEarlier};
+ghost use Rattle.sb_cli.specs.run.RunEnds.{AreSizes};
+ghost use Rattle.sb_cli.specs.base.window.declared.windows.TheConstants.{MAX_SIZE};
 ghost use Rattle.uses.specs.LiveTable.{TellsLast, made_sums};
 
-use sb_generator::{GenSource, MAX_RECORDS};
-use sb_live::{LiveOut, LiveReader, LiveRows, live};
-use sb_outside::Source;
-use sb_pipeline::{Plan, sum_plan};
-use sb_record::{Key, NoMemory, Record};
-use sb_run::{RunEnd, Sizes, run};
-use sb_window::MAX_SIZE;
+use sb_cli::sb_base::{Key, MAX_SIZE, NoMemory, Plan, Record, sum_plan};
+use sb_cli::sb_generator::{GenSource, MAX_RECORDS};
+use sb_cli::sb_live::{LiveOut, LiveReader, LiveRows, live};
+use sb_cli::sb_outside::Source;
+use sb_cli::sb_run::{RunEnd, Sizes, run};
 use std::alloc::Global;
 use std::sync::Wait;
 use std::thread::{self, Threads, join};

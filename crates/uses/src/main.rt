@@ -6,13 +6,13 @@
 #![tactic(auto)]
 
 ghost use Rattle.std.specs.Prelude.{◌≤◌};
-ghost use Rattle.sb_record.specs.Lines.{IsItemInRange};
-ghost use Rattle.sb_record.specs.declared.key.Keys.TheVariants.{Numbers};
+ghost use Rattle.sb_cli.specs.base.records.Lines.{IsItemInRange};
+ghost use Rattle.sb_cli.specs.base.records.declared.key.Keys.TheVariants.{Numbers};
 
 use anyhow::Context;
 use in_memory::Answer;
-use sb_record::{Item, Key, MAX_KEY, MAX_TIME, Record, Stream};
-use sb_run::Sizes;
+use sb_cli::sb_base::{Item, Key, MAX_KEY, MAX_TIME, Record, Stream};
+use sb_cli::sb_run::Sizes;
 use std::alloc::{AllocError, Global};
 use std::str;
 use std::sync::Wait;

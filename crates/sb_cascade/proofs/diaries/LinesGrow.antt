@@ -1,6 +1,6 @@
 -- An event adds one line to the diary of the node that is left, and any other leaving none.
 use Rattle.std.proofs.Common.{◌≡◌, ℕ, ◌+◌, length, refl, ap, ◌∙◌, length-append}
-use Rattle.sb_core.specs.declared.moment.Node.{Node}
+use Rattle.sb_hand.specs.core.declared.moment.Node.{Node}
 use Rattle.sb_turn.specs.Turning.{one_if}
 use Rattle.sb_cascade.specs.declared.telling.Change.{Change}
 use Rattle.sb_cascade.specs.declared.telling.Hands.{Hands}

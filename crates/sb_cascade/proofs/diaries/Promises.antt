@@ -4,17 +4,17 @@ use Rattle.std.specs.Prelude.{nat_lt, is_some, Ok, slice_get, slice_set}
 use Rattle.std.specs.List.{list_any}
 use Rattle.std.proofs.lemmas.List.Sums.{sum_by-cons}
 use Rattle.std.proofs.lemmas.Option.{same_Some}
-use Rattle.sb_record.specs.Reading.{◌>>=◌}
-use Rattle.sb_bundle.specs.declared.bundle.Bundle.{Bundle}
-use Rattle.sb_core.specs.declared.moment.Cont.{Cont}
-use Rattle.sb_core.specs.LaneOrder.{cont_at}
-use Rattle.sb_core.specs.Lanes.{in_epoch, fresh, with_bundle, with_first_closing}
-use Rattle.sb_core.specs.Marks.{first_is_closing}
-use Rattle.sb_lane.specs.declared.answers.LaneClose.{LaneClose}
-use Rattle.sb_lane.specs.LaneView.{LaneView}
-use Rattle.sb_lane.specs.Looks.{look_of, look_closing}
-use Rattle.sb_lane.specs.Placed.{conts_of}
-use Rattle.sb_lane.specs.Taking.{first_taken, take_first, finish_first, with_finished}
+use Rattle.sb_hand.specs.base.records.Reading.{◌>>=◌}
+use Rattle.sb_hand.specs.base.bundle.declared.bundle.Bundle.{Bundle}
+use Rattle.sb_hand.specs.core.declared.moment.Cont.{Cont}
+use Rattle.sb_hand.specs.core.LaneOrder.{cont_at}
+use Rattle.sb_hand.specs.core.Lanes.{in_epoch, fresh, with_bundle, with_first_closing}
+use Rattle.sb_hand.specs.core.Marks.{first_is_closing}
+use Rattle.sb_hand.specs.lane.declared.answers.LaneClose.{LaneClose}
+use Rattle.sb_hand.specs.lane.LaneView.{LaneView}
+use Rattle.sb_hand.specs.lane.Looks.{look_of, look_closing}
+use Rattle.sb_hand.specs.lane.Placed.{conts_of}
+use Rattle.sb_hand.specs.lane.Taking.{first_taken, take_first, finish_first, with_finished}
 use Rattle.sb_cascade.specs.SharedNodes.{IsOut, owed_lines, owed_in}
 
 -- those of the containers of a lane

@@ -2,11 +2,11 @@
 use Rattle.std.proofs.Common.{◌≡◌, ℕ, ◌<◌, Bool, true, false, cond, List, [], ◌∷◌, ◌++◌, length, set, sym, refl, ap, ◌∙◌}
 use Rattle.std.proofs.Common.{append-nil, Option, Some}
 use Rattle.std.proofs.lemmas.Option.{same_Some}
-use Rattle.sb_record.specs.Reading.{◌>>=◌}
-use Rattle.sb_record.proofs.Numbers.{bind_some}
-use Rattle.sb_core.specs.declared.moment.Node.{Node}
-use Rattle.sb_core.specs.Parts.{Part}
-use Rattle.sb_diary.specs.declared.event.DiaryEvent.{DiaryEvent}
+use Rattle.sb_hand.specs.base.records.Reading.{◌>>=◌}
+use Rattle.sb_hand.proofs.base.records.Numbers.{bind_some}
+use Rattle.sb_hand.specs.core.declared.moment.Node.{Node}
+use Rattle.sb_hand.specs.core.Parts.{Part}
+use Rattle.sb_hand.specs.diary.declared.event.DiaryEvent.{DiaryEvent}
 use Rattle.sb_turn.specs.Turning.{log_of}
 use Rattle.sb_turn.proofs.Logs.{grown_here}
 use Rattle.sb_cascade.specs.declared.telling.Change.{Change}

@@ -2,15 +2,15 @@
 use Rattle.std.proofs.Common.{◌≡◌, ◌≤◌, ℕ, ◌+◌, ◌-◌, List, [], ◌∷◌, length, map, max, length-append, ap, refl, ◌∙◌, arith}
 use Rattle.std.specs.Prelude.{slice_get, slice_set, Some}
 use Rattle.std.proofs.lemmas.List.{map-set}
-use Rattle.sb_diary.specs.declared.diary.TheConstants.{MAX_DIARY_LINES}
-use Rattle.sb_diary.specs.declared.event.DiaryEvent.{DiaryEvent}
-use Rattle.sb_diary.specs.Diaries.{Written, with_spare}
-use Rattle.sb_core.specs.declared.moment.CoreLane.{CoreLane}
-use Rattle.sb_lane.specs.LaneView.{LaneView, lane_of}
-use Rattle.sb_lane.specs.Links.{links_of}
-use Rattle.sb_lane.specs.Placed.{conts_of}
-use Rattle.sb_node.specs.Changes.{SetsLane, Stays}
-use Rattle.sb_node.specs.declared.state.NodeState.{NodeState}
+use Rattle.sb_hand.specs.diary.declared.diary.TheConstants.{MAX_DIARY_LINES}
+use Rattle.sb_hand.specs.diary.declared.event.DiaryEvent.{DiaryEvent}
+use Rattle.sb_hand.specs.diary.Diaries.{Written, with_spare}
+use Rattle.sb_hand.specs.core.declared.moment.CoreLane.{CoreLane}
+use Rattle.sb_hand.specs.lane.LaneView.{LaneView, lane_of}
+use Rattle.sb_hand.specs.lane.Links.{links_of}
+use Rattle.sb_hand.specs.lane.Placed.{conts_of}
+use Rattle.sb_hand.specs.node.Changes.{SetsLane, Stays}
+use Rattle.sb_hand.specs.node.declared.state.NodeState.{NodeState}
 use Rattle.sb_hand.proofs.Single.{get-map}
 use Rattle.sb_hand.proofs.SettingsStay.{set_same}
 use Rattle.sb_cascade.specs.SharedNodes.{SharedView, ShowsSame, face, owed_lines}

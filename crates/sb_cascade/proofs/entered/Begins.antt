@@ -1,15 +1,15 @@
 -- A closing begins, once room for its lines is reserved.
 use Rattle.std.proofs.Common.{◌≡◌, ◌≤◌, ℕ, ◌+◌, List, length, map, Bool, false, ap, subst, arith}
-use Rattle.sb_record.specs.declared.item.Record.{Record}
-use Rattle.sb_diary.specs.Diaries.{with_spare}
-use Rattle.sb_core.specs.declared.moment.CoreLane.{CoreLane}
-use Rattle.sb_lane.specs.LaneView.{lane_of}
-use Rattle.sb_lane.specs.Placed.{conts_of}
-use Rattle.sb_node.specs.Changes.{ClosesKept}
-use Rattle.sb_node.specs.Looking.{NoneClosing}
-use Rattle.sb_node.specs.Marking.{mark_for}
-use Rattle.sb_node.specs.declared.closing.Closing.{Closing}
-use Rattle.sb_node.specs.declared.state.NodeState.{NodeState}
+use Rattle.sb_hand.specs.base.records.declared.item.Record.{Record}
+use Rattle.sb_hand.specs.diary.Diaries.{with_spare}
+use Rattle.sb_hand.specs.core.declared.moment.CoreLane.{CoreLane}
+use Rattle.sb_hand.specs.lane.LaneView.{lane_of}
+use Rattle.sb_hand.specs.lane.Placed.{conts_of}
+use Rattle.sb_hand.specs.node.Changes.{ClosesKept}
+use Rattle.sb_hand.specs.node.Looking.{NoneClosing}
+use Rattle.sb_hand.specs.node.Marking.{mark_for}
+use Rattle.sb_hand.specs.node.declared.closing.Closing.{Closing}
+use Rattle.sb_hand.specs.node.declared.state.NodeState.{NodeState}
 use Rattle.sb_cascade.specs.SharedNodes.{SharedView, BeginsAt, owed_lines}
 use Rattle.sb_cascade.proofs.diaries.Promises.{owed_of, owed-set, owed-begun}
 use Rattle.sb_cascade.proofs.diaries.Rooms.{HasRoom}

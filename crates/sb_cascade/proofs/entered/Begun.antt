@@ -3,23 +3,23 @@ use Rattle.std.proofs.Common.{◌≡◌, ℕ, suc, ◌≤◌, false, not, List, 
 use Rattle.std.specs.Prelude.{◌||◌, Ok}
 use Rattle.std.specs.List.{slice_get, slice_set, list_any}
 use Rattle.std.proofs.lemmas.List.{length-map}
-use Rattle.sb_core.specs.declared.event.Event.TheVariants.{Begin}
-use Rattle.sb_core.specs.declared.moment.CoreLane.{CoreLane}
-use Rattle.sb_core.specs.Bounds.{bound_at}
-use Rattle.sb_core.specs.Lanes.{closable, with_first_closing}
-use Rattle.sb_core.specs.Marks.{before_closing, first_is_closing, least_begun_mark}
-use Rattle.sb_core.specs.Parts.{Part, part_after}
-use Rattle.sb_core.proofs.parts.PartsLaw.{chain, parts-keep_sound, passing}
-use Rattle.sb_lane.specs.declared.answers.LaneClose.{LaneClose}
-use Rattle.sb_lane.specs.LaneView.{LaneView, lane_of}
-use Rattle.sb_lane.specs.Looks.{look_of}
-use Rattle.sb_lane.specs.Placed.{conts_of}
-use Rattle.sb_kept.specs.Keeping.{closed_mark}
-use Rattle.sb_node.specs.Changes.{HasLane}
-use Rattle.sb_node.specs.Looking.{NoneClosing}
-use Rattle.sb_node.specs.Marking.{mark_for}
+use Rattle.sb_hand.specs.core.declared.event.Event.TheVariants.{Begin}
+use Rattle.sb_hand.specs.core.declared.moment.CoreLane.{CoreLane}
+use Rattle.sb_hand.specs.core.Bounds.{bound_at}
+use Rattle.sb_hand.specs.core.Lanes.{closable, with_first_closing}
+use Rattle.sb_hand.specs.core.Marks.{before_closing, first_is_closing, least_begun_mark}
+use Rattle.sb_hand.specs.core.Parts.{Part, part_after}
+use Rattle.sb_hand.proofs.core.parts.PartsLaw.{chain, parts-keep_sound, passing}
+use Rattle.sb_hand.specs.lane.declared.answers.LaneClose.{LaneClose}
+use Rattle.sb_hand.specs.lane.LaneView.{LaneView, lane_of}
+use Rattle.sb_hand.specs.lane.Looks.{look_of}
+use Rattle.sb_hand.specs.lane.Placed.{conts_of}
+use Rattle.sb_hand.specs.kept.Keeping.{closed_mark}
+use Rattle.sb_hand.specs.node.Changes.{HasLane}
+use Rattle.sb_hand.specs.node.Looking.{NoneClosing}
+use Rattle.sb_hand.specs.node.Marking.{mark_for}
 use Rattle.sb_hand.proofs.Beginning.{begun_part}
-use Rattle.sb_lane.proofs.InTheCore.{MayClose, may-close}
+use Rattle.sb_hand.proofs.lane.InTheCore.{MayClose, may-close}
 use Rattle.sb_hand.proofs.ClosingMarks.{calm_before, mark_for-is}
 use Rattle.sb_cascade.specs.declared.telling.Hands.{Hands}
 use Rattle.sb_cascade.specs.declared.telling.Setting.{Setting}

@@ -4,27 +4,27 @@ use Rattle.std.specs.Prelude.{Ok}
 use Rattle.std.specs.List.{slice_get}
 use Rattle.std.proofs.lemmas.List.{length-map}
 use Rattle.std.proofs.lemmas.Option.{slice_get_within}
-use Rattle.sb_record.specs.declared.item.Stream.{Stream}
-use Rattle.sb_record.specs.Elements.{on_lane}
-use Rattle.sb_window.specs.Groupings.{IsFrom}
-use Rattle.sb_pipeline.specs.declared.transform.Down.{Down}
-use Rattle.sb_pipeline.specs.Shapes.{source}
-use Rattle.sb_core.specs.declared.moment.Node.{Node}
-use Rattle.sb_diary.specs.Lines.{Sized, arrivals, seals}
-use Rattle.sb_lane.specs.declared.answers.LaneClose.{LaneClose}
-use Rattle.sb_lane.specs.LaneView.{LaneView, lane_of}
-use Rattle.sb_lane.specs.Looks.{look_of}
-use Rattle.sb_lane.specs.Placed.{conts_of}
-use Rattle.sb_kept.specs.Keeping.{IsPartFor, closed_mark}
-use Rattle.sb_node.specs.Changes.{HasLane}
-use Rattle.sb_node.specs.Looking.{NoneClosing}
-use Rattle.sb_node.specs.Marking.{mark_for}
-use Rattle.sb_tally.specs.Tally as tally
-use Rattle.sb_tally.specs.Written.{diary_at}
-use Rattle.sb_tally.proofs.Telling.{diaries-tell}
-use Rattle.sb_work.specs.declared.claim.Claim.{Claim}
-use Rattle.sb_work.specs.declared.outputs.Part.{Part}
-use Rattle.sb_work.specs.Processing.{IsPart}
+use Rattle.sb_hand.specs.base.records.declared.item.Stream.{Stream}
+use Rattle.sb_hand.specs.base.records.Elements.{on_lane}
+use Rattle.sb_hand.specs.base.window.Groupings.{IsFrom}
+use Rattle.sb_hand.specs.base.pipeline.declared.transform.Down.{Down}
+use Rattle.sb_hand.specs.base.pipeline.Shapes.{source}
+use Rattle.sb_hand.specs.core.declared.moment.Node.{Node}
+use Rattle.sb_hand.specs.diary.Lines.{Sized, arrivals, seals}
+use Rattle.sb_hand.specs.lane.declared.answers.LaneClose.{LaneClose}
+use Rattle.sb_hand.specs.lane.LaneView.{LaneView, lane_of}
+use Rattle.sb_hand.specs.lane.Looks.{look_of}
+use Rattle.sb_hand.specs.lane.Placed.{conts_of}
+use Rattle.sb_hand.specs.kept.Keeping.{IsPartFor, closed_mark}
+use Rattle.sb_hand.specs.node.Changes.{HasLane}
+use Rattle.sb_hand.specs.node.Looking.{NoneClosing}
+use Rattle.sb_hand.specs.node.Marking.{mark_for}
+use Rattle.sb_hand.specs.tally.Tally as tally
+use Rattle.sb_hand.specs.tally.Written.{diary_at}
+use Rattle.sb_hand.proofs.tally.Telling.{diaries-tell}
+use Rattle.sb_hand.specs.work.declared.claim.Claim.{Claim}
+use Rattle.sb_hand.specs.work.declared.outputs.Part.{Part}
+use Rattle.sb_hand.specs.work.Processing.{IsPart}
 use Rattle.sb_cascade.specs.declared.telling.Hands.{Hands}
 use Rattle.sb_cascade.specs.declared.telling.Setting.{Setting}
 use Rattle.sb_cascade.specs.Doings.{work_of}

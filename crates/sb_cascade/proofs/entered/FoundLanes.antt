@@ -5,24 +5,24 @@ use Rattle.std.specs.List.{slice_get}
 use Rattle.std.proofs.lemmas.List.{length-map}
 use Rattle.std.proofs.lemmas.List.Elements.{All-get_or}
 use Rattle.std.proofs.lemmas.Option.{same_Some, slice_get_within, get_or_from_slice_get}
-use Rattle.sb_record.specs.declared.item.Stream.{Stream}
-use Rattle.sb_record.specs.Reading.{◌>>=◌}
-use Rattle.sb_record.proofs.Numbers.{bind_some}
-use Rattle.sb_pipeline.specs.declared.transform.Down.{Down}
-use Rattle.sb_pipeline.specs.Shapes.{source}
-use Rattle.sb_pipeline.specs.Operators.{Operator, lanes_of}
-use Rattle.sb_pipeline.specs.Operators.Operator.{ParDo, Windowed, Sink}
-use Rattle.sb_pipeline.specs.Operators.WindowOperator.{Aggregated, Sessions, Joined}
-use Rattle.sb_core.specs.declared.moment.CoreLane.{CoreLane}
-use Rattle.sb_core.specs.declared.moment.Node.{Node}
-use Rattle.sb_core.specs.Bounds.{bound_at}
-use Rattle.sb_core.specs.Closings.{is_sink}
-use Rattle.sb_core.specs.Events.{below}
-use Rattle.sb_core.specs.LaneOrder.{IsLane}
-use Rattle.sb_core.specs.Moments.{lane_at, node_at}
-use Rattle.sb_core.proofs.places.BeginParts.{sink-last}
-use Rattle.sb_lane.specs.LaneView.{LaneView, lane_of}
-use Rattle.sb_node.specs.Changes.{HasLane}
+use Rattle.sb_hand.specs.base.records.declared.item.Stream.{Stream}
+use Rattle.sb_hand.specs.base.records.Reading.{◌>>=◌}
+use Rattle.sb_hand.proofs.base.records.Numbers.{bind_some}
+use Rattle.sb_hand.specs.base.pipeline.declared.transform.Down.{Down}
+use Rattle.sb_hand.specs.base.pipeline.Shapes.{source}
+use Rattle.sb_hand.specs.base.pipeline.Operators.{Operator, lanes_of}
+use Rattle.sb_hand.specs.base.pipeline.Operators.Operator.{ParDo, Windowed, Sink}
+use Rattle.sb_hand.specs.base.pipeline.Operators.WindowOperator.{Aggregated, Sessions, Joined}
+use Rattle.sb_hand.specs.core.declared.moment.CoreLane.{CoreLane}
+use Rattle.sb_hand.specs.core.declared.moment.Node.{Node}
+use Rattle.sb_hand.specs.core.Bounds.{bound_at}
+use Rattle.sb_hand.specs.core.Closings.{is_sink}
+use Rattle.sb_hand.specs.core.Events.{below}
+use Rattle.sb_hand.specs.core.LaneOrder.{IsLane}
+use Rattle.sb_hand.specs.core.Moments.{lane_at, node_at}
+use Rattle.sb_hand.proofs.core.places.BeginParts.{sink-last}
+use Rattle.sb_hand.specs.lane.LaneView.{LaneView, lane_of}
+use Rattle.sb_hand.specs.node.Changes.{HasLane}
 use Rattle.sb_hand.proofs.Beginning.{lanes_two}
 use Rattle.sb_hand.proofs.Calm.{node_is}
 use Rattle.sb_hand.proofs.Single.{get-map}

@@ -2,27 +2,27 @@
 use Rattle.std.proofs.Common.{◌≡◌, ℕ, ◌+◌, ◌≤◌, ◌<◌, Bool, true, cond, List, [], ◌∷◌, length, Some, Option, sym, refl, ap, subst, ◌∙◌, arith}
 use Rattle.std.specs.List.{slice_get, AllByRecursion}
 use Rattle.std.proofs.lemmas.Option.{slice_get_within}
-use Rattle.sb_record.specs.declared.item.Record.{Record}
-use Rattle.sb_record.specs.Elements.{on_lane}
-use Rattle.sb_record.specs.Reading.{◌>>=◌}
-use Rattle.sb_window.specs.Groupings.{IsFrom}
-use Rattle.sb_pipeline.specs.Operators.{Operator, lanes_of}
-use Rattle.sb_pipeline.specs.Operators.Operator.{ParDo, Windowed, Sink}
-use Rattle.sb_core.specs.declared.held.Held.{Held}
-use Rattle.sb_core.specs.declared.moment.CoreLane.{CoreLane}
-use Rattle.sb_core.specs.declared.moment.Node.{Node}
-use Rattle.sb_core.specs.Bounds.{bound_at}
-use Rattle.sb_core.specs.Closings.{is_pardo}
-use Rattle.sb_core.specs.Holdings.{IsClosing, IsHeld, IsWork}
-use Rattle.sb_core.specs.LaneOrder.{IsWithin, cont_at}
-use Rattle.sb_core.specs.Marks.{begun_count, least_begun_mark, first_is_closing}
-use Rattle.sb_core.proofs.times.InTime.{begun_within, closed_least, work_floor}
-use Rattle.sb_core.proofs.exact.Nodes.{begun_mark}
-use Rattle.sb_lane.specs.LaneView.{LaneView}
-use Rattle.sb_lane.specs.Placed.{conts_of}
-use Rattle.sb_node.specs.Changes.{HasLane}
-use Rattle.sb_node.specs.declared.closing.Closing.{Closing}
-use Rattle.sb_work.specs.declared.claim.Claim.{Claim}
+use Rattle.sb_hand.specs.base.records.declared.item.Record.{Record}
+use Rattle.sb_hand.specs.base.records.Elements.{on_lane}
+use Rattle.sb_hand.specs.base.records.Reading.{◌>>=◌}
+use Rattle.sb_hand.specs.base.window.Groupings.{IsFrom}
+use Rattle.sb_hand.specs.base.pipeline.Operators.{Operator, lanes_of}
+use Rattle.sb_hand.specs.base.pipeline.Operators.Operator.{ParDo, Windowed, Sink}
+use Rattle.sb_hand.specs.core.declared.held.Held.{Held}
+use Rattle.sb_hand.specs.core.declared.moment.CoreLane.{CoreLane}
+use Rattle.sb_hand.specs.core.declared.moment.Node.{Node}
+use Rattle.sb_hand.specs.core.Bounds.{bound_at}
+use Rattle.sb_hand.specs.core.Closings.{is_pardo}
+use Rattle.sb_hand.specs.core.Holdings.{IsClosing, IsHeld, IsWork}
+use Rattle.sb_hand.specs.core.LaneOrder.{IsWithin, cont_at}
+use Rattle.sb_hand.specs.core.Marks.{begun_count, least_begun_mark, first_is_closing}
+use Rattle.sb_hand.proofs.core.times.InTime.{begun_within, closed_least, work_floor}
+use Rattle.sb_hand.proofs.core.exact.Nodes.{begun_mark}
+use Rattle.sb_hand.specs.lane.LaneView.{LaneView}
+use Rattle.sb_hand.specs.lane.Placed.{conts_of}
+use Rattle.sb_hand.specs.node.Changes.{HasLane}
+use Rattle.sb_hand.specs.node.declared.closing.Closing.{Closing}
+use Rattle.sb_hand.specs.work.declared.claim.Claim.{Claim}
 use Rattle.sb_cascade.specs.declared.telling.Hands.{Hands}
 use Rattle.sb_cascade.specs.declared.telling.Setting.{Setting}
 use Rattle.sb_cascade.specs.Doings.{close_of, work_of}

@@ -2,15 +2,15 @@
 use Rattle.std.proofs.Common.{◌≡◌, ℕ, Bool, true, false, List, [], ◌∷◌, Option, Some, None}
 use Rattle.std.specs.Prelude.{IfSome}
 use Rattle.std.proofs.lemmas.Option.{same_Some}
-use Rattle.sb_record.specs.declared.item.Record.{Record}
-use Rattle.sb_record.proofs.Numbers.{bind_some}
-use Rattle.sb_pipeline.specs.declared.transform.Down.{Down}
-use Rattle.sb_core.specs.Events.{below}
-use Rattle.sb_lane.specs.Changes.{StandsAt}
-use Rattle.sb_lane.specs.LaneView.{LaneView}
-use Rattle.sb_node.specs.Changes.{HasLane}
-use Rattle.sb_node.specs.declared.closing.Closing.{Closing}
-use Rattle.sb_work.specs.declared.claim.Claim.{Claim}
+use Rattle.sb_hand.specs.base.records.declared.item.Record.{Record}
+use Rattle.sb_hand.proofs.base.records.Numbers.{bind_some}
+use Rattle.sb_hand.specs.base.pipeline.declared.transform.Down.{Down}
+use Rattle.sb_hand.specs.core.Events.{below}
+use Rattle.sb_hand.specs.lane.Changes.{StandsAt}
+use Rattle.sb_hand.specs.lane.LaneView.{LaneView}
+use Rattle.sb_hand.specs.node.Changes.{HasLane}
+use Rattle.sb_hand.specs.node.declared.closing.Closing.{Closing}
+use Rattle.sb_hand.specs.work.declared.claim.Claim.{Claim}
 use Rattle.sb_cascade.specs.declared.telling.Hands.{Hands}
 use Rattle.sb_cascade.specs.declared.telling.Setting.{Setting}
 use Rattle.sb_cascade.specs.Doings.{close_of, work_of}

@@ -4,38 +4,38 @@ use Rattle.std.specs.Prelude.{◌&&◌}
 use Rattle.std.specs.List.{slice_get}
 use Rattle.std.proofs.lemmas.Bool.{eq-eqb, ne_eqb}
 use Rattle.std.proofs.lemmas.Option.{same_Some}
-use Rattle.sb_record.specs.declared.item.Record.{Record}
-use Rattle.sb_record.specs.Reading.{◌>>=◌}
-use Rattle.sb_record.proofs.Numbers.{bind_some}
-use Rattle.sb_pipeline.specs.declared.transform.Down.{Down}
-use Rattle.sb_pipeline.specs.declared.transform.Step.{Step}
-use Rattle.sb_pipeline.specs.Operators.{Operator}
-use Rattle.sb_pipeline.specs.Operators.Operator.{ParDo, Windowed, Sink}
-use Rattle.sb_core.specs.declared.event.Event.TheVariants.{Deliver}
-use Rattle.sb_core.specs.declared.held.Held.{Held}
-use Rattle.sb_core.specs.declared.moment.CoreLane.{CoreLane}
-use Rattle.sb_core.specs.declared.moment.Node.{Node}
-use Rattle.sb_core.specs.Bounds.{bound_at}
-use Rattle.sb_core.specs.Choices.{is_empty}
-use Rattle.sb_core.specs.Closings.{delivery, is_pardo}
-use Rattle.sb_core.specs.Events.{below}
-use Rattle.sb_core.specs.LaneOrder.{IsLane}
-use Rattle.sb_core.specs.Lanes.{in_epoch, next_floor, with_arrival}
-use Rattle.sb_core.specs.Laws.{concerns}
-use Rattle.sb_core.specs.Moments.{epoch_at, epoch_of, floor_of, lane_at, set_lane, with_held}
-use Rattle.sb_core.specs.Parts.{Part, held_after, only_node, with_part_first}
-use Rattle.sb_core.specs.Soundness.{IsSound}
-use Rattle.sb_core.proofs.exact.AfterExact.{not_sealed}
-use Rattle.sb_core.proofs.exact.Nodes.{slice_get-set_same}
-use Rattle.sb_core.proofs.sound.Orderly.{lawful_of}
-use Rattle.sb_core.proofs.parts.PartsLaw.{chain, held-parts_keep_sound, passing}
-use Rattle.sb_lane.specs.Laws.{FitsEpoch}
-use Rattle.sb_lane.specs.LaneView.{LaneView, lane_of}
-use Rattle.sb_lane.specs.Placed.{conts_of}
-use Rattle.sb_lane.proofs.OrderKept.{next-fits, place-kept, place-within}
-use Rattle.sb_node.specs.Changes.{HasLane}
-use Rattle.sb_node.specs.declared.closing.Closing.{Closing}
-use Rattle.sb_work.specs.declared.claim.Claim.{Claim}
+use Rattle.sb_hand.specs.base.records.declared.item.Record.{Record}
+use Rattle.sb_hand.specs.base.records.Reading.{◌>>=◌}
+use Rattle.sb_hand.proofs.base.records.Numbers.{bind_some}
+use Rattle.sb_hand.specs.base.pipeline.declared.transform.Down.{Down}
+use Rattle.sb_hand.specs.base.pipeline.declared.transform.Step.{Step}
+use Rattle.sb_hand.specs.base.pipeline.Operators.{Operator}
+use Rattle.sb_hand.specs.base.pipeline.Operators.Operator.{ParDo, Windowed, Sink}
+use Rattle.sb_hand.specs.core.declared.event.Event.TheVariants.{Deliver}
+use Rattle.sb_hand.specs.core.declared.held.Held.{Held}
+use Rattle.sb_hand.specs.core.declared.moment.CoreLane.{CoreLane}
+use Rattle.sb_hand.specs.core.declared.moment.Node.{Node}
+use Rattle.sb_hand.specs.core.Bounds.{bound_at}
+use Rattle.sb_hand.specs.core.Choices.{is_empty}
+use Rattle.sb_hand.specs.core.Closings.{delivery, is_pardo}
+use Rattle.sb_hand.specs.core.Events.{below}
+use Rattle.sb_hand.specs.core.LaneOrder.{IsLane}
+use Rattle.sb_hand.specs.core.Lanes.{in_epoch, next_floor, with_arrival}
+use Rattle.sb_hand.specs.core.Laws.{concerns}
+use Rattle.sb_hand.specs.core.Moments.{epoch_at, epoch_of, floor_of, lane_at, set_lane, with_held}
+use Rattle.sb_hand.specs.core.Parts.{Part, held_after, only_node, with_part_first}
+use Rattle.sb_hand.specs.core.Soundness.{IsSound}
+use Rattle.sb_hand.proofs.core.exact.AfterExact.{not_sealed}
+use Rattle.sb_hand.proofs.core.exact.Nodes.{slice_get-set_same}
+use Rattle.sb_hand.proofs.core.sound.Orderly.{lawful_of}
+use Rattle.sb_hand.proofs.core.parts.PartsLaw.{chain, held-parts_keep_sound, passing}
+use Rattle.sb_hand.specs.lane.Laws.{FitsEpoch}
+use Rattle.sb_hand.specs.lane.LaneView.{LaneView, lane_of}
+use Rattle.sb_hand.specs.lane.Placed.{conts_of}
+use Rattle.sb_hand.proofs.lane.OrderKept.{next-fits, place-kept, place-within}
+use Rattle.sb_hand.specs.node.Changes.{HasLane}
+use Rattle.sb_hand.specs.node.declared.closing.Closing.{Closing}
+use Rattle.sb_hand.specs.work.declared.claim.Claim.{Claim}
 use Rattle.sb_hand.proofs.LaneEvents.{put-is}
 use Rattle.sb_cascade.specs.declared.telling.Hands.{Hands}
 use Rattle.sb_cascade.specs.declared.telling.Setting.{Setting}

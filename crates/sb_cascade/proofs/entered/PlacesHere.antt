@@ -2,21 +2,21 @@
 use Rattle.std.proofs.Common.{◌≡◌, ℕ, ◌≤◌, Bool, true, false, List, [], ◌∷◌, ◌++◌, length, Some, Option, sym, refl, ap, subst, ◌∙◌, arith}
 use Rattle.std.specs.Prelude.{slice_get}
 use Rattle.std.specs.List.{AllByRecursion}
-use Rattle.sb_record.specs.Reading.{◌>>=◌}
-use Rattle.sb_record.specs.declared.item.Record.{Record}
-use Rattle.sb_pipeline.specs.declared.transform.Step.{Step}
-use Rattle.sb_core.specs.declared.held.Held.{Held}
-use Rattle.sb_core.specs.declared.moment.Node.{Node}
-use Rattle.sb_core.specs.Holdings.{IsClosing, IsHeld, IsWork}
-use Rattle.sb_core.specs.Moments.{epoch_at, epoch_of, lane_at}
-use Rattle.sb_core.proofs.exact.AfterExact.{not_sealed}
-use Rattle.sb_core.proofs.sound.Orderly.{lawful_of}
-use Rattle.sb_lane.specs.Changes.{StandsAt}
-use Rattle.sb_lane.specs.LaneView.{LaneView, lane_of}
-use Rattle.sb_lane.specs.Links.{down_of, links_of}
-use Rattle.sb_node.specs.Changes.{HasLane}
-use Rattle.sb_node.specs.declared.closing.Closing.{Closing}
-use Rattle.sb_work.specs.declared.claim.Claim.{Claim}
+use Rattle.sb_hand.specs.base.records.Reading.{◌>>=◌}
+use Rattle.sb_hand.specs.base.records.declared.item.Record.{Record}
+use Rattle.sb_hand.specs.base.pipeline.declared.transform.Step.{Step}
+use Rattle.sb_hand.specs.core.declared.held.Held.{Held}
+use Rattle.sb_hand.specs.core.declared.moment.Node.{Node}
+use Rattle.sb_hand.specs.core.Holdings.{IsClosing, IsHeld, IsWork}
+use Rattle.sb_hand.specs.core.Moments.{epoch_at, epoch_of, lane_at}
+use Rattle.sb_hand.proofs.core.exact.AfterExact.{not_sealed}
+use Rattle.sb_hand.proofs.core.sound.Orderly.{lawful_of}
+use Rattle.sb_hand.specs.lane.Changes.{StandsAt}
+use Rattle.sb_hand.specs.lane.LaneView.{LaneView, lane_of}
+use Rattle.sb_hand.specs.lane.Links.{down_of, links_of}
+use Rattle.sb_hand.specs.node.Changes.{HasLane}
+use Rattle.sb_hand.specs.node.declared.closing.Closing.{Closing}
+use Rattle.sb_hand.specs.work.declared.claim.Claim.{Claim}
 use Rattle.sb_hand.proofs.Single.{get-map}
 use Rattle.sb_cascade.specs.declared.telling.Hands.{Hands}
 use Rattle.sb_cascade.specs.declared.telling.Setting.{Setting}

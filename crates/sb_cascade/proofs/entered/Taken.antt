@@ -1,11 +1,11 @@
 -- A bundle is taken from the node that a pass entered, and the trace tells it.
 use Rattle.std.proofs.Common.{◌≡◌, ℕ, [], Option, sym, refl, ap, ◌∙◌, subst}
 use Rattle.std.specs.declared.snapshot.Snapshot.{Snapshot}
-use Rattle.sb_lane.specs.LaneView.{LaneView}
-use Rattle.sb_lane.specs.Links.{down_of, links_of}
-use Rattle.sb_node.specs.Changes.{Takes}
-use Rattle.sb_node.specs.LinkChanges.{LinksStay}
-use Rattle.sb_work.specs.declared.claim.Claim.{Claim}
+use Rattle.sb_hand.specs.lane.LaneView.{LaneView}
+use Rattle.sb_hand.specs.lane.Links.{down_of, links_of}
+use Rattle.sb_hand.specs.node.Changes.{Takes}
+use Rattle.sb_hand.specs.node.LinkChanges.{LinksStay}
+use Rattle.sb_hand.specs.work.declared.claim.Claim.{Claim}
 use Rattle.sb_cascade.specs.declared.telling.Change.TheVariants.{Take}
 use Rattle.sb_cascade.specs.declared.telling.Hands.{Hands}
 use Rattle.sb_cascade.specs.declared.telling.Setting.{Setting}

@@ -4,15 +4,15 @@ use Rattle.std.specs.Prelude.{count_by, sum_by, ◌&&◌}
 use Rattle.std.specs.List.{AllByRecursion}
 use Rattle.std.proofs.lemmas.Bool.{eq-eqb}
 use Rattle.std.proofs.lemmas.List.Sums.{sum_by-cons, sum_by-le-sum_by}
-use Rattle.sb_record.specs.declared.item.Record.{Record}
-use Rattle.sb_pipeline.specs.declared.transform.Down.{Down}
-use Rattle.sb_pipeline.specs.Shapes.{Shape}
-use Rattle.sb_core.specs.declared.moment.Moment.{Moment}
-use Rattle.sb_core.specs.declared.held.Held.{Held}
-use Rattle.sb_core.specs.declared.held.Held.TheVariants.{Work}
-use Rattle.sb_core.specs.Holdings.{IsHeld}
-use Rattle.sb_core.specs.Moments.{is_work}
-use Rattle.sb_core.specs.Soundness.{IsSound, numbers_of, out_of}
+use Rattle.sb_hand.specs.base.records.declared.item.Record.{Record}
+use Rattle.sb_hand.specs.base.pipeline.declared.transform.Down.{Down}
+use Rattle.sb_hand.specs.base.pipeline.Shapes.{Shape}
+use Rattle.sb_hand.specs.core.declared.moment.Moment.{Moment}
+use Rattle.sb_hand.specs.core.declared.held.Held.{Held}
+use Rattle.sb_hand.specs.core.declared.held.Held.TheVariants.{Work}
+use Rattle.sb_hand.specs.core.Holdings.{IsHeld}
+use Rattle.sb_hand.specs.core.Moments.{is_work}
+use Rattle.sb_hand.specs.core.Soundness.{IsSound, numbers_of, out_of}
 
 -- a Work is of its node, its lane and its number
 pub work-is : (k l epoch floor number : ℕ) (records : List Record) (delivered : Bool) → is_work k l number (Work k l epoch floor number records delivered) ≡ true

@@ -4,7 +4,7 @@ use mathlib.Core.Option.{some, some-injective}
 use lib.ListN.{get_elem?}
 use Rattle.atomic_table.proofs.Lists.{at_set, set_here, set_else}
 use Rattle.sb_turn.proofs.Totals.{within}
-use Rattle.sb_record.specs.declared.item.Record.{Record}
+use Rattle.sb_hand.specs.base.records.declared.item.Record.{Record}
 use Rattle.sb_cascade.specs.declared.telling.Hands.{Hands}
 use Rattle.sb_cascade.specs.Doings.{Doing}
 use Rattle.sb_cascade.specs.Leavings.{Feeds, FeedsNothing, FeedsThis, feed_then}

@@ -2,11 +2,11 @@
 use Rattle.std.proofs.Common.{◌≡◌, ℕ, Bool, true, false, List, [], ◌∷◌, ◌++◌, length, map, sym, refl, ◌∙◌, append-nil, inl, inr}
 use Rattle.std.proofs.lemmas.List.{map-append}
 use Rattle.std.specs.declared.snapshot.Snapshot.{Snapshot}
-use Rattle.sb_record.specs.declared.item.Record.{Record}
-use Rattle.sb_record.specs.declared.item.Stream.{Stream}
-use Rattle.sb_record.specs.declared.item.Stream.TheVariants.{A, B}
-use Rattle.sb_core.specs.declared.event.Event.TheVariants as event
-use Rattle.sb_tally.specs.Keeping.{feed_after, one_more_of}
+use Rattle.sb_hand.specs.base.records.declared.item.Record.{Record}
+use Rattle.sb_hand.specs.base.records.declared.item.Stream.{Stream}
+use Rattle.sb_hand.specs.base.records.declared.item.Stream.TheVariants.{A, B}
+use Rattle.sb_hand.specs.core.declared.event.Event.TheVariants as event
+use Rattle.sb_hand.specs.tally.Keeping.{feed_after, one_more_of}
 use Rattle.sb_cascade.specs.declared.telling.Change.{Change}
 use Rattle.sb_cascade.specs.declared.telling.Change.TheVariants.{Arrive, Seal, Take, Deliver, Finish, Begin, Rows, Pass, End}
 use Rattle.sb_cascade.specs.declared.telling.Change.TheVariants.{Idle, NotYet, Full, Drain, Spent, Nothing}

@@ -6,27 +6,27 @@ use Rattle.std.specs.List.Sorted.{IsPermutation}
 use Rattle.std.proofs.lemmas.List.Concat.{flat_map-append}
 use Rattle.std.proofs.lemmas.List.Sorted.{IsPermutation-trans, IsPermutation-append_comm}
 use Rattle.std.proofs.lemmas.Option.{get_or_from_slice_get}
-use Rattle.sb_record.specs.declared.item.Record.{Record}
-use Rattle.sb_record.specs.declared.item.Stream.{Stream}
-use Rattle.sb_record.specs.declared.item.Stream.TheVariants.{A, B}
-use Rattle.sb_pipeline.specs.Plans.{IsPlan}
-use Rattle.sb_core.specs.declared.held.Held.{Held}
-use Rattle.sb_core.specs.declared.moment.Node.{Node}
-use Rattle.sb_core.specs.declared.event.Event.{Event}
-use Rattle.sb_core.specs.declared.event.Event.TheVariants as event
-use Rattle.sb_core.specs.Soundness.{IsSound}
-use Rattle.sb_core.specs.Exactness.{IsExact}
-use Rattle.sb_core.specs.Laws.{records_fed_after}
-use Rattle.sb_core.specs.Parts.{Part}
-use Rattle.sb_core.proofs.sound.AnyOrder.{held-in_any_order}
-use Rattle.sb_core.proofs.parts.PartsLaw.{parts-keep_sound, held-parts_keep_sound, parts-are_events, held-parts_are_events}
-use Rattle.sb_diary.specs.declared.event.DiaryEvent.{DiaryEvent}
-use Rattle.sb_tally.specs.Keeping.{feed_after}
-use Rattle.sb_tally.specs.Tally as tally
-use Rattle.sb_tally.specs.Tally.{IsTallied}
-use Rattle.sb_tally.specs.Written.{diary_at}
-use Rattle.sb_tally.proofs.Orders.{tally-in_any_order}
-use Rattle.sb_tally.proofs.Keeps.{parts-keep_tally, held-parts_keep_tally}
+use Rattle.sb_hand.specs.base.records.declared.item.Record.{Record}
+use Rattle.sb_hand.specs.base.records.declared.item.Stream.{Stream}
+use Rattle.sb_hand.specs.base.records.declared.item.Stream.TheVariants.{A, B}
+use Rattle.sb_hand.specs.base.pipeline.Plans.{IsPlan}
+use Rattle.sb_hand.specs.core.declared.held.Held.{Held}
+use Rattle.sb_hand.specs.core.declared.moment.Node.{Node}
+use Rattle.sb_hand.specs.core.declared.event.Event.{Event}
+use Rattle.sb_hand.specs.core.declared.event.Event.TheVariants as event
+use Rattle.sb_hand.specs.core.Soundness.{IsSound}
+use Rattle.sb_hand.specs.core.Exactness.{IsExact}
+use Rattle.sb_hand.specs.core.Laws.{records_fed_after}
+use Rattle.sb_hand.specs.core.Parts.{Part}
+use Rattle.sb_hand.proofs.core.sound.AnyOrder.{held-in_any_order}
+use Rattle.sb_hand.proofs.core.parts.PartsLaw.{parts-keep_sound, held-parts_keep_sound, parts-are_events, held-parts_are_events}
+use Rattle.sb_hand.specs.diary.declared.event.DiaryEvent.{DiaryEvent}
+use Rattle.sb_hand.specs.tally.Keeping.{feed_after}
+use Rattle.sb_hand.specs.tally.Tally as tally
+use Rattle.sb_hand.specs.tally.Tally.{IsTallied}
+use Rattle.sb_hand.specs.tally.Written.{diary_at}
+use Rattle.sb_hand.proofs.tally.Orders.{tally-in_any_order}
+use Rattle.sb_hand.proofs.tally.Keeps.{parts-keep_tally, held-parts_keep_tally}
 use Rattle.sb_hand.proofs.SettingsStay.{set_same}
 use Rattle.sb_cascade.specs.declared.telling.Hands.{Hands}
 use Rattle.sb_cascade.specs.declared.telling.Setting.{Setting}

@@ -4,31 +4,31 @@ use Rattle.std.specs.List.{slice_get, slice_set}
 use Rattle.std.specs.declared.snapshot.Snapshot.{Snapshot}
 use Rattle.std.proofs.lemmas.Bool.{ne_eqb}
 use Rattle.std.proofs.lemmas.Option.{get_or_from_slice_get}
-use Rattle.sb_record.specs.declared.item.Record.{Record}
-use Rattle.sb_record.specs.declared.element.KeptRec.{KeptRec}
-use Rattle.sb_record.specs.Records.{sorted_records, before}
-use Rattle.sb_window.specs.Groupings.{Closes}
-use Rattle.sb_pipeline.specs.Operators.{Operator}
-use Rattle.sb_pipeline.specs.Operators.Operator.{ParDo, Windowed, Sink}
-use Rattle.sb_core.specs.declared.event.Event.TheVariants as event
-use Rattle.sb_core.specs.declared.held.Held.TheVariants.{Close}
-use Rattle.sb_core.specs.declared.moment.CoreLane.{CoreLane}
-use Rattle.sb_core.specs.declared.moment.Node.{Node}
-use Rattle.sb_core.specs.Closings.{kept_at, rows_at, rows_at_sink, is_sink}
-use Rattle.sb_core.specs.Lanes.{with_first_closing}
-use Rattle.sb_core.specs.Marks.{before_closing, least_begun_mark}
-use Rattle.sb_core.specs.Moments.{empty_lane, set_lane}
-use Rattle.sb_core.specs.Parts.{Part}
-use Rattle.sb_diary.specs.declared.event.DiaryEvent.{DiaryEvent}
-use Rattle.sb_diary.specs.declared.event.DiaryEvent.TheVariants as line
-use Rattle.sb_lane.specs.LaneView.{LaneView, lane_of}
-use Rattle.sb_lane.specs.Placed.{conts_of}
-use Rattle.sb_kept.specs.Keeping.{IsMadeFor, IsSpent, ShowsKept, closed_mark, output_from, gives}
-use Rattle.sb_node.specs.Changes.{HasLane}
-use Rattle.sb_node.specs.Marking.{mark_for}
-use Rattle.sb_node.specs.declared.closing.Closing.{Closing}
-use Rattle.sb_node.specs.declared.state.NodeState.{NodeState}
-use Rattle.sb_tally.specs.Written.{line_after}
+use Rattle.sb_hand.specs.base.records.declared.item.Record.{Record}
+use Rattle.sb_hand.specs.base.records.declared.element.KeptRec.{KeptRec}
+use Rattle.sb_hand.specs.base.records.Records.{sorted_records, before}
+use Rattle.sb_hand.specs.base.window.Groupings.{Closes}
+use Rattle.sb_hand.specs.base.pipeline.Operators.{Operator}
+use Rattle.sb_hand.specs.base.pipeline.Operators.Operator.{ParDo, Windowed, Sink}
+use Rattle.sb_hand.specs.core.declared.event.Event.TheVariants as event
+use Rattle.sb_hand.specs.core.declared.held.Held.TheVariants.{Close}
+use Rattle.sb_hand.specs.core.declared.moment.CoreLane.{CoreLane}
+use Rattle.sb_hand.specs.core.declared.moment.Node.{Node}
+use Rattle.sb_hand.specs.core.Closings.{kept_at, rows_at, rows_at_sink, is_sink}
+use Rattle.sb_hand.specs.core.Lanes.{with_first_closing}
+use Rattle.sb_hand.specs.core.Marks.{before_closing, least_begun_mark}
+use Rattle.sb_hand.specs.core.Moments.{empty_lane, set_lane}
+use Rattle.sb_hand.specs.core.Parts.{Part}
+use Rattle.sb_hand.specs.diary.declared.event.DiaryEvent.{DiaryEvent}
+use Rattle.sb_hand.specs.diary.declared.event.DiaryEvent.TheVariants as line
+use Rattle.sb_hand.specs.lane.LaneView.{LaneView, lane_of}
+use Rattle.sb_hand.specs.lane.Placed.{conts_of}
+use Rattle.sb_hand.specs.kept.Keeping.{IsMadeFor, IsSpent, ShowsKept, closed_mark, output_from, gives}
+use Rattle.sb_hand.specs.node.Changes.{HasLane}
+use Rattle.sb_hand.specs.node.Marking.{mark_for}
+use Rattle.sb_hand.specs.node.declared.closing.Closing.{Closing}
+use Rattle.sb_hand.specs.node.declared.state.NodeState.{NodeState}
+use Rattle.sb_hand.specs.tally.Written.{line_after}
 use Rattle.sb_hand.specs.Showing.{IsKept}
 use Rattle.sb_hand.proofs.ShowsKept.{StandsFor, groups-at, rows-closes, shows-closes}
 use Rattle.sb_cascade.specs.declared.telling.Change.TheVariants.{Begin}

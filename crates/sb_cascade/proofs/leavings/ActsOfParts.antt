@@ -4,37 +4,37 @@ use Rattle.std.specs.Prelude.{◌&&◌}
 use Rattle.std.specs.List.{slice_get}
 use Rattle.std.specs.declared.snapshot.Snapshot.{Snapshot}
 use Rattle.std.proofs.lemmas.Bool.{eq-eqb}
-use Rattle.sb_record.specs.declared.item.Record.{Record}
-use Rattle.sb_record.specs.declared.element.KeptRec.{KeptRec}
-use Rattle.sb_record.specs.Elements.{on_lane}
-use Rattle.sb_window.specs.Groupings.{IsFrom}
-use Rattle.sb_pipeline.specs.Operators.{Operator}
-use Rattle.sb_pipeline.specs.Operators.Operator.{ParDo, Windowed, Sink}
-use Rattle.sb_core.specs.declared.event.Event.TheVariants as event
-use Rattle.sb_core.specs.declared.held.Held.{Held}
-use Rattle.sb_core.specs.declared.moment.CoreLane.{CoreLane}
-use Rattle.sb_core.specs.declared.moment.Node.{Node}
-use Rattle.sb_core.specs.Bounds.{bound_at}
-use Rattle.sb_core.specs.Choices.{is_empty}
-use Rattle.sb_core.specs.Closings.{kept_elements, delivery, is_pardo}
-use Rattle.sb_core.specs.Lanes.{finish_in}
-use Rattle.sb_core.specs.Laws.{concerns}
-use Rattle.sb_core.specs.Marks.{least_begun_mark}
-use Rattle.sb_core.specs.Moments.{set_lane, with_held}
-use Rattle.sb_core.specs.Parts.{Part, held_after, only_node, with_part_first}
-use Rattle.sb_core.specs.Soundness.{IsSound}
-use Rattle.sb_core.proofs.exact.Nodes.{slice_get-set_same}
-use Rattle.sb_core.proofs.parts.PartsLaw.{chain, held-parts_keep_sound, passing}
-use Rattle.sb_diary.specs.declared.event.DiaryEvent.TheVariants as line
-use Rattle.sb_lane.specs.LaneView.{LaneView, lane_of}
-use Rattle.sb_lane.specs.Placed.{conts_of}
-use Rattle.sb_kept.specs.Keeping.{IsPartFor, ShowsKept, closed_mark, gives}
-use Rattle.sb_node.specs.Changes.{Absorbs, HasLane}
-use Rattle.sb_work.specs.declared.claim.Claim.{Claim}
-use Rattle.sb_work.specs.declared.outputs.Part.{Part as WorkPart}
+use Rattle.sb_hand.specs.base.records.declared.item.Record.{Record}
+use Rattle.sb_hand.specs.base.records.declared.element.KeptRec.{KeptRec}
+use Rattle.sb_hand.specs.base.records.Elements.{on_lane}
+use Rattle.sb_hand.specs.base.window.Groupings.{IsFrom}
+use Rattle.sb_hand.specs.base.pipeline.Operators.{Operator}
+use Rattle.sb_hand.specs.base.pipeline.Operators.Operator.{ParDo, Windowed, Sink}
+use Rattle.sb_hand.specs.core.declared.event.Event.TheVariants as event
+use Rattle.sb_hand.specs.core.declared.held.Held.{Held}
+use Rattle.sb_hand.specs.core.declared.moment.CoreLane.{CoreLane}
+use Rattle.sb_hand.specs.core.declared.moment.Node.{Node}
+use Rattle.sb_hand.specs.core.Bounds.{bound_at}
+use Rattle.sb_hand.specs.core.Choices.{is_empty}
+use Rattle.sb_hand.specs.core.Closings.{kept_elements, delivery, is_pardo}
+use Rattle.sb_hand.specs.core.Lanes.{finish_in}
+use Rattle.sb_hand.specs.core.Laws.{concerns}
+use Rattle.sb_hand.specs.core.Marks.{least_begun_mark}
+use Rattle.sb_hand.specs.core.Moments.{set_lane, with_held}
+use Rattle.sb_hand.specs.core.Parts.{Part, held_after, only_node, with_part_first}
+use Rattle.sb_hand.specs.core.Soundness.{IsSound}
+use Rattle.sb_hand.proofs.core.exact.Nodes.{slice_get-set_same}
+use Rattle.sb_hand.proofs.core.parts.PartsLaw.{chain, held-parts_keep_sound, passing}
+use Rattle.sb_hand.specs.diary.declared.event.DiaryEvent.TheVariants as line
+use Rattle.sb_hand.specs.lane.LaneView.{LaneView, lane_of}
+use Rattle.sb_hand.specs.lane.Placed.{conts_of}
+use Rattle.sb_hand.specs.kept.Keeping.{IsPartFor, ShowsKept, closed_mark, gives}
+use Rattle.sb_hand.specs.node.Changes.{Absorbs, HasLane}
+use Rattle.sb_hand.specs.work.declared.claim.Claim.{Claim}
+use Rattle.sb_hand.specs.work.declared.outputs.Part.{Part as WorkPart}
 use Rattle.sb_hand.specs.Showing.{IsKept}
 use Rattle.sb_hand.proofs.Calm.{calm}
-use Rattle.sb_lane.proofs.InTheCore.{finish_first-is}
+use Rattle.sb_hand.proofs.lane.InTheCore.{finish_first-is}
 use Rattle.sb_hand.proofs.ShowsKept.{StandsFor, shows-adds}
 use Rattle.sb_cascade.specs.declared.telling.Change.TheVariants.{Finish}
 use Rattle.sb_cascade.specs.declared.telling.Hands.{Hands}

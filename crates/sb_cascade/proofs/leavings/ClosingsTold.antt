@@ -1,18 +1,18 @@
 -- A call that changed the state of a node so has done its change, told by a snapshot of the closing in hand.
 use Rattle.std.proofs.Common.{◌≡◌, ℕ, ◌+◌, ◌-◌, ◌^◌, ◌<◌, Bool, true, false, List, [], ◌∷◌, length, take, drop, Option, Some, sym, refl, ap, ◌∙◌, subst}
 use Rattle.std.specs.declared.snapshot.Snapshot.{Snapshot}
-use Rattle.sb_record.specs.declared.item.Record.{Record}
-use Rattle.sb_pipeline.specs.declared.transform.Down.{Down}
-use Rattle.sb_core.specs.Choices.{is_empty}
-use Rattle.sb_core.specs.Closings.{is_sink}
-use Rattle.sb_core.specs.Events.{below}
-use Rattle.sb_core.specs.Lanes.{next_epoch, with_arrival, with_seal}
-use Rattle.sb_diary.specs.declared.event.DiaryEvent.TheVariants as line
-use Rattle.sb_lane.specs.LaneView.{LaneView, lane_of}
-use Rattle.sb_lane.specs.Placed.{conts_of}
-use Rattle.sb_node.specs.Changes.{Turns}
-use Rattle.sb_node.specs.LinkChanges.{DropsLink, GetsPlace, LinksStay}
-use Rattle.sb_node.specs.declared.closing.Closing.{Closing}
+use Rattle.sb_hand.specs.base.records.declared.item.Record.{Record}
+use Rattle.sb_hand.specs.base.pipeline.declared.transform.Down.{Down}
+use Rattle.sb_hand.specs.core.Choices.{is_empty}
+use Rattle.sb_hand.specs.core.Closings.{is_sink}
+use Rattle.sb_hand.specs.core.Events.{below}
+use Rattle.sb_hand.specs.core.Lanes.{next_epoch, with_arrival, with_seal}
+use Rattle.sb_hand.specs.diary.declared.event.DiaryEvent.TheVariants as line
+use Rattle.sb_hand.specs.lane.LaneView.{LaneView, lane_of}
+use Rattle.sb_hand.specs.lane.Placed.{conts_of}
+use Rattle.sb_hand.specs.node.Changes.{Turns}
+use Rattle.sb_hand.specs.node.LinkChanges.{DropsLink, GetsPlace, LinksStay}
+use Rattle.sb_hand.specs.node.declared.closing.Closing.{Closing}
 use Rattle.sb_cascade.specs.declared.telling.Change.TheVariants.{Begin, End, Pass, Rows}
 use Rattle.sb_cascade.specs.declared.telling.Hands.{Hands}
 use Rattle.sb_cascade.specs.declared.telling.Setting.{Setting}

@@ -4,27 +4,27 @@ use Rattle.std.specs.Prelude.{◌&&◌, nat_le}
 use Rattle.std.specs.List.{slice_get, list_all, AllByRecursion}
 use Rattle.std.proofs.lemmas.Bool.{le-leb}
 use Rattle.std.specs.declared.snapshot.Snapshot.{Snapshot}
-use Rattle.sb_record.specs.declared.item.Record.{Record}
-use Rattle.sb_record.specs.declared.item.Stream.{Stream}
-use Rattle.sb_record.specs.declared.item.TheConstants.{END_MARK, MAX_TIME}
-use Rattle.sb_pipeline.specs.declared.transform.Down.{Down}
-use Rattle.sb_pipeline.specs.Shapes.{source}
-use Rattle.sb_core.specs.declared.moment.CoreLane.{CoreLane}
-use Rattle.sb_core.specs.declared.held.Held.{Held}
-use Rattle.sb_core.specs.declared.held.Held.TheVariants.{Work}
-use Rattle.sb_core.specs.declared.event.Event.TheVariants as event
-use Rattle.sb_core.specs.Choices.{is_empty}
-use Rattle.sb_core.specs.Lanes.{next_epoch, next_floor, take_from, with_arrival, with_seal}
-use Rattle.sb_diary.specs.declared.event.DiaryEvent.TheVariants as line
-use Rattle.sb_tally.specs.Written as written
-use Rattle.sb_tally.specs.Written.{arrival_line, seal_line}
-use Rattle.sb_lane.specs.LaneView.{LaneView, lane_of}
-use Rattle.sb_lane.specs.Placed.{conts_of}
-use Rattle.sb_node.specs.Changes.{Takes, Turns}
-use Rattle.sb_work.specs.declared.claim.Claim.{Claim}
+use Rattle.sb_hand.specs.base.records.declared.item.Record.{Record}
+use Rattle.sb_hand.specs.base.records.declared.item.Stream.{Stream}
+use Rattle.sb_hand.specs.base.records.declared.item.TheConstants.{END_MARK, MAX_TIME}
+use Rattle.sb_hand.specs.base.pipeline.declared.transform.Down.{Down}
+use Rattle.sb_hand.specs.base.pipeline.Shapes.{source}
+use Rattle.sb_hand.specs.core.declared.moment.CoreLane.{CoreLane}
+use Rattle.sb_hand.specs.core.declared.held.Held.{Held}
+use Rattle.sb_hand.specs.core.declared.held.Held.TheVariants.{Work}
+use Rattle.sb_hand.specs.core.declared.event.Event.TheVariants as event
+use Rattle.sb_hand.specs.core.Choices.{is_empty}
+use Rattle.sb_hand.specs.core.Lanes.{next_epoch, next_floor, take_from, with_arrival, with_seal}
+use Rattle.sb_hand.specs.diary.declared.event.DiaryEvent.TheVariants as line
+use Rattle.sb_hand.specs.tally.Written as written
+use Rattle.sb_hand.specs.tally.Written.{arrival_line, seal_line}
+use Rattle.sb_hand.specs.lane.LaneView.{LaneView, lane_of}
+use Rattle.sb_hand.specs.lane.Placed.{conts_of}
+use Rattle.sb_hand.specs.node.Changes.{Takes, Turns}
+use Rattle.sb_hand.specs.work.declared.claim.Claim.{Claim}
 use Rattle.sb_hand.proofs.LaneEvents.{put-is}
 use Rattle.sb_hand.proofs.Single.{chain, passing}
-use Rattle.sb_lane.proofs.InTheCore.{take_first-is}
+use Rattle.sb_hand.proofs.lane.InTheCore.{take_first-is}
 use Rattle.sb_cascade.specs.declared.telling.Change.TheVariants.{Arrive, Seal, Take}
 use Rattle.sb_cascade.specs.declared.telling.Hands.{Hands}
 use Rattle.sb_cascade.specs.declared.telling.Setting.{Setting}

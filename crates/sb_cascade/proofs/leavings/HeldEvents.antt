@@ -4,35 +4,35 @@ use Rattle.std.specs.Prelude.{◌&&◌, ◌||◌}
 use Rattle.std.specs.List.{slice_get}
 use Rattle.std.proofs.lemmas.Bool.{eq-eqb, ne_eqb}
 use Rattle.std.specs.declared.snapshot.Snapshot.{Snapshot}
-use Rattle.sb_record.specs.declared.element.KeptRec.{KeptRec}
-use Rattle.sb_record.specs.declared.item.Record.{Record}
-use Rattle.sb_record.specs.Elements.{on_lane}
-use Rattle.sb_pipeline.specs.declared.transform.Down.{Down}
-use Rattle.sb_pipeline.specs.Operators.{Operator}
-use Rattle.sb_pipeline.specs.Operators.Operator.{ParDo, Windowed, Sink}
-use Rattle.sb_core.specs.declared.moment.CoreLane.{CoreLane}
-use Rattle.sb_core.specs.declared.moment.Node.{Node}
-use Rattle.sb_core.specs.declared.held.Held.{Held}
-use Rattle.sb_core.specs.declared.event.Event.TheVariants as event
-use Rattle.sb_core.specs.Bounds.{bound_at}
-use Rattle.sb_core.specs.Choices.{is_empty}
-use Rattle.sb_core.specs.Closings.{kept_elements, delivery, is_pardo}
-use Rattle.sb_core.specs.Events.{below}
-use Rattle.sb_core.specs.Lanes.{finish_in, next_epoch, with_arrival, with_seal}
-use Rattle.sb_core.specs.Moments.{set_lane}
-use Rattle.sb_core.specs.Parts.{only_node, put_in}
-use Rattle.sb_diary.specs.declared.event.DiaryEvent.{DiaryEvent}
-use Rattle.sb_diary.specs.declared.event.DiaryEvent.TheVariants as line
-use Rattle.sb_tally.specs.Written as written
-use Rattle.sb_tally.specs.Written.{arrival_line, seal_line}
-use Rattle.sb_lane.specs.LaneView.{LaneView, lane_of}
-use Rattle.sb_lane.specs.Placed.{conts_of}
-use Rattle.sb_lane.specs.Taking.{finish_first}
-use Rattle.sb_node.specs.Changes.{Turns}
-use Rattle.sb_node.specs.declared.closing.Closing.{Closing}
-use Rattle.sb_work.specs.declared.claim.Claim.{Claim}
+use Rattle.sb_hand.specs.base.records.declared.element.KeptRec.{KeptRec}
+use Rattle.sb_hand.specs.base.records.declared.item.Record.{Record}
+use Rattle.sb_hand.specs.base.records.Elements.{on_lane}
+use Rattle.sb_hand.specs.base.pipeline.declared.transform.Down.{Down}
+use Rattle.sb_hand.specs.base.pipeline.Operators.{Operator}
+use Rattle.sb_hand.specs.base.pipeline.Operators.Operator.{ParDo, Windowed, Sink}
+use Rattle.sb_hand.specs.core.declared.moment.CoreLane.{CoreLane}
+use Rattle.sb_hand.specs.core.declared.moment.Node.{Node}
+use Rattle.sb_hand.specs.core.declared.held.Held.{Held}
+use Rattle.sb_hand.specs.core.declared.event.Event.TheVariants as event
+use Rattle.sb_hand.specs.core.Bounds.{bound_at}
+use Rattle.sb_hand.specs.core.Choices.{is_empty}
+use Rattle.sb_hand.specs.core.Closings.{kept_elements, delivery, is_pardo}
+use Rattle.sb_hand.specs.core.Events.{below}
+use Rattle.sb_hand.specs.core.Lanes.{finish_in, next_epoch, with_arrival, with_seal}
+use Rattle.sb_hand.specs.core.Moments.{set_lane}
+use Rattle.sb_hand.specs.core.Parts.{only_node, put_in}
+use Rattle.sb_hand.specs.diary.declared.event.DiaryEvent.{DiaryEvent}
+use Rattle.sb_hand.specs.diary.declared.event.DiaryEvent.TheVariants as line
+use Rattle.sb_hand.specs.tally.Written as written
+use Rattle.sb_hand.specs.tally.Written.{arrival_line, seal_line}
+use Rattle.sb_hand.specs.lane.LaneView.{LaneView, lane_of}
+use Rattle.sb_hand.specs.lane.Placed.{conts_of}
+use Rattle.sb_hand.specs.lane.Taking.{finish_first}
+use Rattle.sb_hand.specs.node.Changes.{Turns}
+use Rattle.sb_hand.specs.node.declared.closing.Closing.{Closing}
+use Rattle.sb_hand.specs.work.declared.claim.Claim.{Claim}
 use Rattle.sb_hand.proofs.LaneEvents.{put-is}
-use Rattle.sb_lane.proofs.InTheCore.{finish_first-is}
+use Rattle.sb_hand.proofs.lane.InTheCore.{finish_first-is}
 use Rattle.sb_hand.proofs.Single.{chain, passing}
 use Rattle.sb_cascade.specs.declared.telling.Change.TheVariants.{Deliver, End, Finish, Pass, Rows}
 use Rattle.sb_cascade.specs.declared.telling.Hands.{Hands}

@@ -2,15 +2,15 @@
 use Rattle.std.proofs.Common.{◌≡◌, ℕ, ◌<◌, ◌≤◌, List, [], ◌∷◌, ◌++◌, sym, ap, ◌∙◌, subst, arith}
 use Rattle.std.specs.Prelude.{slice_get, Some}
 use Rattle.std.specs.List.{AllByRecursion}
-use Rattle.sb_record.proofs.Elements.{every, All-join}
-use Rattle.sb_record.specs.declared.item.Record.{Record}
-use Rattle.sb_core.specs.declared.moment.Node.{Node}
-use Rattle.sb_core.specs.declared.moment.Moment.{Moment}
-use Rattle.sb_core.specs.Laws.{written_to}
-use Rattle.sb_core.specs.NewRows.{AreUnwritten}
-use Rattle.sb_core.specs.Parts.{Part, part_after}
-use Rattle.sb_core.specs.Soundness.{IsSound}
-use Rattle.sb_core.proofs.parts.NewRowsLaw.{new-rows_are_later, held-add_no_rows}
+use Rattle.sb_hand.proofs.base.records.Elements.{every, All-join}
+use Rattle.sb_hand.specs.base.records.declared.item.Record.{Record}
+use Rattle.sb_hand.specs.core.declared.moment.Node.{Node}
+use Rattle.sb_hand.specs.core.declared.moment.Moment.{Moment}
+use Rattle.sb_hand.specs.core.Laws.{written_to}
+use Rattle.sb_hand.specs.core.NewRows.{AreUnwritten}
+use Rattle.sb_hand.specs.core.Parts.{Part, part_after}
+use Rattle.sb_hand.specs.core.Soundness.{IsSound}
+use Rattle.sb_hand.proofs.core.parts.NewRowsLaw.{new-rows_are_later, held-add_no_rows}
 use Rattle.sb_cascade.specs.declared.telling.Hands.{Hands}
 use Rattle.sb_cascade.specs.declared.telling.Setting.{Setting}
 use Rattle.sb_cascade.specs.Doings.{Doing, Quiet, Fresh, Of}

@@ -13,14 +13,14 @@ use Rattle.sb_turn.specs.Turning.{log_of, logs_after}
 use Rattle.sb_turn.proofs.Held.{in_front}
 use Rattle.sb_turn.proofs.Logs.{grown_else}
 use Rattle.sb_turn.proofs.Totals.{within}
-use Rattle.sb_record.specs.declared.item.Record.{Record}
-use Rattle.sb_core.specs.declared.held.Held.{Held}
-use Rattle.sb_core.specs.declared.moment.Node.{Node}
-use Rattle.sb_core.specs.Parts.{Part}
-use Rattle.sb_core.specs.Laws.{written_to}
-use Rattle.sb_core.proofs.exact.Nodes.{slice_get-set_same, slice_get-set_other}
-use Rattle.sb_diary.specs.declared.event.DiaryEvent.{DiaryEvent}
-use Rattle.sb_tally.specs.Tally as tally
+use Rattle.sb_hand.specs.base.records.declared.item.Record.{Record}
+use Rattle.sb_hand.specs.core.declared.held.Held.{Held}
+use Rattle.sb_hand.specs.core.declared.moment.Node.{Node}
+use Rattle.sb_hand.specs.core.Parts.{Part}
+use Rattle.sb_hand.specs.core.Laws.{written_to}
+use Rattle.sb_hand.proofs.core.exact.Nodes.{slice_get-set_same, slice_get-set_other}
+use Rattle.sb_hand.specs.diary.declared.event.DiaryEvent.{DiaryEvent}
+use Rattle.sb_hand.specs.tally.Tally as tally
 use Rattle.sb_hand.proofs.Single.{get-map}
 use Rattle.sb_hand.specs.Hands.{settings_for}
 use Rattle.sb_hand.specs.Showing.{Settings}
@@ -35,7 +35,7 @@ use Rattle.sb_cascade.specs.Leavings.{Does, DoesPart}
 use Rattle.sb_cascade.specs.Passing.{is_feeder}
 use Rattle.sb_cascade.specs.SharedNodes.{SharedView}
 use Rattle.sb_cascade.specs.Shown.{AreLater, ShowsMoment, ShowsPart, beginning_of, diaries_in, moment_of, operator_of, settings_in}
-use Rattle.sb_core.specs.Exactness.{IsExact}
+use Rattle.sb_hand.specs.core.Exactness.{IsExact}
 use Rattle.sb_cascade.specs.Views.{after, all_in_hand, records_of_feed, feed_of, held_by, work_on}
 use Rattle.sb_cascade.proofs.leavings.Acting.{IsGood, acts, in_any_order, is_event_of}
 use Rattle.sb_cascade.specs.LinkedPassing.{place-here}

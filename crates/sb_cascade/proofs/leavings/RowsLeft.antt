@@ -3,8 +3,8 @@ use Rattle.std.proofs.Common.{◌≡◌, ℕ, ◌+◌, ◌<◌, ◌≤◌, false
 use Rattle.std.specs.Prelude.{min}
 use Rattle.std.proofs.lemmas.Bool.{cases_lt}
 use Rattle.std.proofs.lemmas.List.{drop-drop, drop_all, length-drop, take_min}
-use Rattle.sb_record.specs.declared.item.Record.{Record}
-use Rattle.sb_core.specs.Choices.{is_empty}
+use Rattle.sb_hand.specs.base.records.declared.item.Record.{Record}
+use Rattle.sb_hand.specs.core.Choices.{is_empty}
 
 module _ (first count most : ℕ) (rows : List Record) (counted : count ≡ min most (length (drop first rows))) where
   -- a count of rows that stops at the last one is as good as the most that may go

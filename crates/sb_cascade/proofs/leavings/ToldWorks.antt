@@ -2,23 +2,23 @@
 use Rattle.std.proofs.Common.{◌≡◌, ℕ, ◌+◌, ◌-◌, ◌^◌, ◌<◌, Bool, true, false, List, [], ◌∷◌, length, Some, None, Option, sym, refl, ap, ◌∙◌, subst, arith, ⊎_elim}
 use Rattle.std.specs.Prelude.{◌||◌, IfSome, is_some, unwrap_or}
 use Rattle.std.specs.declared.snapshot.Snapshot.{Snapshot}
-use Rattle.sb_record.specs.declared.item.Record.{Record}
-use Rattle.sb_pipeline.specs.declared.transform.Down.{Down}
-use Rattle.sb_pipeline.specs.Operators.{Operator}
-use Rattle.sb_pipeline.specs.Operators.Operator.{ParDo, Windowed, Sink}
-use Rattle.sb_core.specs.Choices.{is_empty}
-use Rattle.sb_core.specs.Closings.{delivery, is_pardo}
-use Rattle.sb_core.specs.Events.{below}
-use Rattle.sb_core.specs.Lanes.{with_arrival}
-use Rattle.sb_diary.specs.declared.event.DiaryEvent.TheVariants as line
-use Rattle.sb_lane.specs.LaneView.{LaneView, lane_of}
-use Rattle.sb_lane.specs.Placed.{conts_of}
-use Rattle.sb_lane.specs.Taking.{finish_first}
-use Rattle.sb_kept.specs.Keeping.{IsPartFor}
-use Rattle.sb_node.specs.Changes.{Absorbs, Turns}
-use Rattle.sb_work.specs.declared.claim.Claim.{Claim}
-use Rattle.sb_work.specs.declared.outputs.Part.{Part}
-use Rattle.sb_work.specs.Processing.{IsPart}
+use Rattle.sb_hand.specs.base.records.declared.item.Record.{Record}
+use Rattle.sb_hand.specs.base.pipeline.declared.transform.Down.{Down}
+use Rattle.sb_hand.specs.base.pipeline.Operators.{Operator}
+use Rattle.sb_hand.specs.base.pipeline.Operators.Operator.{ParDo, Windowed, Sink}
+use Rattle.sb_hand.specs.core.Choices.{is_empty}
+use Rattle.sb_hand.specs.core.Closings.{delivery, is_pardo}
+use Rattle.sb_hand.specs.core.Events.{below}
+use Rattle.sb_hand.specs.core.Lanes.{with_arrival}
+use Rattle.sb_hand.specs.diary.declared.event.DiaryEvent.TheVariants as line
+use Rattle.sb_hand.specs.lane.LaneView.{LaneView, lane_of}
+use Rattle.sb_hand.specs.lane.Placed.{conts_of}
+use Rattle.sb_hand.specs.lane.Taking.{finish_first}
+use Rattle.sb_hand.specs.kept.Keeping.{IsPartFor}
+use Rattle.sb_hand.specs.node.Changes.{Absorbs, Turns}
+use Rattle.sb_hand.specs.work.declared.claim.Claim.{Claim}
+use Rattle.sb_hand.specs.work.declared.outputs.Part.{Part}
+use Rattle.sb_hand.specs.work.Processing.{IsPart}
 use Rattle.sb_cascade.specs.declared.telling.Change.TheVariants.{Deliver, Finish}
 use Rattle.sb_cascade.specs.declared.telling.Hands.{Hands}
 use Rattle.sb_cascade.specs.declared.telling.Setting.{Setting}

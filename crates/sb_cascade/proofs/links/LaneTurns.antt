@@ -3,25 +3,25 @@ use Rattle.std.proofs.Common.{◌≡◌, ℕ, true, List, [], ◌∷◌, ◌++�
 use Rattle.std.specs.List.{slice_get, slice_set}
 use Rattle.std.proofs.lemmas.List.{map-set}
 use Rattle.std.proofs.lemmas.Option.{get_or_from_slice_get}
-use Rattle.sb_bundle.specs.declared.bundle.Bundle.{Bundle}
-use Rattle.sb_core.specs.declared.moment.CoreLane.{CoreLane}
-use Rattle.sb_core.specs.declared.moment.Moment.{Moment}
-use Rattle.sb_core.specs.declared.held.Held.{Held}
-use Rattle.sb_core.specs.declared.event.Event.{Event}
-use Rattle.sb_core.specs.Laws.{concerns, place_of}
-use Rattle.sb_core.specs.Marks.{least_begun_mark}
-use Rattle.sb_core.specs.Moments.{empty_lane, set_lane, with_held}
-use Rattle.sb_core.specs.Parts.{Part, only_node, part_after, held_after, with_part_first}
-use Rattle.sb_core.specs.Soundness.{IsSound}
-use Rattle.sb_core.proofs.exact.Nodes.{slice_get-set_same}
-use Rattle.sb_core.proofs.parts.PartsLaw.{parts-keep_sound, held-parts_keep_sound}
-use Rattle.sb_diary.specs.Diaries.{with_spare}
-use Rattle.sb_diary.specs.declared.event.DiaryEvent.{DiaryEvent}
-use Rattle.sb_diary.specs.declared.event.DiaryEvent.TheVariants as line
-use Rattle.sb_tally.specs.Written.{the_lane, line_after, held_line}
-use Rattle.sb_lane.specs.LaneView.{LaneView, lane_of}
-use Rattle.sb_lane.specs.Placed.{conts_of}
-use Rattle.sb_node.specs.Changes.{SetsLane, KeepsRest, Takes, Turns}
+use Rattle.sb_hand.specs.base.bundle.declared.bundle.Bundle.{Bundle}
+use Rattle.sb_hand.specs.core.declared.moment.CoreLane.{CoreLane}
+use Rattle.sb_hand.specs.core.declared.moment.Moment.{Moment}
+use Rattle.sb_hand.specs.core.declared.held.Held.{Held}
+use Rattle.sb_hand.specs.core.declared.event.Event.{Event}
+use Rattle.sb_hand.specs.core.Laws.{concerns, place_of}
+use Rattle.sb_hand.specs.core.Marks.{least_begun_mark}
+use Rattle.sb_hand.specs.core.Moments.{empty_lane, set_lane, with_held}
+use Rattle.sb_hand.specs.core.Parts.{Part, only_node, part_after, held_after, with_part_first}
+use Rattle.sb_hand.specs.core.Soundness.{IsSound}
+use Rattle.sb_hand.proofs.core.exact.Nodes.{slice_get-set_same}
+use Rattle.sb_hand.proofs.core.parts.PartsLaw.{parts-keep_sound, held-parts_keep_sound}
+use Rattle.sb_hand.specs.diary.Diaries.{with_spare}
+use Rattle.sb_hand.specs.diary.declared.event.DiaryEvent.{DiaryEvent}
+use Rattle.sb_hand.specs.diary.declared.event.DiaryEvent.TheVariants as line
+use Rattle.sb_hand.specs.tally.Written.{the_lane, line_after, held_line}
+use Rattle.sb_hand.specs.lane.LaneView.{LaneView, lane_of}
+use Rattle.sb_hand.specs.lane.Placed.{conts_of}
+use Rattle.sb_hand.specs.node.Changes.{SetsLane, KeepsRest, Takes, Turns}
 use Rattle.sb_hand.proofs.Calm.{SameMarks, calm}
 use Rattle.sb_hand.proofs.LaneEvents.{kept-stays}
 use Rattle.sb_hand.proofs.SettingsStay.{set_same}

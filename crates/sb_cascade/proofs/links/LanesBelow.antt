@@ -2,10 +2,10 @@
 use Rattle.std.proofs.Common.{◌≡◌, ℕ, Some, ap, ◌∙◌}
 use Rattle.std.specs.List.{slice_get}
 use Rattle.std.specs.Option.{option_map}
-use Rattle.sb_pipeline.specs.declared.transform.Down.{Down}
-use Rattle.sb_pipeline.specs.declared.transform.Step.{Step}
-use Rattle.sb_pipeline.specs.Shapes.{Shape}
-use Rattle.sb_core.specs.Events.{below}
+use Rattle.sb_hand.specs.base.pipeline.declared.transform.Down.{Down}
+use Rattle.sb_hand.specs.base.pipeline.declared.transform.Step.{Step}
+use Rattle.sb_hand.specs.base.pipeline.Shapes.{Shape}
+use Rattle.sb_hand.specs.core.Events.{below}
 use Rattle.sb_hand.proofs.Doing.{below-is}
 use Rattle.sb_hand.proofs.Having.{step-of}
 

@@ -6,14 +6,14 @@ use Rattle.std.proofs.lemmas.Option.{same_Some}
 use mathlib.Core.Option.{some, some-injective}
 use lib.ListN.{get_elem?}
 use Rattle.atomic_table.proofs.Lists.{at_set, set_else}
-use Rattle.sb_core.specs.declared.held.Held.TheVariants.{Work}
-use Rattle.sb_core.specs.declared.moment.CoreLane.{CoreLane}
-use Rattle.sb_core.proofs.exact.Nodes.{slice_get-set_same, slice_get-set_other}
-use Rattle.sb_lane.specs.LaneView.{LaneView, lane_of}
-use Rattle.sb_lane.specs.Links.{Link, links_of}
-use Rattle.sb_node.specs.Changes.{HasLane}
+use Rattle.sb_hand.specs.core.declared.held.Held.TheVariants.{Work}
+use Rattle.sb_hand.specs.core.declared.moment.CoreLane.{CoreLane}
+use Rattle.sb_hand.proofs.core.exact.Nodes.{slice_get-set_same, slice_get-set_other}
+use Rattle.sb_hand.specs.lane.LaneView.{LaneView, lane_of}
+use Rattle.sb_hand.specs.lane.Links.{Link, links_of}
+use Rattle.sb_hand.specs.node.Changes.{HasLane}
 use Rattle.sb_hand.proofs.Single.{get-map}
-use Rattle.sb_record.specs.declared.item.Record.{Record}
+use Rattle.sb_hand.specs.base.records.declared.item.Record.{Record}
 use Rattle.sb_cascade.specs.declared.telling.Hands.{Hands}
 use Rattle.sb_cascade.specs.declared.telling.Setting.{Setting}
 use Rattle.sb_cascade.specs.Linked.{HasLaneIn, IsDelivered, LanesStay, SetsLinks}

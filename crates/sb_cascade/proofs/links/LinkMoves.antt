@@ -3,10 +3,10 @@ use Rattle.std.proofs.Common.{◌≡◌, ℕ, ◌≤◌, ◌<◌, Bool, true, fa
 use Rattle.std.specs.Prelude.{◌≢◌, is_some}
 use Rattle.std.specs.Option.{option_map}
 use Rattle.std.proofs.lemmas.Bool.{cases_eq}
-use Rattle.sb_core.specs.declared.moment.Cont.{Cont}
-use Rattle.sb_lane.specs.LaneView.{LaneView, lane_of}
-use Rattle.sb_lane.specs.Links.{Link, down_of, link_in, with_link, links_of, with_place}
-use Rattle.sb_lane.specs.Placed.{Placed, conts_of}
+use Rattle.sb_hand.specs.core.declared.moment.Cont.{Cont}
+use Rattle.sb_hand.specs.lane.LaneView.{LaneView, lane_of}
+use Rattle.sb_hand.specs.lane.Links.{Link, down_of, link_in, with_link, links_of, with_place}
+use Rattle.sb_hand.specs.lane.Placed.{Placed, conts_of}
 use Rattle.sb_hand.specs.Linking.{place_in}
 use Rattle.sb_hand.proofs.LinkLists.{AreRising, down-in, ended-in, ended-other, linked-here, linked-other, linked-place, placed-in, placed-other, placed-there}
 use Rattle.sb_hand.proofs.Unsealed.{Oldest}

@@ -6,28 +6,28 @@ use mathlib.Core.Option.{some}
 use lib.ListN.{get_elem?}
 use Rattle.atomic_table.proofs.Lists.{set_here}
 use Rattle.sb_turn.proofs.Totals.{within}
-use Rattle.sb_record.proofs.Numbers.{bind_some}
-use Rattle.sb_record.specs.declared.item.Record.{Record}
-use Rattle.sb_record.specs.declared.item.Stream.{Stream}
-use Rattle.sb_pipeline.specs.declared.transform.Step.{Step}
-use Rattle.sb_pipeline.specs.Shapes.{source}
-use Rattle.sb_pipeline.proofs.Feeding.{apart, sources_apart}
-use Rattle.sb_core.specs.declared.held.Held.{Held}
-use Rattle.sb_core.specs.declared.held.Held.TheVariants.{Work}
-use Rattle.sb_core.specs.declared.moment.Moment.{Moment}
-use Rattle.sb_core.specs.Bounds.{bound_at}
-use Rattle.sb_core.specs.Events.{below}
-use Rattle.sb_core.specs.LaneOrder.{IsLane}
-use Rattle.sb_core.proofs.exact.Nodes.{slice_get-set_same}
-use Rattle.sb_lane.specs.LaneView.{LaneView, lane_of}
-use Rattle.sb_lane.specs.Links.{links_of, with_place}
-use Rattle.sb_lane.proofs.OrderKept.{end-kept}
-use Rattle.sb_node.specs.Changes.{HasLane}
-use Rattle.sb_node.specs.LinkChanges.{DropsLink, LinksStay}
+use Rattle.sb_hand.proofs.base.records.Numbers.{bind_some}
+use Rattle.sb_hand.specs.base.records.declared.item.Record.{Record}
+use Rattle.sb_hand.specs.base.records.declared.item.Stream.{Stream}
+use Rattle.sb_hand.specs.base.pipeline.declared.transform.Step.{Step}
+use Rattle.sb_hand.specs.base.pipeline.Shapes.{source}
+use Rattle.sb_hand.proofs.base.pipeline.Feeding.{apart, sources_apart}
+use Rattle.sb_hand.specs.core.declared.held.Held.{Held}
+use Rattle.sb_hand.specs.core.declared.held.Held.TheVariants.{Work}
+use Rattle.sb_hand.specs.core.declared.moment.Moment.{Moment}
+use Rattle.sb_hand.specs.core.Bounds.{bound_at}
+use Rattle.sb_hand.specs.core.Events.{below}
+use Rattle.sb_hand.specs.core.LaneOrder.{IsLane}
+use Rattle.sb_hand.proofs.core.exact.Nodes.{slice_get-set_same}
+use Rattle.sb_hand.specs.lane.LaneView.{LaneView, lane_of}
+use Rattle.sb_hand.specs.lane.Links.{links_of, with_place}
+use Rattle.sb_hand.proofs.lane.OrderKept.{end-kept}
+use Rattle.sb_hand.specs.node.Changes.{HasLane}
+use Rattle.sb_hand.specs.node.LinkChanges.{DropsLink, LinksStay}
 use Rattle.sb_hand.specs.Linking.{place_in}
 use Rattle.sb_hand.proofs.Unsealed.{oldest}
-use Rattle.sb_work.specs.declared.claim.Claim.{Claim}
-use Rattle.sb_node.specs.declared.closing.Closing.{Closing}
+use Rattle.sb_hand.specs.work.declared.claim.Claim.{Claim}
+use Rattle.sb_hand.specs.node.declared.closing.Closing.{Closing}
 use Rattle.sb_cascade.specs.declared.telling.Change.{Change}
 use Rattle.sb_cascade.specs.declared.telling.Hands.{Hands}
 use Rattle.sb_cascade.specs.declared.telling.Piece.{Piece}

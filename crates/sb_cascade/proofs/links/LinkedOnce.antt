@@ -2,13 +2,13 @@
 use Rattle.std.proofs.Common.{◌≡◌, ℕ, cond, ap, sym, ◌∙◌}
 use Rattle.std.specs.Prelude.{Option, Some, None, slice_set, is_some}
 use Rattle.std.proofs.lemmas.List.{set-set}
-use Rattle.sb_core.specs.declared.moment.CoreLane.{CoreLane}
-use Rattle.sb_diary.specs.declared.event.DiaryEvent.{DiaryEvent}
-use Rattle.sb_lane.specs.LaneView.{LaneView}
-use Rattle.sb_lane.specs.Links.{down_of, with_link, links_of}
-use Rattle.sb_node.specs.Changes.{GetsDown, Turns}
-use Rattle.sb_node.specs.LinkChanges.{LinksStay}
-use Rattle.sb_node.specs.declared.state.NodeState.{NodeState}
+use Rattle.sb_hand.specs.core.declared.moment.CoreLane.{CoreLane}
+use Rattle.sb_hand.specs.diary.declared.event.DiaryEvent.{DiaryEvent}
+use Rattle.sb_hand.specs.lane.LaneView.{LaneView}
+use Rattle.sb_hand.specs.lane.Links.{down_of, with_link, links_of}
+use Rattle.sb_hand.specs.node.Changes.{GetsDown, Turns}
+use Rattle.sb_hand.specs.node.LinkChanges.{LinksStay}
+use Rattle.sb_hand.specs.node.declared.state.NodeState.{NodeState}
 use Rattle.sb_cascade.specs.SharedNodes.{FinishesLinked, with_link_once}
 
 -- a turn of which more is known of the links

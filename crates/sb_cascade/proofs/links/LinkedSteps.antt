@@ -5,13 +5,13 @@ use Rattle.std.proofs.lemmas.Option.{same_Some}
 use mathlib.Core.Option.{some, some-injective, some-ne-none}
 use lib.ListN.{get_elem?}
 use Rattle.atomic_table.proofs.Lists.{at_set, set_again}
-use Rattle.sb_record.specs.declared.item.Record.{Record}
-use Rattle.sb_core.specs.declared.held.Held.{Held}
-use Rattle.sb_core.specs.declared.held.Held.TheVariants.{Work}
-use Rattle.sb_lane.specs.LaneView.{LaneView}
-use Rattle.sb_lane.specs.Links.{Link, link_in, links_of}
-use Rattle.sb_lane.specs.Placed.{Placed}
-use Rattle.sb_node.specs.declared.state.NodeState.{NodeState}
+use Rattle.sb_hand.specs.base.records.declared.item.Record.{Record}
+use Rattle.sb_hand.specs.core.declared.held.Held.{Held}
+use Rattle.sb_hand.specs.core.declared.held.Held.TheVariants.{Work}
+use Rattle.sb_hand.specs.lane.LaneView.{LaneView}
+use Rattle.sb_hand.specs.lane.Links.{Link, link_in, links_of}
+use Rattle.sb_hand.specs.lane.Placed.{Placed}
+use Rattle.sb_hand.specs.node.declared.state.NodeState.{NodeState}
 use Rattle.sb_hand.specs.Linking.{AreLinked as AreLinkedExactly}
 use Rattle.sb_hand.specs.Sets.{HasLane as HasLaneOf}
 use Rattle.sb_hand.proofs.Single.{get-map}

@@ -5,19 +5,19 @@ use Rattle.std.specs.List.{AllByRecursion}
 use Rattle.std.proofs.lemmas.Option.{same_Some}
 use mathlib.Core.Option.{some}
 use lib.ListN.{get_elem?}
-use Rattle.sb_record.proofs.Numbers.{bind_some}
-use Rattle.sb_record.specs.declared.item.Record.{Record}
-use Rattle.sb_core.specs.declared.event.Event.TheVariants as event
-use Rattle.sb_core.specs.declared.held.Held.{Held}
-use Rattle.sb_core.specs.declared.moment.Node.{Node}
-use Rattle.sb_core.specs.Choices.{is_empty}
-use Rattle.sb_core.specs.Events.{below}
-use Rattle.sb_core.specs.Holdings.{IsCloseOf}
-use Rattle.sb_core.specs.Lanes.{take_from}
-use Rattle.sb_core.specs.Parts.{Part, held_after, part_after}
-use Rattle.sb_core.proofs.containers.Lists.{cond_is_some}
-use Rattle.sb_node.specs.declared.closing.Closing.{Closing}
-use Rattle.sb_work.specs.declared.claim.Claim.{Claim}
+use Rattle.sb_hand.proofs.base.records.Numbers.{bind_some}
+use Rattle.sb_hand.specs.base.records.declared.item.Record.{Record}
+use Rattle.sb_hand.specs.core.declared.event.Event.TheVariants as event
+use Rattle.sb_hand.specs.core.declared.held.Held.{Held}
+use Rattle.sb_hand.specs.core.declared.moment.Node.{Node}
+use Rattle.sb_hand.specs.core.Choices.{is_empty}
+use Rattle.sb_hand.specs.core.Events.{below}
+use Rattle.sb_hand.specs.core.Holdings.{IsCloseOf}
+use Rattle.sb_hand.specs.core.Lanes.{take_from}
+use Rattle.sb_hand.specs.core.Parts.{Part, held_after, part_after}
+use Rattle.sb_hand.proofs.core.containers.Lists.{cond_is_some}
+use Rattle.sb_hand.specs.node.declared.closing.Closing.{Closing}
+use Rattle.sb_hand.specs.work.declared.claim.Claim.{Claim}
 use Rattle.sb_cascade.specs.declared.telling.Change.{Change}
 use Rattle.sb_cascade.specs.declared.telling.Change.TheVariants.{Arrive, Seal, Take, Deliver, Finish, Begin, Rows, Pass, End, Idle, NotYet, Full, Drain, Spent, Nothing}
 use Rattle.sb_cascade.specs.declared.telling.Hands.{Hands}

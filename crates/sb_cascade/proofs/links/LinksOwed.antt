@@ -1,24 +1,24 @@
 -- What the calls of a node give of what a leaving owes on links.
 use Rattle.std.proofs.Common.{◌≡◌, ℕ, ◌+◌, Bool, true, false, List, [], ◌∷◌, length, drop, cond, Some, None, Option, sym, refl, ap, subst, ◌∙◌, arith, length-append}
 use Rattle.std.specs.Prelude.{map, slice_get, slice_set}
-use Rattle.sb_bundle.specs.declared.bundle.Bundle.{Bundle}
-use Rattle.sb_diary.specs.declared.event.DiaryEvent.{DiaryEvent}
-use Rattle.sb_record.specs.Reading.{◌>>=◌}
-use Rattle.sb_record.specs.declared.item.Record.{Record}
-use Rattle.sb_pipeline.specs.Shapes.{Shape}
-use Rattle.sb_pipeline.specs.declared.transform.Down.{Down}
-use Rattle.sb_pipeline.specs.declared.transform.Step.{Step}
-use Rattle.sb_work.specs.declared.outputs.Part.{Part}
-use Rattle.sb_core.specs.Events.{below}
-use Rattle.sb_core.specs.declared.moment.CoreLane.{CoreLane}
-use Rattle.sb_core.specs.Lanes.{with_arrival, with_seal}
-use Rattle.sb_lane.specs.LaneView.{LaneView, lane_of}
-use Rattle.sb_lane.specs.Links.{links_of}
-use Rattle.sb_lane.specs.Placed.{conts_of}
-use Rattle.sb_node.specs.declared.closing.Closing.{Closing}
-use Rattle.sb_node.specs.declared.state.NodeState.{NodeState}
-use Rattle.sb_node.specs.Changes.{Absorbs, Takes, Turns}
-use Rattle.sb_node.specs.LinkChanges.{DropsLink, GetsPlace, LinksStay}
+use Rattle.sb_hand.specs.base.bundle.declared.bundle.Bundle.{Bundle}
+use Rattle.sb_hand.specs.diary.declared.event.DiaryEvent.{DiaryEvent}
+use Rattle.sb_hand.specs.base.records.Reading.{◌>>=◌}
+use Rattle.sb_hand.specs.base.records.declared.item.Record.{Record}
+use Rattle.sb_hand.specs.base.pipeline.Shapes.{Shape}
+use Rattle.sb_hand.specs.base.pipeline.declared.transform.Down.{Down}
+use Rattle.sb_hand.specs.base.pipeline.declared.transform.Step.{Step}
+use Rattle.sb_hand.specs.work.declared.outputs.Part.{Part}
+use Rattle.sb_hand.specs.core.Events.{below}
+use Rattle.sb_hand.specs.core.declared.moment.CoreLane.{CoreLane}
+use Rattle.sb_hand.specs.core.Lanes.{with_arrival, with_seal}
+use Rattle.sb_hand.specs.lane.LaneView.{LaneView, lane_of}
+use Rattle.sb_hand.specs.lane.Links.{links_of}
+use Rattle.sb_hand.specs.lane.Placed.{conts_of}
+use Rattle.sb_hand.specs.node.declared.closing.Closing.{Closing}
+use Rattle.sb_hand.specs.node.declared.state.NodeState.{NodeState}
+use Rattle.sb_hand.specs.node.Changes.{Absorbs, Takes, Turns}
+use Rattle.sb_hand.specs.node.LinkChanges.{DropsLink, GetsPlace, LinksStay}
 use Rattle.sb_cascade.specs.declared.telling.Hands.{Hands}
 use Rattle.sb_cascade.specs.declared.telling.Setting.{Setting}
 use Rattle.sb_cascade.specs.Linked.{LanesStay, PlacesNext, SetsLinks, SetsLinksAt, is_pardo_at, link_left}

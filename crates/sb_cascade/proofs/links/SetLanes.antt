@@ -2,8 +2,8 @@
 use Rattle.std.proofs.Common.{◌≡◌, ℕ, List, map, Some, sym, ap, ◌∙◌}
 use Rattle.std.specs.List.{slice_get, slice_set}
 use Rattle.std.proofs.lemmas.List.{map-set}
-use Rattle.sb_core.specs.declared.moment.CoreLane.{CoreLane}
-use Rattle.sb_lane.specs.LaneView.{LaneView, lane_of}
+use Rattle.sb_hand.specs.core.declared.moment.CoreLane.{CoreLane}
+use Rattle.sb_hand.specs.lane.LaneView.{LaneView, lane_of}
 use Rattle.sb_hand.proofs.SettingsStay.{set_same}
 use Rattle.sb_hand.proofs.Single.{get-map}
 

@@ -1,20 +1,20 @@
 -- What soundness says of the containers of the lanes of nodes, and of those of the lane below that are not sealed.
 use Rattle.std.proofs.Common.{◌≡◌, ℕ, suc, zero, ◌≤◌, true, List, [], ◌∷◌, length, Some, None, refl, arith}
 use Rattle.std.specs.List.{slice_get}
-use Rattle.sb_pipeline.specs.declared.transform.Step.{Step}
-use Rattle.sb_pipeline.specs.Plans.{IsPlan}
-use Rattle.sb_pipeline.specs.Shapes.{Shape}
-use Rattle.sb_pipeline.specs.Operators.{operator_at}
-use Rattle.sb_core.specs.declared.moment.CoreLane.{CoreLane}
-use Rattle.sb_core.specs.declared.moment.Moment.{Moment}
-use Rattle.sb_core.specs.Bounds.{bound_at}
-use Rattle.sb_core.specs.Closings.{is_pardo}
-use Rattle.sb_core.specs.Moments.{lane_at, node_at}
-use Rattle.sb_core.specs.Soundness.{IsSound}
-use Rattle.sb_core.proofs.times.LawfulTimely.{lane_of as lane-there}
-use Rattle.sb_core.proofs.sound.Orderly.{lawful_of}
-use Rattle.sb_lane.specs.LaneView.{LaneView, lane_of}
-use Rattle.sb_lane.specs.Links.{link_in, links_of}
+use Rattle.sb_hand.specs.base.pipeline.declared.transform.Step.{Step}
+use Rattle.sb_hand.specs.base.pipeline.Plans.{IsPlan}
+use Rattle.sb_hand.specs.base.pipeline.Shapes.{Shape}
+use Rattle.sb_hand.specs.base.pipeline.Operators.{operator_at}
+use Rattle.sb_hand.specs.core.declared.moment.CoreLane.{CoreLane}
+use Rattle.sb_hand.specs.core.declared.moment.Moment.{Moment}
+use Rattle.sb_hand.specs.core.Bounds.{bound_at}
+use Rattle.sb_hand.specs.core.Closings.{is_pardo}
+use Rattle.sb_hand.specs.core.Moments.{lane_at, node_at}
+use Rattle.sb_hand.specs.core.Soundness.{IsSound}
+use Rattle.sb_hand.proofs.core.times.LawfulTimely.{lane_of as lane-there}
+use Rattle.sb_hand.proofs.core.sound.Orderly.{lawful_of}
+use Rattle.sb_hand.specs.lane.LaneView.{LaneView, lane_of}
+use Rattle.sb_hand.specs.lane.Links.{link_in, links_of}
 use Rattle.sb_hand.proofs.LinkLists.{AreRising, rising}
 use Rattle.sb_hand.proofs.OpenBelow.{none-below-pardo}
 

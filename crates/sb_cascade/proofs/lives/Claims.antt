@@ -4,27 +4,27 @@ use Rattle.std.specs.Prelude.{All}
 use Rattle.std.specs.List.{slice_get, AllByRecursion}
 use Rattle.std.proofs.lemmas.List.Elements.{All-from_recursion}
 use Rattle.std.proofs.lemmas.Option.{slice_get_within}
-use Rattle.sb_record.specs.declared.item.Record.{Record}
-use Rattle.sb_record.specs.declared.item.TheConstants.{END_MARK}
-use Rattle.sb_record.proofs.Numbers.{bind_some}
-use Rattle.sb_core.specs.declared.event.Event.TheVariants.{Take}
-use Rattle.sb_core.specs.declared.held.Held.{Held}
-use Rattle.sb_core.specs.declared.held.Held.TheVariants.{Work}
-use Rattle.sb_core.specs.declared.moment.Cont.{Cont}
-use Rattle.sb_core.specs.Bounds.{bound_at}
-use Rattle.sb_core.specs.Holdings.{IsHeld, IsWork}
-use Rattle.sb_core.specs.LaneOrder.{IsWithin}
-use Rattle.sb_core.specs.Lanes.{take_from}
-use Rattle.sb_core.specs.Moments.{set_lane}
-use Rattle.sb_core.specs.Parts.{Part, only_node, part_after, with_part_first}
-use Rattle.sb_core.proofs.parts.PartsLaw.{chain, parts-keep_sound}
-use Rattle.sb_core.proofs.times.TimeBounds.{bound-before_end}
-use Rattle.sb_pipeline.specs.Plans.{IsPlan}
-use Rattle.sb_lane.specs.LaneView.{LaneView, lane_of}
-use Rattle.sb_lane.specs.Placed.{conts_of}
-use Rattle.sb_node.specs.Changes.{Takes}
-use Rattle.sb_work.specs.declared.claim.Claim.{Claim}
-use Rattle.sb_lane.proofs.InTheCore.{take_first-is}
+use Rattle.sb_hand.specs.base.records.declared.item.Record.{Record}
+use Rattle.sb_hand.specs.base.records.declared.item.TheConstants.{END_MARK}
+use Rattle.sb_hand.proofs.base.records.Numbers.{bind_some}
+use Rattle.sb_hand.specs.core.declared.event.Event.TheVariants.{Take}
+use Rattle.sb_hand.specs.core.declared.held.Held.{Held}
+use Rattle.sb_hand.specs.core.declared.held.Held.TheVariants.{Work}
+use Rattle.sb_hand.specs.core.declared.moment.Cont.{Cont}
+use Rattle.sb_hand.specs.core.Bounds.{bound_at}
+use Rattle.sb_hand.specs.core.Holdings.{IsHeld, IsWork}
+use Rattle.sb_hand.specs.core.LaneOrder.{IsWithin}
+use Rattle.sb_hand.specs.core.Lanes.{take_from}
+use Rattle.sb_hand.specs.core.Moments.{set_lane}
+use Rattle.sb_hand.specs.core.Parts.{Part, only_node, part_after, with_part_first}
+use Rattle.sb_hand.proofs.core.parts.PartsLaw.{chain, parts-keep_sound}
+use Rattle.sb_hand.proofs.core.times.TimeBounds.{bound-before_end}
+use Rattle.sb_hand.specs.base.pipeline.Plans.{IsPlan}
+use Rattle.sb_hand.specs.lane.LaneView.{LaneView, lane_of}
+use Rattle.sb_hand.specs.lane.Placed.{conts_of}
+use Rattle.sb_hand.specs.node.Changes.{Takes}
+use Rattle.sb_hand.specs.work.declared.claim.Claim.{Claim}
+use Rattle.sb_hand.proofs.lane.InTheCore.{take_first-is}
 use Rattle.sb_cascade.specs.declared.telling.Hands.{Hands}
 use Rattle.sb_cascade.specs.declared.telling.Piece.{Piece}
 use Rattle.sb_cascade.specs.declared.telling.Setting.{Setting}

@@ -7,15 +7,15 @@ use Rattle.std.proofs.lemmas.List.Recursion.{or_push}
 use Rattle.std.proofs.lemmas.Option.{same_Some}
 use lib.ListN.{get_elem?, length-map}
 use mathlib.Core.Option.{some, some-injective, some-ne-none}
-use Rattle.sb_record.specs.declared.item.Record.{Record}
-use Rattle.sb_pipeline.specs.declared.transform.Step.{Step}
-use Rattle.sb_pipeline.specs.Operators.{operator_of}
-use Rattle.sb_pipeline.specs.Operators.Operator.{Sink}
-use Rattle.sb_core.specs.declared.moment.Moment.{Moment}
-use Rattle.sb_core.specs.declared.moment.Node.{Node}
-use Rattle.sb_diary.specs.declared.event.DiaryEvent.{DiaryEvent}
-use Rattle.sb_tally.specs.Tally.{IsTallied}
-use Rattle.sb_node.specs.declared.state.NodeState.{NodeState}
+use Rattle.sb_hand.specs.base.records.declared.item.Record.{Record}
+use Rattle.sb_hand.specs.base.pipeline.declared.transform.Step.{Step}
+use Rattle.sb_hand.specs.base.pipeline.Operators.{operator_of}
+use Rattle.sb_hand.specs.base.pipeline.Operators.Operator.{Sink}
+use Rattle.sb_hand.specs.core.declared.moment.Moment.{Moment}
+use Rattle.sb_hand.specs.core.declared.moment.Node.{Node}
+use Rattle.sb_hand.specs.diary.declared.event.DiaryEvent.{DiaryEvent}
+use Rattle.sb_hand.specs.tally.Tally.{IsTallied}
+use Rattle.sb_hand.specs.node.declared.state.NodeState.{NodeState}
 use Rattle.sb_hand.specs.Hands.{HandView, settings_at, settings_for}
 use Rattle.sb_hand.specs.Showing.{CanStand, ShowsNode, Stands, diaries_of, settings_of}
 use Rattle.sb_turn.specs.declared.turns.View.{View}

@@ -4,19 +4,19 @@ use Rattle.std.specs.Prelude.{◌&&◌, ◌||◌, sum_by, count_by}
 use Rattle.std.proofs.lemmas.Bool.{eqb-true, ltb-true, and_parts}
 use Rattle.std.specs.List.{AllByRecursion, list_any}
 use Rattle.std.proofs.lemmas.List.Sums.{sum_by-cons}
-use Rattle.sb_record.proofs.Sums.{any_by_count}
-use Rattle.sb_pipeline.specs.declared.transform.Down.{Down}
-use Rattle.sb_pipeline.specs.Shapes.{Shape}
-use Rattle.sb_core.specs.declared.held.Held.{Held}
-use Rattle.sb_core.specs.declared.held.Held.TheVariants.{Work, Close}
-use Rattle.sb_core.specs.declared.moment.Cont.{Cont}
-use Rattle.sb_core.specs.declared.moment.CoreLane.{CoreLane}
-use Rattle.sb_core.specs.declared.moment.Moment.{Moment}
-use Rattle.sb_core.specs.Holdings.{IsHeld}
-use Rattle.sb_core.specs.Moments.{is_close, is_close_of, is_work, lane_at}
-use Rattle.sb_core.specs.Soundness.{out_of, numbers_of}
-use Rattle.sb_core.specs.Exactness.{IsExact}
-use Rattle.sb_tally.specs.Tally.{IsTallied}
+use Rattle.sb_hand.proofs.base.records.Sums.{any_by_count}
+use Rattle.sb_hand.specs.base.pipeline.declared.transform.Down.{Down}
+use Rattle.sb_hand.specs.base.pipeline.Shapes.{Shape}
+use Rattle.sb_hand.specs.core.declared.held.Held.{Held}
+use Rattle.sb_hand.specs.core.declared.held.Held.TheVariants.{Work, Close}
+use Rattle.sb_hand.specs.core.declared.moment.Cont.{Cont}
+use Rattle.sb_hand.specs.core.declared.moment.CoreLane.{CoreLane}
+use Rattle.sb_hand.specs.core.declared.moment.Moment.{Moment}
+use Rattle.sb_hand.specs.core.Holdings.{IsHeld}
+use Rattle.sb_hand.specs.core.Moments.{is_close, is_close_of, is_work, lane_at}
+use Rattle.sb_hand.specs.core.Soundness.{out_of, numbers_of}
+use Rattle.sb_hand.specs.core.Exactness.{IsExact}
+use Rattle.sb_hand.specs.tally.Tally.{IsTallied}
 use Rattle.sb_turn.specs.Owed.{Learns}
 use Rattle.sb_cascade.specs.declared.telling.Hands.{Hands}
 use Rattle.sb_cascade.specs.declared.telling.Setting.{Setting}

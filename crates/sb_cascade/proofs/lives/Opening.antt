@@ -7,27 +7,27 @@ use Rattle.std.proofs.lemmas.List.Sums.{sum_by-cons}
 use Rattle.std.proofs.lemmas.Option.{same_Some, slice_get_within}
 use lib.ListN.{length-map}
 use mathlib.Core.Option.{some-ne-none}
-use Rattle.sb_record.specs.declared.item.Stream.{Stream}
-use Rattle.sb_record.specs.declared.item.Stream.TheVariants.{A, B}
-use Rattle.sb_pipeline.specs.declared.transform.Step.{Step}
-use Rattle.sb_pipeline.specs.Plans.{IsPlan}
-use Rattle.sb_pipeline.specs.Operators.{operator_at, operator_of, lanes_of}
-use Rattle.sb_pipeline.specs.Operators.Operator.{Sink}
-use Rattle.sb_core.specs.declared.held.Held.{Held}
-use Rattle.sb_core.specs.declared.moment.CoreLane.{CoreLane}
-use Rattle.sb_core.specs.declared.moment.Node.{Node}
-use Rattle.sb_core.specs.Exactness.{IsExact}
-use Rattle.sb_core.specs.Moments as moments
-use Rattle.sb_core.specs.Soundness.{IsSound}
-use Rattle.sb_core.proofs.sound.FirstMoment.{at_node, first-exact, node_count}
-use Rattle.sb_diary.specs.declared.event.DiaryEvent.{DiaryEvent}
-use Rattle.sb_tally.specs.Keeping as keeping
-use Rattle.sb_tally.specs.Tally as tally
-use Rattle.sb_tally.specs.Tally.{IsTallied}
-use Rattle.sb_tally.proofs.First.{first-is_tallied}
-use Rattle.sb_lane.specs.LaneView.{LaneView, lane_of}
-use Rattle.sb_lane.specs.Placed.{Placed, conts_of}
-use Rattle.sb_node.specs.declared.state.NodeState.{NodeState}
+use Rattle.sb_hand.specs.base.records.declared.item.Stream.{Stream}
+use Rattle.sb_hand.specs.base.records.declared.item.Stream.TheVariants.{A, B}
+use Rattle.sb_hand.specs.base.pipeline.declared.transform.Step.{Step}
+use Rattle.sb_hand.specs.base.pipeline.Plans.{IsPlan}
+use Rattle.sb_hand.specs.base.pipeline.Operators.{operator_at, operator_of, lanes_of}
+use Rattle.sb_hand.specs.base.pipeline.Operators.Operator.{Sink}
+use Rattle.sb_hand.specs.core.declared.held.Held.{Held}
+use Rattle.sb_hand.specs.core.declared.moment.CoreLane.{CoreLane}
+use Rattle.sb_hand.specs.core.declared.moment.Node.{Node}
+use Rattle.sb_hand.specs.core.Exactness.{IsExact}
+use Rattle.sb_hand.specs.core.Moments as moments
+use Rattle.sb_hand.specs.core.Soundness.{IsSound}
+use Rattle.sb_hand.proofs.core.sound.FirstMoment.{at_node, first-exact, node_count}
+use Rattle.sb_hand.specs.diary.declared.event.DiaryEvent.{DiaryEvent}
+use Rattle.sb_hand.specs.tally.Keeping as keeping
+use Rattle.sb_hand.specs.tally.Tally as tally
+use Rattle.sb_hand.specs.tally.Tally.{IsTallied}
+use Rattle.sb_hand.proofs.tally.First.{first-is_tallied}
+use Rattle.sb_hand.specs.lane.LaneView.{LaneView, lane_of}
+use Rattle.sb_hand.specs.lane.Placed.{Placed, conts_of}
+use Rattle.sb_hand.specs.node.declared.state.NodeState.{NodeState}
 use Rattle.sb_hand.specs.Hands.{HandView, IsNewHand, settings_for}
 use Rattle.sb_hand.specs.Showing.{ShowsNode, Stands, diaries_of}
 use Rattle.sb_hand.proofs.Single.{get-map}

@@ -3,12 +3,12 @@ use Rattle.std.proofs.Common.{◌≡◌, ℕ, Bool, List, [], ◌∷◌, ◌++�
 use Rattle.std.specs.Prelude.{slice_get}
 use Rattle.std.specs.Option.{option_map}
 use Rattle.std.proofs.lemmas.Option.{same_Some}
-use Rattle.sb_diary.specs.declared.diary.Diary.{Diary}
-use Rattle.sb_pipeline.specs.Shapes.{Shape}
-use Rattle.sb_pipeline.specs.declared.transform.Step.{Step}
-use Rattle.sb_pipeline.specs.Operators.{operator_of}
-use Rattle.sb_pipeline.specs.Operators.Operator.{Sink}
-use Rattle.sb_node.specs.declared.state.NodeState.{NodeState}
+use Rattle.sb_hand.specs.diary.declared.diary.Diary.{Diary}
+use Rattle.sb_hand.specs.base.pipeline.Shapes.{Shape}
+use Rattle.sb_hand.specs.base.pipeline.declared.transform.Step.{Step}
+use Rattle.sb_hand.specs.base.pipeline.Operators.{operator_of}
+use Rattle.sb_hand.specs.base.pipeline.Operators.Operator.{Sink}
+use Rattle.sb_hand.specs.node.declared.state.NodeState.{NodeState}
 use Rattle.sb_hand.specs.Hands.{HandView, IsNewHand, settings_for}
 use Rattle.sb_hand.specs.Showing.{Settings, settings_of}
 use Rattle.sb_cascade.specs.declared.telling.Setting.{Setting}

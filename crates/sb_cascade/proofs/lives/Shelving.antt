@@ -7,7 +7,7 @@ use lib.ListN.{get_elem?}
 use Rattle.atomic_table.proofs.Lists.{set_again}
 use Rattle.sb_turn.specs.Owed.{Lays, Raises, Takes}
 use Rattle.sb_turn.proofs.Held.{laying, taking}
-use Rattle.sb_core.specs.declared.held.Held.{Held}
+use Rattle.sb_hand.specs.core.declared.held.Held.{Held}
 use Rattle.sb_cascade.specs.declared.telling.Change.{Change}
 use Rattle.sb_cascade.specs.declared.telling.Hands.{Hands}
 use Rattle.sb_cascade.specs.declared.telling.Piece.{Piece}

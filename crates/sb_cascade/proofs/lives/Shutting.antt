@@ -5,12 +5,12 @@ use Rattle.std.proofs.lemmas.Bool.{cases_lt, false_from_ne_true}
 use Rattle.std.proofs.lemmas.List.{get_or_past}
 use mathlib.Core.Option.{some, some-injective, some-ne-none}
 use lib.ListN.{get_elem?}
-use Rattle.sb_record.proofs.Numbers.{bind_some}
-use Rattle.sb_core.specs.declared.held.Held.{Held}
-use Rattle.sb_core.specs.declared.moment.Node.{Node}
-use Rattle.sb_core.specs.Exactness.{IsExact}
-use Rattle.sb_core.specs.Soundness.{IsSound}
-use Rattle.sb_tally.specs.Tally.{IsTallied}
+use Rattle.sb_hand.proofs.base.records.Numbers.{bind_some}
+use Rattle.sb_hand.specs.core.declared.held.Held.{Held}
+use Rattle.sb_hand.specs.core.declared.moment.Node.{Node}
+use Rattle.sb_hand.specs.core.Exactness.{IsExact}
+use Rattle.sb_hand.specs.core.Soundness.{IsSound}
+use Rattle.sb_hand.specs.tally.Tally.{IsTallied}
 use Rattle.sb_turn.specs.declared.turns.Entry.{Entry}
 use Rattle.sb_turn.specs.declared.turns.View.{View}
 use Rattle.sb_turn.specs.Held.{flat, on_place}

@@ -4,16 +4,16 @@ use Rattle.std.specs.Prelude.{slice_get, nat_lt}
 use Rattle.std.specs.List.{AllByRecursion}
 use Rattle.std.proofs.lemmas.Bool.{eqb-true}
 use Rattle.std.proofs.lemmas.Option.{same_Some, get_or_from_slice_get, slice_get_past, slice_get_within}
-use Rattle.sb_record.proofs.Numbers.{bind_some}
-use Rattle.sb_record.proofs.Elements.{every, All-passed}
-use Rattle.sb_record.proofs.Sorting.{All-in_order}
-use Rattle.sb_record.specs.declared.item.Record.{Record}
-use Rattle.sb_record.specs.Records.{record_cmp, before}
-use Rattle.sb_record.specs.declared.element.KeptRec.{KeptRec}
-use Rattle.sb_pipeline.specs.Shapes.{Shape, source}
-use Rattle.sb_record.specs.Elements.{all_records}
-use Rattle.sb_pipeline.specs.Operators.{Operator, operator_at}
-use Rattle.sb_pipeline.specs.Operators.Operator.{ParDo, Windowed, Sink}
+use Rattle.sb_slow.specs.base.NumberLemmas.{bind_some}
+use Rattle.sb_slow.specs.base.ElementLemmas.{every, All-passed}
+use Rattle.sb_slow.specs.base.SortingLemmas.{All-in_order}
+use Rattle.sb_slow.specs.base.records.declared.item.Record.{Record}
+use Rattle.sb_slow.specs.base.records.Records.{record_cmp, before}
+use Rattle.sb_slow.specs.base.records.declared.element.KeptRec.{KeptRec}
+use Rattle.sb_slow.specs.base.pipeline.Shapes.{Shape, source}
+use Rattle.sb_slow.specs.base.records.Elements.{all_records}
+use Rattle.sb_slow.specs.base.pipeline.Operators.{Operator, operator_at}
+use Rattle.sb_slow.specs.base.pipeline.Operators.Operator.{ParDo, Windowed, Sink}
 use Rattle.sb_core.specs.declared.moment.Moment.{Moment}
 use Rattle.sb_core.specs.declared.moment.Node.{Node}
 use Rattle.sb_core.specs.declared.event.Event.TheVariants.{Arrive, Seal, Take, Deliver, Finish, Begin, Pass, End}

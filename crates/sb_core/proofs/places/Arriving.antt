@@ -3,12 +3,12 @@ use Rattle.std.proofs.Common.{◌≡◌, ℕ, ◌≤◌, ◌<◌, Bool, true, fa
 use Rattle.std.specs.Prelude.{◌&&◌}
 use Rattle.std.specs.List.{list_all}
 use Rattle.std.proofs.lemmas.Bool.{eqb-true, le-leb, lt-leb}
-use Rattle.sb_record.specs.declared.item.Record.{Record}
-use Rattle.sb_record.specs.declared.item.Stream.{Stream}
-use Rattle.sb_record.specs.declared.item.TheConstants.{MAX_TIME}
-use Rattle.sb_record.specs.Reading.{◌>>=◌}
-use Rattle.sb_pipeline.specs.declared.transform.Down.{Down}
-use Rattle.sb_pipeline.specs.Shapes.{Shape, source}
+use Rattle.sb_slow.specs.base.records.declared.item.Record.{Record}
+use Rattle.sb_slow.specs.base.records.declared.item.Stream.{Stream}
+use Rattle.sb_slow.specs.base.records.declared.item.TheConstants.{MAX_TIME}
+use Rattle.sb_slow.specs.base.records.Reading.{◌>>=◌}
+use Rattle.sb_slow.specs.base.pipeline.declared.transform.Down.{Down}
+use Rattle.sb_slow.specs.base.pipeline.Shapes.{Shape, source}
 use Rattle.sb_core.specs.declared.moment.CoreLane.{CoreLane}
 use Rattle.sb_core.specs.declared.moment.Moment.{Moment}
 use Rattle.sb_core.specs.Choices.{only_if, is_empty}

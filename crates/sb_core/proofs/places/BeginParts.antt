@@ -6,15 +6,15 @@ use Rattle.std.specs.Option.{option_map}
 use Rattle.std.proofs.lemmas.Option.{slice_get_cases, slice_get_within, slice_get-get_or, get_or_from_slice_get, same_Some}
 use Rattle.std.proofs.lemmas.Bool.{eq-eqb, ne_eqb}
 use Rattle.std.proofs.lemmas.List.Elements.{All-from_recursion}
-use Rattle.sb_record.specs.declared.item.TheConstants.{END_MARK}
-use Rattle.sb_record.proofs.Elements.{every}
-use Rattle.sb_record.specs.declared.element.KeptRec.{KeptRec}
-use Rattle.sb_pipeline.specs.declared.transform.Step.{Step}
-use Rattle.sb_pipeline.specs.Operators.{Operator, operator_at, lanes_of}
-use Rattle.sb_pipeline.specs.Operators.Operator.{ParDo, Windowed, Sink}
-use Rattle.sb_pipeline.specs.Operators.WindowOperator.{Aggregated, Sessions, Joined}
-use Rattle.sb_pipeline.specs.Plans.{IsPlan}
-use Rattle.sb_pipeline.specs.Shapes.{Shape}
+use Rattle.sb_slow.specs.base.records.declared.item.TheConstants.{END_MARK}
+use Rattle.sb_slow.specs.base.ElementLemmas.{every}
+use Rattle.sb_slow.specs.base.records.declared.element.KeptRec.{KeptRec}
+use Rattle.sb_slow.specs.base.pipeline.declared.transform.Step.{Step}
+use Rattle.sb_slow.specs.base.pipeline.Operators.{Operator, operator_at, lanes_of}
+use Rattle.sb_slow.specs.base.pipeline.Operators.Operator.{ParDo, Windowed, Sink}
+use Rattle.sb_slow.specs.base.pipeline.Operators.WindowOperator.{Aggregated, Sessions, Joined}
+use Rattle.sb_slow.specs.base.pipeline.Plans.{IsPlan}
+use Rattle.sb_slow.specs.base.pipeline.Shapes.{Shape}
 use Rattle.sb_core.specs.declared.begin.Closing.{Closing}
 use Rattle.sb_core.specs.declared.held.Held.TheVariants.{Close}
 use Rattle.sb_core.specs.declared.moment.Cont.{Cont}

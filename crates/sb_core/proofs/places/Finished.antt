@@ -2,10 +2,10 @@
 use Rattle.std.proofs.Common.{◌≡◌, ℕ, ◌≤◌, Bool, true, false, cond, List, ◌++◌, length, Some, None, refl, ap, subst, ◌∙◌, arith}
 use Rattle.std.specs.Prelude.{◌||◌}
 use Rattle.std.specs.List.{remove, slice_get}
-use Rattle.sb_record.specs.declared.item.Record.{Record}
-use Rattle.sb_record.specs.Elements.{on_lane}
-use Rattle.sb_pipeline.specs.Operators.{operator_at}
-use Rattle.sb_pipeline.specs.Shapes.{Shape}
+use Rattle.sb_slow.specs.base.records.declared.item.Record.{Record}
+use Rattle.sb_slow.specs.base.records.Elements.{on_lane}
+use Rattle.sb_slow.specs.base.pipeline.Operators.{operator_at}
+use Rattle.sb_slow.specs.base.pipeline.Shapes.{Shape}
 use Rattle.sb_core.specs.declared.moment.CoreLane.{CoreLane}
 use Rattle.sb_core.specs.declared.moment.Node.{Node}
 use Rattle.sb_core.specs.declared.moment.Moment.{Moment}

@@ -2,7 +2,7 @@
 use Rattle.std.proofs.Common.{◌≡◌, ℕ, suc, ◌+◌, Bool, true, false, not, cond, ltb, List, [], ◌∷◌, length, Some, None, Option, refl, sym, ap, subst, ◌∙◌, inl, inr, arith}
 use Rattle.std.specs.List.{position_or_len}
 use Rattle.std.proofs.lemmas.Bool.{lt-ltb, le-ltb, cases_lt}
-use Rattle.sb_record.specs.Reading.{◌>>=◌}
+use Rattle.sb_slow.specs.base.records.Reading.{◌>>=◌}
 use Rattle.sb_core.specs.Choices.{first_and_rest}
 use Rattle.sb_core.specs.Finding.{IsFirst}
 

@@ -1,31 +1,30 @@
 //! Feeding what comes out of the rings of two files to a shared cascade.
 
 ghost use Rattle.std.specs.Prelude.{◌≡◌, ◌≤◌, ◌<◌, ◌^◌, ◌++◌, ◌∷◌, ◌+◌, [], List, map, length, Some, OnOk, OnErr, IfOk};
-ghost use Rattle.sb_record.specs.declared.item.Item.{Item as AnItem};
-ghost use Rattle.sb_record.specs.declared.item.Record.{Record as ARecord};
-ghost use Rattle.sb_record.specs.declared.item.Stream.{Stream as AStream};
-ghost use Rattle.sb_record.specs.Streams.{dropped_of};
-ghost use Rattle.sb_pipeline.specs.Shapes.{streams_of};
-ghost use Rattle.sb_cascade.specs.Calls.{plan_of, setting_of};
-ghost use Rattle.sb_feed.specs.FedByItems.{end_items};
-ghost use Rattle.sb_feed.specs.Feeds.{Fed, nothing_fed};
-ghost use Rattle.sb_feed.specs.GiveCauses.{GiveCause};
-ghost use Rattle.sb_feed.specs.Takes.{MayEnd, MayTake, TakesOrFails};
+ghost use Rattle.sb_feeds.specs.base.records.declared.item.Item.{Item as AnItem};
+ghost use Rattle.sb_feeds.specs.base.records.declared.item.Record.{Record as ARecord};
+ghost use Rattle.sb_feeds.specs.base.records.declared.item.Stream.{Stream as AStream};
+ghost use Rattle.sb_feeds.specs.base.records.Streams.{dropped_of};
+ghost use Rattle.sb_feeds.specs.base.pipeline.Shapes.{streams_of};
+ghost use Rattle.sb_worker.specs.cascade.Calls.{plan_of, setting_of};
+ghost use Rattle.sb_feeds.specs.one_feed.FedByItems.{end_items};
+ghost use Rattle.sb_feeds.specs.one_feed.Feeds.{Fed, nothing_fed};
+ghost use Rattle.sb_feeds.specs.one_feed.GiveCauses.{GiveCause};
+ghost use Rattle.sb_feeds.specs.one_feed.Takes.{MayEnd, MayTake, TakesOrFails};
 ghost use Rattle.sb_feeds.specs.Ends.{ring_in};
 ghost use Rattle.sb_run.specs.Feeders.{HasFed, IsStill};
-ghost use Rattle.sb_slow.specs.Inputs.{by_stream};
+ghost use Rattle.sb_worker.specs.slow.Inputs.{by_stream};
 ghost use Rattle.sb_run.specs.FilesFed.{FeedsValues};
 ghost use Rattle.sb_run.specs.Pops.{AreInlets, as_stop as spec_as_stop, item_for, values_of};
 
 use crate::files::inlets::{FilesStop, Inlets, as_stop};
 use crate::shared::feeding::{end_input, end_work, reason_of, take_item};
 use crate::shared::working::step_or_yield;
-use sb_bundle::MAX_BUNDLE;
-use sb_cascade::{Cascade, CascadePass};
-use sb_emit::{RowOut, Tap};
-use sb_feed::{Cutters, GiveStop};
-use sb_record::{Dropped, Item, MAX_LINES, NoMemory, Stream};
-use sb_work::Gate;
+use sb_feeds::sb_base::{Dropped, Item, MAX_BUNDLE, MAX_LINES, NoMemory, Stream};
+use sb_feeds::sb_emit::{RowOut, Tap};
+use sb_feeds::sb_feed::{Cutters, GiveStop};
+use sb_worker::sb_cascade::{Cascade, CascadePass};
+use sb_worker::sb_work::Gate;
 use std::alloc::Global;
 use std::sync::Wait;
 

@@ -1,15 +1,15 @@
 //! The ring of a file, as the feeder sees it.
 
 ghost use Rattle.std.specs.Prelude.{◌≡◌, ◌++◌, ◌+◌, List, None, true, false, IfSome};
-ghost use Rattle.sb_record.specs.declared.item.Stream.{Stream as AStream};
-ghost use Rattle.sb_record.specs.declared.item.Streams.{Streams};
+ghost use Rattle.sb_feeds.specs.base.records.declared.item.Stream.{Stream as AStream};
+ghost use Rattle.sb_feeds.specs.base.records.declared.item.Streams.{Streams};
 ghost use Rattle.sb_feeds.specs.declared.fed.Fed.{Fed as AValue};
 ghost use Rattle.sb_feeds.specs.Ends.{values_received, ring_in};
 ghost use Rattle.sb_run.specs.Pops.{IsInlet, PopsOne, is_next as spec_is_next, mark_behind as spec_mark_behind};
 
 use crate::files::next::{is_next, mark_behind};
+use sb_feeds::sb_base::{Item, Stream};
 use sb_feeds::{Fed, FeedIn, FeedStop};
-use sb_record::{Item, Stream};
 
 /// The receiving end of the ring of a stream's file, and what came out of it so far.
 #[derive(Drop)]

@@ -1,8 +1,8 @@
 //! The rings of both files. They are asked in turns, so that neither file's thread waits for the other file.
 
 ghost use Rattle.std.specs.Prelude.{◌≡◌, ◌++◌, List};
-ghost use Rattle.sb_record.specs.declared.item.Stream.{Stream as AStream};
-ghost use Rattle.sb_record.specs.declared.item.Streams.{Streams};
+ghost use Rattle.sb_feeds.specs.base.records.declared.item.Stream.{Stream as AStream};
+ghost use Rattle.sb_feeds.specs.base.records.declared.item.Streams.{Streams};
 ghost use Rattle.sb_feeds.specs.declared.fed.Fed.{Fed as AValue};
 ghost use Rattle.sb_feeds.specs.Ends.{ring_in};
 ghost use Rattle.sb_run.specs.Pops.{AreInlets, PopsNext, as_stop as spec_as_stop, files_stop as spec_files_stop};
@@ -10,7 +10,7 @@ ghost use Rattle.sb_run.specs.Pops.{files_stop_if, with_stream, other_than, valu
 
 use crate::files::inlet::Inlet;
 use sb_feeds::FeedStop;
-use sb_record::{Item, Refusal, Stop, Stream};
+use sb_feeds::sb_base::{Item, Refusal, Stop, Stream};
 use std::sync::Wait;
 use std::thread;
 

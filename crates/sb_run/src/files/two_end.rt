@@ -4,9 +4,9 @@ ghost use Rattle.std.specs.Prelude.{◌≡◌};
 ghost use Rattle.sb_run.specs.FilesEnding.{early_by, end_by};
 
 use crate::files::inlets::FilesStop;
-use sb_feed::GiveStop;
-use sb_hand::Hand;
-use sb_record::{Refusal, Stream};
+use sb_feeds::sb_base::{Refusal, Stream};
+use sb_feeds::sb_feed::GiveStop;
+use sb_worker::sb_hand::Hand;
 
 /// How a run over two record files ends. Where several ends hold, `Memory` comes before `Output` and `Tap`, and these
 /// before `Refused`.

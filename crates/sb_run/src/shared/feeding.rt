@@ -1,30 +1,31 @@
 //! Feeding the lines of an input to a shared cascade, as [`crate::feeding`] feeds them to a hand.
 
 ghost use Rattle.std.specs.Prelude.{◌≡◌, ◌≤◌, ◌<◌, ◌^◌, ◌++◌, ◌∷◌, ◌+◌, [], List, map, length, Ok, OnOk, OnErr};
-ghost use Rattle.sb_record.specs.declared.item.Item.{Item as AnItem};
-ghost use Rattle.sb_record.specs.declared.item.Item.TheVariants as item_spec;
-ghost use Rattle.sb_record.specs.declared.item.Record.{Record as ARecord};
-ghost use Rattle.sb_record.specs.Streams.{dropped_in};
-ghost use Rattle.sb_pipeline.specs.Shapes.{streams_of};
-ghost use Rattle.sb_feed.specs.FedByItems.{end_item, end_items};
-ghost use Rattle.sb_feed.specs.Feeds.{Fed, nothing_fed};
-ghost use Rattle.sb_feed.specs.GiveCauses.{GiveCause};
-ghost use Rattle.sb_feed.specs.InputFeeds.{Feeds, FeedCause};
-ghost use Rattle.sb_feed.specs.Takes.{MayEnd, MayTake, TakesOrFails};
+ghost use Rattle.sb_feeds.specs.base.records.declared.item.Item.{Item as AnItem};
+ghost use Rattle.sb_feeds.specs.base.records.declared.item.Item.TheVariants as item_spec;
+ghost use Rattle.sb_feeds.specs.base.records.declared.item.Record.{Record as ARecord};
+ghost use Rattle.sb_feeds.specs.base.records.Streams.{dropped_in};
+ghost use Rattle.sb_feeds.specs.base.pipeline.Shapes.{streams_of};
+ghost use Rattle.sb_feeds.specs.one_feed.FedByItems.{end_item, end_items};
+ghost use Rattle.sb_feeds.specs.one_feed.Feeds.{Fed, nothing_fed};
+ghost use Rattle.sb_feeds.specs.one_feed.GiveCauses.{GiveCause};
+ghost use Rattle.sb_feeds.specs.one_feed.InputFeeds.{Feeds, FeedCause};
+ghost use Rattle.sb_feeds.specs.one_feed.Takes.{MayEnd, MayTake, TakesOrFails};
 ghost use Rattle.sb_run.specs.Feeders.{HasFed, IsStill};
 ghost use Rattle.sb_run.specs.RunEnds.{SharedFeedCause};
-ghost use Rattle.sb_cascade.specs.Calls.{IsEmptyHanded, IsReady, plan_of, setting_of};
+ghost use Rattle.sb_worker.specs.cascade.Calls.{IsEmptyHanded, IsReady, plan_of, setting_of};
 
 use crate::feeding::uses;
 use crate::shared::working::{arrive, seal, settle};
-use sb_bundle::MAX_BUNDLE;
-use sb_cascade::{Cascade, CascadePass};
-use sb_emit::{RowOut, Tap};
-use sb_feed::{Cutters, GiveStop, keep_dropped, next_item};
-use sb_outside::{LineBuffer, Source};
-use sb_record::{Dropped, END_MARK, Intake, Item, MAX_LINES, NoMemory, Record, Stop, Stream};
-use sb_turn::Reason;
-use sb_work::Gate;
+use sb_feeds::sb_base::{
+    Dropped, END_MARK, Intake, Item, MAX_BUNDLE, MAX_LINES, NoMemory, Record, Stop, Stream,
+};
+use sb_feeds::sb_emit::{RowOut, Tap};
+use sb_feeds::sb_feed::{Cutters, GiveStop, keep_dropped, next_item};
+use sb_feeds::sb_outside::{LineBuffer, Source};
+use sb_worker::sb_cascade::{Cascade, CascadePass};
+use sb_worker::sb_turn::Reason;
+use sb_worker::sb_work::Gate;
 use std::alloc::Global;
 use std::sync::Wait;
 

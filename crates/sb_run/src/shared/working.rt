@@ -2,22 +2,21 @@
 //! given out.
 
 ghost use Rattle.std.specs.Prelude.{◌≤◌, ◌<◌, ◌^◌, false, List, map, length, IfNone, IfSome, OnOk};
-ghost use Rattle.sb_record.specs.declared.item.Record.{Record as ARecord};
-ghost use Rattle.sb_cascade.specs.Calls.{HasBundle, IsEmptyHanded, IsReady, IsSame, plan_of, setting_of};
-ghost use Rattle.sb_cascade.specs.Found.{IsClaim};
-ghost use Rattle.sb_feed.specs.Feeds.{Fed, MayArrive, MaySeal, with_bundle, with_mark};
-ghost use Rattle.sb_feed.specs.GiveCauses.{GiveCause};
-ghost use Rattle.sb_feed.specs.Gives.{Gives};
+ghost use Rattle.sb_feeds.specs.base.records.declared.item.Record.{Record as ARecord};
+ghost use Rattle.sb_worker.specs.cascade.Calls.{HasBundle, IsEmptyHanded, IsReady, IsSame, plan_of, setting_of};
+ghost use Rattle.sb_worker.specs.cascade.Found.{IsClaim};
+ghost use Rattle.sb_feeds.specs.one_feed.Feeds.{Fed, MayArrive, MaySeal, with_bundle, with_mark};
+ghost use Rattle.sb_feeds.specs.one_feed.GiveCauses.{GiveCause};
+ghost use Rattle.sb_feeds.specs.one_feed.Gives.{Gives};
 ghost use Rattle.sb_run.specs.Feeders.{HasFed, IsStill};
 
-use sb_bundle::Bundle;
-use sb_cascade::{Cascade, CascadePass, TryTake};
-use sb_emit::{RowOut, Tap};
-use sb_feed::{GiveStop, give_out};
-use sb_hand::Did;
-use sb_lane::ArriveStop;
-use sb_record::{NoMemory, Stream};
-use sb_work::{Claim, Gate};
+use sb_feeds::sb_base::{Bundle, NoMemory, Stream};
+use sb_feeds::sb_emit::{RowOut, Tap};
+use sb_feeds::sb_feed::{GiveStop, give_out};
+use sb_worker::sb_cascade::{Cascade, CascadePass, TryTake};
+use sb_worker::sb_hand::Did;
+use sb_worker::sb_lane::ArriveStop;
+use sb_worker::sb_work::{Claim, Gate};
 use sb_worker::{First, OneStop, one_step, work_off};
 use std::alloc::Global;
 use std::sync::Wait;

@@ -1,8 +1,8 @@
 //! Two workers have a bundle in hand at the same time: the gate holds the first of them until the other comes.
 
 use crate::tests::{FIRST, run, said, source, sums};
-use sb_record::LatePolicy;
-use sb_work::Gate;
+use sb_feeds::sb_base::LatePolicy;
+use sb_worker::sb_work::Gate;
 use std::sync::atomic::{AtomicU64, Ordering};
 use std::test::Fail;
 use std::thread;

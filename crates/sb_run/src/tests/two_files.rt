@@ -3,13 +3,12 @@
 ghost use Rattle.std.specs.Prelude.{◌≤◌, length, IfOk};
 
 use crate::{MAX_FILE_LENGTH, MAX_WORKERS, Sizes, TwoEnd, execute_two};
-use sb_emit::{CountTap, Printing, Tap};
-use sb_join::Combine;
-use sb_outside::MemSink;
-use sb_pipeline::{Down, Kind, Plan, Step};
-use sb_record::{Dropped, LatePolicy, Refusal, Stream};
-use sb_window::Windows;
-use sb_work::OpenGate;
+use sb_feeds::sb_base::{
+    Combine, Down, Dropped, Kind, LatePolicy, Plan, Refusal, Step, Stream, Windows,
+};
+use sb_feeds::sb_emit::{CountTap, Printing, Tap};
+use sb_feeds::sb_outside::MemSink;
+use sb_worker::sb_work::OpenGate;
 use std::alloc::{AllocError, Global};
 use std::sync::Wait;
 use std::test::Fail;

@@ -1,7 +1,7 @@
 use Rattle.std.proofs.Common.{[], ◌∷◌}
 use Rattle.std.proofs.lemmas.List.Elements.{All-from_recursion}
-use Rattle.sb_record.specs.declared.key.Keys.TheVariants.{Numbers}
-use Rattle.sb_record.specs.Lines.{IsItemInRange}
+use Rattle.sb_cli.specs.base.records.declared.key.Keys.TheVariants.{Numbers}
+use Rattle.sb_cli.specs.base.records.Lines.{IsItemInRange}
 use Rattle.uses.proofs.print_large_sums.Goals as goal
 
 pub large_sums-requires-clause-range : goal.large_sums-requires-clause-range

@@ -1,7 +1,7 @@
 use Rattle.std.proofs.Common.{rules, ◌≡◌, ◌+◌, ◌-◌, length, length-append, ap, refl, ◌∙◌, arith}
-use Rattle.sb_diary.specs.Diaries.{Written}
-use Rattle.sb_node.specs.Changes.{HasLane}
-use Rattle.sb_node.specs.declared.state.NodeState.{NodeState}
+use Rattle.sb_hand.specs.diary.Diaries.{Written}
+use Rattle.sb_hand.specs.node.Changes.{HasLane}
+use Rattle.sb_hand.specs.node.declared.state.NodeState.{NodeState}
 use Rattle.sb_cascade.proofs.shared_node.close.Goals as goal
 use Rattle.sb_cascade.proofs.shared_node.close.Goals.{then-is_sink+in_ok-append, else-is_sink}
 

@@ -1,9 +1,9 @@
 use Rattle.std.proofs.Common.{◌≡◌, ◌≤◌, ◌-◌, List, length, ap, sym, subst, ◌∙◌, arith}
 use Rattle.std.specs.List.{AllByRecursion, slice_index}
-use Rattle.sb_record.specs.declared.item.Record.{Record}
-use Rattle.sb_record.specs.declared.item.Stream.TheVariants.{A}
-use Rattle.sb_record.specs.declared.item.TheConstants.{MAX_TIME}
-use Rattle.sb_pipeline.specs.Shapes.{source}
+use Rattle.sb_hand.specs.base.records.declared.item.Record.{Record}
+use Rattle.sb_hand.specs.base.records.declared.item.Stream.TheVariants.{A}
+use Rattle.sb_hand.specs.base.records.declared.item.TheConstants.{MAX_TIME}
+use Rattle.sb_hand.specs.base.pipeline.Shapes.{source}
 use Rattle.sb_cascade.proofs.tests.arrive.Goals as goal
 
 pub arrive-requires-clause-bundle : goal.arrive-requires-clause-bundle

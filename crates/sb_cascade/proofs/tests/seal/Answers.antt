@@ -1,8 +1,8 @@
 use Rattle.std.proofs.Common.{◌≤◌, ◌-◌, ℕ, List, length, ap, sym, subst, arith}
 use Rattle.std.specs.List.{slice_index}
-use Rattle.sb_record.specs.declared.item.Stream.TheVariants.{A}
-use Rattle.sb_record.specs.declared.item.TheConstants.{END_MARK}
-use Rattle.sb_pipeline.specs.Shapes.{source}
+use Rattle.sb_hand.specs.base.records.declared.item.Stream.TheVariants.{A}
+use Rattle.sb_hand.specs.base.records.declared.item.TheConstants.{END_MARK}
+use Rattle.sb_hand.specs.base.pipeline.Shapes.{source}
 use Rattle.sb_cascade.proofs.tests.seal.Goals as goal
 
 pub seal-requires-clause-mark : goal.seal-requires-clause-mark

@@ -1,5 +1,5 @@
 use Rattle.std.proofs.Common.{subst}
-use Rattle.sb_pipeline.specs.Shapes.{sum_shape}
+use Rattle.sb_watch.specs.base.pipeline.Shapes.{sum_shape}
 use Rattle.sb_cli.specs.Answers.{IsAnswerOf}
 use Rattle.sb_cli.proofs.Answering.{memory_answer, memory_offered, unread}
 use Rattle.sb_cli.proofs.answer.answer_sum.Goals as goal

@@ -1,6 +1,6 @@
 use Rattle.std.proofs.Common.{◌≡◌, inr, refl, sym, ap, ◌∙◌, subst}
 use Rattle.std.proofs.lemmas.Option.{same_Some}
-use Rattle.sb_pipeline.specs.Shapes.{sum_shape}
+use Rattle.sb_watch.specs.base.pipeline.Shapes.{sum_shape}
 use Rattle.sb_words.specs.Words.{asked_of}
 use Rattle.sb_words.specs.Words.Asked.{Sum, Run, Work, Feeds}
 use Rattle.sb_cli.specs.Answers.{IsAnswer}

@@ -1,8 +1,8 @@
 use Rattle.std.specs.Prelude.{flat_map, slice_get}
-use Rattle.sb_pipeline.specs.Operators.{lanes_of, operator_at}
-use Rattle.sb_hand.specs.Showing.{diaries_of}
-use Rattle.sb_tally.specs.Written.{diary_at}
-use Rattle.sb_outside.proofs.Appending.{prefix_of_more, writes_err}
+use Rattle.sb_watch.specs.base.pipeline.Operators.{lanes_of, operator_at}
+use Rattle.sb_watch.specs.hand.Showing.{diaries_of}
+use Rattle.sb_watch.specs.tally.Written.{diary_at}
+use Rattle.sb_watch.proofs.outside.Appending.{prefix_of_more, writes_err}
 use Rattle.sb_cli.specs.Telling.{event_line, head_line, node_text}
 use Rattle.sb_cli.proofs.Printing.{written_behind}
 use Rattle.sb_cli.proofs.Tellings.{events_at}

@@ -1,10 +1,10 @@
 use Rattle.std.proofs.Common.{◌<◌, ◌≤◌, length, ap, ◌∙◌, arith, rules}
 use Rattle.std.proofs.lemmas.List.{length-map}
-use Rattle.sb_pipeline.specs.Shapes.{Shape}
-use Rattle.sb_diary.specs.Texts.{diary_text}
-use Rattle.sb_hand.specs.Showing.{diaries_of}
-use Rattle.sb_outside.proofs.Appending.{writes_err}
-use Rattle.sb_outside.proofs.SinkCauses.{calls_then, whatever_given, whatever_refused}
+use Rattle.sb_watch.specs.base.pipeline.Shapes.{Shape}
+use Rattle.sb_watch.specs.diary.Texts.{diary_text}
+use Rattle.sb_watch.specs.hand.Showing.{diaries_of}
+use Rattle.sb_watch.proofs.outside.Appending.{writes_err}
+use Rattle.sb_watch.proofs.outside.SinkCauses.{calls_then, whatever_given, whatever_refused}
 use Rattle.sb_cli.specs.Telling.{diaries_of_hand}
 use Rattle.sb_cli.proofs.Tellings.{telling-ends, telling-fails, telling-more, telling-none}
 use Rattle.sb_cli.proofs.diaries.write_nodes.Goals as goal

@@ -1,4 +1,4 @@
-use Rattle.sb_hand.specs.Showing.{diaries_of}
+use Rattle.sb_watch.specs.hand.Showing.{diaries_of}
 use Rattle.sb_cli.proofs.Tellings.{Telling}
 use Rattle.sb_cli.proofs.diaries.write_nodes.Given as goal
 

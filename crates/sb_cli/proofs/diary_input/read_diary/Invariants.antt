@@ -1,5 +1,5 @@
 use Rattle.std.proofs.Common.{◌-◌}
-use Rattle.sb_diary.specs.Audits.{lines_in}
+use Rattle.sb_watch.specs.diary.Audits.{lines_in}
 use Rattle.sb_cli.proofs.DiaryReading.{TakingDiary}
 use Rattle.sb_cli.proofs.diary_input.read_diary.Given as goal
 

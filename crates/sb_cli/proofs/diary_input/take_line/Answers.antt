@@ -1,6 +1,6 @@
 use Rattle.std.proofs.Common.{refl, subst}
-use Rattle.sb_outside.specs.Readings.{reading}
-use Rattle.sb_diary.specs.Audits.{IsLegalText, IsStopAt}
+use Rattle.sb_watch.specs.outside.Readings.{reading}
+use Rattle.sb_watch.specs.diary.Audits.{IsLegalText, IsStopAt}
 use Rattle.sb_cli.specs.DiaryReads.{StopsDiaryAt}
 use Rattle.sb_cli.specs.declared.diary_input.DiaryHalt.TheVariants.{Refused}
 use Rattle.sb_cli.proofs.DiaryReading.{gave_line, gave_long, gave_refused, long_line, not_long, refused_line}

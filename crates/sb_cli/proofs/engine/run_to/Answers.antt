@@ -1,6 +1,6 @@
 use Rattle.std.proofs.Common.{◌≡◌, sym, subst}
-use Rattle.sb_run.specs.RunEnds.{OutputCause}
-use Rattle.sb_run.proofs.Through.{ends_through, in_ends}
+use Rattle.sb_watch.specs.run.RunEnds.{OutputCause}
+use Rattle.sb_watch.proofs.run.Through.{ends_through, in_ends}
 use Rattle.sb_cli.specs.Answers.{Wrote, WrotePrefix}
 use Rattle.sb_cli.proofs.engine.run_to.Goals as goal
 

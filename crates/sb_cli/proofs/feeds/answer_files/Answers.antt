@@ -1,5 +1,5 @@
 use Rattle.std.proofs.Common.{refl}
-use Rattle.sb_slow.specs.Inputs.{by_stream}
+use Rattle.sb_watch.specs.slow.Inputs.{by_stream}
 use Rattle.sb_cli.proofs.Blaming.{no_tap_of_files, none_to_blame}
 use Rattle.sb_cli.proofs.feeds.answer_files.Goals as goal
 

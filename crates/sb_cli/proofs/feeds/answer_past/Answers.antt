@@ -1,4 +1,4 @@
-use Rattle.sb_slow.specs.Inputs.{by_stream}
+use Rattle.sb_watch.specs.slow.Inputs.{by_stream}
 use Rattle.sb_cli.proofs.FilesAnswers.{files_answer, files_blame, files_can_tell, files_offered, files_read}
 use Rattle.sb_cli.proofs.FilesFaults.{files_cause, files_hide_none}
 use Rattle.sb_cli.proofs.feeds.answer_past.Goals as goal

@@ -1,7 +1,7 @@
 use Rattle.std.proofs.Common.{◌≡◌, sym, subst}
-use Rattle.sb_run.specs.RunEnds.{OutputCause}
-use Rattle.sb_slow.specs.Inputs.{by_stream}
-use Rattle.sb_run.specs.TwoEnds.{as_run}
+use Rattle.sb_watch.specs.run.RunEnds.{OutputCause}
+use Rattle.sb_watch.specs.slow.Inputs.{by_stream}
+use Rattle.sb_watch.specs.run.TwoEnds.{as_run}
 use Rattle.sb_cli.specs.Answers.{Wrote, WrotePrefix}
 use Rattle.sb_cli.proofs.FilesThrough.{files_through, in_files}
 use Rattle.sb_cli.proofs.feeds.files_to.Goals as goal

@@ -1,7 +1,7 @@
 use Rattle.std.proofs.Common.{[], ◌∷◌, ◌++◌, ◌∙◌, false}
 use Rattle.std.proofs.KnownBytes.{Consumes-trans}
-use Rattle.sb_record.specs.Intake.{first_progress}
-use Rattle.sb_feed.proofs.ReadSoFar.{read_more, read_nothing}
+use Rattle.sb_watch.specs.base.records.Intake.{first_progress}
+use Rattle.sb_watch.proofs.one_feed.ReadSoFar.{read_more, read_nothing}
 use Rattle.sb_cli.proofs.KeptItems.{kept-all, kept-more, reads_err}
 use Rattle.sb_cli.proofs.input.read_input.Goals as goal
 

@@ -1,6 +1,6 @@
 use Rattle.std.proofs.Common.{◌-◌, List}
-use Rattle.sb_record.specs.declared.item.Item.{Item}
-use Rattle.sb_feed.proofs.ReadSoFar.{ReadSoFar}
+use Rattle.sb_watch.specs.base.records.declared.item.Item.{Item}
+use Rattle.sb_watch.proofs.one_feed.ReadSoFar.{ReadSoFar}
 use Rattle.sb_cli.specs.Keeping.{AreKept}
 use Rattle.sb_cli.proofs.input.read_input.Given as goal
 

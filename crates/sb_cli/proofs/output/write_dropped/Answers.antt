@@ -2,8 +2,8 @@ use Rattle.std.proofs.Common.{[], ◌∙◌, rules}
 use Rattle.std.proofs.KnownBytes.{Appends-nil}
 use Rattle.std.specs.Prelude.{flat_map}
 use Rattle.sb_cli.specs.Statuses.{late_line}
-use Rattle.sb_outside.proofs.Appending.{writes_err}
-use Rattle.sb_outside.proofs.SinkCauses.{no_call, calls_then, whatever_given, whatever_refused}
+use Rattle.sb_watch.proofs.outside.Appending.{writes_err}
+use Rattle.sb_watch.proofs.outside.SinkCauses.{no_call, calls_then, whatever_given, whatever_refused}
 use Rattle.sb_cli.proofs.Printing.{printing-more, printing-moved, printing-fails, printing-ends}
 use Rattle.sb_cli.proofs.output.write_dropped.Goals as goal
 

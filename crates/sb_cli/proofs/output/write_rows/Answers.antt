@@ -1,5 +1,5 @@
-use Rattle.sb_record.specs.Rows.{text_of}
-use Rattle.sb_outside.proofs.SinkCauses.{calls_then}
+use Rattle.sb_watch.specs.base.records.Rows.{text_of}
+use Rattle.sb_watch.proofs.outside.SinkCauses.{calls_then}
 use Rattle.sb_cli.proofs.Printing.{all_told, written_kept}
 use Rattle.sb_cli.proofs.output.write_rows.Goals as goal
 

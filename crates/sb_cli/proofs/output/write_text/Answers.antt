@@ -1,8 +1,8 @@
 use Rattle.std.proofs.Common.{[], ap, ◌∙◌, rules}
 use Rattle.std.proofs.KnownBytes.{Appends-nil}
-use Rattle.sb_record.specs.Rows.{row_text, text_of}
-use Rattle.sb_outside.proofs.Appending.{writes_err}
-use Rattle.sb_outside.proofs.SinkCauses.{no_call, calls_then, whatever_given, whatever_refused}
+use Rattle.sb_watch.specs.base.records.Rows.{row_text, text_of}
+use Rattle.sb_watch.proofs.outside.Appending.{writes_err}
+use Rattle.sb_watch.proofs.outside.SinkCauses.{no_call, calls_then, whatever_given, whatever_refused}
 use Rattle.sb_cli.proofs.Printing.{printing-more, printing-moved, printing-fails, printing-ends}
 use Rattle.sb_cli.proofs.output.write_text.Goals as goal
 

@@ -1,4 +1,4 @@
-use Rattle.sb_record.specs.Rows.{row_text}
+use Rattle.sb_watch.specs.base.records.Rows.{row_text}
 use Rattle.sb_cli.proofs.Printing.{Printing}
 use Rattle.sb_cli.proofs.output.write_text.Given as goal
 

@@ -1,17 +1,17 @@
 use Rattle.std.proofs.Common.{◌≡◌, ◌≤◌, refl, ap, subst, ◌∙◌}
 use Rattle.std.proofs.lemmas.List.Concat.{flat_map-append}
 use Rattle.std.proofs.lemmas.List.Elements.{All-from_recursion, All-same}
-use Rattle.sb_record.specs.declared.item.Record.{Record}
-use Rattle.sb_record.specs.declared.item.Stream.TheVariants.{A, B}
-use Rattle.sb_record.specs.declared.item.TheConstants.{MAX_TIME}
-use Rattle.sb_record.specs.Streams.{records_of}
-use Rattle.sb_record.proofs.InputLemmas.{accepted-in_range, records-in_range}
-use Rattle.sb_outside.specs.Lines.{lines}
-use Rattle.sb_pipeline.specs.Shapes.{streams_of}
-use Rattle.sb_feed.specs.Due.{due_rows}
-use Rattle.sb_feed.specs.Given.{items_of, stop_at}
+use Rattle.sb_watch.specs.base.records.declared.item.Record.{Record}
+use Rattle.sb_watch.specs.base.records.declared.item.Stream.TheVariants.{A, B}
+use Rattle.sb_watch.specs.base.records.declared.item.TheConstants.{MAX_TIME}
+use Rattle.sb_watch.specs.base.records.Streams.{records_of}
+use Rattle.sb_watch.proofs.base.records.InputLemmas.{accepted-in_range, records-in_range}
+use Rattle.sb_watch.specs.outside.Lines.{lines}
+use Rattle.sb_watch.specs.base.pipeline.Shapes.{streams_of}
+use Rattle.sb_watch.specs.one_feed.Due.{due_rows}
+use Rattle.sb_watch.specs.one_feed.Given.{items_of, stop_at}
 use Rattle.sb_words.specs.Options.{defaults}
-use Rattle.sb_record.specs.Rows.{row_text, text_of}
+use Rattle.sb_watch.specs.base.records.Rows.{row_text, text_of}
 use Rattle.sb_cli.specs.Answers.{HasWritten}
 use Rattle.sb_cli.specs.Courses.{run_course}
 use Rattle.sb_cli.specs.Pipelines.{all_rows}

@@ -1,7 +1,7 @@
 use Rattle.std.proofs.Common.{◌≡◌, sym, ap, subst, ◌∙◌}
-use Rattle.sb_record.specs.Records.{at_least}
-use Rattle.sb_run.specs.RunEnds.{OutputCause}
-use Rattle.sb_run.proofs.Through.{ends_through, in_ends}
+use Rattle.sb_watch.specs.base.records.Records.{at_least}
+use Rattle.sb_watch.specs.run.RunEnds.{OutputCause}
+use Rattle.sb_watch.proofs.run.Through.{ends_through, in_ends}
 use Rattle.sb_cli.specs.Answers.{Wrote, WrotePrefix}
 use Rattle.sb_cli.proofs.resuming.rest_to.Goals as goal
 

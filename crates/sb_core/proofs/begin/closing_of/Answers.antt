@@ -1,9 +1,9 @@
 use Rattle.std.proofs.Common.{◌≡◌, ◌<◌, ◌≤◌, List, Some, true, length, set as slice_set, sym, ap, subst, ◌∙◌}
 use Rattle.std.specs.Prelude.{All, sum_by}
 use Rattle.std.specs.List.{slice_get, list_any}
-use Rattle.sb_record.specs.declared.item.TheConstants.{END_MARK}
-use Rattle.sb_record.specs.declared.element.KeptRec.{KeptRec}
-use Rattle.sb_pipeline.specs.Operators.{operator_at}
+use Rattle.sb_slow.specs.base.records.declared.item.TheConstants.{END_MARK}
+use Rattle.sb_slow.specs.base.records.declared.element.KeptRec.{KeptRec}
+use Rattle.sb_slow.specs.base.pipeline.Operators.{operator_at}
 use Rattle.sb_core.specs.declared.moment.CoreLane.{CoreLane}
 use Rattle.sb_core.specs.declared.held.Held.{Held}
 use Rattle.sb_core.specs.Closings.{kept_at, rows_at, rows_at_sink}

@@ -1,8 +1,8 @@
 use Rattle.std.proofs.Common.{◌≡◌, ◌<◌, ◌++◌, true, false, eqb, length, Some, refl, sym, ap, ◌∙◌, arith}
 use Rattle.std.specs.Prelude.{◌||◌}
 use Rattle.std.specs.List.{remove, slice_get, slice_set}
-use Rattle.sb_record.specs.Elements.{on_lane}
-use Rattle.sb_pipeline.specs.Operators.{operator_at}
+use Rattle.sb_slow.specs.base.records.Elements.{on_lane}
+use Rattle.sb_slow.specs.base.pipeline.Operators.{operator_at}
 use Rattle.sb_core.specs.declared.moment.Moment.{Moment}
 use Rattle.sb_core.specs.declared.moment.Node.{Node}
 use Rattle.sb_core.specs.Choices.{is_empty}

@@ -1,7 +1,7 @@
 use Rattle.std.proofs.Common.{◌==◌, rules, tests, subst, sym}
 use Rattle.std.proofs.lemmas.Iterator.{YieldsList-from_slice}
 use Rattle.std.proofs.lemmas.Iterator.Search.{position_from_yields_List}
-use Rattle.sb_bundle.specs.declared.bundle.Bundle.{Bundle}
+use Rattle.sb_slow.specs.base.bundle.declared.bundle.Bundle.{Bundle}
 use Rattle.sb_core.specs.Finding.{IsFirst}
 use Rattle.sb_core.proofs.places.FirstPlace.{place-first}
 use Rattle.sb_core.proofs.lanes.find_bundle.Goals as goal

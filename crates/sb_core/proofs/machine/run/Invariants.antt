@@ -1,6 +1,6 @@
 use Rattle.std.proofs.Common.{◌≡◌, take, Some, List}
-use Rattle.sb_record.specs.declared.item.Record.{Record}
-use Rattle.sb_record.specs.declared.item.Stream.{Stream}
+use Rattle.sb_slow.specs.base.records.declared.item.Record.{Record}
+use Rattle.sb_slow.specs.base.records.declared.item.Stream.{Stream}
 use Rattle.sb_core.specs.Events
 use Rattle.sb_core.specs.Exactness.{IsExact}
 use Rattle.sb_core.specs.Laws.{records_fed_by}

@@ -1,12 +1,12 @@
 use Rattle.std.proofs.Common.{◌≡◌, ◌<◌, ltb, cond, List, [], ◌∷◌, ◌++◌, map, filter, length, take, get_or, sym, ap, ◌∙◌, arith}
 use Rattle.std.proofs.lemmas.List.{take_more, get_or-map, length-map}
 use Rattle.std.proofs.lemmas.List.Elements.{All-from_recursion, All-same, recursion_from_All, filter-append}
-use Rattle.sb_record.specs.declared.item.Record.{Record}
-use Rattle.sb_record.specs.declared.item.TheConstants.{END_MARK}
-use Rattle.sb_aggregate.specs.Sessions.{session_end, is_session_open}
-use Rattle.sb_record.specs.declared.element.KeptRec.{KeptRec}
-use Rattle.sb_record.specs.Elements.{all_records}
-use Rattle.sb_record.proofs.OnLanes.{All-all_records}
+use Rattle.sb_slow.specs.base.records.declared.item.Record.{Record}
+use Rattle.sb_slow.specs.base.records.declared.item.TheConstants.{END_MARK}
+use Rattle.sb_slow.specs.base.aggregate.Sessions.{session_end, is_session_open}
+use Rattle.sb_slow.specs.base.records.declared.element.KeptRec.{KeptRec}
+use Rattle.sb_slow.specs.base.records.Elements.{all_records}
+use Rattle.sb_slow.specs.base.OnLaneLemmas.{All-all_records}
 use Rattle.sb_core.proofs.operate.in_open_sessions.Goals as goal
 
 pub session_ends-requires-clause-times : goal.session_ends-requires-clause-times

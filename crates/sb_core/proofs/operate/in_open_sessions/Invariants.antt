@@ -1,6 +1,6 @@
 use Rattle.std.proofs.Common.{◌≡◌, filter, take}
-use Rattle.sb_aggregate.specs.Sessions.{is_session_open}
-use Rattle.sb_record.specs.Elements.{all_records}
+use Rattle.sb_slow.specs.base.aggregate.Sessions.{is_session_open}
+use Rattle.sb_slow.specs.base.records.Elements.{all_records}
 use Rattle.sb_core.proofs.operate.in_open_sessions.Given as goal
 
 abbrev pub invariant-loop-place : goal.invariant-loop-place

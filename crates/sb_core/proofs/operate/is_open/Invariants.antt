@@ -1,6 +1,6 @@
 use Rattle.std.proofs.Common.{◌≡◌, nat_lt}
 use Rattle.std.specs.List.{list_any}
-use Rattle.sb_window.specs.Windows.{window_ends}
+use Rattle.sb_slow.specs.base.window.Windows.{window_ends}
 use Rattle.sb_core.proofs.operate.is_open.Given as goal
 
 abbrev pub invariant-loop-end : goal.invariant-loop-end

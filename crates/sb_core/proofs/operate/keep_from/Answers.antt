@@ -1,7 +1,7 @@
 use Rattle.std.proofs.Common.{rules}
 use Rattle.std.specs.Prelude.{nat_lt, not}
 use Rattle.std.proofs.lemmas.Fn.{filter_same}
-use Rattle.sb_record.specs.declared.item.Record.{Record}
+use Rattle.sb_slow.specs.base.records.declared.item.Record.{Record}
 use Rattle.sb_core.proofs.operate.keep_from.Goals as goal
 
 pub returns : goal.returns

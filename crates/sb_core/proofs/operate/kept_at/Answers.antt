@@ -1,5 +1,5 @@
 use Rattle.std.proofs.Common.{◌≡◌, ⊎_elim, IfOk, subst, sym, ap, ◌∙◌}
-use Rattle.sb_pipeline.specs.Operators.{Operator, operator_of}
+use Rattle.sb_slow.specs.base.pipeline.Operators.{Operator, operator_of}
 use Rattle.sb_core.specs.Closings as spec
 use Rattle.sb_core.proofs.operate.kept_at.Goals as goal
 

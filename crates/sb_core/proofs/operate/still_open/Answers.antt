@@ -2,8 +2,8 @@ use Rattle.std.proofs.Common.{nat_lt, cond, [], ◌∷◌, ◌++◌, filter, tak
 use Rattle.std.specs.List.{list_any}
 use Rattle.std.proofs.lemmas.List.{take_more}
 use Rattle.std.proofs.lemmas.List.Elements.{filter-append}
-use Rattle.sb_record.specs.declared.element.KeptRec.{KeptRec}
-use Rattle.sb_window.specs.Windows.{window_ends}
+use Rattle.sb_slow.specs.base.records.declared.element.KeptRec.{KeptRec}
+use Rattle.sb_slow.specs.base.window.Windows.{window_ends}
 use Rattle.sb_core.proofs.operate.still_open.Goals as goal
 
 pub loop-element-preserved : goal.loop-element-preserved

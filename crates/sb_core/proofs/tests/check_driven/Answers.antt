@@ -1,13 +1,13 @@
 use Rattle.std.proofs.Common.{◌≤◌, All, List}
 use Rattle.std.proofs.lemmas.List.Elements.{All-from_recursion, All-same, recursion_from_All}
-use Rattle.sb_record.specs.declared.item.Item.{Item}
-use Rattle.sb_record.specs.declared.item.Stream.{Stream}
-use Rattle.sb_record.specs.declared.item.Stream.TheVariants.{A, B}
-use Rattle.sb_record.specs.declared.item.TheConstants.{MAX_TIME}
-use Rattle.sb_record.specs.declared.key.Keys.{Keys}
-use Rattle.sb_record.specs.Lines.{IsItemInRange}
-use Rattle.sb_record.specs.Streams.{records_of}
-use Rattle.sb_record.proofs.InputLemmas.{records-in_range}
+use Rattle.sb_slow.specs.base.records.declared.item.Item.{Item}
+use Rattle.sb_slow.specs.base.records.declared.item.Stream.{Stream}
+use Rattle.sb_slow.specs.base.records.declared.item.Stream.TheVariants.{A, B}
+use Rattle.sb_slow.specs.base.records.declared.item.TheConstants.{MAX_TIME}
+use Rattle.sb_slow.specs.base.records.declared.key.Keys.{Keys}
+use Rattle.sb_slow.specs.base.records.Lines.{IsItemInRange}
+use Rattle.sb_slow.specs.base.records.Streams.{records_of}
+use Rattle.sb_slow.proofs.base.records.InputLemmas.{records-in_range}
 use Rattle.sb_core.proofs.tests.check_driven.Goals as goal
 
 in_time : (keys : Keys) (items : List Item) → All (IsItemInRange keys) items → (s : Stream) → All (λ r. r.time ≤ MAX_TIME) (records_of s items)

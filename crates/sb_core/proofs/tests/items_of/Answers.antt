@@ -1,7 +1,7 @@
 use Rattle.std.proofs.Common.{refl}
 use Rattle.std.proofs.lemmas.List.Elements.{All-push, All-same}
-use Rattle.sb_record.specs.Lines.{IsItemInRange}
-use Rattle.sb_record.proofs.InputLemmas.{text_in_range}
+use Rattle.sb_slow.specs.base.records.Lines.{IsItemInRange}
+use Rattle.sb_slow.proofs.base.records.InputLemmas.{text_in_range}
 use Rattle.sb_core.proofs.tests.items_of.Goals as goal
 
 pub loop-line-preserved : goal.loop-line-preserved

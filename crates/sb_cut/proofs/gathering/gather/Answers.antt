@@ -1,6 +1,6 @@
 use Rattle.std.proofs.Common.{ap, arith, refl, sym, ◌∙◌}
-use Rattle.sb_record.specs.Intake.{first_progress}
-use Rattle.sb_outside.specs.Readings.{Held}
+use Rattle.sb_run.specs.base.records.Intake.{first_progress}
+use Rattle.sb_run.specs.outside.Readings.{Held}
 use Rattle.sb_cut.proofs.GatheredItems.{gathered_all, gathered_listed, gathered_more, gathered_none, gathered_nothing, may_keep, on_error}
 use Rattle.sb_cut.proofs.gathering.gather.Goals as goal
 

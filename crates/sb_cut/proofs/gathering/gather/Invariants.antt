@@ -1,6 +1,6 @@
 use Rattle.std.proofs.Common.{◌≡◌, ◌≤◌, ◌+◌, ◌-◌, Some}
-use Rattle.sb_record.specs.declared.intake.TheConstants.{MAX_LINES}
-use Rattle.sb_outside.specs.declared.lines.Halt.TheVariants as halt
+use Rattle.sb_run.specs.base.records.declared.intake.TheConstants.{MAX_LINES}
+use Rattle.sb_run.specs.outside.declared.lines.Halt.TheVariants as halt
 use Rattle.sb_cut.proofs.GatheredItems.{GatheredSoFar}
 use Rattle.sb_cut.proofs.gathering.gather.Given as goal
 

@@ -1,5 +1,5 @@
 use Rattle.std.proofs.Common.{refl, sym, ap, ◌∙◌}
-use Rattle.sb_record.specs.Intake.{answer_to}
+use Rattle.sb_base.specs.records.Intake.{answer_to}
 use Rattle.sb_outside.specs.Readings.{reading}
 use Rattle.sb_feed.proofs.ReadSteps.{accepted_taken, refused_stops, too_long_stops}
 use Rattle.sb_feed.proofs.reading.next_item.Goals as goal

@@ -1,6 +1,6 @@
 use Rattle.std.proofs.Common.{◌+◌, ◌-◌}
 use Rattle.rtrb.specs.Ring.{SameProducer, sent}
-use Rattle.sb_record.specs.declared.intake.TheConstants.{MAX_LINES}
+use Rattle.sb_feed.specs.base.records.declared.intake.TheConstants.{MAX_LINES}
 use Rattle.sb_feeds.proofs.FileSoFar.{FileSoFar}
 use Rattle.sb_feeds.proofs.feeding.feed.Given as goal
 

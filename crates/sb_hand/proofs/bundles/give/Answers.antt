@@ -1,5 +1,5 @@
 use Rattle.std.proofs.Common.{List, sym, subst}
-use Rattle.sb_lane.proofs.Results.{on_ok, both_ok}
+use Rattle.sb_node.proofs.lane.Results.{on_ok, both_ok}
 use Rattle.sb_node.specs.declared.state.NodeState.{NodeState}
 use Rattle.sb_hand.specs.Sets.{HasLane}
 use Rattle.sb_hand.proofs.Gives.{below, gives-first, gives-there, has-own, has-own-still, keeps-first, keeps-there, order, placed-order, there}

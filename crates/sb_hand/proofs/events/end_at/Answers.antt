@@ -1,7 +1,7 @@
 use Rattle.std.proofs.Common.{◌+◌, drop}
-use Rattle.sb_diary.specs.declared.event.DiaryEvent.TheVariants as line
-use Rattle.sb_lane.specs.LaneView.{lane_of}
-use Rattle.sb_lane.specs.Placed.{conts_of}
+use Rattle.sb_node.specs.diary.declared.event.DiaryEvent.TheVariants as line
+use Rattle.sb_node.specs.lane.LaneView.{lane_of}
+use Rattle.sb_node.specs.lane.Placed.{conts_of}
 use Rattle.sb_node.specs.LinkChanges.{DropsLink}
 use Rattle.sb_hand.proofs.AtNodes.{goes, has-lane, turns}
 use Rattle.sb_hand.proofs.events.end_at.Goals as goal

@@ -1,8 +1,8 @@
 use Rattle.std.proofs.Common.{ℕ, length, refl, set, subst}
-use Rattle.sb_core.specs.Lanes.{with_arrival}
-use Rattle.sb_diary.specs.declared.event.DiaryEvent.TheVariants as line
-use Rattle.sb_lane.specs.LaneView.{lane_of}
-use Rattle.sb_lane.proofs.Results.{ok-some, on_err}
+use Rattle.sb_tally.specs.core.Lanes.{with_arrival}
+use Rattle.sb_node.specs.diary.declared.event.DiaryEvent.TheVariants as line
+use Rattle.sb_node.specs.lane.LaneView.{lane_of}
+use Rattle.sb_node.proofs.lane.Results.{ok-some, on_err}
 use Rattle.sb_node.specs.LinkChanges.{GetsPlace, LinksStay}
 use Rattle.sb_hand.specs.Sets.{Turns}
 use Rattle.sb_hand.proofs.Answering.{from-both, from-three}

@@ -1,8 +1,8 @@
 use Rattle.std.proofs.Common.{◌≡◌, ℕ, get_or, sym, ap, ◌∙◌, arith, ⊎_elim}
 use Rattle.std.proofs.lemmas.Bool.{cases_lt}
-use Rattle.sb_lane.specs.Looks.{look_of}
-use Rattle.sb_lane.specs.LaneView.{LaneView}
-use Rattle.sb_lane.specs.Placed.{conts_of}
+use Rattle.sb_node.specs.lane.Looks.{look_of}
+use Rattle.sb_node.specs.lane.LaneView.{LaneView}
+use Rattle.sb_node.specs.lane.Placed.{conts_of}
 use Rattle.sb_node.specs.Looking.{CannotClose}
 use Rattle.sb_hand.proofs.Having.{same-get}
 use Rattle.sb_hand.proofs.steps.closable_lane.Goals as goal

@@ -1,5 +1,5 @@
 use Rattle.std.proofs.Common.{ℕ, ◌<◌, get_or}
-use Rattle.sb_lane.specs.LaneView.{LaneView}
+use Rattle.sb_node.specs.lane.LaneView.{LaneView}
 use Rattle.sb_node.specs.Looking.{CannotClose}
 use Rattle.sb_hand.proofs.steps.closable_lane.Given as goal
 

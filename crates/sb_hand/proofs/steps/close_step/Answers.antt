@@ -1,9 +1,9 @@
 use Rattle.std.proofs.Common.{◌≡◌, [], length, refl, sym, ap, subst, ◌∙◌, arith, List}
 use Rattle.std.specs.Prelude.{All, slice_get}
 use Rattle.std.proofs.lemmas.Option.{same_Some}
-use Rattle.sb_lane.specs.Looks.{look_of}
-use Rattle.sb_lane.specs.LaneView.{LaneView}
-use Rattle.sb_lane.specs.Placed.{conts_of}
+use Rattle.sb_node.specs.lane.Looks.{look_of}
+use Rattle.sb_node.specs.lane.LaneView.{LaneView}
+use Rattle.sb_node.specs.lane.Placed.{conts_of}
 use Rattle.sb_node.specs.declared.state.NodeState.{NodeState}
 use Rattle.sb_node.specs.Looking.{CannotClose}
 use Rattle.sb_hand.proofs.LinkedEvents.{keeps-none}

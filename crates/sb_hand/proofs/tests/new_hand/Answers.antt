@@ -1,7 +1,7 @@
 use Rattle.std.proofs.Common.{◌≡◌, Some, sym, ap, subst, ◌∙◌}
-use Rattle.sb_core.specs.Moments.{epoch_of, first, floor_of}
-use Rattle.sb_pipeline.specs.Shapes.{Shape, source}
-use Rattle.sb_record.specs.declared.item.Stream.TheVariants.{A}
+use Rattle.sb_tally.specs.core.Moments.{epoch_of, first, floor_of}
+use Rattle.sb_node.specs.base.pipeline.Shapes.{Shape, source}
+use Rattle.sb_node.specs.base.records.declared.item.Stream.TheVariants.{A}
 use Rattle.sb_hand.proofs.Examples.{at-first}
 use Rattle.sb_hand.proofs.tests.new_hand.Goals as goal
 

@@ -1,5 +1,5 @@
 use Rattle.std.proofs.Common.{◌≤◌, length, ap, arith}
-use Rattle.sb_pipeline.specs.Shapes.{Shape}
+use Rattle.sb_node.specs.base.pipeline.Shapes.{Shape}
 use Rattle.sb_hand.proofs.Examples.{first-lane}
 use Rattle.sb_hand.proofs.tests.searches.Goals as goal
 

@@ -1,5 +1,5 @@
 use Rattle.std.proofs.Common.{◌≡◌, []}
-use Rattle.sb_core.specs.declared.moment.Moment.{Moment}
+use Rattle.sb_tally.specs.core.declared.moment.Moment.{Moment}
 use Rattle.sb_hand.specs.Hands.{Shows}
 use Rattle.sb_hand.proofs.tests.settle_node.Given as goal
 

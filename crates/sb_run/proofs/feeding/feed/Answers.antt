@@ -1,11 +1,11 @@
 use Rattle.std.proofs.Common.{◌∙◌, ap, arith, refl, sym}
-use Rattle.sb_record.specs.Intake.{first_progress}
-use Rattle.sb_outside.specs.Readings.{Held}
-use Rattle.sb_pipeline.specs.Shapes.{Shape, streams_of}
-use Rattle.sb_feed.specs.FedByItems.{new_cutters}
-use Rattle.sb_feed.proofs.FedSoFar.{all_fed, end_fails, fed_more, item_fails, may_end, may_take, nothing_fed_yet}
-use Rattle.sb_feed.proofs.GiveLaws.{cause_of_none, cause_then}
-use Rattle.sb_feed.proofs.GivesInTurn.{AddsUp}
+use Rattle.sb_feeds.specs.base.records.Intake.{first_progress}
+use Rattle.sb_feeds.specs.outside.Readings.{Held}
+use Rattle.sb_feeds.specs.base.pipeline.Shapes.{Shape, streams_of}
+use Rattle.sb_feeds.specs.one_feed.FedByItems.{new_cutters}
+use Rattle.sb_feeds.proofs.one_feed.FedSoFar.{all_fed, end_fails, fed_more, item_fails, may_end, may_take, nothing_fed_yet}
+use Rattle.sb_feeds.proofs.one_feed.GiveLaws.{cause_of_none, cause_then}
+use Rattle.sb_feeds.proofs.one_feed.GivesInTurn.{AddsUp}
 use Rattle.sb_run.specs.Rested.{IsRested}
 use Rattle.sb_run.proofs.Settings.{same_as_before, same_then}
 use Rattle.sb_run.proofs.feeding.feed.Goals as goal

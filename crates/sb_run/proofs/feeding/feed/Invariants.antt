@@ -1,8 +1,8 @@
 use Rattle.std.proofs.Common.{◌≡◌, ◌≤◌, ◌+◌, ◌-◌, Ok, Some, length, map}
-use Rattle.sb_record.specs.declared.intake.TheConstants.{MAX_LINES}
-use Rattle.sb_outside.specs.declared.lines.Halt.TheVariants as halt
-use Rattle.sb_feed.specs.GiveCauses.{GiveCause}
-use Rattle.sb_feed.proofs.FedSoFar.{FedSoFar}
+use Rattle.sb_feeds.specs.base.records.declared.intake.TheConstants.{MAX_LINES}
+use Rattle.sb_feeds.specs.outside.declared.lines.Halt.TheVariants as halt
+use Rattle.sb_feeds.specs.one_feed.GiveCauses.{GiveCause}
+use Rattle.sb_feeds.proofs.one_feed.FedSoFar.{FedSoFar}
 use Rattle.sb_run.specs.Rested.{HasSameSetting, IsRested}
 use Rattle.sb_run.proofs.feeding.feed.Given as goal
 

@@ -1,5 +1,5 @@
-use Rattle.sb_feed.proofs.GivesInTurn.{AddsUp}
-use Rattle.sb_feed.proofs.ItemTakes.{full_record, held_record, lost_record}
+use Rattle.sb_feeds.proofs.one_feed.GivesInTurn.{AddsUp}
+use Rattle.sb_feeds.proofs.one_feed.ItemTakes.{full_record, held_record, lost_record}
 use Rattle.sb_run.specs.Rested.{IsRested}
 use Rattle.sb_run.proofs.SoFar.{rested_so_far}
 use Rattle.sb_run.proofs.feeding.take_record.Goals as goal

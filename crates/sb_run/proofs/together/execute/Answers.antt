@@ -1,5 +1,5 @@
 use Rattle.std.proofs.Common.{[], true}
-use Rattle.sb_feed.proofs.GivesInTurn.{AddsUp}
+use Rattle.sb_feeds.proofs.one_feed.GivesInTurn.{AddsUp}
 use Rattle.sb_run.proofs.Returned.{output-early, shared-done, shared-early, shared-early_cause, shared-stopped, shared-wanting}
 use Rattle.sb_run.proofs.Starting.{ends_none}
 use Rattle.sb_run.proofs.together.execute.Goals as goal

@@ -1,5 +1,5 @@
 use Rattle.std.proofs.Common.{◌∙◌}
-use Rattle.sb_feed.proofs.GivesInTurn.{stops_none}
+use Rattle.sb_feeds.proofs.one_feed.GivesInTurn.{stops_none}
 use Rattle.sb_run.proofs.Flowing.{flows, rows-in-time}
 use Rattle.sb_run.proofs.working.flow.Goals as goal
 

@@ -1,6 +1,6 @@
-use Rattle.sb_feed.proofs.GivesInTurn.{stops_none}
-use Rattle.sb_feed.proofs.RowsSoFar.{so_far_mark}
-use Rattle.sb_feed.specs.Feeds.{with_mark}
+use Rattle.sb_feeds.proofs.one_feed.GivesInTurn.{stops_none}
+use Rattle.sb_feeds.proofs.one_feed.RowsSoFar.{so_far_mark}
+use Rattle.sb_feeds.specs.one_feed.Feeds.{with_mark}
 use Rattle.sb_run.proofs.Coming.{may-seal}
 use Rattle.sb_run.proofs.Flowing.{then-gives}
 use Rattle.sb_run.proofs.SoFar.{rested_so_far}

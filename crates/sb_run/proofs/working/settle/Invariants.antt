@@ -1,7 +1,7 @@
 use Rattle.std.proofs.Common.{ℕ, ◌<◌, List}
-use Rattle.sb_record.specs.declared.item.Record.{Record}
-use Rattle.sb_hand.specs.Stepping.{IsIdle}
-use Rattle.sb_feed.specs.Feeds.{Fed}
+use Rattle.sb_feeds.specs.base.records.declared.item.Record.{Record}
+use Rattle.sb_worker.specs.hand.Stepping.{IsIdle}
+use Rattle.sb_feeds.specs.one_feed.Feeds.{Fed}
 use Rattle.sb_run.specs.Rested.{HasSameSetting, IsWhole}
 use Rattle.sb_run.proofs.working.settle.Given as goal
 

@@ -1,8 +1,8 @@
 use Rattle.std.proofs.Common.{◌≡◌, ℕ, ◌<◌, List}
 use Rattle.std.specs.List.{slice_get}
-use Rattle.sb_record.specs.declared.item.Record.{Record}
-use Rattle.sb_hand.specs.Todo.{todo_at}
-use Rattle.sb_feed.specs.Feeds.{Fed}
+use Rattle.sb_feeds.specs.base.records.declared.item.Record.{Record}
+use Rattle.sb_worker.specs.hand.Todo.{todo_at}
+use Rattle.sb_feeds.specs.one_feed.Feeds.{Fed}
 use Rattle.sb_run.specs.Rested.{HasSameSetting, IsWhole}
 use Rattle.sb_run.proofs.working.settle_node.Given as goal
 

@@ -1,14 +1,14 @@
 use Rattle.std.proofs.Common.{◌≡◌, ◌≤◌, ◌<◌, ℕ, List, [], ◌∷◌, ◌++◌, ◌+◌, All, None, length, drop, subst, refl, sym, ap, ◌∙◌, arith}
 use Rattle.std.proofs.lemmas.List.{drop_all}
 use Rattle.std.proofs.lemmas.List.Elements.{All-same}
-use Rattle.sb_record.specs.declared.item.Record.{Record}
-use Rattle.sb_record.specs.declared.item.TheConstants.{END_MARK}
-use Rattle.sb_record.specs.declared.element.KeptRec.{KeptRec}
-use Rattle.sb_record.specs.Elements.{all_records}
-use Rattle.sb_pipeline.specs.Flow.{Sent, arrivals_at, from_streams, sent_from}
-use Rattle.sb_pipeline.specs.Operators.{operator_of, output}
-use Rattle.sb_pipeline.specs.Results.{output_at, output_of}
-use Rattle.sb_pipeline.proofs.Times.{AreTimely}
+use Rattle.sb_base.specs.records.declared.item.Record.{Record}
+use Rattle.sb_base.specs.records.declared.item.TheConstants.{END_MARK}
+use Rattle.sb_base.specs.records.declared.element.KeptRec.{KeptRec}
+use Rattle.sb_base.specs.records.Elements.{all_records}
+use Rattle.sb_base.specs.pipeline.Flow.{Sent, arrivals_at, from_streams, sent_from}
+use Rattle.sb_base.specs.pipeline.Operators.{operator_of, output}
+use Rattle.sb_base.specs.pipeline.Results.{output_at, output_of}
+use Rattle.sb_base.proofs.pipeline.Times.{AreTimely}
 use Rattle.sb_slow.specs.Inputs.{by_stream}
 use Rattle.sb_slow.specs.Sendings.{records_to}
 use Rattle.sb_slow.proofs.Steps.{sent_from-more, sent_from-timely_more, arriving-before_end, from_streams-in_time, output_of-before_end, arriving-output_of}

@@ -1,7 +1,7 @@
 use Rattle.std.proofs.Common.{◌≡◌, ◌≤◌, ℕ, List, drop}
-use Rattle.sb_pipeline.specs.Flow.{Sent, arrivals_at, from_streams, sent_from}
-use Rattle.sb_pipeline.specs.Results.{output_at}
-use Rattle.sb_pipeline.proofs.Times.{AreTimely}
+use Rattle.sb_base.specs.pipeline.Flow.{Sent, arrivals_at, from_streams, sent_from}
+use Rattle.sb_base.specs.pipeline.Results.{output_at}
+use Rattle.sb_base.proofs.pipeline.Times.{AreTimely}
 use Rattle.sb_slow.specs.Inputs.{by_stream}
 use Rattle.sb_slow.proofs.flow.output_of.Given as goal
 

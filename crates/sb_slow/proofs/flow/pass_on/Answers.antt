@@ -1,10 +1,10 @@
 use Rattle.std.proofs.Common.{◌≡◌, ◌<◌, Some, ap, ◌∙◌}
 use Rattle.std.proofs.lemmas.List.Elements.{All-from_recursion, All-same, recursion_from_All}
-use Rattle.sb_record.specs.declared.item.Record.{Record}
-use Rattle.sb_record.specs.declared.item.TheConstants.{END_MARK}
-use Rattle.sb_record.specs.declared.element.KeptRec.{KeptRec}
-use Rattle.sb_pipeline.specs.Flow.{arrivals_at}
-use Rattle.sb_pipeline.specs.Operators.{operator_of, output}
+use Rattle.sb_base.specs.records.declared.item.Record.{Record}
+use Rattle.sb_base.specs.records.declared.item.TheConstants.{END_MARK}
+use Rattle.sb_base.specs.records.declared.element.KeptRec.{KeptRec}
+use Rattle.sb_base.specs.pipeline.Flow.{arrivals_at}
+use Rattle.sb_base.specs.pipeline.Operators.{operator_of, output}
 use Rattle.sb_slow.specs.Taken.{first_input, second_input, given_for}
 use Rattle.sb_slow.proofs.TakingOut.{first-taken, second-taken, given-output, All-first_input, All-second_input, arriving-elsewhere, arriving-more}
 use Rattle.sb_slow.proofs.flow.pass_on.Goals as goal

@@ -1,7 +1,7 @@
 use Rattle.std.proofs.Common.{◌<◌}
 use Rattle.std.proofs.lemmas.List.Elements.{All-same}
-use Rattle.sb_record.specs.declared.item.Record.{Record}
-use Rattle.sb_record.specs.declared.item.TheConstants.{END_MARK}
+use Rattle.sb_base.specs.records.declared.item.Record.{Record}
+use Rattle.sb_base.specs.records.declared.item.TheConstants.{END_MARK}
 use Rattle.sb_slow.proofs.Times.{sorted_before-times}
 use Rattle.sb_slow.proofs.flow.rows_of_streams.Goals as goal
 

@@ -1,10 +1,10 @@
 use Rattle.std.proofs.Common.{◌≡◌, ℕ, List, [], ◌∷◌, ◌++◌, subst, sym, ap, ◌∙◌}
 use Rattle.std.specs.BTreeMap.{get}
 use Rattle.std.proofs.lemmas.Map.Iter.{rest_more, rest_all}
-use Rattle.sb_window.specs.Windows.{keyed_window_cmp, window_ends}
-use Rattle.sb_window.proofs.Multiples.{Rising, window_ends-rising}
+use Rattle.sb_base.specs.window.Windows.{keyed_window_cmp, window_ends}
+use Rattle.sb_base.proofs.window.Multiples.{Rising, window_ends-rising}
 use Rattle.sb_slow.specs.Gathered.{values_with}
-use Rattle.sb_window.proofs.Gathering.{joined_none, made_at, made_at-more, made_at-no_ends, made_at-window_ends}
+use Rattle.sb_base.proofs.window.Gathering.{joined_none, made_at, made_at-more, made_at-no_ends, made_at-window_ends}
 use Rattle.sb_slow.proofs.gather.add_record.Goals as goal
 
 pub loop-end-init : goal.loop-end-init

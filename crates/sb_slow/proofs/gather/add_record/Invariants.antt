@@ -1,10 +1,10 @@
 use Rattle.std.proofs.Common.{◌≡◌, [], ◌∷◌}
 use Rattle.std.specs.BTreeMap.{get}
-use Rattle.sb_window.specs.declared.keyed_window.KeyedWindow.{KeyedWindow}
-use Rattle.sb_window.specs.Windows.{keyed_window_cmp, window_ends}
-use Rattle.sb_window.proofs.Multiples.{Rising}
+use Rattle.sb_base.specs.window.declared.keyed_window.KeyedWindow.{KeyedWindow}
+use Rattle.sb_base.specs.window.Windows.{keyed_window_cmp, window_ends}
+use Rattle.sb_base.proofs.window.Multiples.{Rising}
 use Rattle.sb_slow.specs.Gathered.{values_with}
-use Rattle.sb_window.proofs.Gathering.{made_at}
+use Rattle.sb_base.proofs.window.Gathering.{made_at}
 use Rattle.sb_slow.proofs.gather.add_record.Given as goal
 
 abbrev pub invariant-loop-end : goal.invariant-loop-end

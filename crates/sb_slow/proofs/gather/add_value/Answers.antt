@@ -1,7 +1,7 @@
 use Rattle.std.proofs.Common.{◌≡◌, ℤ, List, [], ◌∷◌, ◌++◌, Option, Some, unwrap_or, rules, subst, ap, ◌∙◌}
 use Rattle.std.specs.BTreeMap.{get, Updates}
 use Rattle.std.specs.BTreeMap.Entry.{map_with_value}
-use Rattle.sb_window.specs.Windows.{keyed_window_cmp}
+use Rattle.sb_base.specs.window.Windows.{keyed_window_cmp}
 use Rattle.sb_slow.specs.Gathered.{values_with}
 use Rattle.sb_slow.proofs.Pushed.{Some-pushed}
 use Rattle.sb_slow.proofs.gather.add_value.Goals as goal

@@ -1,5 +1,5 @@
 use Rattle.std.proofs.Common.{◌≡◌, take}
-use Rattle.sb_record.specs.Streams as streams_spec
+use Rattle.sb_base.specs.records.Streams as streams_spec
 use Rattle.sb_slow.proofs.gather.records_of.Given as goal
 
 abbrev pub invariant-loop-item : goal.invariant-loop-item

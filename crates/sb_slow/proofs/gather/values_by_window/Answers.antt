@@ -1,8 +1,8 @@
 use Rattle.std.proofs.Common.{◌∷◌, [], ◌++◌, refl, take, sym, ap, ◌∙◌, arith}
 use Rattle.std.proofs.lemmas.List.{take_more}
-use Rattle.sb_record.specs.declared.item.Record.{Record}
+use Rattle.sb_base.specs.records.declared.item.Record.{Record}
 use Rattle.sb_slow.specs.Gathered.{values_at, values_with}
-use Rattle.sb_window.proofs.Gathering.{gathered-append}
+use Rattle.sb_base.proofs.window.Gathering.{gathered-append}
 use Rattle.sb_slow.proofs.gather.values_by_window.Goals as goal
 
 pub loop-record-preserved : goal.loop-record-preserved

@@ -1,7 +1,7 @@
 use Rattle.std.proofs.Common.{◌≡◌, take}
 use Rattle.std.specs.BTreeMap.{get}
-use Rattle.sb_window.specs.declared.keyed_window.KeyedWindow.{KeyedWindow}
-use Rattle.sb_window.specs.Windows.{keyed_window_cmp}
+use Rattle.sb_base.specs.window.declared.keyed_window.KeyedWindow.{KeyedWindow}
+use Rattle.sb_base.specs.window.Windows.{keyed_window_cmp}
 use Rattle.sb_slow.specs.Gathered.{values_at}
 use Rattle.sb_slow.proofs.gather.values_by_window.Given as goal
 

@@ -1,5 +1,5 @@
 use Rattle.std.proofs.Common.{◌≡◌, take}
-use Rattle.sb_record.specs.Elements as elements_spec
+use Rattle.sb_base.specs.records.Elements as elements_spec
 use Rattle.sb_slow.proofs.lanes.of_lane.Given as goal
 
 abbrev pub invariant-loop-element : goal.invariant-loop-element

@@ -1,6 +1,6 @@
 use Rattle.std.proofs.Common.{◌≡◌, ◌+◌, ◌≤◌, ◌++◌, take}
 use Rattle.std.specs.Vec.{vec_len, vec_capacity}
-use Rattle.sb_record.specs.Elements.{on_lane}
+use Rattle.sb_base.specs.records.Elements.{on_lane}
 use Rattle.sb_slow.proofs.lanes.push_on_lane.Given as goal
 
 abbrev pub invariant-loop-record : goal.invariant-loop-record

@@ -1,8 +1,8 @@
 use Rattle.std.proofs.Common.{◌<◌}
 use Rattle.std.proofs.lemmas.List.Elements.{All-from_recursion, All-same, recursion_from_All}
-use Rattle.sb_record.specs.declared.item.Record.{Record}
-use Rattle.sb_record.specs.declared.item.TheConstants.{END_MARK}
-use Rattle.sb_record.specs.declared.element.KeptRec.{KeptRec}
+use Rattle.sb_base.specs.records.declared.item.Record.{Record}
+use Rattle.sb_base.specs.records.declared.item.TheConstants.{END_MARK}
+use Rattle.sb_base.specs.records.declared.element.KeptRec.{KeptRec}
 use Rattle.sb_slow.specs.Taken.{first_input, second_input}
 use Rattle.sb_slow.proofs.TakingOut.{All-first_input, All-second_input}
 use Rattle.sb_slow.proofs.operate.output.Goals as goal

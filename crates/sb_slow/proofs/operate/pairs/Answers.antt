@@ -1,8 +1,8 @@
 use Rattle.std.proofs.Common.{rules, ◌≡◌, List, IfOk, subst}
 use Rattle.std.specs.BTreeMap.{get}
-use Rattle.sb_record.specs.declared.item.Record.{Record}
-use Rattle.sb_window.specs.declared.keyed_window.KeyedWindow.{KeyedWindow}
-use Rattle.sb_window.specs.Windows.{keyed_window_cmp}
+use Rattle.sb_base.specs.records.declared.item.Record.{Record}
+use Rattle.sb_base.specs.window.declared.keyed_window.KeyedWindow.{KeyedWindow}
+use Rattle.sb_base.specs.window.Windows.{keyed_window_cmp}
 use Rattle.sb_slow.specs.Gathered.{values_at}
 use Rattle.sb_slow.proofs.Pairs.{rows_of_pairs-gathered}
 use Rattle.sb_slow.proofs.operate.pairs.Goals as goal

@@ -1,6 +1,6 @@
 use Rattle.std.proofs.Common.{◌≡◌, ◌++◌}
 use Rattle.std.specs.BTreeMap.{get}
-use Rattle.sb_window.specs.Windows.{keyed_window_cmp}
+use Rattle.sb_base.specs.window.Windows.{keyed_window_cmp}
 use Rattle.sb_slow.specs.Gathered.{rows_of_pairs}
 use Rattle.sb_slow.proofs.operate.pairs_of.Given as goal
 

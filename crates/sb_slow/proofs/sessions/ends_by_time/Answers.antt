@@ -2,8 +2,8 @@ use Rattle.std.proofs.Common.{rules, ◌≡◌, ◌<◌, cond, List, [], ◌∷�
 use Rattle.std.specs.BTreeMap.{get, is_at}
 use Rattle.std.proofs.lemmas.List.{nil_from_length}
 use Rattle.std.proofs.lemmas.List.Elements.{recursion_from_All}
-use Rattle.sb_record.specs.declared.item.Record.{Record}
-use Rattle.sb_record.specs.declared.item.TheConstants.{END_MARK}
+use Rattle.sb_base.specs.records.declared.item.Record.{Record}
+use Rattle.sb_base.specs.records.declared.item.TheConstants.{END_MARK}
 use Rattle.sb_slow.specs.declared.sessions.KeyedTime.{KeyedTime}
 use Rattle.sb_slow.specs.SessionEnds as spec
 use Rattle.sb_slow.proofs.Walking.{IsWalked, first-walked, step-walked, walked-all, has-before}

@@ -4,7 +4,7 @@ use Rattle.std.specs.Prelude.{sum_by}
 use Rattle.std.proofs.lemmas.Cmp.{back_total}
 use Rattle.std.proofs.lemmas.Fn.{always_returns_same}
 use Rattle.std.proofs.lemmas.List.Sorted.{ranks_by, sum_by-IsPermutation}
-use Rattle.sb_record.proofs.Sorting.{ascending-from_sorted}
+use Rattle.sb_base.proofs.records.Sorting.{ascending-from_sorted}
 use Rattle.sb_slow.specs.SessionEnds as spec
 use Rattle.sb_slow.proofs.Walking.{keyed_times_total}
 use Rattle.sb_slow.proofs.sessions.latest_first.Goals as goal

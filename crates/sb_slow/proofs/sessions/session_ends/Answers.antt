@@ -1,8 +1,8 @@
 use Rattle.std.proofs.Common.{rules, ◌≡◌, ◌+◌, [], ◌∷◌, ◌++◌, Some, unwrap_or, map, take, subst, sym, ap, ◌∙◌, arith}
 use Rattle.std.specs.BTreeMap.{get}
 use Rattle.std.proofs.lemmas.List.{take_more, map-append}
-use Rattle.sb_record.specs.declared.item.Record.{Record}
-use Rattle.sb_aggregate.specs.Sessions.{session_end}
+use Rattle.sb_base.specs.records.declared.item.Record.{Record}
+use Rattle.sb_base.specs.aggregate.Sessions.{session_end}
 use Rattle.sb_slow.specs.SessionEnds.{keyed_time_cmp, time_of}
 use Rattle.sb_slow.proofs.sessions.session_ends.Goals as goal
 

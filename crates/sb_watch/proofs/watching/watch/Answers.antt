@@ -1,5 +1,5 @@
 use Rattle.std.proofs.Common.{ap, map, ◌∙◌}
-use Rattle.sb_record.specs.declared.intake.Stop.TheVariants as stop
+use Rattle.sb_run.specs.base.records.declared.intake.Stop.TheVariants as stop
 use Rattle.sb_live.specs.Showings.{Showing, ShownRows}
 use Rattle.sb_watch.proofs.Shown.{neither_fails, tells, told_nothing}
 use Rattle.sb_watch.proofs.watching.watch.Goals as goal

@@ -1,7 +1,7 @@
 use Rattle.std.proofs.Common.{length, subst}
 use Rattle.std.specs.Prelude.{MatchBool}
 use Rattle.sb_cascade.specs.Calls.{plan_of}
-use Rattle.sb_hand.specs.declared.did.Did.TheVariants.{Bundle, Nothing}
+use Rattle.sb_cascade.specs.hand.declared.did.Did.TheVariants.{Bundle, Nothing}
 use Rattle.sb_worker.specs.Entries.{Does, Gains}
 use Rattle.sb_worker.specs.Steps.{IsBareAndIdle, IsClaiming, IsDone, IsNotYet}
 use Rattle.sb_worker.proofs.Claims.{claiming-after}

@@ -2,7 +2,7 @@ use Rattle.std.proofs.Common.{length, subst}
 use Rattle.std.specs.Prelude.{MatchBool}
 use Rattle.std.proofs.lemmas.Result.{IfOk-weaker}
 use Rattle.sb_cascade.specs.Calls.{plan_of}
-use Rattle.sb_hand.specs.declared.did.Did.TheVariants.{Bundle}
+use Rattle.sb_cascade.specs.hand.declared.did.Did.TheVariants.{Bundle}
 use Rattle.sb_worker.specs.Entries.{Gains}
 use Rattle.sb_worker.specs.Steps.{IsDone, IsShelfBare}
 use Rattle.sb_worker.proofs.Doing.{bare-first}

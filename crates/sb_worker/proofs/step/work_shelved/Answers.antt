@@ -1,6 +1,6 @@
 use Rattle.std.proofs.Common.{length}
 use Rattle.sb_cascade.specs.Calls.{plan_of}
-use Rattle.sb_hand.specs.declared.did.Did.TheVariants.{Bundle}
+use Rattle.sb_cascade.specs.hand.declared.did.Did.TheVariants.{Bundle}
 use Rattle.sb_worker.specs.Entries.{Does}
 use Rattle.sb_worker.specs.Steps.{IsClaiming, IsDone}
 use Rattle.sb_worker.proofs.Doing.{bundle-done}

@@ -1,6 +1,6 @@
 use Rattle.std.proofs.Common.{Some, ap, ◌∙◌}
-use Rattle.sb_outside.specs.MemoryFolders.{file_named}
-use Rattle.sb_words.specs.Words.Asked.{Sum}
+use Rattle.sb_cli.specs.outside.MemoryFolders.{file_named}
+use Rattle.sb_cli.specs.words.Words.Asked.{Sum}
 use Rattle.uses.proofs.Sums.{sums_written}
 use Rattle.uses.proofs.in_memory.answer_to_source.Goals as goal
 

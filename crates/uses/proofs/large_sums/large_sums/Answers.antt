@@ -1,10 +1,10 @@
 use Rattle.std.proofs.Common.{◌≡◌, ℤ, to_z, of_z, w64, ap, ◌∙◌}
 use Rattle.std.proofs.lemmas.Int.{to_z-of_z}
 use Rattle.std.proofs.lemmas.Result.{IfOk-weaker}
-use Rattle.sb_record.specs.declared.item.Stream.TheVariants.{A, B}
-use Rattle.sb_record.specs.Streams.{records_of}
-use Rattle.sb_pipeline.specs.Results.{all_rows}
-use Rattle.sb_pipeline.specs.Shapes.{Shape}
+use Rattle.sb_cli.specs.base.records.declared.item.Stream.TheVariants.{A, B}
+use Rattle.sb_cli.specs.base.records.Streams.{records_of}
+use Rattle.sb_cli.specs.base.pipeline.Results.{all_rows}
+use Rattle.sb_cli.specs.base.pipeline.Shapes.{Shape}
 use Rattle.uses.specs.LargeSums.{large_sums}
 use Rattle.uses.proofs.LargeSums.{in_time, rows_are_sums}
 use Rattle.uses.proofs.large_sums.large_sums.Goals as goal

@@ -1,6 +1,6 @@
 use Rattle.std.proofs.Common.{◌≡◌, false}
-use Rattle.sb_live.specs.Lasts.{last_of}
-use Rattle.sb_live.specs.Rising.{IsNoEarlier}
+use Rattle.sb_cli.specs.live.Lasts.{last_of}
+use Rattle.sb_cli.specs.live.Rising.{IsNoEarlier}
 use Rattle.uses.proofs.live_table.follow.Given as goal
 
 abbrev pub invariant-loop : goal.invariant-loop

@@ -1,6 +1,6 @@
 use Rattle.std.proofs.Common.{ap, sym, ◌∙◌}
 use Rattle.std.proofs.lemmas.Option.{same_Some}
-use Rattle.sb_live.specs.Showings.{Showing, ShownRows}
+use Rattle.sb_cli.specs.live.Showings.{Showing, ShownRows}
 use Rattle.uses.proofs.LiveTable.{tells_last}
 use Rattle.uses.proofs.live_table.run_shown.Goals as goal
 

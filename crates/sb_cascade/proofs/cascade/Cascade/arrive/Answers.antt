@@ -1,8 +1,8 @@
 use Rattle.std.proofs.Common.{rules, ◌≡◌, ◌+◌, true, Some, refl, sym, ap, ◌∙◌, subst}
-use Rattle.sb_pipeline.specs.Shapes.{source}
+use Rattle.sb_hand.specs.base.pipeline.Shapes.{source}
 use Rattle.sb_turn.specs.Passes.{about}
-use Rattle.sb_lane.specs.declared.answers.ArriveStop.{ArriveStop}
-use Rattle.sb_node.specs.Coming.{IsBackFrom}
+use Rattle.sb_hand.specs.lane.declared.answers.ArriveStop.{ArriveStop}
+use Rattle.sb_hand.specs.node.Coming.{IsBackFrom}
 use Rattle.sb_cascade.specs.declared.telling.Change.TheVariants.{Arrive, Full, Nothing}
 use Rattle.sb_cascade.specs.declared.telling.Hands.{Hands}
 use Rattle.sb_cascade.specs.declared.telling.Setting.{Setting}

@@ -1,8 +1,8 @@
 use Rattle.std.proofs.Common.{◌≡◌, [], Some, drop, if◌then◌else◌, refl, sym, ap, subst, ◌∙◌}
 use Rattle.std.specs.Prelude.{◌==◌}
-use Rattle.sb_core.specs.Closings.{is_sink}
-use Rattle.sb_node.specs.Looking.{IsNotYet}
-use Rattle.sb_node.specs.declared.closing.Closing.{Closing}
+use Rattle.sb_hand.specs.core.Closings.{is_sink}
+use Rattle.sb_hand.specs.node.Looking.{IsNotYet}
+use Rattle.sb_hand.specs.node.declared.closing.Closing.{Closing}
 use Rattle.sb_cascade.specs.declared.shared_node.BeginStop.TheVariants.{NotYet}
 use Rattle.sb_cascade.specs.declared.telling.Change.TheVariants.{Begin}
 use Rattle.sb_cascade.specs.Doings.{close_of}

@@ -1,11 +1,11 @@
 use Rattle.std.proofs.Common.{rules, ◌≡◌, ◌<◌, false, List, [], ◌∷◌, length, Some, refl, ap, ◌∙◌, sym, subst}
-use Rattle.sb_record.specs.declared.item.Record.{Record}
-use Rattle.sb_core.specs.Choices.{is_empty}
-use Rattle.sb_core.specs.Closings.{delivery}
-use Rattle.sb_core.specs.Events.{below}
-use Rattle.sb_core.proofs.places.Carried.{below-down}
+use Rattle.sb_hand.specs.base.records.declared.item.Record.{Record}
+use Rattle.sb_hand.specs.core.Choices.{is_empty}
+use Rattle.sb_hand.specs.core.Closings.{delivery}
+use Rattle.sb_hand.specs.core.Events.{below}
+use Rattle.sb_hand.proofs.core.places.Carried.{below-down}
 use Rattle.sb_turn.specs.Passes.{about}
-use Rattle.sb_work.specs.declared.claim.Claim.{Claim}
+use Rattle.sb_hand.specs.work.declared.claim.Claim.{Claim}
 use Rattle.sb_cascade.specs.declared.telling.Hands.{Hands}
 use Rattle.sb_cascade.specs.declared.telling.Setting.{Setting}
 use Rattle.sb_cascade.specs.declared.telling.Change.TheVariants.{Deliver}

@@ -1,7 +1,7 @@
 use Rattle.std.proofs.Common.{rules, ◌≡◌, [], ◌∷◌, None, Some, inr, sym, ap, refl, subst, ◌∙◌, false}
 use Rattle.sb_turn.specs.declared.turns.Entry.TheVariants as entry
 use Rattle.sb_turn.specs.Turning.{looks_from}
-use Rattle.sb_work.specs.declared.claim.Claim.{Claim}
+use Rattle.sb_hand.specs.work.declared.claim.Claim.{Claim}
 use Rattle.sb_cascade.specs.declared.telling.Change.TheVariants as change
 use Rattle.sb_cascade.specs.Calls.{IsSame}
 use Rattle.sb_cascade.specs.Doings.{work_of}

@@ -7,7 +7,7 @@ use Rattle.sb_cascade.specs.Doings.{work_of}
 use Rattle.sb_cascade.specs.Found.{IsFound}
 use Rattle.sb_cascade.specs.Linked.{SetsLinks, link_left}
 use Rattle.sb_cascade.specs.Shown.{operator_of}
-use Rattle.sb_work.specs.declared.claim.Claim.{Claim}
+use Rattle.sb_hand.specs.work.declared.claim.Claim.{Claim}
 use Rattle.sb_cascade.proofs.links.LinksOwed.{absorb-sets, finish-stays}
 use Rattle.sb_cascade.proofs.leavings.ToldWorks.{part_gathers}
 use Rattle.sb_cascade.specs.SharedNodes.{FinishesLinked, SharedView}

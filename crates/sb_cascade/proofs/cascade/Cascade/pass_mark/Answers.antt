@@ -1,5 +1,5 @@
 use Rattle.std.proofs.Common.{◌≡◌, ◌∷◌, [], Some, false, true, refl, sym, ap, ◌∙◌}
-use Rattle.sb_node.specs.declared.closing.Closing.{Closing}
+use Rattle.sb_hand.specs.node.declared.closing.Closing.{Closing}
 use Rattle.sb_cascade.specs.declared.telling.Change.TheVariants.{Pass}
 use Rattle.sb_cascade.specs.Calls.{rows_left}
 use Rattle.sb_cascade.specs.Doings.{close_of}

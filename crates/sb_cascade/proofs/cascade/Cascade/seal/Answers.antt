@@ -1,5 +1,5 @@
 use Rattle.std.proofs.Common.{rules, ◌≡◌, ◌≤◌, true, Some, refl, sym, ap, ◌∙◌, subst}
-use Rattle.sb_pipeline.specs.Shapes.{source}
+use Rattle.sb_hand.specs.base.pipeline.Shapes.{source}
 use Rattle.sb_turn.specs.Passes.{about}
 use Rattle.sb_cascade.specs.declared.telling.Change.TheVariants.{Seal}
 use Rattle.sb_cascade.specs.declared.telling.Hands.{Hands}

@@ -1,6 +1,6 @@
 use Rattle.std.proofs.Common.{rules, ◌∙◌, sym, ap, subst}
 use Rattle.std.specs.Prelude.{slice_get, map}
-use Rattle.sb_pipeline.specs.Plans.{IsPlan}
+use Rattle.sb_hand.specs.base.pipeline.Plans.{IsPlan}
 use Rattle.sb_hand.specs.Hands.{HandView}
 use Rattle.sb_turn.specs.Passes.{AllShort}
 use Rattle.sb_cascade.specs.declared.telling.Setting.{Setting}

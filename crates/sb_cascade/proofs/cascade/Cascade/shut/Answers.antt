@@ -1,5 +1,5 @@
 use Rattle.std.proofs.Common.{◌≡◌, ◌∙◌, List, [], sym, subst}
-use Rattle.sb_node.specs.declared.state.NodeState.{NodeState}
+use Rattle.sb_hand.specs.node.declared.state.NodeState.{NodeState}
 use Rattle.sb_hand.specs.Linking.{AreLinked}
 use Rattle.sb_hand.specs.Showing.{CanStand}
 use Rattle.sb_turn.specs.Passes.{about}

@@ -1,7 +1,7 @@
 use Rattle.std.proofs.Common.{ℕ, false, [], ◌∷◌, ◌++◌, Some, sym, ap, ◌∙◌, refl, subst}
-use Rattle.sb_node.specs.Changes.{Takes}
+use Rattle.sb_hand.specs.node.Changes.{Takes}
 use Rattle.sb_turn.specs.declared.turns.Entry.TheVariants as entry
-use Rattle.sb_work.specs.declared.claim.Claim.{Claim}
+use Rattle.sb_hand.specs.work.declared.claim.Claim.{Claim}
 use Rattle.sb_cascade.specs.declared.telling.Change.TheVariants.{Take}
 use Rattle.sb_cascade.specs.Doings.{work_of}
 use Rattle.sb_cascade.specs.Found.{IsFound}

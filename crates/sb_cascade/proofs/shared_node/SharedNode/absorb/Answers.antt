@@ -1,11 +1,11 @@
 use Rattle.std.proofs.Common.{rules, ◌≤◌, arith, ap}
-use Rattle.sb_core.specs.declared.moment.CoreLane.{CoreLane}
-use Rattle.sb_lane.specs.Placed.{conts_of}
-use Rattle.sb_node.specs.Changes.{HasLane}
+use Rattle.sb_hand.specs.core.declared.moment.CoreLane.{CoreLane}
+use Rattle.sb_hand.specs.lane.Placed.{conts_of}
+use Rattle.sb_hand.specs.node.Changes.{HasLane}
 use Rattle.sb_cascade.proofs.diaries.Promises.{owed_of, owed-finished}
 use Rattle.sb_cascade.proofs.diaries.Rooms.{room-set}
 use Rattle.std.specs.Prelude.{◌-◌}
-use Rattle.sb_node.specs.Changes.{Absorbs}
+use Rattle.sb_hand.specs.node.Changes.{Absorbs}
 use Rattle.sb_cascade.proofs.diaries.Promises.{owed-in}
 use Rattle.sb_cascade.proofs.shared_node.SharedNode.absorb.Goals as goal
 

@@ -1,9 +1,9 @@
 use Rattle.std.proofs.Common.{rules, ◌≡◌, ◌+◌, subst, max, refl}
-use Rattle.sb_diary.specs.Diaries.{with_spare}
-use Rattle.sb_node.specs.declared.state.NodeState.{NodeState}
+use Rattle.sb_hand.specs.diary.Diaries.{with_spare}
+use Rattle.sb_hand.specs.node.declared.state.NodeState.{NodeState}
 use Rattle.sb_cascade.proofs.diaries.Rooms.{room-reserved}
 use Rattle.std.specs.Prelude.{false}
-use Rattle.sb_node.specs.Looking.{IsNotYet}
+use Rattle.sb_hand.specs.node.Looking.{IsNotYet}
 use Rattle.sb_cascade.proofs.entered.Begins.{begins-reserved, room-begun}
 use Rattle.sb_cascade.proofs.shared_node.SharedNode.begin.Goals as goal
 use Rattle.sb_cascade.proofs.shared_node.SharedNode.begin.Goals.{then-self, else-self}

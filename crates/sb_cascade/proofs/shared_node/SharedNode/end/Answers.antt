@@ -1,7 +1,7 @@
 use Rattle.std.proofs.Common.{rules, ◌≤◌, arith, ap}
-use Rattle.sb_core.specs.declared.moment.CoreLane.{CoreLane}
-use Rattle.sb_lane.specs.Placed.{conts_of}
-use Rattle.sb_node.specs.Changes.{HasLane}
+use Rattle.sb_hand.specs.core.declared.moment.CoreLane.{CoreLane}
+use Rattle.sb_hand.specs.lane.Placed.{conts_of}
+use Rattle.sb_hand.specs.node.Changes.{HasLane}
 use Rattle.sb_cascade.proofs.diaries.Promises.{owed_of, owed-ended}
 use Rattle.sb_cascade.proofs.diaries.Rooms.{room-set}
 use Rattle.std.specs.Prelude.{◌-◌}

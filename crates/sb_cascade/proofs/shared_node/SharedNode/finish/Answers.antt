@@ -1,15 +1,15 @@
 use Rattle.std.proofs.Common.{rules, ◌≡◌, ◌≤◌, subst, arith, sym, ap, ◌∙◌}
-use Rattle.sb_core.specs.declared.moment.CoreLane.{CoreLane}
-use Rattle.sb_lane.specs.LaneView.{lane_of}
-use Rattle.sb_lane.specs.Placed.{conts_of}
-use Rattle.sb_node.specs.Changes.{HasLane, Turns}
+use Rattle.sb_hand.specs.core.declared.moment.CoreLane.{CoreLane}
+use Rattle.sb_hand.specs.lane.LaneView.{lane_of}
+use Rattle.sb_hand.specs.lane.Placed.{conts_of}
+use Rattle.sb_hand.specs.node.Changes.{HasLane, Turns}
 use Rattle.sb_cascade.proofs.diaries.Promises.{owed_of, owed-finished}
 use Rattle.sb_cascade.proofs.diaries.Rooms.{HasRoom, room-set}
 use Rattle.std.specs.Prelude.{◌-◌, slice_get, Some, None}
-use Rattle.sb_core.proofs.exact.Nodes.{slice_get-set_same}
-use Rattle.sb_diary.specs.declared.event.DiaryEvent.TheVariants as line
-use Rattle.sb_lane.specs.Links.{down_of, links_of}
-use Rattle.sb_lane.specs.Taking.{finish_first}
+use Rattle.sb_hand.proofs.core.exact.Nodes.{slice_get-set_same}
+use Rattle.sb_hand.specs.diary.declared.event.DiaryEvent.TheVariants as line
+use Rattle.sb_hand.specs.lane.Links.{down_of, links_of}
+use Rattle.sb_hand.specs.lane.Taking.{finish_first}
 use Rattle.sb_cascade.specs.SharedNodes.{FinishesLinked, with_link_once}
 use Rattle.sb_cascade.proofs.links.LinkedOnce.{turns-linked, turns-unlinked}
 use Rattle.sb_cascade.proofs.diaries.Promises.{owed-in}

@@ -1,18 +1,18 @@
 use Rattle.std.proofs.Common.{rules, ◌+◌, inl, inr, subst, max, arith, sym, ap, ◌∙◌}
-use Rattle.sb_bundle.specs.declared.bundle.Bundle.{Bundle}
-use Rattle.sb_core.specs.declared.moment.CoreLane.{CoreLane}
-use Rattle.sb_lane.specs.LaneView.{lane_of}
-use Rattle.sb_lane.specs.Placed.{conts_of}
-use Rattle.sb_node.specs.Changes.{HasLane}
-use Rattle.sb_node.specs.declared.state.NodeState.{NodeState}
+use Rattle.sb_hand.specs.base.bundle.declared.bundle.Bundle.{Bundle}
+use Rattle.sb_hand.specs.core.declared.moment.CoreLane.{CoreLane}
+use Rattle.sb_hand.specs.lane.LaneView.{lane_of}
+use Rattle.sb_hand.specs.lane.Placed.{conts_of}
+use Rattle.sb_hand.specs.node.Changes.{HasLane}
+use Rattle.sb_hand.specs.node.declared.state.NodeState.{NodeState}
 use Rattle.sb_cascade.proofs.diaries.Promises.{owed_of, owed-arrived}
 use Rattle.sb_cascade.proofs.diaries.Rooms.{HasRoom, room-set, room-stays, room-reserved, shows-stays}
-use Rattle.sb_lane.specs.Changes.{StandsAt}
+use Rattle.sb_hand.specs.lane.Changes.{StandsAt}
 use Rattle.std.specs.Prelude.{length}
-use Rattle.sb_diary.specs.declared.event.DiaryEvent.TheVariants as line
-use Rattle.sb_core.specs.Lanes.{with_arrival}
-use Rattle.sb_lane.specs.Links.{link_in}
-use Rattle.sb_node.specs.LinkChanges.{FindsPlace, LinksStay}
+use Rattle.sb_hand.specs.diary.declared.event.DiaryEvent.TheVariants as line
+use Rattle.sb_hand.specs.core.Lanes.{with_arrival}
+use Rattle.sb_hand.specs.lane.Links.{link_in}
+use Rattle.sb_hand.specs.node.LinkChanges.{FindsPlace, LinksStay}
 use Rattle.sb_cascade.specs.SharedNodes.{PutsAt}
 use Rattle.sb_cascade.proofs.links.LinkedOnce.{turns-as}
 use Rattle.sb_cascade.proofs.shared_node.SharedNode.put.Goals as goal

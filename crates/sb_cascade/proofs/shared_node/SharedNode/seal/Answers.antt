@@ -1,9 +1,9 @@
 use Rattle.std.proofs.Common.{rules, ◌+◌, max, arith, ap, ◌∙◌}
-use Rattle.sb_core.specs.declared.moment.CoreLane.{CoreLane}
-use Rattle.sb_core.specs.Lanes.{next_epoch, next_floor}
-use Rattle.sb_lane.specs.LaneView.{lane_of}
-use Rattle.sb_lane.specs.Placed.{conts_of}
-use Rattle.sb_node.specs.declared.state.NodeState.{NodeState}
+use Rattle.sb_hand.specs.core.declared.moment.CoreLane.{CoreLane}
+use Rattle.sb_hand.specs.core.Lanes.{next_epoch, next_floor}
+use Rattle.sb_hand.specs.lane.LaneView.{lane_of}
+use Rattle.sb_hand.specs.lane.Placed.{conts_of}
+use Rattle.sb_hand.specs.node.declared.state.NodeState.{NodeState}
 use Rattle.sb_cascade.proofs.diaries.Promises.{owed_of, owed-sealed}
 use Rattle.sb_cascade.proofs.diaries.Rooms.{room-set, room-stays, room-reserved, shows-stays}
 use Rattle.sb_cascade.proofs.shared_node.SharedNode.seal.Goals as goal

@@ -1,11 +1,11 @@
 use Rattle.std.proofs.Common.{rules, ◌≡◌, ◌≤◌, subst, arith, ap, ◌∙◌}
-use Rattle.sb_lane.specs.Placed.{conts_of}
-use Rattle.sb_node.specs.Changes.{HasLane}
+use Rattle.sb_hand.specs.lane.Placed.{conts_of}
+use Rattle.sb_hand.specs.node.Changes.{HasLane}
 use Rattle.sb_cascade.proofs.diaries.Promises.{owed-taken, owed-waits}
 use Rattle.sb_cascade.proofs.diaries.Rooms.{room-set}
 use Rattle.std.specs.Prelude.{◌-◌, slice_get}
-use Rattle.sb_core.proofs.exact.Nodes.{slice_get-set_same}
-use Rattle.sb_lane.specs.Links.{down_of, links_of}
+use Rattle.sb_hand.proofs.core.exact.Nodes.{slice_get-set_same}
+use Rattle.sb_hand.specs.lane.Links.{down_of, links_of}
 use Rattle.sb_cascade.proofs.diaries.Promises.{owed-in}
 use Rattle.sb_cascade.proofs.shared_node.SharedNode.take.Goals as goal
 use Rattle.sb_cascade.proofs.shared_node.SharedNode.take.Goals.{then-lane-eq0, else-lane-eq0}

@@ -1,6 +1,6 @@
 use Rattle.std.specs.Prelude.{Some, flat_map}
-use Rattle.sb_record.specs.declared.item.Stream.TheVariants.{A, B}
-use Rattle.sb_outside.proofs.Appending.{prefix_of_more, writes_err}
+use Rattle.sb_watch.specs.base.records.declared.item.Stream.TheVariants.{A, B}
+use Rattle.sb_watch.proofs.outside.Appending.{prefix_of_more, writes_err}
 use Rattle.sb_cli.specs.declared.late.LateRecords.TheVariants.{OfFiles}
 use Rattle.sb_cli.specs.Statuses.{late_line, late_text}
 use Rattle.sb_cli.proofs.Printing.{written_behind}

@@ -1,5 +1,5 @@
 use Rattle.std.proofs.Common.{drop, length}
-use Rattle.sb_outside.proofs.MemoryReads.{ends_at_none, left_by_read}
+use Rattle.sb_feed.proofs.outside.MemoryReads.{ends_at_none, left_by_read}
 use Rattle.sb_feeds.proofs.file.FileBytesSource.read.Goals as goal
 
 pub returns-clause-bytes : goal.returns-clause-bytes

@@ -1,7 +1,7 @@
 use Rattle.std.proofs.Common.{◌≡◌, ◌+◌, ◌<◌, ap, sym, subst, ◌∙◌}
 use Rattle.std.specs.Prelude.{IfOk, OnOk}
-use Rattle.sb_lane.specs.Placed.{conts_of}
-use Rattle.sb_lane.specs.Unfinished.{unfinished_of}
+use Rattle.sb_node.specs.lane.Placed.{conts_of}
+use Rattle.sb_node.specs.lane.Unfinished.{unfinished_of}
 use Rattle.sb_hand.specs.Feeding.{MayArrive, TakesStream}
 use Rattle.sb_hand.specs.Hands.{HandView}
 use Rattle.sb_hand.specs.Searching.{SearchesStay}

@@ -1,8 +1,8 @@
 use Rattle.std.proofs.Common.{subst, sym}
 use Rattle.std.specs.Prelude.{OnOk, IfOk}
 use Rattle.std.proofs.lemmas.Result.{on_ok_weaker}
-use Rattle.sb_pipeline.specs.Operators.{Operator}
-use Rattle.sb_window.specs.Groupings.{Closes}
+use Rattle.sb_work.specs.base.pipeline.Operators.{Operator}
+use Rattle.sb_work.specs.base.window.Groupings.{Closes}
 use Rattle.sb_kept.specs.declared.kept.Kept.{Kept}
 use Rattle.sb_kept.specs.declared.kept.Kept.TheVariants as kept
 use Rattle.sb_kept.specs.Keeping.{IsMadeFor, gives}

@@ -1,5 +1,5 @@
 use Rattle.std.proofs.Common.{ap, ◌∙◌}
-use Rattle.sb_pipeline.specs.Operators.{operator_at, operator_of}
+use Rattle.sb_work.specs.base.pipeline.Operators.{operator_at, operator_of}
 use Rattle.std.specs.Prelude.{slice_get}
 use Rattle.sb_kept.proofs.Staying.{session-fresh}
 use Rattle.sb_kept.proofs.kept.Kept.new.Goals as goal

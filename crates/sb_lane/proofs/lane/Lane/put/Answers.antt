@@ -1,5 +1,5 @@
 use Rattle.std.proofs.Common.{◌≡◌, ◌+◌, ap, ◌∙◌, arith}
-use Rattle.sb_bundle.specs.declared.bundle.Bundle.{Bundle}
+use Rattle.sb_core.specs.base.bundle.declared.bundle.Bundle.{Bundle}
 use Rattle.sb_core.specs.Lanes.{with_bundle}
 use Rattle.sb_lane.specs.Placed.{conts_of}
 use Rattle.sb_lane.specs.Unfinished.{unfinished_of}

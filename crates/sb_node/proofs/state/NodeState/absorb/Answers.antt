@@ -1,6 +1,6 @@
 use Rattle.std.proofs.Common.{sym, ap, subst, ◌∙◌}
-use Rattle.sb_record.specs.Elements.{on_lane}
-use Rattle.sb_window.specs.Groupings.{Adds}
+use Rattle.sb_kept.specs.base.records.Elements.{on_lane}
+use Rattle.sb_kept.specs.base.window.Groupings.{Adds}
 use Rattle.sb_kept.specs.declared.kept.Kept.{Kept}
 use Rattle.sb_kept.specs.Keeping.{IsMadeFor, IsSpent, closed_mark, gives}
 use Rattle.sb_node.proofs.state.NodeState.absorb.Goals as goal

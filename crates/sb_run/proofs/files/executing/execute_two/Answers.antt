@@ -1,10 +1,10 @@
 use Rattle.std.proofs.Common.{◌≤◌, ℕ, List, [], Ok, length}
-use Rattle.sb_cascade.specs.Calls.{plan_of, setting_of}
-use Rattle.sb_feed.proofs.GiveLaws.{cause_then}
-use Rattle.sb_feed.proofs.GivesInTurn.{AddsUp}
+use Rattle.sb_worker.specs.cascade.Calls.{plan_of, setting_of}
+use Rattle.sb_feeds.proofs.one_feed.GiveLaws.{cause_then}
+use Rattle.sb_feeds.proofs.one_feed.GivesInTurn.{AddsUp}
 use Rattle.sb_run.specs.declared.files.TheConstants.{MAX_FILE_LENGTH}
 use Rattle.sb_run.specs.Feeders.{HasFed}
-use Rattle.sb_slow.specs.Inputs.{by_stream}
+use Rattle.sb_worker.specs.slow.Inputs.{by_stream}
 use Rattle.sb_run.specs.Pops.{values_of}
 use Rattle.sb_run.proofs.FilesEnded.{something_fed, two_done, two_early, two_end_cause, two_memory, two_none, two_stopped}
 use Rattle.sb_run.proofs.FilesOpened.{files_read, of_each}

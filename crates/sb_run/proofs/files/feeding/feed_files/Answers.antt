@@ -1,5 +1,5 @@
-use Rattle.sb_cascade.specs.Calls.{plan_of, setting_of}
-use Rattle.sb_feed.proofs.GivesInTurn.{AddsUp}
+use Rattle.sb_worker.specs.cascade.Calls.{plan_of, setting_of}
+use Rattle.sb_feeds.proofs.one_feed.GivesInTurn.{AddsUp}
 use Rattle.sb_run.specs.Feeders.{HasFed}
 use Rattle.sb_run.specs.Pops.{values_of}
 use Rattle.sb_run.proofs.FilesSoFar.{files_as, files_without, part_grows}

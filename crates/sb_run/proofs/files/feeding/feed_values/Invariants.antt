@@ -1,10 +1,10 @@
 use Rattle.std.proofs.Common.{◌≡◌, ◌≤◌, Ok, length, map}
-use Rattle.sb_pipeline.specs.Shapes.{streams_of}
-use Rattle.sb_cascade.specs.Calls.{plan_of, setting_of}
-use Rattle.sb_feed.specs.GiveCauses.{GiveCause}
+use Rattle.sb_feeds.specs.base.pipeline.Shapes.{streams_of}
+use Rattle.sb_worker.specs.cascade.Calls.{plan_of, setting_of}
+use Rattle.sb_feeds.specs.one_feed.GiveCauses.{GiveCause}
 use Rattle.sb_feeds.specs.Ends.{ring_in}
 use Rattle.sb_run.specs.Feeders.{HasFed, IsStill}
-use Rattle.sb_slow.specs.Inputs.{by_stream}
+use Rattle.sb_worker.specs.slow.Inputs.{by_stream}
 use Rattle.sb_run.specs.Pops.{AreInlets, values_of}
 use Rattle.sb_run.proofs.FilesSoFar.{FilesSoFar}
 use Rattle.sb_run.proofs.files.feeding.feed_values.Given as goal

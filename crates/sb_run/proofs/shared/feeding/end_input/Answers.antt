@@ -1,6 +1,6 @@
 use Rattle.std.proofs.Common.{refl}
-use Rattle.sb_feed.proofs.GivesInTurn.{AddsUp}
-use Rattle.sb_feed.proofs.InputEnds.{both_end, first_fails, may_end_first, may_end_then, none_ends}
+use Rattle.sb_feeds.proofs.one_feed.GivesInTurn.{AddsUp}
+use Rattle.sb_feeds.proofs.one_feed.InputEnds.{both_end, first_fails, may_end_first, may_end_then, none_ends}
 use Rattle.sb_run.specs.Feeders.{HasFed}
 use Rattle.sb_run.proofs.shared.feeding.end_input.Goals as goal
 

@@ -1,8 +1,8 @@
 use Rattle.std.proofs.Common.{sym, ap, ◌∙◌}
-use Rattle.sb_feed.proofs.GivesInTurn.{AddsUp}
-use Rattle.sb_feed.proofs.InputEnds.{unused_ends, used_ends}
-use Rattle.sb_pipeline.specs.Shapes.{streams_of}
-use Rattle.sb_record.specs.Streams.{uses}
+use Rattle.sb_feeds.proofs.one_feed.GivesInTurn.{AddsUp}
+use Rattle.sb_feeds.proofs.one_feed.InputEnds.{unused_ends, used_ends}
+use Rattle.sb_feeds.specs.base.pipeline.Shapes.{streams_of}
+use Rattle.sb_feeds.specs.base.records.Streams.{uses}
 use Rattle.sb_run.specs.Feeders.{HasFed}
 use Rattle.sb_run.proofs.shared.feeding.end_stream.Goals as goal
 

@@ -1,4 +1,4 @@
-use Rattle.sb_feed.proofs.GivesInTurn.{AddsUp}
+use Rattle.sb_feeds.proofs.one_feed.GivesInTurn.{AddsUp}
 use Rattle.sb_run.specs.Feeders.{HasFed}
 use Rattle.sb_run.proofs.Returned.{feeds-as, feeds-wanting}
 use Rattle.sb_run.proofs.shared.feeding.feed.Goals as goal

@@ -1,6 +1,6 @@
 use Rattle.std.proofs.Common.{refl}
-use Rattle.sb_feed.proofs.GivesInTurn.{AddsUp}
-use Rattle.sb_feed.proofs.ItemTakes.{quiet_item, quiet_lost}
+use Rattle.sb_feeds.proofs.one_feed.GivesInTurn.{AddsUp}
+use Rattle.sb_feeds.proofs.one_feed.ItemTakes.{quiet_item, quiet_lost}
 use Rattle.sb_run.specs.Feeders.{HasFed}
 use Rattle.sb_run.proofs.shared.feeding.take_item.Goals as goal
 

@@ -1,8 +1,8 @@
 use Rattle.std.proofs.Common.{refl, subst, sym, ◌∙◌}
-use Rattle.sb_feed.proofs.GivesInTurn.{AddsUp}
-use Rattle.sb_feed.proofs.ItemTakes.{bundle_stops, lone_mark, mark_after_bundle}
-use Rattle.sb_feed.specs.Feeds.{MaySeal, with_bundle}
-use Rattle.sb_feed.proofs.ItemSteps.{last_arrives, may_seal_then}
+use Rattle.sb_feeds.proofs.one_feed.GivesInTurn.{AddsUp}
+use Rattle.sb_feeds.proofs.one_feed.ItemTakes.{bundle_stops, lone_mark, mark_after_bundle}
+use Rattle.sb_feeds.specs.one_feed.Feeds.{MaySeal, with_bundle}
+use Rattle.sb_feeds.proofs.one_feed.ItemSteps.{last_arrives, may_seal_then}
 use Rattle.sb_run.specs.Feeders.{HasFed}
 use Rattle.sb_run.proofs.shared.feeding.take_mark.Goals as goal
 

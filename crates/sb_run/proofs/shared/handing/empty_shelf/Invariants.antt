@@ -1,6 +1,6 @@
 use Rattle.std.proofs.Common.{List}
-use Rattle.sb_record.specs.declared.item.Record.{Record}
-use Rattle.sb_feed.specs.Feeds.{Fed}
+use Rattle.sb_feeds.specs.base.records.declared.item.Record.{Record}
+use Rattle.sb_feeds.specs.one_feed.Feeds.{Fed}
 use Rattle.sb_run.specs.Feeders.{HasFed}
 use Rattle.sb_worker.specs.Helping.{IsFirst}
 use Rattle.sb_run.proofs.shared.handing.empty_shelf.Given as goal

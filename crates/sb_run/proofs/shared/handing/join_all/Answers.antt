@@ -1,6 +1,6 @@
 use Rattle.std.proofs.Common.{rules, ◌≡◌, ◌+◌, length, subst}
 use Rattle.std.specs.List.{AllByRecursion}
-use Rattle.sb_cascade.specs.Calls.{view_of}
+use Rattle.sb_worker.specs.cascade.Calls.{view_of}
 use Rattle.sb_worker.specs.Helping.{IsFirst, IsHelper}
 use Rattle.sb_run.proofs.Passes.{All-front, fed-same, first-joined}
 use Rattle.sb_run.proofs.shared.handing.join_all.Goals as goal

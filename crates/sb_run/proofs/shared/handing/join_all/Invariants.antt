@@ -1,7 +1,7 @@
 use Rattle.std.proofs.Common.{List, length}
 use Rattle.std.specs.List.{AllByRecursion}
-use Rattle.sb_record.specs.declared.item.Record.{Record}
-use Rattle.sb_feed.specs.Feeds.{Fed}
+use Rattle.sb_feeds.specs.base.records.declared.item.Record.{Record}
+use Rattle.sb_feeds.specs.one_feed.Feeds.{Fed}
 use Rattle.sb_run.specs.Feeders.{HasFed}
 use Rattle.sb_worker.specs.Helping.{IsFirst, IsHelper}
 use Rattle.sb_run.proofs.shared.handing.join_all.Given as goal

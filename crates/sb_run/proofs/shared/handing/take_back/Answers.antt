@@ -1,5 +1,5 @@
 use Rattle.std.proofs.Common.{◌<◌, rules}
-use Rattle.sb_turn.specs.Reasons.{number_of}
+use Rattle.sb_worker.specs.turn.Reasons.{number_of}
 use Rattle.sb_run.proofs.FedMore.{fed-stepped}
 use Rattle.sb_run.proofs.Passes.{empty-same, known-exactly, still-empty}
 use Rattle.sb_run.proofs.Returned.{whole-back}

@@ -1,11 +1,11 @@
 use Rattle.std.proofs.Common.{ap, sym, ◌∙◌, ◌++◌, refl, subst, arith}
-use Rattle.sb_bundle.specs.declared.bundle.Bundle.{Bundle}
-use Rattle.sb_feed.specs.Feeds.{MayArrive, with_bundle}
-use Rattle.sb_feed.proofs.GiveLaws.{cause_of_none, cause_then}
-use Rattle.sb_feed.proofs.GivesInTurn.{AddsUp, gives_both, gives_none, stops_after, stops_then}
-use Rattle.sb_cascade.specs.declared.telling.Hands.{Hands}
-use Rattle.sb_cascade.specs.Calls.{hands}
-use Rattle.sb_cascade.specs.Views as view
+use Rattle.sb_feeds.specs.base.bundle.declared.bundle.Bundle.{Bundle}
+use Rattle.sb_feeds.specs.one_feed.Feeds.{MayArrive, with_bundle}
+use Rattle.sb_feeds.proofs.one_feed.GiveLaws.{cause_of_none, cause_then}
+use Rattle.sb_feeds.proofs.one_feed.GivesInTurn.{AddsUp, gives_both, gives_none, stops_after, stops_then}
+use Rattle.sb_worker.specs.cascade.declared.telling.Hands.{Hands}
+use Rattle.sb_worker.specs.cascade.Calls.{hands}
+use Rattle.sb_worker.specs.cascade.Views as view
 use Rattle.sb_run.specs.Feeders.{HasFed}
 use Rattle.sb_run.proofs.FedMore.{fed-arrived, fed-still, may-bring, still_here, still_then}
 use Rattle.sb_run.proofs.Sharing.{gives_as, stops_more}

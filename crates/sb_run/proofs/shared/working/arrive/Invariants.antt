@@ -1,8 +1,8 @@
 use Rattle.std.proofs.Common.{◌≡◌, ◌≤◌, List, Ok, length, map}
-use Rattle.sb_record.specs.declared.item.Record.{Record}
-use Rattle.sb_feed.specs.Feeds.{Fed}
-use Rattle.sb_feed.specs.GiveCauses.{GiveCause}
-use Rattle.sb_feed.specs.Gives.{GivesOut}
+use Rattle.sb_feeds.specs.base.records.declared.item.Record.{Record}
+use Rattle.sb_feeds.specs.one_feed.Feeds.{Fed}
+use Rattle.sb_feeds.specs.one_feed.GiveCauses.{GiveCause}
+use Rattle.sb_feeds.specs.one_feed.Gives.{GivesOut}
 use Rattle.sb_run.specs.Feeders.{HasFed, IsStill}
 use Rattle.sb_run.proofs.shared.working.arrive.Given as goal
 

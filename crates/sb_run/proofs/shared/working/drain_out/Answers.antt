@@ -1,7 +1,7 @@
 use Rattle.std.proofs.Common.{◌<◌, sym, subst}
 use Rattle.std.specs.Prelude.{All}
-use Rattle.sb_record.specs.declared.item.Record.{Record}
-use Rattle.sb_record.specs.declared.item.TheConstants.{END_MARK}
+use Rattle.sb_feeds.specs.base.records.declared.item.Record.{Record}
+use Rattle.sb_feeds.specs.base.records.declared.item.TheConstants.{END_MARK}
 use Rattle.sb_run.specs.Feeders.{HasFed}
 use Rattle.sb_run.proofs.FedMore.{drained-in_time, drained-so_far, fed-drained}
 use Rattle.sb_run.proofs.Flowing.{gave}

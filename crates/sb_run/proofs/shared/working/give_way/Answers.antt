@@ -1,4 +1,4 @@
-use Rattle.sb_feed.proofs.GivesInTurn.{AddsUp, stops_none}
+use Rattle.sb_feeds.proofs.one_feed.GivesInTurn.{AddsUp, stops_none}
 use Rattle.sb_run.proofs.shared.working.give_way.Goals as goal
 
 pub drain_out-requires-clause-feeder : goal.drain_out-requires-clause-feeder

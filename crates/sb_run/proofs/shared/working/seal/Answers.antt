@@ -1,6 +1,6 @@
-use Rattle.sb_feed.proofs.GivesInTurn.{AddsUp, stops_none}
-use Rattle.sb_feed.proofs.RowsSoFar.{so_far_mark}
-use Rattle.sb_feed.specs.Feeds.{with_mark}
+use Rattle.sb_feeds.proofs.one_feed.GivesInTurn.{AddsUp, stops_none}
+use Rattle.sb_feeds.proofs.one_feed.RowsSoFar.{so_far_mark}
+use Rattle.sb_feeds.specs.one_feed.Feeds.{with_mark}
 use Rattle.sb_run.proofs.FedMore.{fed-sealed, may-mark}
 use Rattle.sb_run.proofs.shared.working.seal.Goals as goal
 

@@ -1,4 +1,4 @@
-use Rattle.sb_cascade.proofs.leavings.Handing.{same-then}
+use Rattle.sb_worker.proofs.cascade.leavings.Handing.{same-then}
 use Rattle.sb_run.proofs.FedMore.{fed-stepped}
 use Rattle.sb_run.proofs.shared.working.work_there.Goals as goal
 

@@ -1,5 +1,5 @@
 use Rattle.std.proofs.Common.{◌≡◌, ◌++◌, List}
-use Rattle.sb_record.specs.declared.item.Stream.{Stream}
+use Rattle.sb_feeds.specs.base.records.declared.item.Stream.{Stream}
 use Rattle.sb_feeds.specs.declared.fed.Fed.{Fed}
 use Rattle.sb_feeds.specs.Ends.{ring_in}
 use Rattle.sb_run.specs.Pops.{values_of}

@@ -1,4 +1,4 @@
-use Rattle.sb_record.specs.declared.item.Stream.TheVariants.{A, B}
+use Rattle.sb_feeds.specs.base.records.declared.item.Stream.TheVariants.{A, B}
 use Rattle.sb_feeds.specs.Ends.{values_received}
 use Rattle.sb_run.proofs.InletPops.{none_came}
 use Rattle.sb_run.proofs.files.inlets.Inlets.pop_of.Goals as goal

@@ -1,0 +1,1 @@
+pub use Rattle.sb_base.proofs as base
