@@ -9,8 +9,8 @@
 # behind each line (cut/cut.sh); and it is fed by two files, one of each stream. Each plan of the guide is run with several
 # workers, and by two files. Each folder of runs/ is a run: its words (args), its input, its rows, its note and its exit
 # code. cut/faults.sh tries faulty checkpoint files. Record files that are as long as they may be, and longer, are made here.
-# `work` prints the same lines with 1, 2 and 8 workers. Not tried are the exit codes 7, 8 and 70, and what the guide says in
-# sentences. The last line counts what was as expected.
+# `work` prints the same lines with 1, 2 and 8 workers. start.sh tries ../streambox itself, without rt. Not tried are the
+# exit codes 7, 8 and 70 of the program, and what the guide says in sentences. The last line counts what was as expected.
 # shellcheck disable=SC2016 # Backquotes are those of the guide.
 set -euo pipefail
 shopt -s nullglob
@@ -448,6 +448,7 @@ check_devices
 check_work
 check_reports
 tools/check.sh
+./start.sh
 refuses 6 'file failed' run "$scratch/missing.toml"
 cp views/ads.csv "$scratch"
 cd "$scratch"
@@ -455,6 +456,6 @@ check_plans
 check_faults
 echo "All is as expected: $folders folders, $keys keys, $((inputs + 1)) inputs that are cut, checkpoint files, \
 $feeds inputs by two files, $long long files, $runs runs, $lists lists of words, $devices devices, work, $reports reports, \
-the tools, $plans plans and $faults faults of the guide."
-passed=$((folders + keys + inputs + 2 + feeds + long + runs + lists + devices + 1 + reports + 1 + plans + faults))
+the tools, the start script, $plans plans and $faults faults of the guide."
+passed=$((folders + keys + inputs + 2 + feeds + long + runs + lists + devices + 1 + reports + 2 + plans + faults))
 echo "$passed passed, 0 failed"
