@@ -4,7 +4,7 @@
 # or to end with an error that it gives if there is no memory. No test may stop the program.
 #
 # It takes rt, and about half an hour, since each run builds the tests. With two numbers it tries those requests alone:
-#   examples/want_of_memory_shared.sh 30 35
+#   tests/want_of_memory_shared.sh 30 35
 set -euo pipefail
 cd "$(dirname "$0")/../crates/sb_cascade"
 first=${1:-1}

@@ -1,20 +1,21 @@
 #!/usr/bin/env bash
 # Runs what the examples and docs/PLANS.md print, and compares rows, notes and exit codes. It takes ../streambox, or the
-# program that STREAMBOX names by an absolute path: STREAMBOX=/usr/local/bin/streambox ./check.sh
+# program that STREAMBOX names by an absolute path: STREAMBOX=/usr/local/bin/streambox tests/check.sh
 #
 # Of the guide it tries, by `run` and by `slow`, each plan that stands with an input, rows and, if it has any, notes, by
 # `save` each checkpoint that stands there, and by all commands each fault of the tables with a plan and an answer. Three
 # faults have no plan there, since it would be too long: these are made here. Each folder with a plan is run with several
 # numbers of workers and sizes of bundles, too, and its diaries are audited; two of its keys are watched; its input is cut
-# behind each line (cut/cut.sh); and it is fed by two files, one of each stream. Each plan of the guide is run with several
+# behind each line (tests/cut/cut.sh); and it is fed by two files, one of each stream. Each plan of the guide is run with several
 # workers, and by two files. Each folder of runs/ is a run: its words (args), its input, its rows, its note and its exit
-# code. cut/faults.sh tries faulty checkpoint files. Record files that are as long as they may be, and longer, are made here.
+# code. tests/cut/faults.sh tries faulty checkpoint files. Record files that are as long as they may be, and longer, are made here.
 # `work` prints the same lines with 1, 2 and 8 workers. start.sh tries ../streambox itself, without rt. Not tried are the
 # exit codes 7, 8 and 70 of the program, and what the guide says in sentences. The last line counts what was as expected.
 # shellcheck disable=SC2016 # Backquotes are those of the guide.
 set -euo pipefail
 shopt -s nullglob
-cd "$(dirname "$0")"
+cd "$(dirname "$0")/../examples"
+tests=../tests
 program=${STREAMBOX:-$(cd .. && pwd)/streambox}
 guide=$(cd ../docs && pwd)/PLANS.md
 case $program in /*) ;; *) echo "STREAMBOX is no absolute path: $program" && exit 1 ;; esac
@@ -59,7 +60,7 @@ some() {
 check_runs() {
   local args words
   runs=0
-  for args in runs/*/args; do
+  for args in "$tests"/runs/*/args; do
     mapfile -t words < "$args"
     check_run "${args%/args}" "${words[@]}"
     if [[ ${words[0]} =~ ^(watch|feeds|part|resume)$ ]]; then check_run "${args%/args}" "${words[@]}" --workers 8; fi
@@ -87,7 +88,7 @@ ends() {
 # Devices that fail: a full one, a closed output, a folder as the input, a closed input, and full and closed notes. The
 # full output and the folder are tried with the commands that take a plan, too.
 check_devices() {
-  local status=0 run=runs/resume_the_rest words
+  local status=0 run=$tests/runs/resume_the_rest words
   "$program" sum 10 < first.txt > /dev/full 2> "$scratch/note" || status=$?
   ends "$status" 5 'output failed'
   status=0
@@ -106,7 +107,7 @@ check_devices() {
   done
   for words in /dev/full /dev/null; do
     status=0
-    "$program" feeds runs/feeds_two_files/{plan.toml,a.txt,b.txt} 2> "$words" > /dev/full || status=$?
+    "$program" feeds "$tests"/runs/feeds_two_files/{plan.toml,a.txt,b.txt} 2> "$words" > /dev/full || status=$?
     [ "$status" = 5 ] || fail "feeds to a full device: exit code $status"
   done
   devices=8
@@ -182,15 +183,15 @@ check_watch() {
 check_cut() {
   local plan
   inputs=0
-  STREAMBOX=$program cut/cut.sh || fail 'an input that is cut'
+  STREAMBOX=$program "$tests/cut/cut.sh" || fail 'an input that is cut'
   for plan in */plan.toml; do
     [ "$plan" != cut/plan.toml ] || continue
-    (cd "${plan%/*}" && STREAMBOX=$program ../cut/cut.sh plan.toml input.txt) > "$scratch/cuts" ||
+    (cd "${plan%/*}" && STREAMBOX=$program "../$tests/cut/cut.sh" plan.toml input.txt) > "$scratch/cuts" ||
       fail "$plan: $(cat "$scratch/cuts")"
     inputs=$((inputs + 1))
   done
   some "$inputs" 'other inputs that are cut'
-  STREAMBOX=$program cut/faults.sh || fail 'a checkpoint file'
+  STREAMBOX=$program "$tests/cut/faults.sh" || fail 'a checkpoint file'
 }
 
 # by_two_files PLAN INPUT ROWS NOTES: the lines of each stream in a file of their own, with comments where those of the other
@@ -220,7 +221,7 @@ check_feeds() {
 # Record files of one byte more than there may be, which are told in their order: file a before file b is loaded, and the
 # plan before both. A file that is as long as it may be is read, and its first line is too long.
 check_long_files() {
-  local run=runs/feeds_two_files
+  local run=$tests/runs/feeds_two_files
   truncate -s 268435457 "$scratch/long"
   refuses 10 'record file too long' feeds "$run/plan.toml" "$scratch/long" "$scratch/missing"
   refuses 10 'record file too long' feeds "$run/plan.toml" "$run/a.txt" "$scratch/long"
@@ -307,6 +308,7 @@ check_reports() {
   reports=0
   mkdir -p "$scratch/copy/examples"
   cp -r . "$scratch/copy/examples"
+  cp -r ../tools "$scratch/copy"
   printf '#!/bin/sh\nexec "%s" "$@"\n' "$program" > "$scratch/copy/streambox"
   chmod +x "$scratch/copy/streambox"
   for readme in */README.md; do
@@ -447,8 +449,8 @@ check_words
 check_devices
 check_work
 check_reports
-tools/check.sh
-./start.sh
+"$tests/tools.sh"
+"$tests/start.sh"
 refuses 6 'file failed' run "$scratch/missing.toml"
 cp views/ads.csv "$scratch"
 cd "$scratch"

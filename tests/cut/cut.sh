@@ -2,9 +2,9 @@
 # Cuts an input behind each of its lines: `part` and `save` take what is before the cut, `resume` what is behind it, with 1
 # worker and with 8. Together they have to give the rows, the notes and the exit code of `run` over the whole input, and
 # the checkpoint has to be that of its definition (checkpoint.awk). A first part that ends in the middle of a line counts
-# as if it ended before this line. Then the input comes as a log that grows line by line, and step.sh has to give the same.
+# as if it ended before this line. Then the input comes as a log that grows line by line, and tools/step has to give the same.
 #
-#   cut.sh                 over input.txt and refused.txt of this folder
+#   cut.sh                 over input.txt and refused.txt of examples/cut
 #   cut.sh PLAN INPUT..    over others. Names are taken from the folder where you are, those of the plan's tables, too
 #
 # The plan has each key on a line of its own. It takes ../../streambox, or the program that STREAMBOX names by an absolute
@@ -12,10 +12,11 @@
 set -euo pipefail
 shopt -s nullglob
 here=$(dirname "$(readlink -f "$0")")
-program=${STREAMBOX:-$(readlink -f "$here/../..")/streambox}
+root=$(readlink -f "$here/../..")
+program=${STREAMBOX:-$root/streambox}
 export STREAMBOX=$program
 if [ $# = 0 ]; then
-  cd "$here"
+  cd "$root/examples/cut"
   set -- plan.toml input.txt refused.txt
 fi
 scratch=$(mktemp -d)
@@ -52,13 +53,13 @@ compare_steps() {
   : > "$scratch/notes"
   while [ "$lines" -le "$1" ] && [ "$lines" != "$refused" ]; do
     head -n "$lines" "$input" > "$scratch/first"
-    "$here/step.sh" "$plan" "$scratch/cuts" < "$scratch/first" 2>> "$scratch/notes" || differs "step $lines: exit code $?"
+    "$root/tools/step" "$plan" "$scratch/cuts" < "$scratch/first" 2>> "$scratch/notes" || differs "step $lines: exit code $?"
     for cut in "$scratch"/cuts/[0-9]*; do last=$cut/checkpoint; done
     "$program" save "$plan" < "$scratch/first" 2> "$scratch/note" | cmp - "$last" || differs "step $lines: other checkpoint"
     lines=$((lines + 1))
   done
   if [ "$lines" = "$refused" ]; then
-    "$here/step.sh" "$plan" "$scratch/cuts" < "$input" > "$scratch/left" 2>> "$scratch/notes" || status=$?
+    "$root/tools/step" "$plan" "$scratch/cuts" < "$input" > "$scratch/left" 2>> "$scratch/notes" || status=$?
   else
     tail -n "+$lines" "$input" > "$scratch/rest"
     "$program" resume "$plan" "$last" < "$scratch/rest" > "$scratch/left" 2>> "$scratch/notes" || status=$?

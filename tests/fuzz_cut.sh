@@ -6,8 +6,8 @@
 # session, `save` and `resume` have to refuse it. With a third word, `every`, each input is cut behind each of its lines. A
 # difference is printed with its number, and ends the script. The same number gives the same case.
 #
-#   examples/fuzz_cut.sh 1 2000
-#   examples/fuzz_cut.sh 1 50 every
+#   tests/fuzz_cut.sh 1 2000
+#   tests/fuzz_cut.sh 1 50 every
 set -euo pipefail
 cd "$(dirname "$0")/.."
 program=$(readlink -f "${STREAMBOX:-./streambox}")
@@ -16,9 +16,9 @@ folder=$(mktemp -d)
 trap 'rm -rf "$folder"' EXIT
 scratch=$folder
 # shellcheck source=random_case.sh
-. examples/random_case.sh
+. tests/random_case.sh
 # shellcheck source=cut/compare.sh
-. examples/cut/compare.sh
+. tests/cut/compare.sh
 
 differs() {
   echo "case $number, $1"

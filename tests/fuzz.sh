@@ -4,7 +4,7 @@
 # of those that wait, have to be those of `slow`. A difference is printed with its number, and ends the script. Inputs have
 # late records, which some plans drop, and some have a line that is refused. The same number gives the same case.
 #
-#   examples/fuzz.sh 1 10000
+#   tests/fuzz.sh 1 10000
 set -euo pipefail
 cd "$(dirname "$0")/.."
 program=$(readlink -f "${STREAMBOX:-./streambox}")
@@ -13,7 +13,7 @@ folder=$(mktemp -d)
 trap 'rm -rf "$folder"' EXIT
 
 # shellcheck source=random_case.sh
-. examples/random_case.sh
+. tests/random_case.sh
 
 cases=0
 for ((number = first; number <= last; number++)); do

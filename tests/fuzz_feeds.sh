@@ -7,7 +7,7 @@
 # `slow` tells of it alone. A difference is printed with its number, and ends the script. The same number gives the same
 # case.
 #
-#   examples/fuzz_feeds.sh 1 1000
+#   tests/fuzz_feeds.sh 1 1000
 set -euo pipefail
 cd "$(dirname "$0")/.."
 program=$(readlink -f "${STREAMBOX:-./streambox}")
@@ -16,7 +16,7 @@ folder=$(mktemp -d)
 trap 'rm -rf "$folder"' EXIT
 
 # shellcheck source=random_case.sh
-. examples/random_case.sh
+. tests/random_case.sh
 
 # alone STREAM OTHER EACH: the file of the stream, in each case of so many with a malformed line, if it has as many lines;
 # what is before its refused line; the late records and the refusal that are told of it alone, each behind its name; and its

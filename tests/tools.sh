@@ -4,7 +4,7 @@
 # standard error.
 # shellcheck disable=SC2016,SC2059 # Backquotes are words of `why`, and `tells` takes its lines as printf has them.
 set -euo pipefail
-PATH=$(cd "$(dirname "$0")" && pwd):$PATH
+PATH=$(cd "$(dirname "$0")/../tools" && pwd):$PATH
 scratch=$(mktemp -d)
 trap 'rm -rf "$scratch"' EXIT
 cd "$scratch"
