@@ -2,7 +2,7 @@
 
 ghost use Rattle.std.specs.Prelude.{◌≤◌, All, IfOk};
 
-use crate::tables::{Calls, Trial, Watch};
+use crate::tables::{Calls, Trial};
 use sb_cli::sb_emit::{CountTap, HeadTap, Tap};
 use sb_cli::sb_outside::{MemFolder, MemSink, MemSource, StdSink};
 use std::alloc::{AllocError, Global};
@@ -75,7 +75,7 @@ pub fn around_of(alloc: Global, trial: &Trial) -> Result<Around, AllocError> {
 }
 
 /// A tap that has enough of so many rows, which it writes to the file.
-fn head_of(
+pub fn head_of(
     rt: &(impl AllocGlobal + Files<File = File>),
     most: u32,
 ) -> io::Result<HeadTap<StdSink<File>>> {
@@ -83,25 +83,9 @@ fn head_of(
     Ok(HeadTap::new(most.max(1), StdSink::new(file)))
 }
 
-/// The taps of a trial.
-pub fn taps_of(
-    rt: &(impl AllocGlobal + Files<File = File>),
-    watches: &[Watch],
-) -> io::Result<Taps> {
-    let alloc = rt.alloc();
-    let mut taps: Taps = Vec::new(alloc);
-    for watch in watches {
-        match watch {
-            Watch::Head(most) => {
-                taps.push(Box::new(alloc, head_of(rt, *most)?)?)?;
-            }
-            Watch::Count(failing) => {
-                let failing = Vec::from_slice(alloc, failing)?;
-                taps.push(Box::new(alloc, CountTap::new(failing))?)?;
-            }
-        }
-    }
-    Ok(taps)
+/// A tap that counts rows, and fails at the calls with these numbers.
+pub fn count_of(alloc: Global, failing: &[u64]) -> Result<CountTap, AllocError> {
+    Ok(CountTap::new(Vec::from_slice(alloc, failing)?))
 }
 
 /// The words, and then those for a number of workers, if there is one.

@@ -1,6 +1,6 @@
 //! How a run ended otherwise than it has to, or could not be tried.
 
-use std::alloc::AllocError;
+use std::alloc::{AllocError, AllocFailed};
 use std::io;
 
 /// Why a run is not as it has to be.
@@ -16,6 +16,12 @@ pub enum Difference {
 
 impl From<AllocError> for Difference {
     fn from(_error: AllocError) -> Difference {
+        Difference::Memory
+    }
+}
+
+impl<T: Drop> From<AllocFailed<T>> for Difference {
+    fn from(_error: AllocFailed<T>) -> Difference {
         Difference::Memory
     }
 }

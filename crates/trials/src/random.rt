@@ -1,5 +1,7 @@
 //! Lines that are made from a number, for runs that nobody has written down.
 
+ghost use Rattle.std.specs.Prelude.{◌≤◌, ◌<◌};
+
 use std::alloc::{AllocError, Global};
 
 /// How many times a bundle of records or a watermark comes.

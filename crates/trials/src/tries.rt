@@ -2,7 +2,7 @@
 
 ghost use Rattle.std.specs.Prelude.{◌≡◌, OnOk};
 
-use crate::around::{Around, HEAD, Taps, around_of, taps_of, words_of};
+use crate::around::{Around, HEAD, Taps, around_of, count_of, head_of, words_of};
 use crate::difference::Difference;
 use crate::left::{check_bytes, check_left, check_reads, check_seen};
 use crate::seeds::try_by_seeds;
@@ -90,6 +90,8 @@ fn check_head(
 }
 
 /// Runs a trial with so many workers, or those that its words name, and compares what it leaves.
+///
+/// The taps are boxed here, since the gate takes no function that hands out a `dyn` value that it makes.
 fn try_out(
     rt: &(impl AllocGlobal + Files<File = File> + Threads + Wait + Clock + Sync),
     trial: &Trial,
@@ -97,7 +99,13 @@ fn try_out(
 ) -> Result<(), Difference> {
     let alloc = rt.alloc();
     let words = words_of(alloc, &trial.words, workers)?;
-    let mut taps = taps_of(rt, &trial.taps)?;
+    let mut taps: Taps = Vec::new(alloc);
+    for watch in &trial.taps {
+        match watch {
+            Watch::Head(most) => taps.push(Box::new(alloc, head_of(rt, *most)?)?)?,
+            Watch::Count(failing) => taps.push(Box::new(alloc, count_of(alloc, failing)?)?)?,
+        }
+    }
     let mut around = around_of(alloc, trial)?;
     run_and_check(rt, &words, trial, &mut around, &mut taps)?;
     // Several workers may read on while a row is written.
