@@ -17,11 +17,7 @@ mod kinds;
 pub mod laws;
 mod name;
 mod plan_text;
-#[cfg(test)]
-mod session_tests;
 mod settings;
-#[cfg(test)]
-mod settings_tests;
 mod stop;
 mod table;
 #[cfg(test)]
