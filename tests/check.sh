@@ -335,15 +335,16 @@ blocks() {
   awk -v opening="\`\`\`$1" '$0 == opening { is_in = 1; next } /^```/ { is_in = 0 } is_in' "$2"
 }
 
-# The guide's examples: a plan, an input and its rows, each in a block of its own, and of some the checkpoint if the input is
-# a first part.
+# The guide's examples: a plan, an input and its rows, each in a block of its own, of some the table that the plan names, and
+# of some the checkpoint if the input is a first part.
 check_plans() {
   local plan command workers
   plans=0
-  awk '/^```(toml|input|rows|notes|checkpoint)$/ { kind = substr($0, 4); if (kind == "toml") count++; next }
+  awk '/^```(toml|table|input|rows|notes|checkpoint)$/ { kind = substr($0, 4); if (kind == "toml") count++; next }
     /^```/ { kind = "" }
     kind != "" { print > (count "." kind) }' "$guide"
   for plan in [0-9]*.toml; do
+    [ ! -e "${plan%.toml}.table" ] || cp "${plan%.toml}.table" "$(sed -n 's/^table = "\(.*\)"$/\1/p' "$plan")"
     for command in run slow; do
       gives "${plan%.toml}.rows" "$(or_empty "${plan%.toml}.notes")" "$command" "$plan" < "${plan%.toml}.input"
     done
