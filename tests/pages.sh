@@ -1,6 +1,6 @@
 #!/usr/bin/env bash
 # Tests the tests of the pages: in a copy of the documents and definitions, tests/links.sh and docs/definitions.sh --check
-# find nothing, and find each fault that is made there.
+# find nothing, and find each fault that is made there. And README.md has at most 900 words.
 #
 #   tests/pages.sh
 # shellcheck disable=SC2016 # Backquotes are those of pages.
@@ -80,6 +80,7 @@ check_links() {
   links_find 'no link' '0 links'
 }
 
+[[ $(wc -w < README.md) -le 900 ]] || fail 'README.md has more than 900 words'
 check_definitions
 check_links
 echo "$cases faults of pages and links: as expected"
