@@ -13,8 +13,8 @@ pages() {
   find . \( -name .git -o -name out -o -path ./docs/definitions \) -prune -o -name '*.md' -print | sort
 }
 
-# read_pages anchors|links: the anchors of the headings, a line FILE#ANCHOR each, or the links, a line FILE:LINE TARGET each.
-# Lines between fences are code, and so is what stands between backquotes.
+# read_pages anchors|links: the anchors of the headings, a line FILE#ANCHOR each, or the links, a line FILE:LINE TARGET
+# each. Lines between fences are code, and so is what stands between backquotes.
 read_pages() {
   # shellcheck disable=SC2016 # The signs are those of awk.
   pages | tr '\n' '\0' | xargs -0 awk -v what="$1" '

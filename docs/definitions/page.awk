@@ -1,5 +1,8 @@
-# Prints docs/DEFINITIONS.md, for docs/definitions.sh: awk -f docs/definitions/page.awk, at the top of the repository. At a
-# fault it says so on standard error and ends with 1.
+# Prints docs/DEFINITIONS.md, for docs/definitions.sh, which calls it at the top of the repository:
+#
+#   awk -f docs/definitions/page.awk
+#
+# If something is wrong, it says so on standard error and ends with 1.
 
 function fail(why) {
   print "docs/definitions: " why > "/dev/stderr"
