@@ -67,7 +67,7 @@ function write_bash(file,    place, name, valued) {
   print "      done" > file
   print "      ;;" > file
   print "  esac" > file
-  print "  [[ $kind == option ]] || compopt -o filenames 2> /dev/null" > file
+  print "  [[ $kind == option ]] || compopt -o filenames 2> /dev/null || true" > file
   print "}" > file
   print "complete -F _streambox streambox ./streambox" > file
   close(file)

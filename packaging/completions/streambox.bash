@@ -37,6 +37,6 @@ _streambox() {
       done
       ;;
   esac
-  [[ $kind == option ]] || compopt -o filenames 2> /dev/null
+  [[ $kind == option ]] || compopt -o filenames 2> /dev/null || true
 }
 complete -F _streambox streambox ./streambox
