@@ -1,0 +1,16 @@
+#!/usr/bin/env bash
+# Says of what version, commit and kit a program is, and whether it is the one of release/. What is not known is `unknown`.
+#
+#   packaging/about.sh PROGRAM
+set -euo pipefail
+program=$(readlink -f "$1")
+cd "$(dirname "$(readlink -f "$0")")/.."
+if [ -e release/about.txt ] && cmp -s "$program" release/streambox; then
+  cat release/about.txt
+  exit
+fi
+echo "version $(cat VERSION)"
+echo "commit $(git rev-parse --short=12 HEAD 2> /dev/null || echo unknown)"
+# The start script leaves the kit's line beside the program that it builds.
+echo "kit $(grep . "${program%/*}/proved" 2> /dev/null || echo unknown)"
+echo 'release no'
