@@ -32,6 +32,7 @@ install:
 	install -m 755 $(PROGRAM) $(libexec)/streambox
 	packaging/about.sh $(PROGRAM) > $(libexec)/about.txt
 	install -m 644 $(scripts) $(libexec)
+	install -m 755 packaging/files.sh $(libexec)
 	install -m 644 packaging/help/*.txt $(libexec)/help
 	install -m 755 $(addprefix tools/,$(tools)) $(libexec)/tools
 	install -m 644 tools/*.awk $(libexec)/tools

@@ -6,7 +6,7 @@
 
 BEGIN {
   path = ARGV[1]
-  if (!read_plan(path)) exit 0
+  if (!read_plan(path) || !transforms && ARGC < 3) exit 0
   if (ARGC > 2) explain(ARGV[2])
   else draw()
   exit 0

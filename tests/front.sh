@@ -122,7 +122,7 @@ hint: tables are looked for from the directory where you are; this one is in sub
   says 6 "hint: file a, a.txt: there is no such file$here" feeds there.toml a.txt b.txt
   says 6 "hint: file b, b.txt: there is no such file$here" feeds there.toml first b.txt
   says 6 "hint: the checkpoint cut: there is no such file$here" resume there.toml cut
-  says 6 'hint: each file that is named can be read now: was one of them written or moved just then?' run there.toml
+  says 6 'hint: each file that is named can be read now: was one of them just written or moved?' run there.toml
   [ "$(id -u)" = 0 ] || {
     chmod 000 there.toml
     says 6 'hint: the plan there.toml: you may not read it; ls -l there.toml shows who may' run there.toml
