@@ -14,6 +14,8 @@
 # shellcheck disable=SC2016 # Backquotes are those of the guide.
 set -euo pipefail
 shopt -s nullglob
+# No hints: what the program itself says is compared.
+export STREAMBOX_PLAIN=1
 cd "$(dirname "$0")/../examples"
 tests=../tests
 program=${STREAMBOX:-$(cd .. && pwd)/streambox}

@@ -1,21 +1,26 @@
 #!/usr/bin/env bash
-# Tries the start script ../streambox over a tree of crates and an rt that proves nothing: what it tells and keeps in its
-# log, when it calls rt, and that nothing is left behind where a crate fails or the script is ended.
+# Tries the start script ../streambox over a tree of crates and an rt that proves nothing: what it says and keeps in its
+# log, when it calls rt, which program it runs, and that nothing is left behind if a crate fails or the script is ended.
 set -euo pipefail
-script=$(cd "$(dirname "$0")/.." && pwd)/streambox
+home=$(cd "$(dirname "$0")/.." && pwd)
+script=$home/streambox
 tree=$(mktemp -d)
 trap 'rm -rf "$tree"' EXIT
 out=$tree/crates/streambox/out
 cd "$tree"
-mkdir -p bin docs crates/{low,left,beside,streambox}/src
-cp "$script" .
-touch docs/USAGE.md crates/{low,left,beside,streambox}/src/lib.rt
+unset STREAMBOX_PLAIN STREAMBOX_PROGRAM
+mkdir -p bin release crates/{low,left,beside,streambox}/src
+cp "$script" "$home/VERSION" .
+cp -r "$home/packaging" .
+cp "$home"/release/*.sh release
+touch crates/{low,left,beside,streambox}/src/lib.rt
 printf '%s\n' low: 'left: low itoa' 'beside: left' 'streambox: left low' > crates.txt
 # In the place of rt: BAD is a crate that it does not build, WAIT one at which it goes on for a minute.
 cat > bin/rt << 'RT'
 #!/usr/bin/env bash
 crate=${PWD##*/}
 echo "$1" >> "$CALLS"
+[ "$1" != version ] || { echo kit-of-this-test; exit; }
 echo "about $crate"
 if [ "$crate" = "${WAIT-}" ]; then
   echo $$ > "$CALLS.waits"
@@ -56,28 +61,102 @@ leaves() {
   rm -f "$CALLS.waits"
 }
 
-starts 1 'words not understood' '' --version
-starts 1 'words not understood' '' sum 010
-starts 1 'words not understood' '' watch plan
-starts 6 'file failed' '' run no-plan
-starts 6 'file failed' '' feeds no-plan a b
-starts 0 '' '' --help
-BAD=left starts 70 "about low
+# prints TEXT: the last start printed this.
+prints() {
+  [ "$(cat rows)" = "$1" ] || fail "prints $(cat rows)"
+}
+
+# What starts no build, and calls no rt.
+check_slips() {
+  local try sum='hint: the form is: streambox sum SIZE [OPTIONS] < INPUT'
+  for try in '' --try; do
+    # shellcheck disable=SC2086 # one word or none
+    {
+      starts 1 'hint: streambox --help lists the commands' '' $try
+      starts 1 "hint: SIZE has a leading zero: write 10"$'\n'"$sum" '' $try sum 010
+      starts 1 "hint: there is no command \"smu\": do you mean sum?"$'\n'"$sum" '' $try smu 10
+      starts 6 "hint: the plan no-plan: there is no such file; you are in $tree" '' $try run no-plan
+      starts 6 "hint: the plan no-plan: there is no such file; you are in $tree" '' $try feeds no-plan a b --workers 2
+      starts 6 "hint: the checkpoint no-cut: there is no such file; you are in $tree" '' $try resume crates.txt no-cut
+      STREAMBOX_PLAIN=1 starts 1 'words not understood' '' $try watch plan
+    }
+  done
+  starts 0 '' '' --help
+  cmp rows packaging/help/script.txt || fail '--help: another page'
+  starts 0 '' '' --help sum
+  cmp rows packaging/help/sum.txt || fail '--help sum: another page'
+  starts 0 '' '' run --help
+  starts 0 '' '' --version
+  prints "streambox $(cat VERSION), not built; ./streambox --build proves and builds it"
+}
+
+# If there is no program and no release, a command builds one.
+check_build() {
+  BAD=left starts 70 "about low
 about left
-streambox: left is not proved or not built; log: $out/build.log" 'lib lib ' sum 10
-leaves ./build.log
-WAIT=left ./streambox sum 10 > rows 2> note < /dev/null &
-while [ ! -s "$CALLS.waits" ]; do sleep 0.1; done
-kill $!
-wait $! || true
-leaves ./build.log
-starts 0 'streambox: 1 of 3: low
+streambox: left is not proved or not built; log: $out/build.log" 'version lib lib ' sum 10
+  leaves ./build.log
+  WAIT=left ./streambox sum 10 > rows 2> note < /dev/null &
+  while [ ! -s "$CALLS.waits" ]; do sleep 0.1; done
+  kill $!
+  wait $! || true
+  leaves ./build.log
+  starts 0 'streambox: 1 of 3: low
 streambox: 2 of 3: left
-streambox: 3 of 3: streambox' 'lib lib run ' sum 10
-leaves './build.log ./proved ./streambox'
-[ "$(cat rows)" = 'program sum 10' ] || fail 'does not run the program'
-printf 'about %s\n' low left streambox | cmp - "$out/build.log" || fail 'another log'
-starts 0 '' '' sum 010
-touch crates/low/src/lib.rt
-starts 0 '3 of 3: streambox' 'lib lib run ' sum 10
+streambox: 3 of 3: streambox' 'version lib lib run ' sum 10
+  leaves './build.log ./proved ./streambox'
+  prints 'program sum 10'
+  printf 'about %s\n' low left streambox | cmp - "$out/build.log" || fail 'another log'
+  starts 0 '' '' sum 010
+  starts 0 '' '' --version
+  [[ $(cat rows) == "streambox $(cat VERSION)"*$'\nkit kit-of-this-test\nrelease no' ]] || fail "--version: $(cat rows)"
+}
+
+# If a source changed, the program that was built runs until --build is called, and it is said once.
+check_changed() {
+  echo '// changed' >> crates/low/src/lib.rt
+  starts 0 '' '' --version
+  starts 0 'streambox: the sources changed after the program was built; ./streambox --build proves and builds these' '' sum 10
+  prints 'program sum 10'
+  starts 0 '' '' sum 10
+  [ ! -s note ] || fail 'says it twice'
+  starts 1 'hint: the form is: ./streambox --build' '' --build low
+  starts 0 '3 of 3: streambox' 'version lib lib run ' --build
+  starts 0 '' '' sum 10
+  [ ! -s note ] || fail 'says that the sources changed'
+}
+
+# A release runs if nothing was built of these sources. Of others it is said once for each state of the sources.
+check_release() {
+  local other='streambox: the program of release/ is of other sources than these; ./streambox --build proves and builds these'
+  printf '#!/bin/sh\necho "release $*"\n' > release/streambox
+  chmod +x release/streambox
+  printf '%s\n' 'version 7' 'commit c' 'kit k' 'release yes' "sources $(release/digest.sh)" > release/about.txt
+  starts 0 '' '' sum 10
+  prints 'program sum 10'
+  touch crates/left/src/lib.rt
+  starts 0 '' '' sum 10
+  prints 'release sum 10'
+  rm -r "$out"
+  starts 0 '' '' sum 10
+  [ ! -s note ] || fail 'says something of a release of these sources'
+  prints 'release sum 10'
+  starts 0 '' '' --version
+  prints $'streambox 7\ncommit c\nkit k\nrelease yes'
+  echo '// changed again' >> crates/low/src/lib.rt
+  starts 0 "$other" '' sum 10
+  prints 'release sum 10'
+  starts 0 '' '' sum 10
+  [ ! -s note ] || fail 'says it twice'
+  echo '// and again' >> crates/low/src/lib.rt
+  starts 0 "$other" '' sum 10
+  starts 0 '3 of 3: streambox' 'version lib lib run ' --build
+  starts 0 '' '' sum 10
+  prints 'program sum 10'
+}
+
+check_slips
+check_build
+check_changed
+check_release
 echo "$((tried + 1)) starts: as expected"
