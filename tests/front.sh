@@ -272,6 +272,103 @@ A row reaches back 90 at most: that is how much before the low watermark a check
   tried=$((tried + 2))
 }
 
+# Each fault of the guide that has a plan: after the program's answer `check` says which transform it is, if it is one.
+check_faults() {
+  local text answer said wanted faults=0
+  # shellcheck disable=SC2016 # Backquotes are those of the guide.
+  while IFS= read -r text && IFS= read -r answer; do
+    printf '%s\n' "${text//'` `'/$'\n'}" > fault.toml
+    said=$(CODE=2 NOTE=$answer "$front" check fault.toml 2>&1 > rows) && fail "$answer: exit code 0"
+    [ ! -s rows ] || fail "$answer: prints $(cat rows)"
+    wanted=$answer
+    if [[ $answer =~ ^'plan: transform '([0-9]+): ]]; then wanted+=$'\n'"  transform ${BASH_REMATCH[1]} is "; fi
+    [[ $said == "$wanted"* ]] || fail "$answer: says $said"
+    faults=$((faults + 1))
+  done < <(awk -F '[|]' 'NF == 5 && $3 !~ /^ *$/ && $4 ~ /^ `plan: .*` $/ && $4 !~ /table row|session cannot/ {
+    plan = $3; answer = $4
+    gsub(/^ *`?|`? *$/, "", plan); gsub(/^ `|` $/, "", answer)
+    print plan; print answer }' "$home/docs/PLANS.md")
+  [ "$faults" -gt 40 ] || fail 'no faults in the guide'
+  tried=$((tried + faults))
+}
+
+# agrees ARGUMENT..: the program refuses these arguments if the hints do, and the front changes nothing of its answer.
+agrees() {
+  local alone=0 status=0 refused=0
+  "$STREAMBOX" "$@" > alone.rows 2> alone.notes < /dev/null || alone=$?
+  "$front" "$@" > rows 2> notes < /dev/null || status=$?
+  [ "$status" = "$alone" ] || fail "$*: exit code $status, and not $alone"
+  cmp rows alone.rows || fail "$*: other rows"
+  head -c "$(wc -c < alone.notes)" notes | cmp - alone.notes || fail "$*: other notes"
+  awk -f "$home/packaging/table.awk" -f "$home/packaging/words.awk" "$home/packaging/commands.txt" "$@" > rows || refused=1
+  [ $((alone == 1)) = "$refused" ] || fail "$*: exit code $alone, and the hints say: $(cat rows)"
+  tried=$((tried + 1))
+}
+
+# The real program: which arguments it takes, its rows, and its plans.
+check_program() {
+  local plan list
+  export STREAMBOX_PROGRAM=$STREAMBOX
+  while read -ra list; do
+    agrees "${list[@]}"
+    agrees "${list[@]}" --workers 1 --bundle 65536
+    agrees "${list[@]}" --pending 1024 --workers 64
+    agrees "${list[@]}" --taps --diary
+    agrees "${list[@]}" --bundle 0
+    agrees "${list[@]}" --pending 01
+    agrees "${list[@]}" --workers 2 --workers 2
+    agrees "${list[@]}" --bundle=3
+    agrees "${list[@]}" --taps more
+    agrees "${list[@]}" --
+    agrees "${list[@]}" ''
+  done << 'LISTS'
+sum
+sum 1
+sum 01
+sum -1
+sum +1
+sum 1000000000000
+sum 1000000000001
+sum 18446744073709551617
+work
+work 1
+work 10000001
+run no.toml
+run -
+slow no.toml
+watch no.toml
+watch no.toml web1
+watch no.toml 1,2
+watch no.toml abcdefghijklmnopqrstuvwx
+watch no.toml abcdefghijklmnopqrstuvwxy
+watch no.toml -k
+watch no.toml \é
+feeds no.toml a
+feeds no.toml a b
+feeds no.toml a b c
+part no.toml
+save no.toml
+resume no.toml
+resume no.toml cut
+audit
+audit x
+summe 1
+--workers 1 sum 1
+LISTS
+  agrees
+  "$front" sum 10 < "$home/examples/first.txt" | cmp - "$home/examples/first.rows" || fail 'other rows'
+  printf '%s\n' r,a,1,1,1 w,a,10 r,a,9,1,1 > late
+  "$front" sum 10 < late > rows 2> notes && fail 'takes a late record'
+  [[ $(cat notes) == 'line 3: late record, time 9, watermark 10'$'\n''hint: line 3: this record is late'* ]] ||
+    fail "a late record: $(cat notes)"
+  for plan in "$home"/examples/*/plan.toml; do
+    (cd "${plan%/*}" && "$front" check plan.toml) > rows || fail "check $plan"
+    [ "$(grep -c '^ *[0-9]* .* line ' rows)" = "$(grep -c '^\[\[transform' "$plan")" ] || fail "$plan: $(cat rows)"
+    tried=$((tried + 1))
+  done
+  tried=$((tried + 2))
+}
+
 check_help() {
   local command
   for command in sum run slow work watch feeds part save resume audit check; do
@@ -329,8 +426,10 @@ check_arguments
 check_files
 check_lines
 check_drawings
+check_faults
 check_signals
 check_help
 check_cost
 check_completions
+[ -z "${STREAMBOX-}" ] || check_program
 echo "$tried of the front: as expected"
