@@ -139,6 +139,8 @@ check_lines() {
   says 3 "$zero" sum 10 < input
   says 3 '' sum 10 < <(cat input)
   { read -r _; says 3 "${zero/line 2/line 1}" sum 10; } < input
+  head -c 4000001 /dev/zero | tr '\0' '#' > long
+  says 3 'hint: streambox-why says what is wrong with the line: streambox-why -s a < INPUT' sum 10 < long
   printf '%s\n' r,b,1,1,1 > other
   says 3 "hint: line 1: the plan does not read stream b (sum reads stream a): grep -v '^[rw],b,' leaves it out
 hint:   | r,b,1,1,1" sum 10 < other
