@@ -36,6 +36,7 @@ function problem_of_words(    place, argument, problem) {
 function problem_of_command(text,    near) {
   if (text ~ /^-/) return "\"" text "\" is not understood: the command is the first argument, and options are the last"
   near = nearest_command(text)
+  if (near == "" && distance_of(text, "check") < 3) return "there is no command \"" text "\": do you mean check PLAN?"
   if (near == "") return "there is no command \"" text "\""
   command = near
   return "there is no command \"" text "\": do you mean " near "?"

@@ -74,6 +74,7 @@ check_arguments() {
   local size='a whole number from 1 to 1000000000000'
   says 1 $'hint: a command is missing\nhint: streambox --help lists the commands'
   says 1 $'hint: there is no command "frobnicate"\nhint: streambox --help lists the commands' frobnicate
+  says 1 $'hint: there is no command "chek": do you mean check PLAN?\nhint: streambox --help lists the commands' chek plan.toml
   says 1 "hint: there is no command \"rum\": do you mean run?
 hint: the form is: streambox run PLAN [OPTIONS] < INPUT" rum plan.toml
   says 1 "hint: there is no command \"smu\": do you mean sum?

@@ -6,6 +6,8 @@
 #
 #   tests/fuzz.sh 1 10000
 set -euo pipefail
+# No hints: what the program itself says is compared.
+export STREAMBOX_PLAIN=1
 cd "$(dirname "$0")/.."
 program=$(readlink -f "${STREAMBOX:-./streambox}")
 first=${1:?the first number} last=${2:?the last number}

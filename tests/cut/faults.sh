@@ -6,6 +6,8 @@
 # The plans are a sum over windows of 10 of stream a (sum), the same with keys that are words (words), and a join of both
 # streams in windows of 10 (join).
 set -euo pipefail
+# No hints: what the program itself says is compared.
+export STREAMBOX_PLAIN=1
 cd "$(dirname "$0")"
 program=${STREAMBOX:-$(cd ../.. && pwd)/streambox}
 scratch=$(mktemp -d)
