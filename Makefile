@@ -35,7 +35,7 @@ install:
 	install -m 755 packaging/files.sh $(libexec)
 	install -m 644 packaging/help/*.txt $(libexec)/help
 	install -m 755 $(addprefix tools/,$(tools)) $(libexec)/tools
-	install -m 644 tools/*.awk $(libexec)/tools
+	install -m 644 $(filter-out $(addprefix tools/,$(tools)),$(wildcard tools/*)) $(libexec)/tools
 	install -m 755 packaging/front $(root)/bin/streambox
 	for tool in $(tools); do ln -sf ../libexec/streambox/tools/$$tool $(root)/bin/streambox-$$tool; done
 	install -D -m 644 docs/streambox.1 $(man)

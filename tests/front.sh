@@ -175,9 +175,26 @@ sys.exit(ended != -number or left)
 PYTHON
     tried=$((tried + 1))
   done
+  check_early_signals
   SIGNAL=KILL python3 -c 'import subprocess, sys; sys.exit(subprocess.call([sys.argv[1], "run", "plan"]) != -9)' "$front" ||
     fail 'a program that was killed'
   tried=$((tried + 1))
+}
+
+# So do signals that come while the front begins, at random moments.
+check_early_signals() {
+  STREAMBOX_PROGRAM=$(type -P sleep) python3 - "$front" << 'PYTHON' || fail 'a program goes on after a signal'
+import os, random, signal, subprocess, sys, time
+for _ in range(80):
+    front = subprocess.Popen([sys.argv[1], "60"], start_new_session=True)
+    time.sleep(random.random() * 0.012)
+    front.terminate()
+    ended = front.wait(30)
+    try: os.killpg(front.pid, signal.SIGKILL); left = True
+    except ProcessLookupError: left = False
+    if left or ended != -signal.SIGTERM: sys.exit(1)
+PYTHON
+  tried=$((tried + 80))
 }
 
 # It may cost 5 ms more than the program alone, by the quickest start of each: of 40, or of more on a busy machine.
