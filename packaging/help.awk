@@ -17,10 +17,10 @@ BEGIN {
 function write_overview(file, name, kind,    place) {
   print "streambox adds up, counts and joins events by window of time and key.\n" > file
   for (place = 1; place <= commands; place++)
-    printf "  %-58s %s\n", name " " form_of(command_name[place]), gives[command_name[place]] > file
+    printf "  %-52s %s\n", name " " form_of(command_name[place]), gives[command_name[place]] > file
   for (place = 1; place <= others; place++)
     if (other_kind[place] == "front" || other_kind[place] == kind)
-      printf "  %-58s %s\n", name " " other_call[place], other_says[place] > file
+      printf "  %-52s %s\n", name " " other_call[place], other_says[place] > file
   print "\nA line of the input is an event, r,STREAM,TIME,KEY,VALUE, a watermark, w,STREAM,TIME, or" > file
   print "a comment, # TEXT. STREAM is a or b; the others are whole numbers. A row is END,KEY,VALUE:" > file
   print "the window's end, a key, and what its values come to." > file

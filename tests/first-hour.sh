@@ -7,6 +7,7 @@
 # The commands are those of the first code block after a line <!-- first hour: commands -->, and what they print is the
 # first one after a line <!-- first hour: prints -->. A block is indented by four blanks or stands between lines of ```.
 # They are run by bash in a copy of the files that git has, or of all files if git is not there, and may take 60 seconds.
+# On standard error they may say that the release is of other sources, if it is, and nothing else.
 set -euo pipefail
 home=$(cd "$(dirname "$0")/.." && pwd)
 readme=$(readlink -f "${1:-$home/README.md}")
@@ -71,5 +72,9 @@ timeout 60 bash -euo pipefail "$scratch/commands" > "$scratch/printed" 2> "$scra
 }
 took=$((($(date +%s%N) - begin) / 1000000))
 diff "$scratch/wanted" "$scratch/printed" || fail 'the commands print something else'
-[ ! -s "$scratch/said" ] || fail "the commands say $(cat "$scratch/said")"
+other=''
+[ "$(sed -n 's/^sources //p' release/about.txt)" = "$(release/digest.sh)" ] ||
+  other='streambox: the program of release/ is of other sources than these'
+said=$(cat "$scratch/said")
+[[ -z $said || -n $other && $said == "$other"* && $said != *$'\n'* ]] || fail "the commands say $said"
 echo "the first screen of ${readme##*/}: as printed, in $took ms"

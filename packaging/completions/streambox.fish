@@ -37,7 +37,7 @@ complete -c streambox -n '__fish_seen_subcommand_from resume' -l pending -x -d '
 complete -c streambox -n '__fish_seen_subcommand_from resume' -l workers -x -d 'W threads work; without it one'
 complete -c streambox -n __fish_use_subcommand -f -a audit -d 'whether a diary is legal, and settled'
 complete -c streambox -n '__fish_seen_subcommand_from audit' -f
-complete -c streambox -n __fish_use_subcommand -f -a work -d 'a summary of sums over N records that it makes'
+complete -c streambox -n __fish_use_subcommand -f -a work -d 'a summary over N records that it makes'
 complete -c streambox -n '__fish_seen_subcommand_from work' -f
 complete -c streambox -n '__fish_seen_subcommand_from work' -l bundle -x -d 'at most B records go through the engine together; without it 1024'
 complete -c streambox -n '__fish_seen_subcommand_from work' -l pending -x -d 'at most P bundles of a stream wait; without it 256'
