@@ -9,8 +9,18 @@ if [ -e release/about.txt ] && cmp -s "$program" release/streambox; then
   cat release/about.txt
   exit
 fi
+# The commit, if git has these files and no source is newer than the program.
+commit() {
+  if [ ! -e .git ] || [ -n "$(find crates crates.txt -name out -prune -o -type f -newer "$program" -print -quit)" ] ||
+    ! git rev-parse --short=12 HEAD 2> /dev/null; then
+    echo unknown
+  elif ! git diff --quiet HEAD -- crates crates.txt; then
+    echo and changes
+  fi
+}
+
 echo "version $(cat VERSION)"
-echo "commit $(git rev-parse --short=12 HEAD 2> /dev/null || echo unknown)"
+echo "commit $(commit | paste -sd ' ')"
 # The start script leaves the kit's line beside the program that it builds.
 echo "kit $(grep . "${program%/*}/proved" 2> /dev/null || echo unknown)"
 echo 'release no'

@@ -22,8 +22,9 @@ function write_overview(file, name, kind,    place) {
     if (other_kind[place] == "front" || other_kind[place] == kind)
       printf "  %-52s %s\n", name " " other_call[place], other_says[place] > file
   print "\nA line of the input is an event, r,STREAM,TIME,KEY,VALUE, a watermark, w,STREAM,TIME, or" > file
-  print "a comment, # TEXT. STREAM is a or b; the others are whole numbers. A row is END,KEY,VALUE:" > file
-  print "the window's end, a key, and what its values come to." > file
+  print "a comment, # TEXT. STREAM is a or b. TIME, KEY and VALUE are whole numbers; KEY is a word if" > file
+  print "the plan says so. A row is END,KEY,VALUE: the end of a window, a key, and what its values" > file
+  print "come to." > file
   print "\nTry it:\n\n  " with_name(example["sum"], name) "\n\nOptions, after the other arguments, each at most once:\n" > file
   for (place = 1; place <= options; place++) write_option(file, option_name[place])
   print "\nExit codes:\n" > file

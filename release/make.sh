@@ -47,7 +47,7 @@ size=$(wc -c < "$scratch/streambox")
 [ "$size" -lt 1000000 ] || fail "the program has $size bytes, and may have 999999"
 {
   echo "version $(cat "$tree/VERSION")"
-  echo "commit $(git -C "$tree" rev-parse --short=12 HEAD 2> /dev/null || echo unknown)"
+  echo "commit $({ [ -e "$tree/.git" ] && git -C "$tree" rev-parse --short=12 HEAD 2> /dev/null; } || echo unknown)"
   echo "kit $kit"
   echo 'release yes'
   echo "sources $("$here/digest.sh" "$tree")"
