@@ -21,6 +21,11 @@ cat > bin/rt << 'RT'
 crate=${PWD##*/}
 echo "$1" >> "$CALLS"
 [ "$1" != version ] || { echo kit-of-this-test; exit; }
+if [ "$1" = try ]; then
+  echo 10,1,7
+  printf '%s\n' 'interpreter x' 'line 4: malformed' 'races: not looked for' 'checked: ended' 'run=ended status=3 more' >&2
+  exit 1
+fi
 echo "about $crate"
 if [ "$crate" = "${WAIT-}" ]; then
   echo $$ > "$CALLS.waits"
@@ -81,6 +86,9 @@ check_slips() {
       STREAMBOX_PLAIN=1 starts 1 'words not understood' '' $try watch plan
     }
   done
+  starts 1 'hint: the form is: streambox check PLAN' '' check
+  starts 6 "hint: the plan no-plan: there is no such file; you are in $tree" '' check no-plan
+  starts 1 'hint: --try takes the commands of the program, and check is none' '' --try check crates.txt
   starts 0 '' '' --help
   cmp rows packaging/help/script.txt || fail '--help: another page'
   starts 0 '' '' --help sum
@@ -88,6 +96,12 @@ check_slips() {
   starts 0 '' '' run --help
   starts 0 '' '' --version
   prints "streambox $(cat VERSION), not built; ./streambox --build proves and builds it"
+}
+
+# What rt says itself when it tries the program is left out.
+check_try() {
+  starts 3 $'in about half a minute\nline 4: malformed' 'try ' --try sum 10
+  prints 10,1,7
 }
 
 # If there is no program and no release, a command builds one.
@@ -156,6 +170,7 @@ check_release() {
 }
 
 check_slips
+check_try
 check_build
 check_changed
 check_release
