@@ -75,6 +75,7 @@ check_make() {
 check_check() {
   tells 0 'release: the program that was built, byte for byte' release/check.sh $built
   tells 1 '0 passed, 1 failed' release/check.sh "$scratch/other"
+  tells 0 'release: whole' release/check.sh
   echo >> crates.txt
   tells 0 'release: of other sources than these; not compared' release/check.sh "$scratch/other"
   echo 'streambox:' > crates.txt
@@ -82,6 +83,7 @@ check_check() {
   tells 0 'release: of these sources; not compared, since two builds are different' release/check.sh "$scratch/other"
   echo >> release/streambox
   tells 1 '0 passed, 1 failed' release/check.sh $built
+  tells 1 '0 passed, 1 failed' release/check.sh
   rm release/about.txt
   tells 1 '0 passed, 1 failed' release/check.sh $built
   rm release/streambox
