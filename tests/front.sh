@@ -1,6 +1,6 @@
 #!/usr/bin/env bash
 # Tries packaging/front, the command as it is installed: that it changes no row, no exit code and no byte of the input,
-# what it says after the program, how it ends by signals, what it costs, and the completions. It runs a program of its
+# what it says after the program, how it ends by signals, and the completions. It runs a program of its
 # own that ends as it is told. With STREAMBOX, the absolute path of the real program, that is tried, too.
 set -euo pipefail
 home=$(cd "$(dirname "$0")/.." && pwd)
@@ -196,30 +196,6 @@ for _ in range(80):
     if left or ended != -signal.SIGTERM: sys.exit(1)
 PYTHON
   tried=$((tried + 80))
-}
-
-# It may cost 5 ms more than the program alone, by the quickest start of each: of 40, or of more on a busy machine.
-check_cost() {
-  local cost
-  cost=$(STREAMBOX_PROGRAM=$(type -P true) python3 - "$front" << 'PYTHON'
-import os, sys, time
-def quickest(path, count):
-    times = []
-    for _ in range(count):
-        begin = time.perf_counter()
-        os.waitpid(os.posix_spawn(path, [path, "sum", "10"], os.environ), 0)
-        times.append(time.perf_counter() - begin)
-    return min(times)
-alone = quickest(os.environ["STREAMBOX_PROGRAM"], 40)
-for tries in range(20):
-    cost = quickest(sys.argv[1], 40) - alone
-    if cost < 0.005: break
-print(int(cost * 1e6))
-PYTHON
-  )
-  [ "$cost" -lt 5000 ] || fail "it costs $cost microseconds"
-  echo "the front costs $cost microseconds"
-  tried=$((tried + 1))
 }
 
 # checks CODE NOTE DRAWING PLAN: if the program ends so, `check` prints this drawing, or says it after the note.
@@ -450,7 +426,6 @@ check_drawings
 check_faults
 check_signals
 check_help
-check_cost
 check_completions
 [ -z "${STREAMBOX-}" ] || check_program
 echo "$tried of the front: as expected"
