@@ -59,7 +59,9 @@ compare_steps() {
     lines=$((lines + 1))
   done
   if [ "$lines" = "$refused" ]; then
-    "$root/tools/step" "$plan" "$scratch/cuts" < "$input" > "$scratch/left" 2>> "$scratch/notes" || status=$?
+    "$root/tools/step" "$plan" "$scratch/cuts" < "$input" 2> "$scratch/note" || status=$?
+    grep -v '^step: ' "$scratch/note" >> "$scratch/notes"
+    : > "$scratch/left"
   else
     tail -n "+$lines" "$input" > "$scratch/rest"
     "$program" resume "$plan" "$last" < "$scratch/rest" > "$scratch/left" 2>> "$scratch/notes" || status=$?
