@@ -121,6 +121,21 @@ check_rotation() {
   refuses 3 'line 2374: malformed' plan.toml cuts log
 }
 
+check_two_rotations() {
+  try 'a log that is rotated twice'
+  lines 1 23 > log.2
+  goes plan.toml cuts log.2
+  lines 24 31 >> log.2
+  lines 32 40 > log.1
+  lines 41 55 > log
+  long_ago log.1
+  long_ago log.2
+  refuses 65 'log is not the log that cuts goes on with' -o log.1 plan.toml cuts log
+  goes -o log.2 plan.toml cuts log.1
+  goes -o log.1 plan.toml cuts log
+  whole log.2 log.1 log
+}
+
 check_copied() {
   try 'a log that is copied and emptied'
   lines 1 2000 > log
@@ -314,14 +329,15 @@ check_cost() {
   [ $((long - short)) -lt 2000 ] || fail "reads $short bytes after a short log, and $long after a long one"
 }
 
-# kill_at_random COMMAND..: kills the command, and all that it started, at some moment in the time that it takes, `took`
-# milliseconds, or a little later. A call that has ended is counted.
+# kill_at_random COMMAND..: kills the command at some moment in the time that it takes, `took` milliseconds, or a little
+# later; every second time all that it started, too. A call that has ended is counted.
 kill_at_random() {
   local pid
   setsid "$@" 2> said &
   pid=$!
   sleep "$(awk -v took="$took" -v random="$RANDOM" 'BEGIN { print 1.2 * took * random / 32768 / 1000 }')"
-  kill -KILL -- "-$pid" 2> /dev/null || kill -KILL "$pid" 2> /dev/null || true
+  [ $((call % 2)) = 0 ] || kill -KILL -- "-$pid" 2> /dev/null || true
+  kill -KILL "$pid" 2> /dev/null || true
   if { wait "$pid"; } 2> /dev/null; then ended=$((ended + 1)); fi
 }
 
@@ -410,6 +426,7 @@ check_merge_rotation() {
 
 check_growing
 check_rotation
+check_two_rotations
 check_copied
 check_anew
 check_changed
