@@ -97,7 +97,10 @@ check_rotation() {
   goes -o log.1 plan.toml cuts log
   whole log.1
   : > log
-  lines 32 33 >> log.1
+  printf r,a,3 >> log.1
+  long_ago log.1
+  goes -o log.1 plan.toml cuts log
+  printf '2,2,32\nr,a,33,0,33\n' >> log.1
   goes -o log.1 plan.toml cuts log
   whole log.1
   lines 34 2000 > log
@@ -401,6 +404,30 @@ check_merge() {
   echo "$((kills - ended)) of $kills calls of merge were killed at work"
 }
 
+# A call of merge was killed when its lines were prepared, in the middle of appending them, or when all were appended.
+check_append() {
+  local size merge=$root/examples/merge/merge
+  try 'lines that are appended in part'
+  cp "$root/examples/merge/plan.toml" .
+  make_orders > all_orders
+  make_payments > payments
+  head -n 500 all_orders > orders
+  "$merge" 20 orders payments state 2> said || fail "exit code $?"
+  cp -r state early
+  head -n 1000 all_orders > orders
+  "$merge" 20 orders payments state 2> said || fail "exit code $?"
+  mv state late
+  for size in "$(wc -c < early/merged.txt)" 22222 "$(wc -c < late/merged.txt)"; do
+    rm -rf state
+    cp -r early state
+    cp -r late/taken state/next
+    head -c "$size" late/merged.txt > state/merged.txt
+    "$merge" 20 orders payments state 2> said || fail "exit code $?"
+    cmp state/merged.txt late/merged.txt || fail "other lines after $size bytes"
+    cat state/cuts/*/rows | cmp - <(cat late/cuts/*/rows) || fail "other rows after $size bytes"
+  done
+}
+
 # Both logs are rotated, as the head of merge says, and so is the merged one.
 check_merge_rotation() {
   local merge=$root/examples/merge/merge
@@ -439,5 +466,6 @@ check_bound
 check_cost
 check_kills
 check_merge
+check_append
 check_merge_rotation
 echo "$cases cases of a timer: as expected"
