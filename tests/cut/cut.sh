@@ -2,7 +2,8 @@
 # Cuts an input behind each of its lines: `part` and `save` take what is before the cut, `resume` what is behind it, with 1
 # worker and with 8. Together they have to give the rows, the notes and the exit code of `run` over the whole input, and
 # the checkpoint has to be that of its definition (checkpoint.awk). A first part that ends in the middle of a line counts
-# as if it ended before this line. Then the input comes as a log that grows line by line, and tools/step has to give the same.
+# as if it ended before this line. Then the input comes as a log that grows line by line, and tools/step has to give the
+# same: its rows, the notes that it keeps, and its checkpoints (../timer.sh tries what else can happen to a log).
 #
 #   cut.sh                 over input.txt and refused.txt of examples/cut
 #   cut.sh PLAN INPUT..    over others. Names are taken from the folder where you are, those of the plan's tables, too
@@ -45,28 +46,30 @@ compare_middle() {
 }
 
 # compare_steps COUNT: the COUNT lines that have an end come one by one, up to one that is refused. Each step leaves the
-# checkpoint of all lines so far. All steps, and `resume` behind the last of them, give the whole.
+# checkpoint of all lines so far, and keeps the notes that it tells. All steps, and `resume` behind the last of them, give
+# the whole.
 compare_steps() {
   local lines=0 status=0 cut last refused
   refused=$(refused_line)
   rm -rf "$scratch/cuts"
-  : > "$scratch/notes"
   while [ "$lines" -le "$1" ] && [ "$lines" != "$refused" ]; do
     head -n "$lines" "$input" > "$scratch/first"
-    "$root/tools/step" "$plan" "$scratch/cuts" < "$scratch/first" 2>> "$scratch/notes" || differs "step $lines: exit code $?"
-    for cut in "$scratch"/cuts/[0-9]*; do last=$cut/checkpoint; done
-    "$program" save "$plan" < "$scratch/first" 2> "$scratch/note" | cmp - "$last" || differs "step $lines: other checkpoint"
+    "$root/tools/step" "$plan" "$scratch/cuts" "$scratch/first" 2> "$scratch/note" || differs "step $lines: exit code $?"
+    for cut in "$scratch"/cuts/[0-9]*; do last=$cut; done
+    cmp "$last/notes" "$scratch/note" || differs "step $lines: keeps other notes"
+    "$program" save "$plan" < "$scratch/first" 2> "$scratch/note" | cmp - "$last/checkpoint" || differs "step $lines: other checkpoint"
     lines=$((lines + 1))
   done
   if [ "$lines" = "$refused" ]; then
-    "$root/tools/step" "$plan" "$scratch/cuts" < "$input" 2> "$scratch/note" || status=$?
-    grep -v '^step: ' "$scratch/note" >> "$scratch/notes"
+    "$root/tools/step" "$plan" "$scratch/cuts" < "$input" 2> "$scratch/said" || status=$?
+    grep -v '^step: ' "$scratch/said" > "$scratch/note"
     : > "$scratch/left"
   else
     tail -n "+$lines" "$input" > "$scratch/rest"
-    "$program" resume "$plan" "$last" < "$scratch/rest" > "$scratch/left" 2>> "$scratch/notes" || status=$?
+    "$program" resume "$plan" "$last/checkpoint" < "$scratch/rest" > "$scratch/left" 2> "$scratch/note" || status=$?
   fi
   cat "$scratch"/cuts/[0-9]*/rows "$scratch/left" > "$scratch/rows"
+  cat "$scratch"/cuts/[0-9]*/notes "$scratch/note" > "$scratch/notes"
   wanted both "$status" "$scratch/rows" "$scratch/notes"
   same both whole 'all steps'
 }
