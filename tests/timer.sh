@@ -234,6 +234,11 @@ check_half_lines() {
   goes plan.toml cuts log
   whole log
   [ "$(cat cuts/*/rows)" = 10,1,31416 ] || fail 'another sum'
+  # `records` gives half a line an end. So the log that comes by a pipe has changed when the line is whole.
+  rm -r cuts
+  printf '1,31' | "$root/tools/records" -t 1 -v 2 | "$step" plan.toml cuts || fail "exit code $?"
+  printf '1,31415\n' > raw
+  refuses 65 'the log is not the log that cuts goes on with' plan.toml cuts < <("$root/tools/records" -t 1 -v 2 < raw)
 }
 
 # Half a line of the log that the filter reads, and watermarks of calls that see less than the whole log.

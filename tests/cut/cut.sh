@@ -57,7 +57,8 @@ compare_steps() {
     "$root/tools/step" "$plan" "$scratch/cuts" "$scratch/first" 2> "$scratch/note" || differs "step $lines: exit code $?"
     for cut in "$scratch"/cuts/[0-9]*; do last=$cut; done
     cmp "$last/notes" "$scratch/note" || differs "step $lines: keeps other notes"
-    "$program" save "$plan" < "$scratch/first" 2> "$scratch/note" | cmp - "$last/checkpoint" || differs "step $lines: other checkpoint"
+    "$program" save "$plan" < "$scratch/first" 2> "$scratch/note" | cmp - "$last/checkpoint" ||
+      differs "step $lines: other checkpoint"
     lines=$((lines + 1))
   done
   if [ "$lines" = "$refused" ]; then
