@@ -15,7 +15,7 @@ shopt -s nullglob
 here=$(dirname "$(readlink -f "$0")")
 root=$(readlink -f "$here/../..")
 program=${STREAMBOX:-$root/streambox}
-export STREAMBOX=$program
+export STREAMBOX=$program STREAMBOX_PLAIN=1
 if [ $# = 0 ]; then
   cd "$root/examples/cut"
   set -- plan.toml input.txt refused.txt
