@@ -347,6 +347,7 @@ $text
 ---
 r,a,1,1,1
 r,a,2,2,2
+records: line 2: $what
 records: left out as no record: 1
 CASE
   done <<'BAD'
@@ -659,12 +660,290 @@ mail &amp; &lt;co&gt;
 CASE
 }
 
+# A fault of a tool's own: `records` ends by a line that streambox refuses, `rows`, `why` and `chart` say it, and none of
+# them ends with 0.
+check_faults() {
+  local tool options name
+  mkdir -p folder
+  printf '1,web1\n' > words
+  printf '1,web1,10\n2,web1,20\n3,web2,400\n4,web1,8000\n' > log
+  # A dictionary that can't be written or read, in each of the ways; the last is found by opening and by writing it.
+  ends_refused 'records: the dictionary is a directory: folder' records -t 1 -k 2 -v 3 -d folder
+  printf '1,web1\n2,we' > half
+  ends_refused 'records: the last line of the dictionary has no end: take it out, or end it: half' \
+    records -t 1 -k 2 -v 3 -d half
+  ends_refused 'records: *' records -t 1 -k 2 -v 3 -d no_folder/words
+  ends_refused 'records: *' \
+    bash -c '(trap "" XFSZ; ulimit -f 0; exec records -t 1 -k 2 -v 3 -d words) | cat; exit "${PIPESTATUS[0]}"'
+  printf '1,web1\n' > words
+  printf 'head -n 3 log; until grep -q web2 words; do sleep 0.1; done; echo 2,web9 >> words; cat log' > both
+  ends_refused 'records: the dictionary has not the words that were written to it: *' \
+    bash -c 'timeout 60 sh both | records -t 1 -k 2 -v 3 -d words'
+  # An input that can't be read, an awk that is not there, one that dies, and one that dies within a line.
+  ends_refused 'records: the input is a directory: name a file after <' bash -c 'records -t 1 < folder'
+  ends_refused 'records: standard input is closed' bash -c 'records -t 1 <&-'
+  ends_refused 'records: no_awk failed, with exit code 127: the output is not whole' env AWK=no_awk records -t 1
+  printf '#!/bin/sh\nhead -n 2 | %s "$@"\nkill -9 $$\n' "$AWK" > dying
+  printf '#!/bin/sh\nprintf r,a,1,1,1\nkill -9 $$\n' > dying_within
+  chmod +x dying dying_within
+  ends_refused 'records: ./dying failed, with exit code 137: the output is not whole' env AWK=./dying records -t 1
+  ends_refused 'r,a,1,1,1records: ./dying_within failed, *' env AWK=./dying_within records -t 1
+  # Arguments that are wrong, and a signal.
+  ends_refused 'records: -t is missing; records -h says more' records
+  ends_refused 'records: an option is wrong' records -Z
+  for options in '-t 1 -y 26' '-t 1 -x 5' '-t 1 -s c' '-t 1 -q -F ab' '-t 1 -o 1.5'; do
+    # shellcheck disable=SC2086 # Each has several words.
+    ends_refused 'records: *; records -h says more' records $options
+  done
+  ends_refused 'records: ended by a signal' \
+    bash -c '{ cat log; until [ -e ended ]; do sleep 0.1; done; } |
+      { exec 3<&0; records -t 1 <&3 & until [ -s output ]; do sleep 0.1; done; kill $!; wait $!; status=$?; touch ended; exit $status; }'
+  for tool in 'rows -n' 'chart -n'; do
+    name=${tool%% *}
+    says_fault "$name: the input is a directory: name a file after <" sh -c "$tool < folder"
+    says_fault "$name: standard input is closed" sh -c "$tool <&-"
+    # shellcheck disable=SC2086 # It has several words.
+    says_fault "$name: ./dying failed, with exit code 137: the output is not whole" env AWK=./dying $tool
+  done
+  says_fault "rows: line 1: the dictionary can't be read: none" rows -n -d none
+  says_fault "chart: the dictionary can't be read: none" chart -n -d none
+  says_fault 'rows: the dictionary is a directory: folder' rows -n -d folder
+}
+
+# ends_refused PATTERN COMMAND: on the file log, the command does not end with 0, and its last line matches the pattern,
+# which it says on standard error, too, unless an option was wrong.
+ends_refused() {
+  local wanted=$1 status=0 last
+  shift
+  rm -f ended
+  "$@" < log > output 2> errors || status=$?
+  last=$(tail -n 1 output)
+  # shellcheck disable=SC2053 # It is a pattern.
+  if [ "$status" = 0 ] || [[ $last != $wanted ]] || why < output > said; then
+    echo "$*, by $AWK, ends with exit code $status and the line $last"
+    cat errors
+    exit 1
+  fi
+  cases=$((cases + 1))
+}
+
+# says_fault TEXT COMMAND: on rows, the command ends with 2, and says this last on standard error.
+says_fault() {
+  local wanted=$1 status=0
+  shift
+  printf '10,1,5\n20,2,6\n30,3,6\n' | "$@" > output 2> errors || status=$?
+  if [ "$status" != 2 ] || [ "$(tail -n 1 errors)" != "$wanted" ]; then
+    echo "$*, by $AWK, ends with exit code $status and says $(cat errors), and not $wanted"
+    exit 1
+  fi
+  cases=$((cases + 1))
+}
+
+# The options beyond times, keys and values of one column.
+check_options() {
+  # Mail dates, git's own, and syslog over New Year, each as of date(1); what %a says is not compared.
+  try 0 records -F ';' -t 1 -f '%a, %d %b %Y %T %z' <<'CASE'
+Fri, 27 Nov 2026 09:30:01 +0100
+Mon, 7 Nov 2026 09:30:01 +0000
+---
+r,a,1795768201,0,1
+r,a,1794043801,0,1
+CASE
+  try 0 records -F ';' -t 1 -f '%a %b %e %T %Y %z' <<'CASE'
+Fri Nov 27 09:30:01 2026 +0100
+---
+r,a,1795768201,0,1
+CASE
+  try 2 records -F ';' -t 1 -f '%a %d %b %Y' <<'CASE'
+Fre 27 Nov 2026
+---
+records: line 1: no time: "Fre 27 Nov 2026", by %a %d %b %Y
+records: line 1: no time: "Fre 27 Nov 2026", by %a %d %b %Y
+CASE
+  try 0 records -F ' ' -t 1,2,3 -f '%b %e %T' -y 2026 <<'CASE'
+Nov 27 09:30:01 web1 sshd: x
+Nov  7 09:30:01 web1 sshd: x
+Dec 31 23:59:59 web1 sshd: x
+Jan  1 00:00:00 web1 sshd: x
+Dec 31 23:59:58 web1 sshd: x
+---
+r,a,1795771801,0,1
+r,a,1794043801,0,1
+r,a,1798761599,0,1
+r,a,1798761600,0,1
+r,a,1798761598,0,1
+CASE
+  try 2 records -F ' ' -t 1,2,3 -f '%b %e %T' <<'CASE'
+Nov 27 09:30:01 web1 sshd: x
+---
+records: line 1: no time: "Nov 27 09:30:01", by %b %e %T
+records: line 1: no time: "Nov 27 09:30:01", by %b %e %T
+CASE
+  # A dictionary of words of several columns, and words themselves.
+  try 0 records -t 1 -k 2,3 -j / -w <<'CASE'
+3,web1,eth0
+---
+r,a,3,web1/eth0,1
+CASE
+  try 0 records -t 1 -k 4,3,2 -j '' -w <<'CASE'
+3,a,b,c
+---
+r,a,3,cba,1
+CASE
+  try 2 records -q -t 1 <<'CASE'
+3,"a
+---
+records: line 1: a quote of it has no end
+records: line 1: a quote of it has no end
+CASE
+  check_fractions
+  check_last_lines
+  check_times_of_a_minute
+}
+
+# Values with a fraction: what they give, times 1,000, or - if they give nothing.
+check_fractions() {
+  local text number
+  while read -r text number; do
+    if [ "$number" = - ]; then
+      try 2 records -t 1 -v 2 -x 1000 <<CASE
+3,$text
+---
+records: line 1: no value: "$text" times 1000 is no whole number of 64 bits
+records: line 1: no value: "$text" times 1000 is no whole number of 64 bits
+CASE
+    else
+      try 0 records -t 1 -v 2 -x 1000 <<CASE
+3,$text
+---
+r,a,3,0,$number
+CASE
+    fi
+  done <<'VALUES'
+0.123 123
+12 12000
+-1.5 -1500
+0 0
+-0.000 0
+.25 250
+7. 7000
+007.0070 7007
+0.1000 100
+9223372036854775.807 9223372036854775807
+-9223372036854775.808 -9223372036854775808
+9223372036854775.808 -
+0.1234 -
+1e3 -
++1 -
+. -
+1.2.3 -
+VALUES
+}
+
+# A last line without an end: a record, or with -p left for the next call.
+check_last_lines() {
+  local text
+  for text in '5,web1,31' '5,w' '' '5,web1,31\r'; do
+    printf "3,web1,10\n$text" > log
+    try 0 bash -c 'records -p -t 1 -v 3 < log' <<'CASE'
+---
+r,a,3,0,10
+CASE
+    try 0 bash -c 'cat log | records -p -t 1 -v 3' <<'CASE'
+---
+r,a,3,0,10
+CASE
+  done
+  printf '3,web1,10\n5,web1,31' > log
+  try 0 bash -c 'records -t 1 -v 3 < log' <<'CASE'
+---
+r,a,3,0,10
+r,a,5,0,31
+CASE
+  printf '3,web1,10\n' > log
+  try 0 bash -c 'records -p -H -t web1 < log; records -p -t 1 < /dev/null' <<'CASE'
+---
+CASE
+}
+
+# Times that follow one another: a time by the minute of the one before is what it is alone.
+check_times_of_a_minute() {
+  local format
+  printf '2026-11-27 %s\n' 09:30:01.250 09:30:01.250 09:30:02.5 09:30:59.999 09:30:60.000 09:30:02.2x0 09:30:61.000 \
+    09:31:00.000 09:30:07 09:30:08 09:30:0x 09:30:08,7 09:30:08.125 10:30:08.125 > texts
+  for format in '%F %T' '%F %H:%M:%S'; do
+    while IFS= read -r text; do
+      printf '%s\n' "$text" | records -m -o -3600000 -t 1 -F ';' -f "$format" 2> /dev/null | grep -v ^records || :
+    done < texts > wanted
+    records -i -m -o -3600000 -t 1 -F ';' -f "$format" < texts 2> /dev/null | cmp - wanted
+    [ "$(wc -l < wanted)" = 11 ]
+    cases=$((cases + 1))
+  done
+  # Times are compared as numbers, and not as texts.
+  try 0 records -t 1 -L 0 -f '%Y-%m-%d %T' -F ';' <<'CASE'
+1970-01-01 00:00:09
+1970-01-01 00:00:10
+1970-01-01 00:00:09
+1970-01-01 00:01:40
+---
+r,a,9,0,1
+w,a,9
+r,a,10,0,1
+w,a,10
+r,a,100,0,1
+w,a,100
+records: left out as late: 1
+CASE
+}
+
+check_rows() {
+  printf '1,web "1"\n2,a\\b\tc\n3,caf\303\251\n' > words
+  try 0 rows -H -d words -w 60 -f %H:%M <<'CASE'
+60,1,5
+---
+time,key,value
+00:00,"web ""1""",5
+CASE
+  try 0 rows -H <<'CASE'
+---
+time,key,value
+CASE
+  try 0 rows --json -d words <<'CASE'
+60,1,5
+60,2,-9223372036854775808
+60,3,0
+60,44,9223372036854775807
+---
+{"time":"1970-01-01T00:01:00Z","key":"web \"1\"","value":5}
+{"time":"1970-01-01T00:01:00Z","key":"a\\b\u0009c","value":-9223372036854775808}
+{"time":"1970-01-01T00:01:00Z","key":"café","value":0}
+{"time":"1970-01-01T00:01:00Z","key":"44","value":9223372036854775807}
+CASE
+  try 0 rows --json -n -w 10 <<'CASE'
+60,/index.html,5
+---
+{"time":50,"key":"/index.html","value":5}
+CASE
+  try 0 rows --json -f '"%F"' <<'CASE'
+60,1,5
+---
+{"time":"\"1970-01-01\"","key":"1","value":5}
+CASE
+  says_fault 'rows: -H and --json do not go together: each object has the names; rows -h says more' rows -H --json
+  says_fault 'rows: no such option: --jason; rows -h says more' rows --jason
+  try 2 rows <<'CASE'
+1795771801000,1,5
+---
+rows: line 1: its time lies after the year 9999: say -m if times are milliseconds, or -n if they are no dates
+CASE
+}
+
 check_usage() {
   local tool
   for tool in records rows why chart; do
     "$tool" -h > usage
     grep -q "^  .*$tool " usage
-    if "$tool" -Z > said 2>&1 < /dev/null; then exit 1; fi
+    if "$tool" -Z > output 2> said < /dev/null; then exit 1; fi
     tail -n +2 said | cmp - usage
     if "$tool" file > said 2>&1 < /dev/null; then exit 1; fi
     cases=$((cases + 3))
@@ -677,7 +956,7 @@ for AWK in "${awks[@]}" awk; do
   $AWK 'BEGIN { exit 0 }' > /dev/null 2>&1 < /dev/null || { echo "tools: $AWK is not installed"; continue; }
   # The one that is called awk is mostly one of the others.
   [ "$AWK" != awk ] || [ "$cases" = 0 ] || continue
-  rm -f ./*
+  rm -rf ./*
   before=$cases
   check_columns
   check_words
@@ -688,6 +967,9 @@ for AWK in "${awks[@]}" awk; do
   check_keys_of_words
   check_notes
   check_chart
+  check_options
+  check_rows
+  check_faults
   check_usage
   echo "tools: $((cases - before)) cases by $AWK as expected"
 done

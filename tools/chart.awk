@@ -26,20 +26,22 @@ $1 + 0 > last { last = $1 + 0 }
 }
 
 END {
-  if (stopped) exit stopped
+  if (stopped) exit 10
   if (!keys) { say("chart: there are no rows"); exit }
   if (step == 0) step = first
   slots = (last - first) / step + 1
   if (slots > 400)
     stop("there are " sprintf("%.0f", slots) " windows from first to last: take greater ones, or a part of the rows")
   if (format == "") format = format_for(step)
+  word_of(key[1], dictionary)
+  if (is_unread) stop("the dictionary can't be read: " dictionary)
   draw()
 }
 
 function stop(message) {
   say("chart: " message)
-  stopped = 2
-  exit 2
+  stopped = 1
+  exit 10
 }
 
 # The greatest common divisor: how far apart the ends of windows are.

@@ -16,3 +16,18 @@ function at_most(digits, bound) {
   if (length(digits) != length(bound)) return length(digits) < length(bound)
   return ("" digits) <= ("" bound)
 }
+
+# A number that may have a fraction, multiplied by 1 with so many zeros; empty if that is no whole number.
+function scaled(text, zeros,   sign, point, part) {
+  if (text !~ /^-?([0-9]+([.][0-9]*)?|[.][0-9]+)$/) return ""
+  sign = sub(/^-/, "", text) ? "-" : ""
+  point = index(text, ".")
+  part = point ? substr(text, point + 1) : ""
+  if (point) text = substr(text, 1, point - 1)
+  sub(/0+$/, "", part)
+  if (length(part) > zeros) return ""
+  while (length(part) < zeros) part = part "0"
+  text = text part
+  sub(/^0+/, "", text)
+  return text == "" ? "0" : sign text
+}

@@ -6,6 +6,8 @@ BEGIN {
   split("Jan Feb Mar Apr May Jun Jul Aug Sep Oct Nov Dec", month_names, " ")
   for (i = 1; i <= 12; i++) month_of[month_names[i]] = i
   split("Thu Fri Sat Sun Mon Tue Wed", day_names, " ")
+  for (i = 1; i <= 7; i++) is_day_name[day_names[i]]
+  for (i = 0; i <= 60; i++) second_of[sprintf("%02d", i)] = i
 }
 
 # The remainder, from 0 up, also of a negative number.
@@ -42,21 +44,54 @@ function unknown_word(format, letters,   i) {
   return ""
 }
 
-# The time that a text tells in a format, as text; empty if it tells none.
+# The time that a text tells in a format, as text; empty if it tells none. A format without a year takes that of the line
+# before, `year_of_line`, if one was given.
 function time_by(text, format,   i, letter, is_told) {
   rest = text
+  length_of_text = length(text)
   year = month = day = seconds = ""
-  hour = minute = second = fraction = zone = 0
+  hour = minute = second = fraction = zone = second_at = fraction_length = 0
   for (i = 1; i <= length(format); i++) {
     letter = substr(format, i, 1)
     if (letter == "%") is_told = take(substr(format, ++i, 1))
     else { is_told = substr(rest, 1, 1) == letter; rest = substr(rest, 2) }
     if (!is_told) return ""
   }
+  if (seconds == "" && year == "" && year_of_line != "" && month != "") set_year()
   if (rest != "" || (seconds == "" && !is_date())) return ""
-  if (seconds == "") seconds = days_to(year, month, day) * 86400 + hour * 3600 + minute * 60 + second - zone
+  if (seconds != "") second_at = 0
+  else seconds = days_to(year, month, day) * 86400 + hour * 3600 + minute * 60 + second - zone
   if (seconds < 0) return ""
   return sprintf("%.0f", unit == 1000 ? seconds * 1000 + fraction : seconds)
+}
+
+# Sets the year of a date without one: of December and January side by side, one is of another year.
+function set_year() {
+  if (month_of_line != "" && month_of_line - month > 6) year_of_line++
+  if (month_of_line != "" && month - month_of_line > 6) year_of_line--
+  month_of_line = month
+  year = year_of_line
+}
+
+# Keeps of the text whose time was told last what stands before and behind its seconds, for `time_in_minute`.
+function keep_minute(text, time) {
+  minute_length = second_at > 0 ? length(text) : -1
+  minute_before = substr(text, 1, second_at - 1)
+  minute_after = substr(text, second_at + 2 + fraction_length)
+  minute_time = time - second * unit - (unit == 1000 ? fraction : 0)
+}
+
+# The time of a text that differs from the one that was kept in its seconds and their fraction alone, as `time_by` tells
+# it, but in a fraction of the work; empty if it differs elsewhere.
+function time_in_minute(text,   digits, part) {
+  if (length(text) != minute_length || substr(text, 1, second_at - 1) != minute_before) return ""
+  if (substr(text, second_at + 2 + fraction_length) != minute_after) return ""
+  digits = substr(text, second_at, 2)
+  if (!(digits in second_of)) return ""
+  if (!fraction_length) return sprintf("%.0f", minute_time + second_of[digits] * unit)
+  part = substr(text, second_at + 2, fraction_length)
+  if (part !~ /^[.,][0-9]+$/) return ""
+  return sprintf("%.0f", minute_time + second_of[digits] * unit + (unit == 1000 ? thousandths(part) : 0))
 }
 
 function is_date() {
@@ -73,12 +108,22 @@ function take(letter) {
   if (letter == "b") { month = month_of[substr(rest, 1, 3)]; rest = substr(rest, 4); return month != "" }
   if (letter == "H") return take_digits(1, 2, 23) && (hour = taken) >= 0
   if (letter == "M") return take_digits(2, 2, 59) && (minute = taken) >= 0
-  if (letter == "S") return take_digits(2, 2, 60) && (second = taken) >= 0 && take_fraction()
+  if (letter == "a") return take_day_name()
+  if (letter == "S") {
+    second_at = second_at ? -1 : length_of_text - length(rest) + 1
+    return take_digits(2, 2, 60) && (second = taken) >= 0 && take_fraction()
+  }
   if (letter == "s") return take_digits(1, 15, 1e15) && (seconds = taken) >= 0 && take_fraction()
   if (letter == "F") return take("Y") && take_text("-") && take("m") && take_text("-") && take("d")
   if (letter == "T") return take("H") && take_text(":") && take("M") && take_text(":") && take("S")
   if (letter == "z") return take_zone()
   return letter == "%" && take_text("%")
+}
+
+function take_day_name(   name) {
+  name = substr(rest, 1, 3)
+  rest = substr(rest, 4)
+  return name in is_day_name
 }
 
 # Takes at least `least` and at most `most` digits, whose number is at most `bound`, to `taken`.
@@ -104,11 +149,15 @@ function take_text(text,   is_there) {
 # Takes a fraction of a second, if one stands there: its first three digits count.
 function take_fraction() {
   if (match(rest, /^[.,][0-9]+/)) {
-    fraction = plain_number(substr(substr(rest, 2, RLENGTH - 1) "00", 1, 3))
+    fraction_length = RLENGTH
+    fraction = thousandths(substr(rest, 1, RLENGTH))
     rest = substr(rest, RLENGTH + 1)
   }
   return 1
 }
+
+# The thousandths of a fraction such as .25, which are 250: its first three digits count.
+function thousandths(part) { return plain_number(substr(substr(part, 2) "00", 1, 3)) }
 
 # Takes a zone: Z, +01:00, +0100 or +01.
 function take_zone(   sign) {

@@ -28,19 +28,35 @@ function read_numbers(file,   line, comma, number) {
 function number_by(word, file) {
   if (!(word in number_of)) {
     number_of[word] = sprintf("%.0f", ++greatest_number)
+    added++
     print number_of[word] "," word >> file
-    close(file)
+    if (close(file) != 0) return ""
   }
   return number_of[word]
 }
 
+# Whether the file has the numbers of all words: not every awk says that it could not write.
+function are_written(file,   line, comma, number, word, count, found) {
+  for (word in number_of) count++
+  while ((getline line < file) > 0) {
+    comma = index(line, ",")
+    number = substr(line, 1, comma - 1)
+    word = substr(line, comma + 1)
+    if (!(word in number_of) || number_of[word] != number) { close(file); return 0 }
+    if (!(word in is_found)) { is_found[word]; found++ }
+  }
+  close(file)
+  return found == count
+}
+
 # The word of a number, or the number itself. The file is read again if the number is new: another program may write to
-# it now, so the last line, which may not be whole yet, counts for this number alone.
-function word_of(number, file,   line, before) {
+# it now, so the last line, which may not be whole yet, counts for this number alone. If there is none, `is_unread` is 1.
+function word_of(number, file,   line, before, more) {
   if (!(number in word_by) && file != "") {
     before = ""
-    while ((getline line < file) > 0) { keep_word(before); before = line }
+    while ((more = (getline line < file)) > 0) { keep_word(before); before = line }
     close(file)
+    if (more < 0) is_unread = 1
     if (index(before, number ",") == 1) keep_word(before)
   }
   return number in word_by ? word_by[number] : number
