@@ -578,22 +578,134 @@ r,b,1,1,1
 line 1: the plan does not read stream b (sum reads stream a): grep -v '^[rw],b,' leaves it out
   | r,b,1,1,1
 CASE
-  local line what
+  check_all_notes
+  # The one that is told of last counts, but not what --try says of races.
+  printf 'line 1: malformed\nwords not understood\nraces: not looked for\n' > note
+  why -n note < /dev/null > said || [ "$?" = 2 ]
+  grep -q '^the arguments are no command' said
+  cases=$((cases + 1))
+}
+
+# Each note of the table of messages in docs/PLANS.md that is about no line of an input, with the beginning of what `why`
+# has to say.
+check_all_notes() {
+  local line what status
   while IFS='#' read -r line what; do
     echo "$line" > note
-    try 2 why -n note <<CASE
----
-$what
-CASE
+    status=0
+    why -n note < /dev/null > said || status=$?
+    if [ "$status" != 2 ] || [ "$(wc -l < said)" != 1 ] || [[ $(cat said) != "$what"* ]]; then
+      echo "why, by $AWK, says of the note $line, with exit code $status, $(cat said)"
+      exit 1
+    fi
+    cases=$((cases + 1))
   done <<'NOTES'
-words not understood#the words are sum SIZE, run PLAN or slow PLAN; the input comes by <
-file failed#the plan or a table can't be read: tables are looked for in the folder where you stand
-input failed#the input can't be read: is it a folder?
-output failed#the rows can't be written: the disk is full, or who reads them has ended, as head does
-out of memory#there was no memory for so many lines: take a part of them
-plan: unknown field#each transform of a plan begins with [[transform]], and above the first stand at most late and keys
-plan: transform 1: every: out of range#docs/PLANS.md has this note under "What can be wrong"
+words not understood#the arguments are no command: these are sum SIZE, run PLAN, slow PLAN, watch PLAN KEY, feeds PLAN FILE_A FILE_B, part PLAN, save PLAN, resume PLAN CHECKPOINT, audit and work N.
+file failed#the plan, a table, a file of feeds or the checkpoint can't be read
+input failed#the input can't be read
+output failed#the rows can't be written
+out of memory#give watermarks more often
+tap 0 failed#with --taps, standard error could not be written
+record file too long#a file of feeds or the checkpoint has more than 268435456 bytes
+checkpoint: line 5: malformed#this line can't stand in a checkpoint of this plan
+line 4294967296: too many lines#the input has more than 4294967295 lines
+plan: file too long#a plan has at most 1048576 bytes
+plan: not TOML#the plan is not TOML
+plan: unknown field#above the first [[transform]] stand late and keys
+plan: late: wrong type#late is "refuse" or "drop"
+plan: keys: out of range#keys is "numbers" or "words"
+plan: transform: missing#the plan has no transform
+plan: too many transforms#a plan has at most 12
+plan: no window#filters, maps, expansions and lookups alone give no rows
+plan: transform 1: transform: wrong type#transform 1: it is no table
+plan: transform 1: name: missing#transform 1: name is 1 to 32
+plan: transform 2: name taken#transform 2: an earlier transform has this name
+plan: transform 1: kind: missing#transform 1: each transform has a kind
+plan: transform 1: unknown kind#transform 1: kind is filter, map, expand, lookup, count, sum, min, max, distinct, top, session or join
+plan: transform 12: unknown field#transform 12: this kind has no such key
+plan: transform 1: from: missing#transform 1: from is "a", "b" or
+plan: transform 1: from: unknown#transform 1: no earlier transform has this name
+plan: transform 2: from: used twice#transform 2: something takes this
+plan: transform 1: field: out of range#transform 1: field is "time", "key" or "value"
+plan: transform 1: test: missing#transform 1: test is "less", "at_most", "equal", "at_least" or "more"
+plan: transform 1: number: wrong type#transform 1: number is a whole number
+plan: transform 1: change: out of range#transform 1: change is "key_mod"
+plan: transform 1: addends: wrong type#transform 1: addends is a list of 1 to 8
+plan: transform 1: table: out of range#transform 1: table is the name of a file
+plan: transform 1: size: out of range#transform 1: size is a whole number from 1 to 10^12
+plan: transform 1: every: out of range#transform 1: every is a whole number that divides size
+plan: transform 1: keep: out of range#transform 1: keep is 1 to 16
+plan: transform 1: gap: missing#transform 1: gap is a whole number from 1 to 10^12
+plan: transform 1: give: out of range#transform 1: give of a join is
+plan: transform 1: with: missing#transform 1: with is "a", "b" or
+plan: transform 1: with: unknown#transform 1: no earlier transform has this name
+plan: transform 1: with: used twice#transform 1: something takes this
+plan: transform 1: table too long#transform 1: a table has at most 4194304 bytes
+plan: transform 1: table row 100001: too many rows#transform 1: a table has at most 100000 rows
+plan: transform 1: table row 1: not two columns#transform 1: a row of a table is KEY,IMAGE
+plan: transform 1: table row 1: bad key#transform 1: a row of a table is KEY,IMAGE
+plan: transform 1: table row 1: bad image#transform 1: a row of a table is KEY,IMAGE
+plan: transform 1: table row 2: repeated key#transform 1: an earlier row has this key
+plan: transform 2: second join#transform 2: a plan has at most one join
+plan: transform 1: not used#transform 1: no later transform has it
+plan: transform 1: session cannot be saved#transform 1: save and resume take no plan with a session
+streambox: the command rt of the Rattle kit is not on the path#this is no note of the program, but of the script
+cat: x: No such file or directory#this is no note of streambox: cat: x
 NOTES
+}
+
+# Notes of feeds, whose line is one of a file, and of audit, whose line is one of a diary.
+check_notes_of_files() {
+  echo 'file a: line 2: malformed' > note
+  try 3 why -n note <<'CASE'
+# orders
+r,a,3,1,5.5
+---
+file a: line 2: its value has a fraction: count in smaller units, as 55 tenths for 5.5
+  | r,a,3,1,5.5
+CASE
+  printf 'file a: line 4: dropped, time 9, watermark 10\nfile b: line 2: late record, time 1, watermark 2\n' > note
+  try 3 why -n note <<'CASE'
+w,b,2
+r,b,1,1,1
+---
+file b: line 2: this record is late: its time 1 is below the watermark 2 of line 1: take a greater delay (`records -l`), or no watermarks
+  | r,b,1,1,1
+CASE
+  echo 'file b: line 1: stream not in the plan' > note
+  try 3 why -n note <<'CASE'
+r,a,1,1,1
+---
+file b: line 1: file b of feeds has lines of stream b alone: put this line into the other file
+  | r,a,1,1,1
+CASE
+  echo 'file a: line 3: dropped, time 9, watermark 10' > note
+  try 0 why -n note <<'CASE'
+---
+late records were left out, as the plan says, and the run went on
+CASE
+  echo 'line 3: not legal' > note
+  try 3 why -n note <<'CASE'
+transform 0 1
+arrive 0 0 1 1
+take 0 2
+---
+line 3: it is not legal after the lines before it. Of take: the bundle came into the lane and was not taken; and a line transform stands before it whose LANES are more than LANE
+  | take 0 2
+CASE
+  echo 'line 2: malformed' > note
+  try 3 why -n note <<'CASE'
+transform 0 1
+arrive 0 0 1
+---
+line 2: after arrive stand 4 numbers: this has 3
+  | arrive 0 0 1
+CASE
+  echo 'end 0 1' > note
+  try 0 why -n note <<'CASE'
+---
+the run was read to its end: this is its diary
+CASE
 }
 
 check_chart() {
@@ -698,7 +810,7 @@ check_faults() {
   ends_refused 'records: ended by a signal' \
     bash -c '{ cat log; until [ -e ended ]; do sleep 0.1; done; } |
       { exec 3<&0; records -t 1 <&3 & until [ -s output ]; do sleep 0.1; done; kill $!; wait $!; status=$?; touch ended; exit $status; }'
-  for tool in 'rows -n' 'chart -n'; do
+  for tool in 'rows -n' why 'chart -n'; do
     name=${tool%% *}
     says_fault "$name: the input is a directory: name a file after <" sh -c "$tool < folder"
     says_fault "$name: standard input is closed" sh -c "$tool <&-"
@@ -966,6 +1078,7 @@ for AWK in "${awks[@]}" awk; do
   check_why
   check_keys_of_words
   check_notes
+  check_notes_of_files
   check_chart
   check_options
   check_rows

@@ -2,34 +2,48 @@
 
 BEGIN {
   note = ENVIRON["note"]
-  while (note ~ /\n./) sub(/^[^\n]*\n/, "", note)
-  if (note ~ /^line [0-9]+: dropped, /) {
+  sub(/\n+$/, "", note)
+  sub(/(^|\n)races: [^\n]*$/, "", note) # what --try says last
+  sub(/^(.*\n)+/, "", note)
+  if (note ~ /^(file [ab]: )?line [0-9]+: dropped, /) {
     print "late records were left out, as the plan says, and the run went on"
     is_told = 1
-    exit
+  } else if (is_of_diary(note) || note ~ /^[0-9]+,[^,]+,-?[0-9]+$/) {
+    print "the run was read to its end: " (is_of_diary(note) ? "this is its diary" : "these are rows that --taps shows")
+    is_told = 1
+  } else if (note ~ /^(file [ab]: )?line [0-9]+: (malformed|too long|late record, |watermark goes back, |stream not |not legal)/) {
+    if (note ~ /^file/) { file = substr(note, 6, 1); streams = file; note = substr(note, 9) }
+    split(note, word, /[ :]+/)
+    wanted = word[2] + 0 # the line of the note, or 0
+    is_diary = note ~ /not legal/
+  } else if (note != "") {
+    print explain_note(note)
+    code = 2
+    is_told = 1
   }
-  if (note != "" && note !~ /^line [0-9]+: /) { print explain_note(note); code = 2; exit }
-  split(note, word, /[ :]+/)
-  wanted = word[2] + 0 # the line of the note, or 0
+  if (is_told) exit
 }
 
+NR == 1 && is_of_diary($0) { is_diary = 1 }
 NR < wanted { keep_mark(); next }
 { sub(/\r$/, "") }
-{ problem = problem_of_bytes() }
-problem == "" && !/^#/ { problem = problem_of_line() }
+is_diary { problem = problem_of_diary_line() }
+is_diary && problem == "" && note ~ /not legal/ { problem = rule_of_line() }
+!is_diary { problem = problem_of_bytes() }
+!is_diary && problem == "" && !/^#/ { problem = problem_of_line() }
 problem != "" { tell(problem) }
 wanted { tell_other_input(); exit }
 { keep_mark() }
 
 END {
-  if (is_told) exit
-  if (!code && wanted) tell_other_input()
-  if (!code) print "nothing is wrong with its lines"
-  exit code
+  if (!code && !is_told && wanted) tell_other_input()
+  if (!code && !is_told)
+    print "nothing is wrong with " (is_diary ? "the form of its lines: audit says whether they are legal" : "its lines")
+  exit code == 2 ? 10 : code
 }
 
 function tell(what,   shown) {
-  print "line " NR ": " what
+  print (file == "" ? "" : "file " file ": ") "line " NR ": " what
   shown = substr($0, 1, 100)
   gsub(/\t/, "\\t", shown)
   gsub(/\r/, "\\r", shown)
@@ -39,8 +53,13 @@ function tell(what,   shown) {
 }
 
 function tell_other_input() {
-  print "line " wanted ": nothing is wrong with it here: is this the input of the note, and are these its streams (-s)?"
+  print "line " wanted ": nothing is wrong with it here: is this " input_of_note() ", and are these its streams (-s)?"
   code = 2
+}
+
+function input_of_note() {
+  if (file != "") return "the file of stream " file
+  return is_diary ? "the diary of the note" : "the input of the note"
 }
 
 # Keeps the watermark of a line, if it is one, to test later lines by.
