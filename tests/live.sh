@@ -1,8 +1,8 @@
 #!/usr/bin/env bash
-# Tries that lines come in time on a log that goes on, with each awk that is installed: a line is written only when what
-# the lines before it give has come. So a tool that holds a line back is waited for in vain, and that is the failure; how
-# fast the machine is does not matter. It takes ../streambox, or the program that STREAMBOX names:
-# STREAMBOX=/usr/local/bin/streambox tests/live.sh
+# Measures when rows come on a log that goes on, with each awk that is installed: a line is written only after what the
+# lines before it give has come. If a tool holds a line back, the next one is never written, and the test fails after
+# 20 seconds, or as many as PATIENCE says. So a slow machine is no failure. It takes ../streambox, or the program that
+# STREAMBOX names: STREAMBOX=/usr/local/bin/streambox tests/live.sh
 set -euo pipefail
 root=$(cd "$(dirname "$0")/.." && pwd)
 program=${STREAMBOX:-$root/streambox}
@@ -61,7 +61,7 @@ ends() {
   running=
 }
 
-# A line of the log, a row of the report: through all tools and the program, of sums over windows of 2 with a delay of 1.
+# All tools and the program: sums over windows of 2, with watermarks a delay of 1 behind.
 reports() {
   records -t 1 -k 2 -v 3 -d words -l 1 | "$program" sum 2 | rows -d words "$@"
 }

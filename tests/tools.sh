@@ -4,7 +4,8 @@
 # standard error.
 # shellcheck disable=SC2016,SC2059 # Backquotes are words of `why`, and `tells` takes its lines as printf has them.
 set -euo pipefail
-PATH=$(cd "$(dirname "$0")/../tools" && pwd):$PATH
+root=$(cd "$(dirname "$0")/.." && pwd)
+PATH=$root/tools:$PATH
 scratch=$(mktemp -d)
 trap 'rm -rf "$scratch"' EXIT
 cd "$scratch"
@@ -654,6 +655,21 @@ cat: x: No such file or directory#this is no note of streambox: cat: x
 NOTES
 }
 
+# Every note that a document names in backquotes is one that `why` knows.
+check_notes_of_documents() {
+  local begin='plan: |line [0-9N]+: |file [ab]: line |checkpoint: |words not |[a-z]+ failed|out of memory|record file |tap '
+  local line
+  grep -oh '`[^`]*`' "$root"/docs/{PLANS,USAGE,DIARIES}.md "$root/README.md" | tr -d '`' | grep -E "^($begin)" |
+    sed 's/ [NLRTW]\>/ 1/g; s/: \.\.$/: missing/' | sort -u > notes
+  [ "$(wc -l < notes)" -gt 60 ]
+  while IFS= read -r line; do
+    echo "$line" > note
+    why -n note < /dev/null > said || :
+    if ! [ -s said ] || grep 'no note of streambox' said; then exit 1; fi
+  done < notes
+  cases=$((cases + 1))
+}
+
 # Notes of feeds, whose line is one of a file, and of audit, whose line is one of a diary.
 check_notes_of_files() {
   echo 'file a: line 2: malformed' > note
@@ -789,7 +805,7 @@ check_faults() {
     bash -c '(trap "" XFSZ; ulimit -f 0; exec records -t 1 -k 2 -v 3 -d words) | cat; exit "${PIPESTATUS[0]}"'
   printf '1,web1\n' > words
   printf 'head -n 3 log; until grep -q web2 words; do sleep 0.1; done; echo 2,web9 >> words; cat log' > both
-  ends_refused 'records: the dictionary has not the words that were written to it: *' \
+  ends_refused 'records: the dictionary has not what was written to it: *' \
     bash -c 'timeout 60 sh both | records -t 1 -k 2 -v 3 -d words'
   # An input that can't be read, an awk that is not there, one that dies, and one that dies within a line.
   ends_refused 'records: the input is a directory: name a file after <' bash -c 'records -t 1 < folder'
@@ -803,7 +819,8 @@ check_faults() {
   # Arguments that are wrong, and a signal.
   ends_refused 'records: -t is missing; records -h says more' records
   ends_refused 'records: an option is wrong' records -Z
-  for options in '-t 1 -y 26' '-t 1 -x 5' '-t 1 -s c' '-t 1 -q -F ab' '-t 1 -o 1.5'; do
+  ends_refused 'records: -F is empty; records -h says more' records -t 1 -F ''
+  for options in '-t 1 -y 26 -f %b' '-t 1 -y 2026' '-t 1 -v 2 -x 5' '-t 1 -x 10' '-t 1 -v =5 -x 10' '-t 1 -s c' '-t 1 -q -F ab' '-t 1 -o 1.5'; do
     # shellcheck disable=SC2086 # Each has several words.
     ends_refused 'records: *; records -h says more' records $options
   done
@@ -991,6 +1008,15 @@ check_times_of_a_minute() {
     [ "$(wc -l < wanted)" = 11 ]
     cases=$((cases + 1))
   done
+  # As numbers, 5 and 5.0 are the same; as texts of a time they are not.
+  try 2 records -t 1 <<'CASE'
+5
+5.0
+---
+r,a,5,0,1
+records: line 2: no time: "5.0"; -f says how it is written
+records: line 2: no time: "5.0"; -f says how it is written
+CASE
   # Times are compared as numbers, and not as texts.
   try 0 records -t 1 -L 0 -f '%Y-%m-%d %T' -F ';' <<'CASE'
 1970-01-01 00:00:09
@@ -1078,6 +1104,7 @@ for AWK in "${awks[@]}" awk; do
   check_why
   check_keys_of_words
   check_notes
+  check_notes_of_documents
   check_notes_of_files
   check_chart
   check_options

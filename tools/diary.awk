@@ -4,12 +4,13 @@ BEGIN {
   split("transform 2 arrive 4 seal 3 take 2 finish 3 begin 4 end 2", part, " ")
   for (i = 1; i <= 14; i += 2) numbers_of[part[i]] = part[i + 1]
   rule_of["transform"] = "NODE is the number of parts before it, and LANES is 1 or 2"
-  rule_of["arrive"] = "NUMBER is one more than the arrivals of the lane before, EPOCH is not sealed, and LENGTH is at least 1"
+  rule_of["arrive"] = "NUMBER is one more than the arrivals of the lane before, EPOCH is not sealed, and LENGTH is " \
+    "at least 1"
   rule_of["seal"] = "EPOCH is the next one of the lane, and MARK is not below its last one"
   rule_of["take"] = "the bundle came into the lane and was not taken"
   rule_of["finish"] = "the bundle was taken and not finished"
-  rule_of["begin"] = "each closing before it has ended, EPOCH is the lane's oldest that has not ended, is sealed, and each of " \
-    "its bundles is finished; MARK is its watermark, and for a join the least of both lanes"
+  rule_of["begin"] = "each closing before it has ended, EPOCH is the lane's oldest that has not ended, is sealed, " \
+    "and each of its bundles is finished; MARK is its watermark, and for a join the least of both lanes"
   rule_of["end"] = "the last closing that began has not ended, and is of this LANE and EPOCH"
 }
 

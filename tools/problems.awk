@@ -82,8 +82,8 @@ function problem_of_value(text,   digits) {
 function problem_of_stream(stream) {
   if (index(streams, stream) && note !~ /stream not in the plan/) return ""
   if (file != "")
-    return "file " file " of feeds has lines of stream " file " alone" (stream == file ? ", and the plan does not read it: hand in /dev/null" : \
-      ": put this line into the other file")
+    return "file " file " of feeds has lines of stream " file " alone" \
+      (stream == file ? ", and the plan does not read it: hand in /dev/null" : ": put this line into the other file")
   return "the plan does not read stream " stream " (sum reads stream a): grep -v '^[rw]," stream ",' leaves it out"
 }
 

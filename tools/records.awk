@@ -1,7 +1,7 @@
 # Prints the record of each line, and the watermarks. See the script `records`, which sets the variables.
 #
-# It is done for each line of a log, so it calls functions for new texts alone: a time that is that of the line before, and
-# a key that was met before, are taken as they are.
+# It is done for each line of a log, so it calls functions for new texts alone: a time that is that of the line before,
+# and a key that was met before, are taken as they are.
 
 BEGIN {
   format = ENVIRON["format"]
@@ -34,8 +34,8 @@ names && !are_found { for (i = 1; i <= NF; i++) place_of[$i] = i; find_columns()
   problem = ""
   if (NF < columns) refuse("it has no column " first_missing())
 
-  text = time_columns == 1 ? $time_1 : time_columns == 2 ? $time_1 " " $time_2 : joined(time_places, " ")
-  if (text != last_text) {
+  text = time_columns == 1 ? $time_1 "" : time_columns == 2 ? $time_1 " " $time_2 : joined(time_places, " ")
+  if (text != last_text) { # Both are texts: as numbers, 5 and 5.0 would be the same.
     if (is_plain && length(text) < 16 && text ~ /^(0|[1-9][0-9]*)$/) { time = last_text = text; at = time + 0 }
     else if (!is_in_minute(text)) set_time(text)
   }
@@ -68,7 +68,7 @@ END {
   close("cat >&2")
   if (part_end != "" && !is_whole) stop("the input could not be read to its end")
   if (added && !are_written(dictionary))
-    stop("the dictionary has not the words that were written to it: is the disk full, or did another write to it? " dictionary)
+    stop("the dictionary has not what was written to it: is the disk full, or did another write to it? " dictionary)
 }
 
 # Says what is wrong, to the reader and to the program, which refuses such a line. Exit code 10 tells the script that it
@@ -93,7 +93,8 @@ function leave_out() {
 
 function leave_out_late() {
   if (late != "skip")
-    stop("line " NR ": its time " time " is below the watermark " sprintf("%.0f", mark) ": take a greater delay, -L or -D")
+    stop("line " NR ": its time " time " is below the watermark " sprintf("%.0f", mark) \
+      ": take a greater delay, -L or -D")
   skipped++
 }
 

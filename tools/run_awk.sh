@@ -42,9 +42,10 @@ need_dictionary_to_write() {
   [ -z "$(tail -c 1 "$1")" ] || fail "the last line of the dictionary has no end: take it out, or end it: $1"
 }
 
-# Runs the awk program that the arguments name on standard input, or on what the command in `feed` makes of it, and ends as
-# it does: with 0, or with 2 if it ended by 10, after it has said why. An awk that fails itself is told of. If the input is
-# no file, each line is printed at once: then `live` is 1, and mawk is told to take each line as it comes.
+# Runs the awk program that the arguments name on standard input, or on what the command in `feed` makes of it, and
+# ends as it does: with 0 or 3, or with 2 if it ended by 10, after it has said why. If awk itself fails, this is said.
+# If the input is no file, `live` is 1, so that each line is printed at once, and mawk is told to take each line as it
+# comes.
 run_awk() {
   awk=${AWK:-awk} live=0 signal=
   if [ ! -f /dev/stdin ]; then
@@ -55,7 +56,11 @@ run_awk() {
   # The shell would give /dev/null to what runs in the background.
   exec 3<&0 < /dev/null
   # shellcheck disable=SC2086
-  if [ -z "${feed:-}" ]; then $awk -v live="$live" "$@" <&3 3<&- & else $feed <&3 3<&- | $awk -v live="$live" "$@" 3<&- & fi
+  if [ -z "${feed:-}" ]; then
+    $awk -v live="$live" "$@" <&3 3<&- &
+  else
+    $feed <&3 3<&- | $awk -v live="$live" "$@" 3<&- &
+  fi
   child=$!
   exec 3<&-
   trap 'signal=129; kill "$child"' HUP

@@ -44,8 +44,8 @@ function unknown_word(format, letters,   i) {
   return ""
 }
 
-# The time that a text tells in a format, as text; empty if it tells none. A format without a year takes that of the line
-# before, `year_of_line`, if one was given.
+# The time that a text tells in a format, as text; empty if it tells none. A format without a year takes that of the
+# line before, `year_of_line`, if one was given.
 function time_by(text, format,   i, letter, is_told) {
   rest = text
   length_of_text = length(text)
@@ -73,7 +73,7 @@ function set_year() {
   year = year_of_line
 }
 
-# Keeps of the text whose time was told last what stands before and behind its seconds, for `time_in_minute`.
+# Keeps of the text whose time was told last what stands before and after its seconds, for `time_in_minute`.
 function keep_minute(text, time) {
   minute_length = second_at > 0 ? length(text) : -1
   minute_before = substr(text, 1, second_at - 1)
@@ -81,8 +81,8 @@ function keep_minute(text, time) {
   minute_time = time - second * unit - (unit == 1000 ? fraction : 0)
 }
 
-# The time of a text that differs from the one that was kept in its seconds and their fraction alone, as `time_by` tells
-# it, but in a fraction of the work; empty if it differs elsewhere.
+# The time, by less work than that of `time_by`, of a text that differs from the one that was kept in its seconds and
+# their fraction alone; empty if it differs elsewhere.
 function time_in_minute(text,   digits, part) {
   if (length(text) != minute_length || substr(text, 1, second_at - 1) != minute_before) return ""
   if (substr(text, second_at + 2 + fraction_length) != minute_after) return ""

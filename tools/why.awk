@@ -2,6 +2,7 @@
 
 BEGIN {
   note = ENVIRON["note"]
+  of_line = "^(file [ab]: )?line [0-9]+: (malformed|too long|late record, |watermark goes back, |stream not |not legal)"
   sub(/\n+$/, "", note)
   sub(/(^|\n)races: [^\n]*$/, "", note) # what --try says last
   sub(/^(.*\n)+/, "", note)
@@ -11,7 +12,7 @@ BEGIN {
   } else if (is_of_diary(note) || note ~ /^[0-9]+,[^,]+,-?[0-9]+$/) {
     print "the run was read to its end: " (is_of_diary(note) ? "this is its diary" : "these are rows that --taps shows")
     is_told = 1
-  } else if (note ~ /^(file [ab]: )?line [0-9]+: (malformed|too long|late record, |watermark goes back, |stream not |not legal)/) {
+  } else if (note ~ of_line) {
     if (note ~ /^file/) { file = substr(note, 6, 1); streams = file; note = substr(note, 9) }
     split(note, word, /[ :]+/)
     wanted = word[2] + 0 # the line of the note, or 0

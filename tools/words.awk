@@ -50,7 +50,8 @@ function are_written(file,   line, comma, number, word, count, found) {
 }
 
 # The word of a number, or the number itself. The file is read again if the number is new: another program may write to
-# it now, so the last line, which may not be whole yet, counts for this number alone. If there is none, `is_unread` is 1.
+# it now, so the last line, which may not be whole yet, counts for this number alone. `is_unread` says that it can't be
+# read.
 function word_of(number, file,   line, before, more) {
   if (!(number in word_by) && file != "") {
     before = ""
