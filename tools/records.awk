@@ -9,6 +9,8 @@ BEGIN {
   dictionary = ENVIRON["dictionary"]
   value = ENVIRON["value"]
   part_end = ENVIRON["part_end"]
+  is_part = part_end != ""
+  has_dictionary = dictionary != ""
   FS = quotes ? "\001" : separator
   head = "r," stream ","
   is_marked = delay != ""
@@ -16,22 +18,22 @@ BEGIN {
   zeros = length(times) - 1
   greatest = mark = columns = 0
   last_text = "\n"
-  if (dictionary != "") read_numbers(dictionary)
+  if (has_dictionary) read_numbers(dictionary)
   unknown = unknown_word(format, "YmdebaHMSFTzs")
   if (unknown != "") stop("-f knows no " unknown)
   if (value ~ /^=/ && !is_value(substr(value, 2))) stop("the value is no whole number of 64 bits: " value)
   if (!names) find_columns()
 }
 
-part_end != "" && index($0, part_end) { is_whole = 1; exit }
+is_part && index($0, part_end) { is_whole = 1; exit }
 NR == 1 { sub(/^\357\273\277/, "") } # a byte order mark
 { sub(/\r$/, "") }
 /^[ \t]*$/ { next }
-quotes { problem = ""; $0 = unquoted($0); if (problem != "") { leave_out(); next } }
+quotes { is_bad = 0; $0 = unquoted($0); if (is_bad) { leave_out(); next } }
 names && !are_found { for (i = 1; i <= NF; i++) place_of[$i] = i; find_columns(); next }
 
 {
-  problem = ""
+  is_bad = 0
   if (NF < columns) refuse("it has no column " first_missing())
 
   text = time_columns == 1 ? $time_1 "" : time_columns == 2 ? $time_1 " " $time_2 : joined(time_places, " ")
@@ -50,9 +52,9 @@ names && !are_found { for (i = 1; i <= NF; i++) place_of[$i] = i; find_columns()
     if (zeros || length(text) > 15 || text !~ /^(0|-?[1-9][0-9]*)$/) text = value_in(text)
   }
 
-  if (problem != "") { leave_out(); next }
+  if (is_bad) { leave_out(); next }
   if (is_marked && at < mark && late != "keep") { leave_out_late(); next }
-  if (dictionary != "" && (key = number_by(key, dictionary)) == "") stop("the dictionary can't be written: " dictionary)
+  if (has_dictionary && (key = number_by(key, dictionary)) == "") stop("the dictionary can't be written: " dictionary)
   print head time "," key "," text
   if (is_marked && at > greatest) {
     greatest = at
@@ -66,7 +68,7 @@ END {
   if (bad) say_more("records: left out as no record: " bad)
   if (skipped) say_more("records: left out as late: " skipped)
   close("cat >&2")
-  if (part_end != "" && !is_whole) stop("the input could not be read to its end")
+  if (is_part && !is_whole) stop("the input could not be read to its end")
   if (added && !are_written(dictionary))
     stop("the dictionary has not what was written to it: is the disk full, or did another write to it? " dictionary)
 }
@@ -82,7 +84,10 @@ function stop(message) {
 }
 
 # Keeps the first problem of a line.
-function refuse(what) { if (problem == "") problem = what }
+function refuse(what) {
+  if (!is_bad) problem = what
+  is_bad = 1
+}
 
 # A line that gives no record.
 function leave_out() {
@@ -164,7 +169,7 @@ function set_time(text) {
 
 # The key of a text that was not met before. It is kept, but not more than 100,000 of them.
 function key_in(text) {
-  if (dictionary != "") return text
+  if (has_dictionary) return text
   if (as_words && !is_word(text))
     refuse("no word: \"" text "\" is not 1 to 24 characters of ASCII without blanks, commas and quotes")
   else if (!as_words && !is_number(text, "1000000000000000000"))
