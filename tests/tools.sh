@@ -149,6 +149,15 @@ CASE
 ---
 r,a,1,102,1
 CASE
+  # A word may have two numbers: the last one counts.
+  printf '7,a\n8,a\n' > words
+  try 0 records -t 1 -k 2 -d words <<'CASE'
+1,new
+1,a
+---
+r,a,1,9,1
+r,a,1,8,1
+CASE
   # The dictionary is written after `rows` has begun, and before the row that needs it.
   rm words
   try 0 bash -c 'while read -r row; do echo "${row%% *}" >> words; echo "${row#* }"; done | rows -n -d words' <<'CASE'
@@ -708,6 +717,13 @@ take 0 2
 ---
 line 3: it is not legal after the lines before it. Of take: the bundle came into the lane and was not taken; and a line transform stands before it whose LANES are more than LANE
   | take 0 2
+CASE
+  try 2 why -n note <<'CASE'
+r,a,3,1,5
+w,a,10
+r,a,12,1,4
+---
+line 3: this is no line of a diary: hand in the diary that audit read, by <
 CASE
   echo 'line 2: malformed' > note
   try 3 why -n note <<'CASE'

@@ -29,7 +29,7 @@ NR == 1 && is_of_diary($0) { is_diary = 1 }
 NR < wanted { keep_mark(); next }
 { sub(/\r$/, "") }
 is_diary { problem = problem_of_diary_line() }
-is_diary && problem == "" && note ~ /not legal/ { problem = rule_of_line() }
+is_diary && note ~ /not legal/ { if (problem != "") { tell_no_diary(); exit } problem = rule_of_line() }
 !is_diary { problem = problem_of_bytes() }
 !is_diary && problem == "" && !/^#/ { problem = problem_of_line() }
 problem != "" { tell(problem) }
@@ -55,6 +55,11 @@ function tell(what,   shown) {
 
 function tell_other_input() {
   print "line " wanted ": nothing is wrong with it here: is this " input_of_note() ", and are these its streams (-s)?"
+  code = 2
+}
+
+function tell_no_diary() {
+  print "line " NR ": this is no line of a diary: hand in the diary that audit read, by <"
   code = 2
 }
 

@@ -35,18 +35,18 @@ function number_by(word, file) {
   return number_of[word]
 }
 
-# Whether the file has the numbers of all words: not every awk says that it could not write.
-function are_written(file,   line, comma, number, word, count, found) {
-  for (word in number_of) count++
+# Whether the file has the numbers of all words, and no other word: not every awk says that it could not write, and
+# another program may have written.
+function are_written(file,   line, comma, word) {
   while ((getline line < file) > 0) {
     comma = index(line, ",")
-    number = substr(line, 1, comma - 1)
     word = substr(line, comma + 1)
-    if (!(word in number_of) || number_of[word] != number) { close(file); return 0 }
-    if (!(word in is_found)) { is_found[word]; found++ }
+    if (!(word in number_of)) { close(file); return 0 }
+    number_in_file[word] = substr(line, 1, comma - 1)
   }
   close(file)
-  return found == count
+  for (word in number_of) if (number_in_file[word] != number_of[word]) return 0
+  return 1
 }
 
 # The word of a number, or the number itself. The file is read again if the number is new: another program may write to
