@@ -832,6 +832,9 @@ check_faults() {
   chmod +x dying dying_within
   ends_refused 'records: ./dying failed, with exit code 137: the output is not whole' env AWK=./dying records -t 1
   ends_refused 'r,a,1,1,1records: ./dying_within failed, *' env AWK=./dying_within records -t 1
+  # Who reads what -i lists has ended.
+  ends_refused 'records: *, with exit code *' bash -c '{ yes x | head -n 30000; cat log; } |
+    { records -i -t 1 2>&1 >&3 | head -n 1 > /dev/null; exit "${PIPESTATUS[0]}"; } 3>&1'
   # Arguments that are wrong, and a signal.
   ends_refused 'records: -t is missing; records -h says more' records
   ends_refused 'records: an option is wrong' records -Z

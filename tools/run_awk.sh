@@ -63,9 +63,10 @@ run_awk() {
   fi
   child=$!
   exec 3<&-
-  trap 'signal=129; kill "$child"' HUP
-  trap 'signal=130; kill "$child"' INT
-  trap 'signal=143; kill "$child"' TERM
+  # Who sent the signal knows: nothing is said of it on standard error.
+  trap 'signal=129; exec 2> /dev/null; kill "$child"' HUP
+  trap 'signal=130; exec 2> /dev/null; kill "$child"' INT
+  trap 'signal=143; exec 2> /dev/null; kill "$child"' TERM
   status=0
   wait "$child" || status=$?
   if [ -n "$signal" ]; then
@@ -74,8 +75,10 @@ run_awk() {
     exit "$signal"
   fi
   case $status in
-    0 | 3 | 141) exit "$status" ;; # 141: who reads the output has ended
+    0 | 3) exit "$status" ;;
     10) exit 2 ;;
-    *) fail "${AWK:-awk} failed, with exit code $status: the output is not whole" ;;
+    # Who reads the output has ended or, of `records`, perhaps who reads standard error.
+    141) [ "$tool" = records ] || exit 141 ;;
   esac
+  fail "${AWK:-awk} failed, with exit code $status: the output is not whole"
 }
