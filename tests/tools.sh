@@ -807,7 +807,6 @@ CASE
 # A fault of a tool's own: `records` ends by a line that streambox refuses, `rows`, `why` and `chart` say it, and none of
 # them ends with 0.
 check_faults() {
-  local tool options name
   mkdir -p folder
   printf '1,web1\n' > words
   printf '1,web1,10\n2,web1,20\n3,web2,400\n4,web1,8000\n' > log
@@ -823,6 +822,12 @@ check_faults() {
   printf 'head -n 3 log; until grep -q web2 words; do sleep 0.1; done; echo 2,web9 >> words; cat log' > both
   ends_refused 'records: the dictionary has not what was written to it: *' \
     bash -c 'timeout 60 sh both | records -t 1 -k 2 -v 3 -d words'
+  check_faults_of_awk
+  check_faults_of_arguments
+  check_faults_that_are_said
+}
+
+check_faults_of_awk() {
   # An input that can't be read, an awk that is not there, one that dies, and one that dies within a line.
   ends_refused 'records: the input is a directory: name a file after <' bash -c 'records -t 1 < folder'
   ends_refused 'records: standard input is closed' bash -c 'records -t 1 <&-'
@@ -835,17 +840,31 @@ check_faults() {
   # Who reads what -i lists has ended.
   ends_refused 'records: *, with exit code *' bash -c '{ yes x | head -n 30000; cat log; } |
     { records -i -t 1 2>&1 >&3 | head -n 1 > /dev/null; exit "${PIPESTATUS[0]}"; } 3>&1'
-  # Arguments that are wrong, and a signal.
+  ends_refused 'records: ended by a signal' \
+    bash -c '{ cat log; until [ -e ended ]; do sleep 0.1; done; } |
+      { exec 3<&0; records -t 1 <&3 & until [ -s output ]; do sleep 0.1; done
+        kill $!; wait $!; status=$?; touch ended; exit $status; }'
+}
+
+check_faults_of_arguments() {
+  local options
   ends_refused 'records: -t is missing; records -h says more' records
   ends_refused 'records: an option is wrong' records -Z
   ends_refused 'records: -F is empty; records -h says more' records -t 1 -F ''
-  for options in '-t 1 -y 26 -f %b' '-t 1 -y 2026' '-t 1 -v 2 -x 5' '-t 1 -x 10' '-t 1 -v =5 -x 10' '-t 1 -s c' '-t 1 -q -F ab' '-t 1 -o 1.5'; do
+  for options in '-y 26 -f %b' '-y 2026' '-v 2 -x 5' '-x 10' '-v =5 -x 10' '-s c' '-q -F ab' '-o 1.5'; do
     # shellcheck disable=SC2086 # Each has several words.
-    ends_refused 'records: *; records -h says more' records $options
+    ends_refused 'records: *; records -h says more' records -t 1 $options
   done
-  ends_refused 'records: ended by a signal' \
-    bash -c '{ cat log; until [ -e ended ]; do sleep 0.1; done; } |
-      { exec 3<&0; records -t 1 <&3 & until [ -s output ]; do sleep 0.1; done; kill $!; wait $!; status=$?; touch ended; exit $status; }'
+}
+
+check_faults_that_are_said() {
+  local tool name
+  # A full disk, which busybox awk does not notice.
+  for tool in 'records -t 1' 'rows -n'; do
+    name=${tool%% *}
+    [ "$AWK" = 'busybox awk' ] ||
+      says_fault "$name: $AWK failed, with exit code *: the output is not whole" sh -c "$tool > /dev/full"
+  done
   for tool in 'rows -n' why 'chart -n'; do
     name=${tool%% *}
     says_fault "$name: the input is a directory: name a file after <" sh -c "$tool < folder"
@@ -875,12 +894,13 @@ ends_refused() {
   cases=$((cases + 1))
 }
 
-# says_fault TEXT COMMAND: on rows, the command ends with 2, and says this last on standard error.
+# says_fault PATTERN COMMAND: on rows, the command ends with 2, and says this last on standard error.
 says_fault() {
   local wanted=$1 status=0
   shift
   printf '10,1,5\n20,2,6\n30,3,6\n' | "$@" > output 2> errors || status=$?
-  if [ "$status" != 2 ] || [ "$(tail -n 1 errors)" != "$wanted" ]; then
+  # shellcheck disable=SC2053 # It is a pattern.
+  if [ "$status" != 2 ] || [[ $(tail -n 1 errors) != $wanted ]]; then
     echo "$*, by $AWK, ends with exit code $status and says $(cat errors), and not $wanted"
     exit 1
   fi

@@ -42,17 +42,26 @@ need_dictionary_to_write() {
   [ -z "$(tail -c 1 "$1")" ] || fail "the last line of the dictionary has no end: take it out, or end it: $1"
 }
 
+# Ends awk after a signal. Who sent it knows: nothing is said of it on standard error.
+stop_child() {
+  exec 2> /dev/null
+  [ -z "$child" ] || kill "$child"
+}
+
 # Runs the awk program that the arguments name on standard input, or on what the command in `feed` makes of it, and
 # ends as it does: with 0 or 3, or with 2 if it ended by 10, after it has said why. If awk itself fails, this is said.
 # If the input is no file, `live` is 1, so that each line is printed at once, and mawk is told to take each line as it
 # comes.
 run_awk() {
-  awk=${AWK:-awk} live=0 signal=
+  awk=${AWK:-awk} live=0 signal='' child=''
   if [ ! -f /dev/stdin ]; then
     live=1
     # shellcheck disable=SC2086 # AWK may be several words, as in AWK='busybox awk'.
     case $($awk -W version 2> /dev/null < /dev/null) in mawk*) awk="$awk -W interactive" ;; esac
   fi
+  trap 'signal=129; stop_child' HUP
+  trap 'signal=130; stop_child' INT
+  trap 'signal=143; stop_child' TERM
   # The shell would give /dev/null to what runs in the background.
   exec 3<&0 < /dev/null
   # shellcheck disable=SC2086
@@ -61,13 +70,9 @@ run_awk() {
   else
     $feed <&3 3<&- | $awk -v live="$live" "$@" 3<&- &
   fi
-  child=$!
+  child=$! status=0
   exec 3<&-
-  # Who sent the signal knows: nothing is said of it on standard error.
-  trap 'signal=129; exec 2> /dev/null; kill "$child"' HUP
-  trap 'signal=130; exec 2> /dev/null; kill "$child"' INT
-  trap 'signal=143; exec 2> /dev/null; kill "$child"' TERM
-  status=0
+  [ -z "$signal" ] || stop_child
   wait "$child" || status=$?
   if [ -n "$signal" ]; then
     wait "$child" || :
