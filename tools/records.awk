@@ -43,7 +43,8 @@ names && !are_found { for (i = 1; i <= NF; i++) place_of[$i] = i; find_columns()
   }
 
   text = key_columns == 1 ? $key_1 : key_columns == 2 ? $key_1 joiner $key_2 : joined(key_places, joiner)
-  if (text in key_of) key = key_of[text]
+  if (has_dictionary) key = text
+  else if (text in key_of) key = key_of[text]
   else key = key_in(text)
 
   text = fixed_value
@@ -54,7 +55,10 @@ names && !are_found { for (i = 1; i <= NF; i++) place_of[$i] = i; find_columns()
 
   if (is_bad) { leave_out(); next }
   if (is_marked && at < mark && late != "keep") { leave_out_late(); next }
-  if (has_dictionary && (key = number_by(key, dictionary)) == "") stop("the dictionary can't be written: " dictionary)
+  if (has_dictionary) {
+    if (!(key in number_of) && !add_word(key, dictionary)) stop("the dictionary can't be written: " dictionary)
+    key = number_of[key]
+  }
   print head time "," key "," text
   if (is_marked && at > greatest) {
     greatest = at
@@ -169,7 +173,6 @@ function set_time(text) {
 
 # The key of a text that was not met before. It is kept, but not more than 100,000 of them.
 function key_in(text) {
-  if (has_dictionary) return text
   if (as_words && !is_word(text))
     refuse("no word: \"" text "\" is not 1 to 24 characters of ASCII without blanks, commas and quotes")
   else if (!as_words && !is_number(text, "1000000000000000000"))

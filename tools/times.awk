@@ -57,8 +57,9 @@ function time_by(text, format,   i, letter, is_told) {
     else { is_told = substr(rest, 1, 1) == letter; rest = substr(rest, 2) }
     if (!is_told) return ""
   }
+  if (rest != "") return ""
   if (seconds == "" && year == "" && year_of_line != "" && month != "") set_year()
-  if (rest != "" || (seconds == "" && !is_date())) return ""
+  if (seconds == "" && !is_date()) return ""
   if (seconds != "") second_at = 0
   else seconds = days_to(year, month, day) * 86400 + hour * 3600 + minute * 60 + second - zone
   if (seconds < 0) return ""
@@ -76,6 +77,8 @@ function set_year() {
 # Keeps of the text whose time was told last what stands before and after its seconds, for `time_in_minute`.
 function keep_minute(text, time) {
   minute_length = second_at > 0 ? length(text) : -1
+  minute_place = second_at
+  minute_fraction = fraction_length
   minute_before = substr(text, 1, second_at - 1)
   minute_after = substr(text, second_at + 2 + fraction_length)
   minute_time = time - second * unit - (unit == 1000 ? fraction : 0)
@@ -84,12 +87,12 @@ function keep_minute(text, time) {
 # The time, by less work than that of `time_by`, of a text that differs from the one that was kept in its seconds and
 # their fraction alone; empty if it differs elsewhere.
 function time_in_minute(text,   digits, part) {
-  if (length(text) != minute_length || substr(text, 1, second_at - 1) != minute_before) return ""
-  if (substr(text, second_at + 2 + fraction_length) != minute_after) return ""
-  digits = substr(text, second_at, 2)
+  if (length(text) != minute_length || substr(text, 1, minute_place - 1) != minute_before) return ""
+  if (substr(text, minute_place + 2 + minute_fraction) != minute_after) return ""
+  digits = substr(text, minute_place, 2)
   if (!(digits in second_of)) return ""
-  if (!fraction_length) return sprintf("%.0f", minute_time + second_of[digits] * unit)
-  part = substr(text, second_at + 2, fraction_length)
+  if (!minute_fraction) return sprintf("%.0f", minute_time + second_of[digits] * unit)
+  part = substr(text, minute_place + 2, minute_fraction)
   if (part !~ /^[.,][0-9]+$/) return ""
   return sprintf("%.0f", minute_time + second_of[digits] * unit + (unit == 1000 ? thousandths(part) : 0))
 }

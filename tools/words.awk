@@ -24,15 +24,12 @@ function read_numbers(file,   line, comma, number) {
   close(file)
 }
 
-# The number of a word. A new word gets the next number, and the file its line.
-function number_by(word, file) {
-  if (!(word in number_of)) {
-    number_of[word] = sprintf("%.0f", ++greatest_number)
-    added++
-    print number_of[word] "," word >> file
-    if (close(file) != 0) return ""
-  }
-  return number_of[word]
+# Gives a new word the next number, and the file its line. Says whether that could be written, if awk says so.
+function add_word(word, file) {
+  number_of[word] = sprintf("%.0f", ++greatest_number)
+  added++
+  print number_of[word] "," word >> file
+  return close(file) == 0
 }
 
 # Whether the file has the numbers of all words, and no other word: not every awk says that it could not write, and
