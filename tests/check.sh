@@ -6,11 +6,12 @@
 # `save` each checkpoint that stands there, and by all commands each fault of the tables with a plan and an answer. Three
 # faults have no plan there, since it would be too long: these are made here. Each folder with a plan is run with several
 # numbers of workers and sizes of bundles, too, and its diaries are audited; two of its keys are watched; its input is cut
-# behind each line (tests/cut/cut.sh); and it is fed by two files, one of each stream. Each plan of the guide is run with several
-# workers, and by two files. Each folder of runs/ is a run: its words (args), its input, its rows, its note and its exit
-# code. tests/cut/faults.sh tries faulty checkpoint files. Record files that are as long as they may be, and longer, are made here.
-# `work` prints the same lines with 1, 2 and 8 workers. start.sh tries ../streambox itself, without rt. Not tried are the
-# exit codes 7, 8 and 70 of the program, and what the guide says in sentences. The last line counts what was as expected.
+# behind each line (tests/cut/cut.sh); and it is fed by two files, one of each stream. Each plan of the guide is run with
+# several workers, and by two files. Each folder of runs/ is a run: its words (args), its input, its rows, its note and
+# its exit code. tests/cut/faults.sh tries faulty checkpoint files. Record files that are as long as they may be, and
+# longer, are made here. `work` prints the same lines with 1, 2 and 8 workers. live.sh measures whether rows of a live log
+# come in time through all tools; start.sh tries ../streambox itself, without rt. Not tried are the exit codes 7, 8 and 70
+# of the program, and what the guide says in sentences. The last line counts what was as expected.
 # shellcheck disable=SC2016 # Backquotes are those of the guide.
 set -euo pipefail
 shopt -s nullglob
@@ -453,6 +454,7 @@ check_devices
 check_work
 check_reports
 "$tests/tools.sh"
+STREAMBOX=$program "$tests/live.sh"
 "$tests/start.sh"
 refuses 6 'file failed' run "$scratch/missing.toml"
 cp views/ads.csv "$scratch"
@@ -461,6 +463,6 @@ check_plans
 check_faults
 echo "All is as expected: $folders folders, $keys keys, $((inputs + 1)) inputs that are cut, checkpoint files, \
 $feeds inputs by two files, $long long files, $runs runs, $lists lists of words, $devices devices, work, $reports reports, \
-the tools, the start script, $plans plans and $faults faults of the guide."
-passed=$((folders + keys + inputs + 2 + feeds + long + runs + lists + devices + 1 + reports + 2 + plans + faults))
+the tools, a live log, the start script, $plans plans and $faults faults of the guide."
+passed=$((folders + keys + inputs + 2 + feeds + long + runs + lists + devices + 1 + reports + 3 + plans + faults))
 echo "$passed passed, 0 failed"
