@@ -1120,10 +1120,11 @@ check_usage() {
   for tool in records rows why chart; do
     "$tool" -h > usage
     grep -q "^  .*$tool " usage
+    "$tool" --help | cmp - usage
     if "$tool" -Z > output 2> said < /dev/null; then exit 1; fi
     tail -n +2 said | cmp - usage
     if "$tool" file > said 2>&1 < /dev/null; then exit 1; fi
-    cases=$((cases + 3))
+    cases=$((cases + 4))
   done
 }
 

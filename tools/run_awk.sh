@@ -4,6 +4,8 @@
 # Prints the head of the script.
 usage() { sed -n '2,/^$/s/^# \{0,1\}//p' "$0"; }
 
+case ${1-} in --help) usage; exit 0 ;; esac
+
 # Ends: says what is wrong. `records` says it first to the program, which refuses such a line.
 fail() {
   [ "$tool" != records ] || echo "$tool: $1"
