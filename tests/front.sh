@@ -164,12 +164,14 @@ check_signals() {
     WAIT=1 python3 - "$front" "$signal" << 'PYTHON' || fail "by $signal"
 import os, signal, subprocess, sys, time
 number = getattr(signal, "SIG" + sys.argv[2])
-defaults = lambda: [signal.signal(each, signal.SIG_DFL) for each in (signal.SIGINT, signal.SIGQUIT)]
+# Who runs this test may ignore these, as nohup ignores HUP, and a shell can't catch what was ignored before it.
+ignored = (signal.SIGHUP, signal.SIGINT, signal.SIGQUIT, signal.SIGTERM)
+defaults = lambda: [signal.signal(each, signal.SIG_DFL) for each in ignored]
 front = subprocess.Popen([sys.argv[1], "run", "plan"], preexec_fn=defaults, start_new_session=True)
 while not os.path.exists("waits"): time.sleep(0.01)
 time.sleep(0.1)
 front.send_signal(number)
-ended = front.wait(10)
+ended = front.wait(60)
 try: os.killpg(front.pid, 0); left = True
 except ProcessLookupError: left = False
 sys.exit(left or ended == 0 or ended != -number and number != signal.SIGQUIT)
@@ -186,6 +188,7 @@ PYTHON
 check_early_signals() {
   STREAMBOX_PROGRAM=$(type -P sleep) python3 - "$front" << 'PYTHON' || fail 'a program goes on after a signal'
 import os, random, signal, subprocess, sys, time
+signal.signal(signal.SIGTERM, signal.SIG_DFL)
 for _ in range(80):
     front = subprocess.Popen([sys.argv[1], "60"], start_new_session=True)
     time.sleep(random.random() * 0.012)
