@@ -1,0 +1,6 @@
+use Rattle.std.proofs.Common.{◌≡◌}
+use Rattle.sb_base.specs.join.Kept.{IsSpent}
+use Rattle.stream_tests.proofs.joins.rows_after.Given as goal
+
+abbrev pub invariant-loop-step : goal.invariant-loop-step
+invariant-loop-step l = (IsSpent l.join → ⊥) × (l.join.closed ≡ l.closed)
