@@ -20,12 +20,8 @@ mod line_reading;
 mod line_text;
 mod reaching;
 mod reading;
-#[cfg(test)]
-mod reading_tests;
 mod resumed;
 mod rows_from;
-#[cfg(test)]
-mod tests;
 mod writing;
 
 pub use checkpoint::{Checkpoint, StreamRec, checkpoint_of};

@@ -15,16 +15,12 @@ mod auditor;
 mod bundle;
 mod counts;
 mod diary;
-#[cfg(test)]
-mod diary_tests;
 mod event;
 mod lane_book;
 pub mod laws;
 mod line_stop;
 mod node_book;
 mod reading;
-#[cfg(test)]
-mod tests;
 mod text;
 mod text_book;
 

@@ -16,8 +16,6 @@ mod output;
 mod printing;
 mod seen_rows;
 mod sink;
-#[cfg(test)]
-mod sink_tests;
 mod summary;
 mod tap;
 
@@ -30,6 +28,3 @@ pub use printing::Printing;
 pub use sink::SinkKept;
 pub use summary::Summary;
 pub use tap::{Tap, TapFault, Wish};
-
-#[cfg(test)]
-mod tests;

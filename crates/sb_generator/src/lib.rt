@@ -13,6 +13,3 @@ mod source;
 
 pub use pattern::MAX_RECORDS;
 pub use source::GenSource;
-
-#[cfg(test)]
-mod tests;

@@ -14,8 +14,6 @@ mod rising;
 mod rows;
 mod rule;
 mod table;
-#[cfg(test)]
-mod tests;
 mod writer;
 
 pub use change::Change;

@@ -20,8 +20,6 @@ mod plan_text;
 mod settings;
 mod stop;
 mod table;
-#[cfg(test)]
-mod tests;
 mod wiring;
 mod words;
 

@@ -38,8 +38,6 @@ mod options;
 mod planned;
 mod request;
 mod setting;
-#[cfg(test)]
-mod tests;
 
 pub use options::{
     DEFAULT_BUNDLE, DEFAULT_PENDING, DEFAULT_WORKERS, MAX_PENDING, MAX_WORKERS, Options,
