@@ -20,8 +20,6 @@ mod partial;
 mod partials;
 mod session;
 mod sorted_list;
-#[cfg(test)]
-mod tests;
 mod value_set;
 
 pub use aggregate::{Agg, MAX_TOP, aggregated};

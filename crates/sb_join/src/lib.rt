@@ -11,8 +11,6 @@ mod join;
 mod kept;
 pub mod laws;
 mod sides;
-#[cfg(test)]
-mod tests;
 
 pub use join::{Combine, Side, pair_values};
 pub use kept::{JoinKept, JoinPart};

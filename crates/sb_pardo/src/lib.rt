@@ -13,8 +13,6 @@ mod outputs;
 mod table;
 mod table_file;
 mod table_rows;
-#[cfg(test)]
-mod tests;
 
 pub use operation::{Change, Field, MAX_ADDENDS, Op, Test, is_valid};
 pub use outputs::apply;

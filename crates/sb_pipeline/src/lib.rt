@@ -8,8 +8,6 @@
 
 pub mod laws;
 mod plan;
-#[cfg(test)]
-mod tests;
 mod transform;
 mod validity;
 

@@ -15,8 +15,6 @@ mod line;
 mod number;
 mod row;
 mod sequence;
-#[cfg(test)]
-mod tests;
 mod text;
 mod trail;
 

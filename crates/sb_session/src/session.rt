@@ -17,9 +17,6 @@ use sb_window::Grouping;
 use std::alloc::Global;
 use std::marker::Model;
 
-#[cfg(test)]
-mod tests;
-
 /// The grouping of sessions: it keeps the records whose sessions are open. A part is a list of records on lane 0, each
 /// with a time below [`END_MARK`](sb_record::END_MARK).
 ///
