@@ -1,0 +1,7 @@
+//! Tests of the model and of its nodes, through what their crates make public.
+//!
+//! They stand here and not in those crates, since a crate with tests is proved twice. Here only the tests are proved.
+#![tactic(auto)]
+
+#[cfg(test)]
+mod machine;
