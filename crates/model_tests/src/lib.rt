@@ -5,3 +5,7 @@
 
 #[cfg(test)]
 mod machine;
+#[cfg(test)]
+mod plans;
+#[cfg(test)]
+mod slow;
