@@ -4,8 +4,18 @@
 #![tactic(auto)]
 
 #[cfg(test)]
+mod hand;
+#[cfg(test)]
+mod kept;
+#[cfg(test)]
+mod lane;
+#[cfg(test)]
 mod machine;
+#[cfg(test)]
+mod node;
 #[cfg(test)]
 mod plans;
 #[cfg(test)]
 mod slow;
+#[cfg(test)]
+mod work;

@@ -1,0 +1,10 @@
+use Rattle.std.proofs.Common.{◌≡◌, []}
+use Rattle.sb_hand.specs.core.declared.moment.Moment.{Moment}
+use Rattle.sb_hand.specs.Hands.{Shows}
+use Rattle.model_tests.proofs.hand.settle.Given as goal
+
+abbrev pub invariant-nodes : goal.invariant-nodes
+invariant-nodes l = record {
+  plan : l.hand.plan ≡ l.initial.hand.plan;
+  stands : (m : Moment) × Shows l.hand [] m;
+}
