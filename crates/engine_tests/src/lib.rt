@@ -1,0 +1,9 @@
+//! Tests of what workers share and of their steps, through what their crates make public.
+//!
+//! They stand here and not in those crates, since a crate with tests is proved twice. Here only the tests are proved.
+#![tactic(auto)]
+
+#[cfg(test)]
+mod cascade;
+#[cfg(test)]
+mod worker;
