@@ -20,8 +20,6 @@ mod machine;
 mod marks;
 mod moment;
 mod operate;
-#[cfg(test)]
-mod tests;
 
 pub use event::Event;
 pub use held::Held;

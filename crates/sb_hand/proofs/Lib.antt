@@ -6,7 +6,6 @@ pub mod ClosingLinks
 pub mod ClosingMarks
 pub mod Composing
 pub mod Doing
-pub mod Examples
 pub mod FeedLinks
 pub mod FeedingNothing
 pub mod Feeds

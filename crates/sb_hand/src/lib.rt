@@ -11,8 +11,6 @@ pub mod laws;
 mod making;
 mod settling;
 mod steps;
-#[cfg(test)]
-mod tests;
 
 pub use did::Did;
 pub use hand::{Hand, HandParts, MAX_PENDING};

@@ -7,8 +7,6 @@
 #![tactic(auto)]
 
 mod kept;
-#[cfg(test)]
-mod tests;
 
 pub use kept::Kept;
 

@@ -21,8 +21,6 @@ pub mod laws;
 mod links;
 mod putting;
 mod taking;
-#[cfg(test)]
-mod tests;
 
 pub use answers::{ArriveStop, LaneClose, NoMemoryWith, NotYet};
 pub use lane::Lane;

@@ -11,8 +11,6 @@ mod closing;
 mod looking;
 mod marks;
 mod state;
-#[cfg(test)]
-mod tests;
 mod working;
 
 pub use closing::Closing;

@@ -13,8 +13,6 @@ mod operate;
 mod rows;
 mod sent;
 mod sessions;
-#[cfg(test)]
-mod tests;
 
 pub use flow::{rows_of_streams, slow_rows};
 pub use lanes::{all_records, push_on_lane};

@@ -8,8 +8,6 @@
 mod claim;
 mod gate;
 mod outputs;
-#[cfg(test)]
-mod tests;
 
 pub use claim::Claim;
 pub use gate::{Gate, OpenGate};
