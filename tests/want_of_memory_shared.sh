@@ -1,12 +1,12 @@
 #!/usr/bin/env bash
-# Runs the tests of the cascade that workers share again and again, each time with another of a test's requests for
-# memory refused: the first, the second, and so on, until all tests pass, as none makes so many. Each test has to pass,
-# or to end with an error that it gives if there is no memory. No test may stop the program.
+# Runs the tests of the cascade that workers share, and of their steps, again and again, each time with another of a
+# test's requests for memory refused: the first, the second, and so on, until all tests pass, as none makes so many.
+# Each test has to pass, or to end with an error that it gives if there is no memory. No test may stop the program.
 #
 # It takes rt, and about half an hour, since each run builds the tests. With two numbers it tries those requests alone:
 #   tests/want_of_memory_shared.sh 30 35
 set -euo pipefail
-cd "$(dirname "$0")/../crates/sb_cascade"
+cd "$(dirname "$0")/../crates/engine_tests"
 first=${1:-1}
 last=${2:-1000}
 scratch=$(mktemp -d)
@@ -15,7 +15,7 @@ for ((number = first; number <= last; number++)); do
   rt try --test --fail-alloc "$number" > "$scratch/log" 2>&1 || true
   grep -q '^test result:' "$scratch/log" || { cat "$scratch/log"; echo '0 passed, 1 failed'; exit 1; }
   tests=$(grep -c '^test .* \.\.\. FAILED$' "$scratch/log" || true)
-  errors=$(grep -cE '^ +error: (NoMemory|"no closing began"|"it did not arrive")$' "$scratch/log" || true)
+  errors=$(grep -cE '^ +error: (NoMemory|"no closing began"|"it did not arrive"|"the work ends")$' "$scratch/log" || true)
   if [ "$tests" != "$errors" ]; then
     cat "$scratch/log"
     echo "request $number: $tests tests failed, $errors of them for want of memory"

@@ -24,9 +24,6 @@ pub use closings::CloseStop;
 pub use pass::CascadePass;
 pub use taking::TryTake;
 
-#[cfg(test)]
-mod tests;
-
 // What the crates above name of the crates below.
 pub use sb_hand;
 pub use sb_hand::{sb_base, sb_diary, sb_lane, sb_node, sb_slow, sb_work};

@@ -4,8 +4,6 @@
 mod claiming;
 mod closing;
 mod helping;
-#[cfg(test)]
-mod shelf_tests;
 mod step;
 mod working;
 
