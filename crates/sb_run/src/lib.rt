@@ -21,9 +21,6 @@ pub use running::run;
 pub use sizes::{MAX_WORKERS, Sizes};
 pub use together::execute;
 
-#[cfg(test)]
-mod tests;
-
 // What the crates above name of the crates below.
 pub use sb_feeds::{sb_base, sb_emit, sb_feed, sb_outside};
 pub use sb_worker::{sb_diary, sb_hand, sb_slow, sb_work};
