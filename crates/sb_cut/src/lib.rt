@@ -17,8 +17,5 @@ pub use part::run_part;
 pub use rest::run_rest;
 pub use saving::{Saved, save};
 
-#[cfg(test)]
-mod tests;
-
 // What the crates above name of the crates below.
 pub use sb_checkpoint;

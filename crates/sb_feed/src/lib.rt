@@ -16,9 +16,6 @@ pub use dropping::keep_dropped;
 pub use give::{GiveStop, give_out};
 pub use reading::next_item;
 
-#[cfg(test)]
-mod tests;
-
 // What the crates above name of the crates below.
 pub use sb_base;
 pub use sb_emit;

@@ -19,9 +19,6 @@ pub use fed::{Fed, FeedStop};
 pub use feeding::feed;
 pub use ring::{RING_PLACES, feed_pair};
 
-#[cfg(test)]
-mod tests;
-
 // What the crates above name of the crates below.
 pub use sb_feed;
 pub use sb_feed::{sb_base, sb_emit, sb_outside};

@@ -29,6 +29,3 @@ pub use life::MAX_NODES;
 pub use reason::Reason;
 pub use shelf::PLACES;
 pub use turns::{Entry, Guard, Hold, Pass, Ruling, Slot, Turns, View};
-
-#[cfg(test)]
-mod tests;
