@@ -47,7 +47,7 @@ fn pieces(alloc: Global) -> Result<Vec<usize>, AllocError>
 
 /// Runs a plan with so many workers, who pass the gate, and bundles of a size. The writes with these numbers fail, and
 /// so does the tap at these calls.
-pub(crate) fn run<W: Threads + Wait + Clock + Sync, G: Gate>(
+pub(crate) fn run<W: Threads + Wait + Clock + Sync, G: Gate + Sync>(
     rt: &W,
     alloc: Global,
     plan: Plan,

@@ -65,7 +65,7 @@ pub(crate) fn begin(alloc: Global, plan: Plan, sizes: Sizes) -> Result<Begun, No
 }
 
 // The feeder feeds the input, and the helpers help, until all have ended. False with a helper that found no memory.
-fn work<W: Threads + Wait + Clock + Sync, S: Source, R: RowOut, G: Gate>(
+fn work<W: Threads + Wait + Clock + Sync, S: Source, R: RowOut, G: Gate + Sync>(
     rt: &W,
     alloc: Global,
     cascade: &Cascade,
@@ -136,7 +136,7 @@ fn work<W: Threads + Wait + Clock + Sync, S: Source, R: RowOut, G: Gate>(
 /// What is written, offered and dropped is what one worker writes, offers and drops. Rows come out as watermarks come,
 /// or as a lane is full, and at the end. The gate is passed with each bundle in hand, outside of every turn. Whether
 /// the call returns is not said: workers wait for one another.
-pub fn execute<W: Threads + Wait + Clock + Sync, S: Source, R: RowOut, G: Gate>(
+pub fn execute<W: Threads + Wait + Clock + Sync, S: Source, R: RowOut, G: Gate + Sync>(
     rt: &W,
     alloc: Global,
     plan: Plan,

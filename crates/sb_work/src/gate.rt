@@ -1,7 +1,7 @@
 //! A gate that workers pass with a bundle in hand.
 
 /// What a worker passes between taking a bundle and processing it, outside of any turn. It may look on, and count.
-pub trait Gate: Sync {
+pub trait Gate {
     /// A worker passes with the bundle of this number, of this lane of the node.
     fn pass(&self, node: u32, lane: u32, number: u64);
 }

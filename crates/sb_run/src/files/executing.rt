@@ -38,7 +38,7 @@ use std::time::Clock;
 
 // The feeder feeds what the files give, beside the threads of the files and the helpers, until all have ended. False
 // with a helper that found no memory.
-fn work<W: Threads + Wait + Clock + Sync, R: RowOut, G: Gate>(
+fn work<W: Threads + Wait + Clock + Sync, R: RowOut, G: Gate + Sync>(
     rt: &W,
     alloc: Global,
     cascade: &Cascade,
@@ -122,7 +122,7 @@ fn work<W: Threads + Wait + Clock + Sync, R: RowOut, G: Gate>(
 /// file b. The late records that the plan drops go to the end of the list of their file. The gate is passed with each
 /// bundle in hand, outside of every turn. Whether the call returns is not said: workers wait for one another, and the
 /// feeder waits for the files. If no thread can be made for these, it waits for ever.
-pub fn execute_two<W: Threads + Wait + Clock + Sync, R: RowOut, G: Gate>(
+pub fn execute_two<W: Threads + Wait + Clock + Sync, R: RowOut, G: Gate + Sync>(
     rt: &W,
     alloc: Global,
     plan: Plan,

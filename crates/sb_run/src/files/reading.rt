@@ -162,7 +162,7 @@ fn feed_once<W: Threads + Wait + Sync>(rt: &W, files: &mut Option<Files>) -> Opt
 /// memory.
 ///
 /// The helpers come second where no thread can be made: they end with the run, but the feeder may wait for the files.
-pub(crate) fn feed_and_help<W: Threads + Wait + Clock + Sync, G: Gate>(
+pub(crate) fn feed_and_help<W: Threads + Wait + Clock + Sync, G: Gate + Sync>(
     rt: &W,
     alloc: Global,
     cascade: &Cascade,
