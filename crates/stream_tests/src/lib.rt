@@ -1,9 +1,12 @@
-//! Tests of the crates below the engine: `sb_record`, `sb_outside`, `sb_pardo`, `sb_aggregate`, `sb_join`, `sb_session`
-//! and `sb_pipeline`. They stand apart because the gate proves a crate with tests twice. Nothing stands on this crate.
+//! Tests of the crates below the engine: `sb_record`, `sb_outside`, `sb_window`, `sb_bundle`, `sb_pardo`,
+//! `sb_aggregate`, `sb_join`, `sb_session` and `sb_pipeline`. They stand apart because the gate proves a crate with tests
+//! twice. Nothing stands on this crate.
 #![tactic(auto)]
 
 #[cfg(test)]
 mod aggregations;
+#[cfg(test)]
+mod bundles;
 #[cfg(test)]
 mod joins;
 #[cfg(test)]
@@ -16,3 +19,5 @@ mod records;
 mod sessions;
 #[cfg(test)]
 mod transforms;
+#[cfg(test)]
+mod windows;
