@@ -15,7 +15,8 @@ cp -r "$home/packaging" .
 cp "$home"/release/*.sh release
 touch crates/{low,left,beside,streambox}/src/lib.rt
 printf '%s\n' low: 'left: low itoa' 'beside: left' 'streambox: left low' > crates.txt
-# In the place of rt: BAD is a crate that it does not build, WAIT one at which it goes on for a minute.
+# In the place of rt: BAD is a crate that it does not build, WAIT one at which it goes on for a minute. MEET are two crates
+# each of which it builds once it has begun with the other, too.
 cat > bin/rt << 'RT'
 #!/usr/bin/env bash
 crate=${PWD##*/}
@@ -31,7 +32,19 @@ if [ "$crate" = "${WAIT-}" ]; then
   echo $$ > "$CALLS.waits"
   exec sleep 60
 fi
+if [[ " ${MEET-} " == *" $crate "* ]]; then
+  touch "$CALLS.begun.$crate"
+  for other in $MEET; do
+    for ((looks = 0; looks < 100; looks++)); do
+      [ ! -e "$CALLS.begun.$other" ] || break
+      sleep 0.1
+    done
+    [ -e "$CALLS.begun.$other" ] || exit 1
+  done
+fi
 [ "$crate" != "${BAD-}" ] || exit 1
+mkdir -p out/rlib
+echo "$PWD" > out/rlib/from
 if [ "$1" = run ]; then
   printf '#!/bin/sh\necho "program $*"\n' > out/streambox
   chmod +x out/streambox
@@ -118,12 +131,27 @@ streambox: left is not proved or not built; log: $out/build.log" 'version lib li
   starts 0 'streambox: 1 of 3: low
 streambox: 2 of 3: left
 streambox: 3 of 3: streambox' 'version lib lib run ' sum 10
-  leaves './build.log ./proved ./streambox'
+  leaves './build.log ./proved ./rlib ./streambox'
   prints 'program sum 10'
   printf 'about %s\n' low left streambox | cmp - "$out/build.log" || fail 'another log'
   starts 0 '' '' sum 010
   starts 0 '' '' --version
   [[ $(cat rows) == "streambox $(cat VERSION)"*$'\nkit kit-of-this-test\nrelease no' ]] || fail "--version: $(cat rows)"
+}
+
+# Crates that do not stand on each other are built side by side, and what is built in a copy comes home.
+check_side_by_side() {
+  local crates
+  crates=$(cat crates.txt)
+  printf '%s\n' low: 'left: low itoa' 'beside: low' 'streambox: left beside' > crates.txt
+  rm -rf "$out" crates/*/out
+  STREAMBOX_LANES=1 MEET='left beside' starts 70 'is not proved or not built; log: '"$out/build.log" 'version lib lib ' --build
+  rm -f "$CALLS".begun.*
+  STREAMBOX_LANES=2 MEET='left beside' starts 0 '4 of 4: streambox' 'version lib lib lib run ' --build
+  leaves './build.log ./proved ./rlib ./streambox'
+  [ "$(cat crates/{low,left,beside}/out/rlib/from | grep -c "^$tree/crates/[a-z]*$")" = 2 ] || fail 'built elsewhere'
+  rm -rf "$out" crates/*/out
+  printf '%s\n' "$crates" > crates.txt
 }
 
 # If a source changed, the program that was built runs until --build is called, and it is said once.
@@ -171,6 +199,7 @@ check_release() {
 
 check_slips
 check_try
+check_side_by_side
 check_build
 check_changed
 check_release
