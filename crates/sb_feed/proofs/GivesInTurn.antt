@@ -1,12 +1,12 @@
 -- Giving out, one call after another.
-use Rattle.std.proofs.Common.{List, [], ◌++◌, Ok, Err, Result, sym, subst, append_assoc, append-nil}
+use Rattle.std.proofs.Common.{◌≡◌, List, [], ◌++◌, Ok, Err, Result, sym, subst, append_assoc, append-nil}
 use Rattle.sb_base.specs.records.declared.item.Record.{Record}
 use Rattle.sb_base.specs.pipeline.Shapes.{Shape}
 use Rattle.sb_emit.specs.Taps.{TapState}
 use Rattle.sb_feed.specs.declared.give.GiveStop.{GiveStop}
 use Rattle.sb_feed.specs.declared.give.GiveStop.TheVariants as stop
 use Rattle.sb_feed.specs.Feeds.{Fed, AreRowsSoFar}
-use Rattle.sb_feed.specs.Gives.{GivesOut, StopsOut, Gives, TapsAt}
+use Rattle.sb_feed.specs.Gives.{Gives, GivesOut, OffersRows, StopsOut, TapsAt, WritesRows}
 use Rattle.sb_feed.specs.TapLists.{LeavesThoseThatStay}
 use Rattle.sb_feed.proofs.OfferedRows.{both_offered, none_offered, stops_behind}
 
@@ -55,7 +55,12 @@ module _ {O : Type 0} (after part : O → List Record → O → Type 0) (laws : 
   pub stops_none : (plan : Shape) (o : O) (taps : List TapState) (f : Fed) (before : List Record) → AreRowsSoFar plan f before → StopsOut plan part o o taps taps f before stop.Memory
   stops_none plan o taps f before h = record { rows = []; so_far = subst (AreRowsSoFar plan f) (sym (append-nil before)) h; wrote = laws.part_of_all o o [] [] (laws.after_none o); at = tt }
 
-  -- there was no memory behind rows that came out
-  pub stops_after : (plan : Shape) (stands : List Record → Type 0) (o p : O) (a b : List TapState) (f : Fed) (before : List Record) → ((rows : List Record) → stands rows → AreRowsSoFar plan f rows)
-      → GivesOut stands after o p a b before → StopsOut plan part o p a b f before stop.Memory
-  stops_after plan stands o p a b f before so_far g = record { rows = g.rows; so_far = so_far (before ++ g.rows) g.stand; wrote = subst (λ l. part o l p) (append-nil g.rows) (laws.part_of_all o p g.rows [] g.wrote); at = tt }
+  -- rows that can be given then are given out
+  pub gives_due : {T : Type 0} (plan later : Shape) (stands : List Record → Type 0) (o p : O) (a b : List TapState) (f : Fed) (before rows : List Record) (result : Result T GiveStop)
+      → later ≡ plan → AreRowsSoFar later f (before ++ rows) → stands (before ++ rows) → WritesRows after part o rows p result → OffersRows rows a b result
+      → Gives plan stands after part o p a b f before result
+  gives_due plan later stands o p a b f before rows (Ok x) same so stand wrote offered = record { rows = rows; stand = stand; wrote = wrote; offered = offered }
+  gives_due plan later stands o p a b f before rows (Err (stop.Tap place)) same so stand wrote offered =
+      record { rows = rows; so_far = subst (λ s. AreRowsSoFar s f (before ++ rows)) same so; wrote = subst (λ l. part o l p) (append-nil rows) (laws.part_of_all o p rows [] wrote); at = offered }
+  gives_due plan later stands o p a b f before rows (Err stop.Output) same so stand wrote offered = record { rows = rows; so_far = subst (λ s. AreRowsSoFar s f (before ++ rows)) same so; wrote = wrote; at = tt }
+  gives_due plan later stands o p a b f before rows (Err stop.Memory) same so stand wrote offered = record { rows = rows; so_far = subst (λ s. AreRowsSoFar s f (before ++ rows)) same so; wrote = wrote; at = tt }

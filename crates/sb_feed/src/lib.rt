@@ -1,20 +1,30 @@
 //! What is fed to an engine: the lines of an input become items, and items become bundles and watermarks. And what
 //! comes out of it: rows are written, and then offered to taps.
 //!
-//! [`next_item`] gives the items of an input one at a time, [`Cutters`] cuts the records of each stream into bundles,
-//! and [`keep_dropped`] lists the late records that a plan drops. [`give_out`] writes rows and offers them. A loop that
-//! feeds an engine calls these, and the crate's definitions say what such a loop does as a whole.
+//! [`feed`] feeds the lines of an input to any [`Engine`]. It does so item by item: [`next_item`] gives them one at a
+//! time, [`take_item`] feeds one, for which [`Cutters`] cut the records of each stream into bundles and
+//! [`keep_dropped`] lists a late record that the plan drops, and [`end_input`] feeds the end. [`give_out`] writes the
+//! rows that come out, and offers them. The crate's definitions say what feeding does as a whole.
 #![tactic(auto)]
 
+mod coming;
 mod cutters;
 mod dropping;
+mod ending;
+mod engine;
+mod feeding;
 mod give;
 mod reading;
+mod taking;
 
 pub use cutters::Cutters;
 pub use dropping::keep_dropped;
+pub use ending::{end_input, uses};
+pub use engine::Engine;
+pub use feeding::feed;
 pub use give::{GiveStop, give_out};
 pub use reading::next_item;
+pub use taking::take_item;
 
 // What the crates above name of the crates below.
 pub use sb_base;

@@ -1,0 +1,153 @@
+use Rattle.std.proofs.Common.{[], ◌∙◌, ap, arith, refl, sym}
+use Rattle.sb_base.specs.records.Intake.{first_progress}
+use Rattle.sb_outside.specs.Readings.{Held}
+use Rattle.sb_base.specs.pipeline.Shapes.{Shape, streams_of}
+use Rattle.sb_feed.specs.Feeds.{nothing_fed}
+use Rattle.sb_feed.proofs.FedSoFar.{all_fed, end_fails, fed_more, item_fails, may_end, may_take, nothing_fed_yet}
+use Rattle.sb_feed.proofs.GiveLaws.{cause_of_none, cause_then}
+use Rattle.sb_feed.proofs.GivesInTurn.{AddsUp}
+use Rattle.sb_feed.proofs.feeding.feed.Goals as goal
+
+pub items-init : goal.items-init
+items-init g c =
+    let laws = g.met.R.RowOut g.world.𝓛 g.world.𝓜 g.world.𝓡 ((λ s x. x), (λ x. x), (λ x. x), λ x. x) in
+    let adds_up : AddsUp g.R.RowOut.after g.R.RowOut.part = record { after_none = laws.after_none; after_more = laws.after_more; part_later = laws.part_later; part_of_all = laws.part_of_all } in
+    let is = c.plan-plan.ensures in
+    record {
+      fed = nothing_fed_yet g.S.Source.left g.S.Source.faults g.R.RowOut.after g.R.RowOut.part adds_up (g.E.Engine.plan c.args.engine.now) c.args.size c.requires.some
+          (g.E.Engine.stands c.args.engine.now)
+          (record { source = c.args.input.now; out = c.args.out.now; taps = _; dropped = c.args.dropped.now.items })
+          c.new-lines.result c.new-intake.result c.new-cutters.result c.new-lines.ensures
+          (c.new-intake.ensures ∙ (λ i. first_progress ((c.streams.ensures.value ∙ ap streams_of is) i) 0 ((c.late.ensures ∙ ap (λ (p : Shape). p.late) is) i) ((c.keys.ensures ∙ ap (λ (p : Shape). p.keys) is) i)))
+          c.new-cutters.ensures c.requires.begins;
+      same = g.met.E.Engine.same_here c.args.engine.now nothing_fed [] c.requires.begins;
+      cause = cause_of_none (g.R.RowOut.row_state c.args.out.now) _ (λ e. cc e);
+      fewer = omega arith;
+      ends = λ e. absurd (cc (sym (ap (λ (l : Held). l.halt) c.new-lines.ensures), e));
+      name = refl;
+      room = let none = ap (λ p. p.lines) c.new-intake.ensures in omega (arith, none);
+    }
+
+pub take_item-requires-clause-may : goal.take_item-requires-clause-may
+take_item-requires-clause-may g c κs within =
+    let laws = g.met.R.RowOut g.world.𝓛 g.world.𝓜 g.world.𝓡 ((λ s x. x), (λ x. x), (λ x. x), λ x. x) in
+    let adds_up : AddsUp g.R.RowOut.after g.R.RowOut.part = record { after_none = laws.after_none; after_more = laws.after_more; part_later = laws.part_later; part_of_all = laws.part_of_all } in
+    let before = c.items.invariant in (
+      before.fed.items,
+      before.fed.f,
+      before.fed.rows,
+      may_take g.S.Source.left g.S.Source.faults g.R.RowOut.after g.R.RowOut.part adds_up (g.E.Engine.plan c.args.engine.now) c.args.size c.requires.some
+          (g.E.Engine.plan c.items.engine) (g.E.Engine.size c.items.engine) (g.met.E.Engine.same_plan _ _ before.same) (g.met.E.Engine.same_size _ _ before.same ∙ c.requires.size) (g.E.Engine.stands c.items.engine)
+          (record { source = c.args.input.now; out = c.args.out.now; taps = _; dropped = c.args.dropped.now.items })
+          (record { source = c.items.input; out = c.items.out; taps = _; dropped = c.items.dropped.items })
+          c.items.lines c.items.intake c.items.cutters before.fed
+          c.next_item.new.source c.next_item.new.lines c.next_item.new.intake
+          c.in-Ok.item c.in-Ok.ensures.takes,
+    )
+
+pub items-preserved : goal.items-preserved
+items-preserved g c =
+    let laws = g.met.R.RowOut g.world.𝓛 g.world.𝓜 g.world.𝓡 ((λ s x. x), (λ x. x), (λ x. x), λ x. x) in
+    let adds_up : AddsUp g.R.RowOut.after g.R.RowOut.part = record { after_none = laws.after_none; after_more = laws.after_more; part_later = laws.part_later; part_of_all = laws.part_of_all } in
+    let before = c.items.invariant in
+    let may = may_take g.S.Source.left g.S.Source.faults g.R.RowOut.after g.R.RowOut.part adds_up (g.E.Engine.plan c.args.engine.now) c.args.size c.requires.some
+    (g.E.Engine.plan c.items.engine) (g.E.Engine.size c.items.engine) (g.met.E.Engine.same_plan _ _ before.same) (g.met.E.Engine.same_size _ _ before.same ∙ c.requires.size) (g.E.Engine.stands c.items.engine)
+    (record { source = c.args.input.now; out = c.args.out.now; taps = _; dropped = c.args.dropped.now.items })
+    (record { source = c.items.input; out = c.items.out; taps = _; dropped = c.items.dropped.items })
+    c.items.lines c.items.intake c.items.cutters before.fed
+    c.next_item.new.source c.next_item.new.lines c.next_item.new.intake
+    c.in-Ok.item c.in-Ok.ensures.takes in
+    let more = fed_more g.S.Source.left g.S.Source.faults g.R.RowOut.after g.R.RowOut.part adds_up (g.E.Engine.plan c.args.engine.now) c.args.size c.requires.some
+    (g.E.Engine.plan c.items.engine) (g.E.Engine.size c.items.engine) (g.met.E.Engine.same_plan _ _ before.same) (g.met.E.Engine.same_size _ _ before.same ∙ c.requires.size) (g.E.Engine.stands c.items.engine)
+    (record { source = c.args.input.now; out = c.args.out.now; taps = _; dropped = c.args.dropped.now.items })
+    (record { source = c.items.input; out = c.items.out; taps = _; dropped = c.items.dropped.items })
+    c.items.lines c.items.intake c.items.cutters before.fed
+    (record { source = c.next_item.new.source; out = c.take_item.new.out; taps = _; dropped = c.take_item.new.dropped.items }) c.next_item.new.lines c.next_item.new.intake
+    (g.E.Engine.stands c.take_item.new.engine) c.take_item.new.cutters c.in-Ok.item c.in-Ok.ensures.takes c.in-Ok.ensures.same c.in-Ok.ensures.room
+    (c.in-Ok-take_item.ensures.takes before.fed.items before.fed.f before.fed.rows may) c.in-Ok-take_item.ensures.kept in
+    record {
+      fed = more;
+      same = g.met.E.Engine.same_then c.args.engine.now c.items.engine c.take_item.new.engine before.same c.in-Ok-take_item.ensures.same;
+      cause = cause_then _ _ _ _ _ before.cause c.in-Ok-take_item.ensures.cause;
+      fewer = let a = before.fewer in let b = c.in-Ok-take_item.ensures.fewer in omega (arith, a, b);
+      ends = c.in-Ok.ensures.end before.ends;
+      name = c.in-Ok.ensures.name ∙ before.name;
+      room = more.read.room;
+    }
+
+pub returns-in-Err-take_item-clause-feeds : goal.returns-in-Err-take_item-clause-feeds
+returns-in-Err-take_item-clause-feeds g c =
+    let laws = g.met.R.RowOut g.world.𝓛 g.world.𝓜 g.world.𝓡 ((λ s x. x), (λ x. x), (λ x. x), λ x. x) in
+    let adds_up : AddsUp g.R.RowOut.after g.R.RowOut.part = record { after_none = laws.after_none; after_more = laws.after_more; part_later = laws.part_later; part_of_all = laws.part_of_all } in
+    let before = c.items.invariant in
+    let may = may_take g.S.Source.left g.S.Source.faults g.R.RowOut.after g.R.RowOut.part adds_up (g.E.Engine.plan c.args.engine.now) c.args.size c.requires.some
+    (g.E.Engine.plan c.items.engine) (g.E.Engine.size c.items.engine) (g.met.E.Engine.same_plan _ _ before.same) (g.met.E.Engine.same_size _ _ before.same ∙ c.requires.size) (g.E.Engine.stands c.items.engine)
+    (record { source = c.args.input.now; out = c.args.out.now; taps = _; dropped = c.args.dropped.now.items })
+    (record { source = c.items.input; out = c.items.out; taps = _; dropped = c.items.dropped.items })
+    c.items.lines c.items.intake c.items.cutters before.fed
+    c.next_item.new.source c.next_item.new.lines c.next_item.new.intake
+    c.in-Ok.item c.in-Ok.ensures.takes in
+    item_fails g.S.Source.left g.S.Source.faults g.R.RowOut.after g.R.RowOut.part adds_up (g.E.Engine.plan c.args.engine.now) c.args.size c.requires.some
+    (g.E.Engine.plan c.items.engine) (g.E.Engine.size c.items.engine) (g.met.E.Engine.same_plan _ _ before.same) (g.met.E.Engine.same_size _ _ before.same ∙ c.requires.size) (g.E.Engine.stands c.items.engine)
+    (record { source = c.args.input.now; out = c.args.out.now; taps = _; dropped = c.args.dropped.now.items })
+    (record { source = c.items.input; out = c.items.out; taps = _; dropped = c.items.dropped.items })
+    c.items.lines c.items.intake c.items.cutters before.fed
+    (record { source = c.next_item.new.source; out = c.take_item.new.out; taps = _; dropped = c.take_item.new.dropped.items }) c.next_item.new.lines c.next_item.new.intake
+    c.in-Ok.item c.in-Err-take_item.why c.in-Ok.ensures.takes c.in-Ok.ensures.same c.in-Ok.ensures.room
+    (c.in-Err-take_item.ensures.takes before.fed.items before.fed.f before.fed.rows may) c.in-Err-take_item.ensures.same_list
+
+pub end_input-requires-clause-may : goal.end_input-requires-clause-may
+end_input-requires-clause-may g c κs within =
+    let laws = g.met.R.RowOut g.world.𝓛 g.world.𝓜 g.world.𝓡 ((λ s x. x), (λ x. x), (λ x. x), λ x. x) in
+    let adds_up : AddsUp g.R.RowOut.after g.R.RowOut.part = record { after_none = laws.after_none; after_more = laws.after_more; part_later = laws.part_later; part_of_all = laws.part_of_all } in
+    let before = c.items.invariant in (
+      before.fed.items,
+      before.fed.f,
+      before.fed.rows,
+      may_end g.S.Source.left g.S.Source.faults g.R.RowOut.after g.R.RowOut.part adds_up (g.E.Engine.plan c.args.engine.now) c.args.size c.requires.some
+          (g.E.Engine.plan c.items.engine) (g.E.Engine.size c.items.engine) (g.met.E.Engine.same_plan _ _ before.same) (g.met.E.Engine.same_size _ _ before.same ∙ c.requires.size) (g.E.Engine.stands c.items.engine)
+          (record { source = c.args.input.now; out = c.args.out.now; taps = _; dropped = c.args.dropped.now.items })
+          (record { source = c.items.input; out = c.items.out; taps = _; dropped = c.items.dropped.items })
+          c.items.lines c.items.intake c.items.cutters before.fed,
+    )
+
+pub returns-in-Ok-end_input-clause-feeds : goal.returns-in-Ok-end_input-clause-feeds
+returns-in-Ok-end_input-clause-feeds g c =
+    let laws = g.met.R.RowOut g.world.𝓛 g.world.𝓜 g.world.𝓡 ((λ s x. x), (λ x. x), (λ x. x), λ x. x) in
+    let adds_up : AddsUp g.R.RowOut.after g.R.RowOut.part = record { after_none = laws.after_none; after_more = laws.after_more; part_later = laws.part_later; part_of_all = laws.part_of_all } in
+    let before = c.items.invariant in
+    let may = may_end g.S.Source.left g.S.Source.faults g.R.RowOut.after g.R.RowOut.part adds_up (g.E.Engine.plan c.args.engine.now) c.args.size c.requires.some
+    (g.E.Engine.plan c.items.engine) (g.E.Engine.size c.items.engine) (g.met.E.Engine.same_plan _ _ before.same) (g.met.E.Engine.same_size _ _ before.same ∙ c.requires.size) (g.E.Engine.stands c.items.engine)
+    (record { source = c.args.input.now; out = c.args.out.now; taps = _; dropped = c.args.dropped.now.items })
+    (record { source = c.items.input; out = c.items.out; taps = _; dropped = c.items.dropped.items })
+    c.items.lines c.items.intake c.items.cutters before.fed in
+    all_fed g.S.Source.left g.S.Source.faults g.R.RowOut.after g.R.RowOut.part adds_up (g.E.Engine.plan c.args.engine.now) c.args.size c.requires.some
+    (g.E.Engine.plan c.items.engine) (g.E.Engine.size c.items.engine) (g.met.E.Engine.same_plan _ _ before.same) (g.met.E.Engine.same_size _ _ before.same ∙ c.requires.size) (g.E.Engine.stands c.items.engine)
+    (record { source = c.args.input.now; out = c.args.out.now; taps = _; dropped = c.args.dropped.now.items })
+    (record { source = c.items.input; out = c.items.out; taps = _; dropped = c.items.dropped.items })
+    c.items.lines c.items.intake c.items.cutters before.fed
+    (record { source = c.next_item.new.source; out = c.end_input.new.out; taps = _; dropped = c.items.dropped.items }) c.next_item.new.lines c.next_item.new.intake
+    (g.E.Engine.stands c.end_input.new.engine) c.end_input.new.cutters c.in-Err.stop c.in-Err.ensures.takes
+    (c.in-Ok-end_input.ensures.takes before.fed.items before.fed.f before.fed.rows may) refl
+
+pub returns-in-Err-end_input-clause-feeds : goal.returns-in-Err-end_input-clause-feeds
+returns-in-Err-end_input-clause-feeds g c =
+    let laws = g.met.R.RowOut g.world.𝓛 g.world.𝓜 g.world.𝓡 ((λ s x. x), (λ x. x), (λ x. x), λ x. x) in
+    let adds_up : AddsUp g.R.RowOut.after g.R.RowOut.part = record { after_none = laws.after_none; after_more = laws.after_more; part_later = laws.part_later; part_of_all = laws.part_of_all } in
+    let before = c.items.invariant in
+    let may = may_end g.S.Source.left g.S.Source.faults g.R.RowOut.after g.R.RowOut.part adds_up (g.E.Engine.plan c.args.engine.now) c.args.size c.requires.some
+    (g.E.Engine.plan c.items.engine) (g.E.Engine.size c.items.engine) (g.met.E.Engine.same_plan _ _ before.same) (g.met.E.Engine.same_size _ _ before.same ∙ c.requires.size) (g.E.Engine.stands c.items.engine)
+    (record { source = c.args.input.now; out = c.args.out.now; taps = _; dropped = c.args.dropped.now.items })
+    (record { source = c.items.input; out = c.items.out; taps = _; dropped = c.items.dropped.items })
+    c.items.lines c.items.intake c.items.cutters before.fed in
+    end_fails g.S.Source.left g.S.Source.faults g.R.RowOut.after g.R.RowOut.part adds_up (g.E.Engine.plan c.args.engine.now) c.args.size c.requires.some
+    (g.E.Engine.plan c.items.engine) (g.E.Engine.size c.items.engine) (g.met.E.Engine.same_plan _ _ before.same) (g.met.E.Engine.same_size _ _ before.same ∙ c.requires.size) (g.E.Engine.stands c.items.engine)
+    (record { source = c.args.input.now; out = c.args.out.now; taps = _; dropped = c.args.dropped.now.items })
+    (record { source = c.items.input; out = c.items.out; taps = _; dropped = c.items.dropped.items })
+    c.items.lines c.items.intake c.items.cutters before.fed
+    (record { source = c.next_item.new.source; out = c.end_input.new.out; taps = _; dropped = c.items.dropped.items }) c.next_item.new.lines c.next_item.new.intake
+    c.in-Err.stop c.in-Err-end_input.why c.in-Err.ensures.takes
+    (c.in-Err-end_input.ensures.takes before.fed.items before.fed.f before.fed.rows may) refl
+
+pub returns-in-Err-end_input-clause-source : goal.returns-in-Err-end_input-clause-source
+returns-in-Err-end_input-clause-source g c = (rw c.in-Err-end_input.ensures.at_end at c.in-Err.ensures.cause) ∙ c.items.invariant.fed.read.no_fault
