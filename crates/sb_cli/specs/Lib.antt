@@ -13,6 +13,7 @@ pub mod Answers
 pub mod Offered
 pub mod Faults
 pub mod Laws
+pub mod Limits
 pub mod Notes
 pub mod AuditSteps
 pub mod WorkSteps

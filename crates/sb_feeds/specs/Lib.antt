@@ -1,5 +1,6 @@
 pub mod Fed
 pub mod Ends
+pub mod Laws
 pub use Rattle.sb_feed.specs.outside
 pub use Rattle.sb_feed.specs.emit
 pub use Rattle.sb_feed.specs.base

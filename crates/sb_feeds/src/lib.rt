@@ -12,6 +12,7 @@ mod ends;
 mod fed;
 mod feeding;
 mod file;
+pub mod laws;
 mod ring;
 
 pub use ends::{FeedDone, FeedIn, FeedOut};
