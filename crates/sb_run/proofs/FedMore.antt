@@ -27,18 +27,11 @@ use Rattle.sb_worker.specs.cascade.Views as view
 use Rattle.sb_worker.proofs.cascade.feeds.FeedOfChanges.{bundle-dry, bundle-fed, drained-fed, mark-dry, mark-fed}
 use Rattle.sb_feeds.specs.one_feed.Feeds.{AreRowsSoFar, Fed, MayArrive, MaySeal, bundles_in, records_of_feed, floor_in, marks_in, with_bundle, with_mark}
 use Rattle.sb_feeds.proofs.one_feed.RowsSoFar.{so_far_bundle, so_far_mark}
-use Rattle.sb_run.specs.Feeders.{HasFed, IsStill}
+use Rattle.sb_run.specs.Feeders.{HasFed}
 use Rattle.sb_run.specs.Rested.{feed_of}
 use Rattle.sb_run.proofs.Coming.{goes}
 use Rattle.sb_run.proofs.SoFar.{back, floor_is, moment_in_time, moment_so_far}
 use Rattle.sb_run.proofs.Standing.{feed-arrives, feed-seals, floor-arrives, floor-seals}
-
--- the pass may still be used, call after call
-pub still_here : (c : Cascade) (p : CascadePass) → IsReady c p → IsStill c p p
-still_here c p ready = record { ready = ready; out = refl }
-
-pub still_then : (c : Cascade) (p q r : CascadePass) → IsStill c p q → IsStill c q r → IsStill c p r
-still_then c p q r first then = record { ready = then.ready; out = then.out ∙ first.out }
 
 -- the records that were fed, as the tally has them
 records-are : (bs : List Bundle) → flat_map (λ (b : tally.Fed). b.records) (map fed_bundle bs) ≡ records_in_order (parts_of bs)

@@ -44,7 +44,7 @@ use Rattle.sb_run.specs.declared.run_end.RunEnd.TheVariants as run
 use Rattle.sb_run.specs.declared.sizes.Sizes.{Sizes}
 use Rattle.sb_run.specs.Ending.{early_by, end_by}
 use Rattle.sb_run.specs.Feeders.{ComesBack, HasFed, IsGivenBack}
-use Rattle.sb_run.specs.Rested.{HasSameSetting, IsRested, IsWhole, feed_of}
+use Rattle.sb_run.specs.Rested.{HasSameSetting, IsRested, IsRestedSoFar, IsWhole, feed_of}
 use Rattle.sb_run.specs.RunEnds.{AreSizes, Ends, EndsEarly, MayHaveFailed, OutputCause, SharedFeedCause, SharedInputCause}
 use Rattle.sb_run.proofs.Ended.{ends_here}
 use Rattle.sb_run.proofs.FedMore.{fed-are}
@@ -184,6 +184,13 @@ feeds-as after plan size left left' stands later o p taps taps' dropped dropped'
   gives = gives_as (stands e.f) (later e.f) after o p taps taps' [] (so e.f) e.gives;
   listed = e.listed;
 }
+
+-- a hand at rest, without what is known of its rows
+pub feeds-rested : {O : Type 0} (plan : Shape) (size : ℕ) (left left' : Option (List ℕ)) (h : HandView) (after part : O → List Record → O → Type 0)
+    (o p : O) (taps taps' : List TapState) (dropped dropped' : List Dropped) (fed : Result Stop GiveStop)
+    → Feeds plan size left left' (IsRestedSoFar h) after part o p taps taps' dropped dropped' fed → Feeds plan size left left' (IsRested h) after part o p taps taps' dropped dropped' fed
+feeds-rested plan size left left' h after part o p taps taps' dropped dropped' (Ok stop) e = feeds-as after plan size left left' (IsRestedSoFar h) (IsRested h) o p taps taps' dropped dropped' stop (λ f rows x. x.rested) e
+feeds-rested plan size left left' h after part o p taps taps' dropped dropped' (Err why) e = e
 
 -- ---- the ends
 module _ {O : Type 0} (plan : Shape) (sizes : Sizes) (left left' : Option (List ℕ)) (after part : O → List Record → O → Type 0) (o p : O)

@@ -82,13 +82,12 @@ rested-new plan is_plan sizes h are new = record {
 pub ends : {O : Type 0} (plan : Shape) (sizes : Sizes) (h0 h : HandView) (left left' : Option (List ℕ)) (after part : O → List Record → O → Type 0) (o p : O)
     (taps taps' : List TapState) (dropped dropped' : List Dropped) (fed : Result Stop GiveStop)
     → IsNewHand plan sizes.bundle sizes.pending sizes.keeps_diaries h0 → HasSameSetting h0 h
-    → Feeds h0.plan h0.bundle left left' (IsRested h) after part o p taps taps' dropped dropped' fed
+    → Feeds h0.plan sizes.bundle left left' (IsRested h) after part o p taps taps' dropped dropped' fed
     → Ends plan sizes left left' after part o p taps taps' dropped dropped' (end_by h fed)
 ends {O = O} plan sizes h0 h left left' after part o p taps taps' dropped dropped' fed new same feeds =
     let plan_is : h.plan ≡ plan = same.plan ∙ new.plan_is in
     let bundle_is : h.bundle ≡ sizes.bundle = same.bundle ∙ new.bundle_is in
-    let given = subst (λ n. Feeds plan n left left' (IsRested h) after part o p taps taps' dropped dropped' fed) new.bundle_is
-    (subst (λ q. Feeds q h0.bundle left left' (IsRested h) after part o p taps taps' dropped dropped' fed) new.plan_is feeds) in
+    let given = subst (λ q. Feeds q sizes.bundle left left' (IsRested h) after part o p taps taps' dropped dropped' fed) new.plan_is feeds in
     subst (λ q. (h.spent ≡ false → settings_of h.nodes ≡ settings_at sizes.keeps_diaries sizes.pending q)
     → Feeds q sizes.bundle left left' (IsRested h) after part o p taps taps' dropped dropped' fed
     → Ends q sizes left left' after part o p taps taps' dropped dropped' (end_by h fed)) plan_is

@@ -1,7 +1,9 @@
 pub mod Ending
+pub mod Laws
 pub mod Rested
 pub mod RunEnds
 pub mod Feeders
+pub mod EngineLaws
 pub mod Files
 pub mod Pops
 pub mod FilesFed

@@ -11,7 +11,7 @@ use Rattle.sb_worker.specs.tally.Whole.{fed_bundle}
 use Rattle.sb_worker.specs.hand.HandLaws.{AreIdle}
 use Rattle.sb_worker.specs.hand.Hands.{HandView, Shows, settings_at}
 use Rattle.sb_worker.specs.hand.Showing.{diaries_of, settings_of}
-use Rattle.sb_feeds.specs.one_feed.Feeds.{Fed, bundles_in, records_of_feed, floor_in, marks_in}
+use Rattle.sb_feeds.specs.one_feed.Feeds.{AreRowsSoFar, Fed, bundles_in, records_of_feed, floor_in, marks_in}
 
 -- what was fed, as the tally counts it: rows that were drained are rows of the moment still, so none counts as drained
 abbrev pub feed_of : Fed → Feed
@@ -44,3 +44,8 @@ pub record IsRested (h : HandView) (f : Fed) (rows : List Record) : Type 0 where
   pub whole : IsWhole h f rows
   pub idle : AreIdle h.plan h.nodes
   pub none_ready : h.tray ≡ []
+
+-- and what came out are the first rows of the plan
+pub record IsRestedSoFar (h : HandView) (f : Fed) (rows : List Record) : Type 0 where
+  pub rested : IsRested h f rows
+  pub so_far : AreRowsSoFar h.plan f rows

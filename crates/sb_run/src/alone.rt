@@ -4,11 +4,12 @@ ghost use Rattle.std.specs.Prelude.{◌≡◌, ◌<◌, ◌^◌, map, length};
 ghost use Rattle.sb_run.specs.RunEnds.{AreSizes, Ends, InputCause, IsDone, OutputCause};
 
 use crate::ending::end_of;
-use crate::feeding::feed;
+use crate::one_hand::OneHand;
 use crate::run_end::RunEnd;
 use crate::sizes::Sizes;
 use sb_feeds::sb_base::{Dropped, NoMemory, Plan};
 use sb_feeds::sb_emit::{RowOut, Tap};
+use sb_feeds::sb_feed::feed;
 use sb_feeds::sb_outside::Source;
 use sb_worker::sb_hand::Hand;
 use std::alloc::Global;
@@ -46,10 +47,11 @@ pub fn execute_alone<S: Source, R: RowOut>(
         sizes.pending,
         sizes.keeps_diaries,
     );
-    let mut hand = match made {
+    let hand = match made {
         Ok(hand) => hand,
         Err(NoMemory) => return RunEnd::Memory,
     };
-    let fed = feed(alloc, &mut hand, input, out, taps, dropped);
-    end_of(hand, fed)
+    let mut engine = OneHand { hand };
+    let fed = feed(alloc, &mut engine, sizes.bundle, input, out, taps, dropped);
+    end_of(engine.hand, fed)
 }

@@ -3,8 +3,9 @@
 
 mod alone;
 mod ending;
-mod feeding;
 mod files;
+pub mod laws;
+mod one_hand;
 mod run_end;
 mod running;
 mod shared;

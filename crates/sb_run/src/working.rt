@@ -1,18 +1,17 @@
-//! Feeding a hand: each bundle and each watermark is worked off at once, and the rows are given out.
+//! Working off what a hand has, and taking its rows out.
 
-ghost use Rattle.std.specs.Prelude.{◌≡◌, ◌≤◌, ◌<◌, ◌^◌, ℕ, List, map, length, slice_get, OnOk};
+ghost use Rattle.std.specs.Prelude.{◌≡◌, ◌≤◌, ◌<◌, ◌^◌, ◌++◌, ℕ, List, All, map, length, slice_get, IfOk, OnOk};
 ghost use Rattle.sb_feeds.specs.base.records.declared.item.Record.{Record as ARecord};
 ghost use Rattle.sb_worker.specs.hand.Stepping.{IsIdle};
-ghost use Rattle.sb_feeds.specs.one_feed.Feeds.{AreRowsSoFar, Fed, MayArrive, MaySeal, with_bundle, with_mark};
+ghost use Rattle.sb_feeds.specs.one_feed.Feeds.{AreRowsSoFar, Fed};
 ghost use Rattle.sb_feeds.specs.one_feed.GiveCauses.{GiveCause};
 ghost use Rattle.sb_feeds.specs.one_feed.Gives.{Gives};
-ghost use Rattle.sb_run.specs.Rested.{HasSameSetting, IsRested, IsWhole};
+ghost use Rattle.sb_run.specs.Rested.{HasSameSetting, IsRested, IsRestedSoFar, IsWhole};
 
-use sb_feeds::sb_base::{Bundle, NoMemory, Stream};
+use sb_feeds::sb_base::{END_MARK, NoMemory, Record};
 use sb_feeds::sb_emit::{RowOut, Tap};
 use sb_feeds::sb_feed::{GiveStop, give_out};
 use sb_worker::sb_hand::{Did, Hand};
-use sb_worker::sb_lane::ArriveStop;
 
 // Steps a node until nothing is left to do there.
 fn settle_node(hand: &mut Hand, node: u32) -> Result<(), NoMemory>
@@ -45,6 +44,24 @@ fn settle(hand: &mut Hand) -> Result<(), NoMemory>
     Ok(())
 }
 
+/// Works off what a hand has, and takes its rows out.
+///
+/// # Errors
+///
+/// [`NoMemory`]. Then nothing is known of the hand.
+pub(crate) fn work_off(hand: &mut Hand) -> Result<Vec<Record>, NoMemory>
+    requires whole { (f : Fed) × (rows : List ARecord) × IsWhole hand.old f rows }
+    ensures same { HasSameSetting hand.old hand.new }
+    ensures rests { (f : Fed) (before : List ARecord) → IsWhole hand.old f before
+        → IfOk result (λ rows. IsRestedSoFar hand.new f (before ++ rows.items)) }
+    ensures times { IfOk result (λ rows. All (λ r. r.time < END_MARK) rows.items) }
+{
+    match settle(hand) {
+        Ok(()) => Ok(hand.drain()),
+        Err(NoMemory) => Err(NoMemory),
+    }
+}
+
 /// Works off what a hand has, and gives out its rows.
 ///
 /// # Errors
@@ -64,73 +81,8 @@ pub(crate) fn flow<R: RowOut>(
     ensures fewer { OnOk result (length taps.new.items ≤ length taps.old.items) }
     ensures cause { GiveCause (R.row_state out.old) (R.row_state out.new) result }
 {
-    match settle(hand) {
-        Ok(()) => {}
-        Err(NoMemory) => return Err(GiveStop::Memory),
-    }
-    let rows = hand.drain();
-    give_out(&rows, out, taps)
-}
-
-/// A bundle of a stream comes: it is worked off at once, and the rows that no later line can change are written and
-/// offered.
-///
-/// # Errors
-///
-/// Those of [`give_out`], and `Memory`. Then nothing is known of the hand.
-pub(crate) fn arrive<R: RowOut>(
-    hand: &mut Hand,
-    stream: Stream,
-    bundle: Bundle,
-    out: &mut R,
-    taps: &mut Vec<Box<dyn Tap>>,
-) -> Result<(), GiveStop>
-    requires may { (f : Fed) × (rows : List ARecord) × IsRested hand.old f rows
-        × MayArrive hand.old.plan hand.old.bundle f stream bundle }
-    requires few { length taps.old.items < 2 ^ 32 }
-    ensures same { HasSameSetting hand.old hand.new }
-    ensures gives { (f : Fed) (rows : List ARecord) → IsRested hand.old f rows
-        → MayArrive hand.old.plan hand.old.bundle f stream bundle
-        → Gives hand.old.plan (IsRested hand.new (with_bundle stream bundle f)) R.after R.part out.old out.new
-        (map (λ t. tap_state t) taps.old.items) (map (λ t. tap_state t) taps.new.items)
-        (with_bundle stream bundle f) rows result }
-    ensures fewer { OnOk result (length taps.new.items ≤ length taps.old.items) }
-    ensures cause { GiveCause (R.row_state out.old) (R.row_state out.new) result }
-{
-    match hand.arrive(stream, bundle) {
-        Ok(_) => return flow(hand, out, taps),
-        Err(ArriveStop::Memory(_)) => return Err(GiveStop::Memory),
-        Err(ArriveStop::Full(_)) => unreachable!(),
-    }
-}
-
-/// A watermark of a stream comes: what it closes is worked off at once, and the rows that no later line can change are
-/// written and offered.
-///
-/// # Errors
-///
-/// Those of [`give_out`], and `Memory`. Then nothing is known of the hand.
-pub(crate) fn seal<R: RowOut>(
-    hand: &mut Hand,
-    stream: Stream,
-    mark: u64,
-    out: &mut R,
-    taps: &mut Vec<Box<dyn Tap>>,
-) -> Result<(), GiveStop>
-    requires may { (f : Fed) × (rows : List ARecord) × IsRested hand.old f rows
-        × MaySeal hand.old.plan f stream mark }
-    requires few { length taps.old.items < 2 ^ 32 }
-    ensures same { HasSameSetting hand.old hand.new }
-    ensures gives { (f : Fed) (rows : List ARecord) → IsRested hand.old f rows
-        → MaySeal hand.old.plan f stream mark
-        → Gives hand.old.plan (IsRested hand.new (with_mark stream mark f)) R.after R.part out.old out.new
-        (map (λ t. tap_state t) taps.old.items) (map (λ t. tap_state t) taps.new.items)
-        (with_mark stream mark f) rows result }
-    ensures fewer { OnOk result (length taps.new.items ≤ length taps.old.items) }
-    ensures cause { GiveCause (R.row_state out.old) (R.row_state out.new) result }
-{
-    match hand.seal(stream, mark) {
-        Ok(()) => flow(hand, out, taps),
+    match work_off(hand) {
+        Ok(rows) => give_out(&rows, out, taps),
         Err(NoMemory) => Err(GiveStop::Memory),
     }
 }

@@ -18,11 +18,12 @@ ghost use Rattle.sb_run.specs.FilesFed.{FeedsValues};
 ghost use Rattle.sb_run.specs.Pops.{AreInlets, as_stop as spec_as_stop, item_for, values_of};
 
 use crate::files::inlets::{FilesStop, Inlets, as_stop};
-use crate::shared::feeding::{end_input, end_work, reason_of, take_item};
+use crate::shared::feeder::Feeder;
+use crate::shared::feeding::{end_work, reason_of};
 use crate::shared::working::step_or_yield;
 use sb_feeds::sb_base::{Dropped, Item, MAX_BUNDLE, MAX_LINES, NoMemory, Stream};
 use sb_feeds::sb_emit::{RowOut, Tap};
-use sb_feeds::sb_feed::{Cutters, GiveStop};
+use sb_feeds::sb_feed::{Cutters, GiveStop, end_input, take_item};
 use sb_worker::sb_cascade::{Cascade, CascadePass};
 use sb_worker::sb_work::Gate;
 use std::alloc::Global;
@@ -62,13 +63,16 @@ fn take_of<W: Wait, G: Gate, R: RowOut>(
     ensures fewer { OnOk result (length taps.new.items ≤ length taps.old.items) }
     ensures cause { GiveCause (R.row_state out.old) (R.row_state out.new) result }
 {
+    let mut engine = Feeder {
+        rt,
+        alloc,
+        cascade,
+        pass,
+        gate,
+    };
     match stream {
-        Stream::A => take_item(
-            rt, alloc, cascade, pass, gate, cutters, item, out, taps, dropped_a,
-        ),
-        Stream::B => take_item(
-            rt, alloc, cascade, pass, gate, cutters, item, out, taps, dropped_b,
-        ),
+        Stream::A => take_item(&mut engine, cutters, item, out, taps, dropped_a),
+        Stream::B => take_item(&mut engine, cutters, item, out, taps, dropped_b),
     }
 }
 
@@ -100,7 +104,14 @@ fn end_both<W: Wait, G: Gate, R: RowOut>(
     ensures cause { GiveCause (R.row_state out.old) (R.row_state out.new) result }
 {
     let at = as_stop(stop);
-    match end_input(rt, alloc, cascade, pass, gate, cutters, at, out, taps) {
+    let mut engine = Feeder {
+        rt,
+        alloc,
+        cascade,
+        pass,
+        gate,
+    };
+    match end_input(&mut engine, cutters, at, out, taps) {
         Ok(()) => Ok(stop),
         Err(why) => Err(why),
     }

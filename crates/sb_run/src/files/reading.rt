@@ -10,11 +10,11 @@ ghost use Rattle.sb_run.specs.Files.{stream_alone as spec_stream_alone};
 ghost use Rattle.sb_run.specs.FilesRead.{AreFedWhole, AreNew, AreNewOnce, AreOpened, AreReadOnce, IsFedWhole, IsOpened};
 ghost use Rattle.sb_worker.specs.Helping.{IsHelper};
 
-use crate::feeding::uses;
 use crate::files::inlet::Inlet;
 use crate::files::inlets::Inlets;
 use crate::shared::helping::help_all;
 use sb_feeds::sb_base::{Intake, Keys, LatePolicy, NoMemory, Stream, Streams};
+use sb_feeds::sb_feed::uses;
 use sb_feeds::{FeedDone, FeedIn, FeedOut, feed, feed_pair};
 use sb_worker::sb_cascade::{Cascade, CascadePass};
 use sb_worker::sb_work::Gate;

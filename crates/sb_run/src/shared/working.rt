@@ -1,18 +1,13 @@
-//! Feeding a shared cascade: each bundle and each watermark goes in, and the rows that no later line can change are
-//! given out.
+//! The steps of the feeder of a shared cascade: it brings bundles in, takes rows out, and works as the others do.
 
-ghost use Rattle.std.specs.Prelude.{◌≤◌, ◌<◌, ◌^◌, false, List, map, length, IfNone, IfSome, OnOk};
+ghost use Rattle.std.specs.Prelude.{◌<◌, ◌++◌, false, List, All, IfNone, IfSome, OnOk};
 ghost use Rattle.sb_feeds.specs.base.records.declared.item.Record.{Record as ARecord};
 ghost use Rattle.sb_worker.specs.cascade.Calls.{HasBundle, IsEmptyHanded, IsReady, IsSame, plan_of, setting_of};
 ghost use Rattle.sb_worker.specs.cascade.Found.{IsClaim};
-ghost use Rattle.sb_feeds.specs.one_feed.Feeds.{Fed, MayArrive, MaySeal, with_bundle, with_mark};
-ghost use Rattle.sb_feeds.specs.one_feed.GiveCauses.{GiveCause};
-ghost use Rattle.sb_feeds.specs.one_feed.Gives.{Gives};
+ghost use Rattle.sb_feeds.specs.one_feed.Feeds.{Fed, MayArrive, with_bundle};
 ghost use Rattle.sb_run.specs.Feeders.{HasFed, IsStill};
 
-use sb_feeds::sb_base::{Bundle, NoMemory, Stream};
-use sb_feeds::sb_emit::{RowOut, Tap};
-use sb_feeds::sb_feed::{GiveStop, give_out};
+use sb_feeds::sb_base::{Bundle, END_MARK, NoMemory, Record, Stream};
 use sb_worker::sb_cascade::{Cascade, CascadePass, TryTake};
 use sb_worker::sb_hand::Did;
 use sb_worker::sb_lane::ArriveStop;
@@ -22,25 +17,15 @@ use std::alloc::Global;
 use std::sync::Wait;
 use std::thread;
 
-// Drains the rows that lie ready, and gives them out.
-fn drain_out<W: Wait, R: RowOut>(
-    rt: &W,
-    cascade: &Cascade,
-    pass: &mut CascadePass,
-    out: &mut R,
-    taps: &mut Vec<Box<dyn Tap>>,
-) -> Result<(), GiveStop>
+/// Takes the rows out that lie ready.
+pub(crate) fn take_out<W: Wait>(rt: &W, cascade: &Cascade, pass: &mut CascadePass) -> Vec<Record>
     requires feeder { (f : Fed) × (rows : List ARecord) × HasFed cascade.now pass.old f rows }
-    requires few { length taps.old.items < 2 ^ 32 }
     ensures same { IsStill cascade.now pass.old pass.new }
-    ensures gives { (f : Fed) (rows : List ARecord) → HasFed cascade.now pass.old f rows
-        → Gives (plan_of cascade.now) (HasFed cascade.now pass.new f) R.after R.part out.old out.new
-        (map (λ t. tap_state t) taps.old.items) (map (λ t. tap_state t) taps.new.items) f rows result }
-    ensures fewer { OnOk result (length taps.new.items ≤ length taps.old.items) }
-    ensures cause { GiveCause (R.row_state out.old) (R.row_state out.new) result }
+    ensures feeder { (f : Fed) (rows : List ARecord) → HasFed cascade.now pass.old f rows
+        → HasFed cascade.now pass.new f (rows ++ result.items) }
+    ensures times { All (λ r. r.time < END_MARK) result.items }
 {
-    let rows = cascade.drain(rt, pass);
-    give_out(&rows, out, taps)
+    cascade.drain(rt, pass)
 }
 
 // A step of the feeder as a worker. It fails if this worker or another found no memory.
@@ -150,39 +135,12 @@ fn make_room<W: Wait, G: Gate>(
     }
 }
 
-// Makes room where a lane is full, and gives out the rows that lie ready then.
-fn give_way<W: Wait, G: Gate, R: RowOut>(
-    rt: &W,
-    alloc: Global,
-    cascade: &Cascade,
-    pass: &mut CascadePass,
-    gate: &G,
-    stream: Stream,
-    out: &mut R,
-    taps: &mut Vec<Box<dyn Tap>>,
-) -> Result<(), GiveStop>
-    requires feeder { (f : Fed) × (rows : List ARecord) × HasFed cascade.now pass.old f rows }
-    requires few { length taps.old.items < 2 ^ 32 }
-    ensures same { IsStill cascade.now pass.old pass.new }
-    ensures gives { (f : Fed) (rows : List ARecord) → HasFed cascade.now pass.old f rows
-        → Gives (plan_of cascade.now) (HasFed cascade.now pass.new f) R.after R.part out.old out.new
-        (map (λ t. tap_state t) taps.old.items) (map (λ t. tap_state t) taps.new.items) f rows result }
-    ensures fewer { OnOk result (length taps.new.items ≤ length taps.old.items) }
-    ensures cause { GiveCause (R.row_state out.old) (R.row_state out.new) result }
-{
-    match make_room(rt, alloc, cascade, pass, gate, stream) {
-        Ok(()) => drain_out(rt, cascade, pass, out, taps),
-        Err(NoMemory) => Err(GiveStop::Memory),
-    }
-}
-
-/// A bundle of a stream comes. While its lane is full, the feeder works something off and gives out the rows that lie
-/// ready then.
+/// A bundle of a stream comes. While its lane is full, the feeder works something off. Whether it had to.
 ///
 /// # Errors
 ///
-/// Those of [`give_out`], and `Memory`, if this worker or another found none.
-pub(crate) fn arrive<W: Wait, G: Gate, R: RowOut>(
+/// This worker or another found no memory.
+pub(crate) fn bring<W: Wait, G: Gate>(
     rt: &W,
     alloc: Global,
     cascade: &Cascade,
@@ -190,68 +148,28 @@ pub(crate) fn arrive<W: Wait, G: Gate, R: RowOut>(
     gate: &G,
     stream: Stream,
     bundle: Bundle,
-    out: &mut R,
-    taps: &mut Vec<Box<dyn Tap>>,
-) -> Result<(), GiveStop>
+) -> Result<bool, NoMemory>
     requires may { (f : Fed) × (rows : List ARecord) × HasFed cascade.now pass.old f rows
         × MayArrive (plan_of cascade.now) (setting_of cascade.now).bundle f stream bundle }
-    requires few { length taps.old.items < 2 ^ 32 }
     ensures same { IsStill cascade.now pass.old pass.new }
-    ensures gives { (f : Fed) (rows : List ARecord) → HasFed cascade.now pass.old f rows
+    ensures feeder { OnOk result ((f : Fed) (rows : List ARecord) → HasFed cascade.now pass.old f rows
         → MayArrive (plan_of cascade.now) (setting_of cascade.now).bundle f stream bundle
-        → Gives (plan_of cascade.now) (HasFed cascade.now pass.new (with_bundle stream bundle f))
-        R.after R.part out.old out.new
-        (map (λ t. tap_state t) taps.old.items) (map (λ t. tap_state t) taps.new.items)
-        (with_bundle stream bundle f) rows result }
-    ensures fewer { OnOk result (length taps.new.items ≤ length taps.old.items) }
-    ensures cause { GiveCause (R.row_state out.old) (R.row_state out.new) result }
+        → HasFed cascade.now pass.new (with_bundle stream bundle f) rows) }
 {
     let mut waiting = bundle;
+    let mut has_waited = false;
     for _ in rt.forever() {
         match cascade.arrive(rt, pass, stream, waiting) {
-            Ok(_) => return Ok(()),
-            Err(ArriveStop::Memory(_)) => return Err(GiveStop::Memory),
+            Ok(_) => return Ok(has_waited),
+            Err(ArriveStop::Memory(_)) => return Err(NoMemory),
             Err(ArriveStop::Full(back)) => waiting = back,
         }
-        match give_way(rt, alloc, cascade, pass, gate, stream, out, taps) {
-            Ok(()) => {}
-            Err(why) => return Err(why),
+        match make_room(rt, alloc, cascade, pass, gate, stream) {
+            Ok(()) => has_waited = true,
+            Err(NoMemory) => return Err(NoMemory),
         }
     }
     unreachable!()
-}
-
-/// A watermark of a stream comes, and the rows that lie ready then are given out.
-///
-/// # Errors
-///
-/// Those of [`give_out`], and `Memory`.
-pub(crate) fn seal<W: Wait, R: RowOut>(
-    rt: &W,
-    cascade: &Cascade,
-    pass: &mut CascadePass,
-    stream: Stream,
-    mark: u64,
-    out: &mut R,
-    taps: &mut Vec<Box<dyn Tap>>,
-) -> Result<(), GiveStop>
-    requires may { (f : Fed) × (rows : List ARecord) × HasFed cascade.now pass.old f rows
-        × MaySeal (plan_of cascade.now) f stream mark }
-    requires few { length taps.old.items < 2 ^ 32 }
-    ensures same { IsStill cascade.now pass.old pass.new }
-    ensures gives { (f : Fed) (rows : List ARecord) → HasFed cascade.now pass.old f rows
-        → MaySeal (plan_of cascade.now) f stream mark
-        → Gives (plan_of cascade.now) (HasFed cascade.now pass.new (with_mark stream mark f))
-        R.after R.part out.old out.new
-        (map (λ t. tap_state t) taps.old.items) (map (λ t. tap_state t) taps.new.items)
-        (with_mark stream mark f) rows result }
-    ensures fewer { OnOk result (length taps.new.items ≤ length taps.old.items) }
-    ensures cause { GiveCause (R.row_state out.old) (R.row_state out.new) result }
-{
-    match cascade.seal(rt, pass, stream, mark) {
-        Ok(()) => drain_out(rt, cascade, pass, out, taps),
-        Err(NoMemory) => Err(GiveStop::Memory),
-    }
 }
 
 /// Steps until nothing is left to do.

@@ -1,7 +1,7 @@
 use Rattle.std.proofs.Common.{ap, below_more, length, arith}
 use Rattle.sb_feeds.specs.base.pipeline.Shapes.{Shape}
 use Rattle.sb_worker.specs.hand.Stepping.{IsIdle}
-use Rattle.sb_run.proofs.Settings.{same_then}
+use Rattle.sb_run.specs.EngineLaws.{same_then}
 use Rattle.sb_run.proofs.Settling.{still-idle}
 use Rattle.sb_run.proofs.working.settle.Goals as goal
 

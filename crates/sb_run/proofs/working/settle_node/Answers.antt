@@ -1,6 +1,7 @@
 use Rattle.std.proofs.Common.{◌∙◌}
 use Rattle.sb_run.specs.Rested.{HasSameSetting}
-use Rattle.sb_run.proofs.Settings.{same_spent, same_then, same_unspent}
+use Rattle.sb_run.specs.EngineLaws.{same_then}
+use Rattle.sb_run.proofs.Settings.{same_spent, same_unspent}
 use Rattle.sb_run.proofs.Settling.{earlier-kept}
 use Rattle.sb_run.proofs.Standing.{whole-stepped}
 use Rattle.sb_run.proofs.working.settle_node.Goals as goal

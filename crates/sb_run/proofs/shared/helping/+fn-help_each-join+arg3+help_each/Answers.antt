@@ -17,7 +17,7 @@ join-one-requires-send-A g n c κs within = search (sendable, crosses, Pass-send
 pub join-one-requires-after_bounds : goal.join-one-requires-after_bounds
 join-one-requires-after_bounds g t c κs within =
     let all = subst (AllByRecursion (IsHelper c.args.cascade.now)) c.in-Some.ensures.items c.requires.0 in (
-      ((All-last (IsHelper c.args.cascade.now) c.pop.new.self.items c.in-Some.pass all, search (param_sync, arg_sync, c.requires.1, c.requires.2) depth 20), (search (param_sync, arg_sync, c.requires.1, c.requires.2) depth 20, search (param_sync, arg_sync, c.requires.1, c.requires.2) depth 20)),
+      (All-last (IsHelper c.args.cascade.now) c.pop.new.self.items c.in-Some.pass all, search c.requires.2 depth 20),
       (
         search rules,
         (λ a h. h, (λ a h. h, ((All-front (IsHelper c.args.cascade.now) c.pop.new.self.items _ all, c.requires.1, c.requires.2), (c.requires.1, c.requires.2)))),

@@ -1,4 +1,4 @@
-use Rattle.sb_run.proofs.FedMore.{still_then}
+use Rattle.sb_run.specs.EngineLaws.{still_then}
 use Rattle.sb_run.proofs.shared.working.settle.Goals as goal
 
 pub returns-in-Ok-Nothing-clause-feeder : goal.returns-in-Ok-Nothing-clause-feeder
