@@ -27,17 +27,9 @@ fn sink(alloc: Global, failing: &[u64]) -> Result<MemSink, AllocError> {
     Ok(MemSink::new(alloc, Vec::new(alloc), failing))
 }
 
-/// A tap that has enough after one row, and behind it one that fails in calls with these numbers.
-fn two_taps(alloc: Global, failing: &[u64]) -> Result<Vec<Box<dyn Tap>>, AllocError> {
-    let mut taps: Vec<Box<dyn Tap>> = Vec::new(alloc);
-    taps.push(Box::new(alloc, HeadTap::new(1, sink(alloc, &[])?))?)?;
-    let failing = Vec::from_slice(alloc, failing)?;
-    taps.push(Box::new(alloc, CountTap::new(failing))?)?;
-    Ok(taps)
-}
-
-/// Calls of the sink that fail, those of the last tap that do, the answer, what is written, how many taps are left, and
-/// how many rows the last one has seen.
+/// There are two taps: one that has enough after one row, and behind it one that fails in some calls. Calls of the sink
+/// that fail, those of the last tap that do, the answer, what is written, how many taps are left, and how many rows the
+/// last one has seen.
 type Case = (
     &'static [u64],
     &'static [u64],
@@ -73,8 +65,11 @@ const CASES: [Case; 4] = [
 fn gives(alloc: Global, case: &Case) -> Result<bool, Fail> {
     let (writes, calls, answer, text, left, seen) = case;
     let rows = [row(9, 7), row(19, 4)];
+    let mut taps: Vec<Box<dyn Tap>> = Vec::new(alloc);
+    taps.push(Box::new(alloc, HeadTap::new(1, sink(alloc, &[])?))?)?;
+    let failing = Vec::from_slice(alloc, calls)?;
+    taps.push(Box::new(alloc, CountTap::new(failing))?)?;
     let mut sink = sink(alloc, writes)?;
-    let mut taps = two_taps(alloc, calls)?;
     if !are_timely(&rows) || taps.len() > 2 {
         return Ok(false);
     }

@@ -120,6 +120,9 @@ fn a_refused_line_ends_a_file(rt: HostRuntime) -> Result<(), Fail> {
     Ok(())
 }
 
+/// The lines of a long file.
+const LONG: u32 = 5_000;
+
 /// Line n of a long file: a comment, a watermark or a record.
 fn nth_line(alloc: Global, n: u32) -> Result<String, AllocError> {
     if n % 7 == 3 {
@@ -142,23 +145,36 @@ fn nth_value(n: u32) -> Option<Fed> {
     Some(record(u64::from(n), i64::from(n)))
 }
 
-/// A file of many more lines than the ring has places, and its values.
-fn long_file(alloc: Global) -> Result<(Vec<u8>, Vec<Fed>), AllocError> {
+/// A file of many more lines than the ring has places.
+fn long_file(alloc: Global) -> Result<Vec<u8>, AllocError> {
     let mut text = Vec::new(alloc);
-    let mut values = Vec::new(alloc);
-    for n in 0..5_000u32 {
+    for n in 0..LONG {
         text.extend_from_slice(nth_line(alloc, n)?.as_bytes())?;
+    }
+    Ok(text)
+}
+
+/// Whether these are the values that it feeds.
+fn are_of_long_file(values: &[Fed]) -> bool {
+    let mut rest = values;
+    for n in 0..LONG {
         if let Some(value) = nth_value(n) {
-            values.push(value)?;
+            let Some((first, others)) = rest.split_first() else {
+                return false;
+            };
+            if *first != value {
+                return false;
+            }
+            rest = others;
         }
     }
-    values.push(END)?;
-    Ok((text, values))
+    rest == [END].as_slice()
 }
 
 #[test]
 fn a_long_file_goes_through_the_ring(rt: HostRuntime) -> Result<(), Fail> {
-    let (text, values) = long_file(rt.alloc())?;
-    assert!(rt; feeds(&rt, rt.alloc(), text.as_slice(), values.as_slice())?);
+    let text = long_file(rt.alloc())?;
+    let values = values_across(&rt, rt.alloc(), text.as_slice())?;
+    assert!(rt; are_of_long_file(values.as_slice()));
     Ok(())
 }
