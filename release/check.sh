@@ -29,6 +29,8 @@ elif [ "$("$here/digest.sh")" != "$(told sources)" ]; then
   echo 'release: of other sources than these; not compared'
 elif [ "$(told builds)" != same ]; then
   echo "release: of these sources; not compared, since two builds are $(told builds)"
+elif [ "$(rt version 2> /dev/null < /dev/null | sed -n 1p)" != "$(told kit)" ]; then
+  echo 'release: by another kit than the one at hand; not compared'
 elif ! command -v strip > /dev/null; then
   fail 'the command strip is missing: install binutils'
 else

@@ -14,7 +14,11 @@ echo 'fn main() {}' > crates/streambox/src/main.rt
 echo 'streambox:' > crates.txt
 cp "$(type -P true)" crates/streambox/out/streambox
 cp "$(type -P false)" "$scratch/other"
-printf '#!/bin/sh\necho a-kit logic 7\n' > "$scratch/bin/rt"
+kit_of_this_test() {
+  printf '#!/bin/sh\necho %s logic 7\n' "$1" > "$scratch/bin/rt"
+}
+
+kit_of_this_test a-kit
 chmod +x "$scratch/bin/rt"
 PATH=$scratch/bin:$PATH
 built=crates/streambox/out/streambox
@@ -75,6 +79,9 @@ check_make() {
 check_check() {
   tells 0 'release: the program that was built, byte for byte' release/check.sh $built
   tells 1 '0 passed, 1 failed' release/check.sh "$scratch/other"
+  kit_of_this_test b-kit
+  tells 0 'release: by another kit than the one at hand; not compared' release/check.sh "$scratch/other"
+  kit_of_this_test a-kit
   tells 0 'release: whole' release/check.sh
   echo >> crates.txt
   tells 0 'release: of other sources than these; not compared' release/check.sh "$scratch/other"
