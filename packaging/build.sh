@@ -97,7 +97,7 @@ give() {
 make_lane() {
   local crate part
   mkdir -p "$1/.git" "$1/crates"
-  cp "$home/crates.txt" "$1"
+  awk -F: -v all=" ${crates[*]} streambox " 'index(all, " " $1 " ")' "$home/crates.txt" > "$1/crates.txt"
   [[ ! -e $home/HANDLES ]] || cp "$home/HANDLES" "$1"
   for crate in "${crates[@]}" streambox; do
     mkdir -p "$1/crates/$crate/out"
