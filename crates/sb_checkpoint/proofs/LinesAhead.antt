@@ -6,7 +6,7 @@ use Rattle.std.proofs.Math.Seq.{take-append_seam}
 use Rattle.std.proofs.lemmas.List.{take-append-drop, drop-drop, drop_more, length-drop}
 use Rattle.std.proofs.lemmas.Option.{slice_get_within, get_or_from_slice_get}
 use Rattle.sb_record.specs.declared.item.Item.{Item}
-use Rattle.sb_checkpoint.specs.Ahead.{Lines, bytes}
+use Rattle.sb_checkpoint.specs.Ahead.{Lines, bytes, name_behind}
 use Rattle.sb_checkpoint.specs.Texts.{item_text, with_end, items_text}
 
 take-length : {X : Type 0} (n : ℕ) (l : List X) → n ≤ length l → length (take n l) ≡ n
@@ -44,3 +44,25 @@ read_behind old new n buf a b r piece none end given read =
     subst (λ l. ReadConsumes (prepend_known l a) (prepend_known new b) r piece) (sym over)
     (subst (λ l. ReadConsumes (prepend_known [] a) (prepend_known l b) r piece) (sym (nothing_left old new n buf none over given))
     (subst (λ k. ReadConsumes k (prepend_known [] b) r piece) (sym (nothing_known a)) (subst (λ k. ReadConsumes a k r piece) (sym (nothing_known b)) read)))
+
+-- ---- names
+parts_same : (xs ys m n : List ℕ) → length xs ≡ length ys → xs ++ m ≡ ys ++ n → (xs ≡ ys) × (m ≡ n)
+parts_same [] [] m n long h = (refl, h)
+parts_same [] (y ∷ ys) m n long h = absurd (omega (arith, long))
+parts_same (x ∷ xs) [] m n long h = absurd (omega (arith, long))
+parts_same (x ∷ xs) (y ∷ ys) m n long h =
+    let first : x ≡ y = cc in
+    let behind : xs ++ m ≡ ys ++ n = cc in
+    let (same, rest) = parts_same xs ys m n (omega (arith, long)) behind in
+    ((λ i. first i ∷ same i), rest)
+
+-- a name tells what was left, and the name behind it
+pub name_behind_same : (a b : Option (List ℕ)) (m n : List ℕ) → name_behind a m ≡ name_behind b n → (a ≡ b) × (m ≡ n)
+name_behind_same None None m n h = (refl, cc h)
+name_behind_same None (Some ys) m n h = let e : 0 ≡ length ys + 1 = cc h in absurd (omega (arith, e))
+name_behind_same (Some xs) None m n h = let e : length xs + 1 ≡ 0 = cc h in absurd (omega (arith, e))
+name_behind_same (Some xs) (Some ys) m n h =
+    let e : length xs + 1 ≡ length ys + 1 = cc h in
+    let rest : xs ++ m ≡ ys ++ n = cc h in
+    let (same, names) = parts_same xs ys m n (omega (arith, e)) rest in
+    (ap Some same, names)

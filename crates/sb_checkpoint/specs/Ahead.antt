@@ -1,5 +1,5 @@
 -- Lines that are given before the bytes of a source.
-use Rattle.std.specs.Prelude.{◌≡◌, ℕ, List, ◌++◌, Some, slice_get}
+use Rattle.std.specs.Prelude.{◌≡◌, ◌⊎◌, ℕ, ◌+◌, List, [], ◌∷◌, ◌++◌, Option, None, Some, length, slice_get}
 use Rattle.sb_record.specs.declared.item.Item.{Item}
 use Rattle.sb_checkpoint.specs.Texts.{item_text, with_end}
 
@@ -18,7 +18,17 @@ pub record IsLineAt (items : List Item) (place : ℕ) (text : List ℕ) : Type 0
   pub at : slice_get items place ≡ Some item
   pub is : text ≡ with_end (item_text item)
 
--- lines, and the source whose bytes come behind them
+-- lines, the source whose bytes come behind them, and what it was at first
 pub record Before (S : Type 0) : Type 0 where
   pub lines : List ℕ
   pub source : S
+  pub begun : S
+
+-- all the lines were read, or nothing of the source behind them was
+abbrev pub AllReadOrNoneOfTheSource : List ℕ → Option (List ℕ) → Option (List ℕ) → Type 0
+AllReadOrNoneOfTheSource lines left left' = (lines ≡ []) ⊎ (left' ≡ left)
+
+-- a name that begins with what was left of a source
+abbrev pub name_behind : Option (List ℕ) → List ℕ → List ℕ
+name_behind None name = 0 ∷ name
+name_behind (Some left) name = (length left + 1) ∷ left ++ name

@@ -1,6 +1,7 @@
 //! A source that begins with what a checkpoint kept.
 
 ghost use Rattle.std.specs.Prelude.{◌≡◌, ◌≤◌, length};
+ghost use Rattle.sb_checkpoint.specs.Ahead.{AllReadOrNoneOfTheSource};
 ghost use Rattle.sb_checkpoint.specs.Checkpoints.{with_comments};
 ghost use Rattle.sb_checkpoint.specs.Saved.{items_in};
 ghost use Rattle.sb_checkpoint.specs.Texts.{items_text};
@@ -9,22 +10,26 @@ use crate::ahead::Ahead;
 use crate::checkpoint::Checkpoint;
 use sb_outside::{Source, SourceFault};
 use std::marker::Model;
+use std::snapshot::Snapshot;
 
 /// The lines of a checkpoint's items, then a comment `#` for each line more that its input had, then the bytes of a
 /// source. So the lines of the source have the numbers that they have in the whole input. It counts the faults of the
-/// source.
+/// source, and reads nothing of it before all lines were given.
 #[derive(Drop)]
-pub struct Resumed<S> {
+pub struct Resumed<S: Source> {
     ahead: Ahead,
     source: S,
+    begun: Snapshot<S>,
 }
 
-impl<S> Model for Resumed<S> {
-    ghost use Rattle.sb_checkpoint.specs.Ahead.{Before, bytes};
+impl<S: Source> Model for Resumed<S> {
+    ghost use Rattle.sb_checkpoint.specs.Ahead.{AllReadOrNoneOfTheSource, Before, bytes};
 
     ghost Value = { Before S };
 
-    ghost view = { λ s. record { lines = bytes s.ahead; source = s.source } };
+    ghost view = { λ s. record { lines = bytes s.ahead; source = s.source; begun = s.begun.value } };
+
+    ghost invariant = { λ s. AllReadOrNoneOfTheSource (bytes s.ahead) (S.left s.begun.value) (S.left s.source) };
 }
 
 impl<S: Source> Resumed<S> {
@@ -34,17 +39,21 @@ impl<S: Source> Resumed<S> {
         ensures { result ≡ record {
           lines = items_text (with_comments checkpoint.lines (items_in checkpoint));
           source = source;
+          begun = source;
         } }
     {
+        let begun = Snapshot::of(&source);
         Resumed {
             ahead: Ahead::new(checkpoint),
             source,
+            begun,
         }
     }
 
-    /// The source.
+    /// The source, of which nothing was read if a line is left.
     pub fn into_source(self) -> S
-        ensures { result ≡ self.source }
+        ensures source { result ≡ self.source }
+        ensures read { AllReadOrNoneOfTheSource self.lines (S.left self.begun) (S.left result) }
     {
         self.source
     }
@@ -52,6 +61,7 @@ impl<S: Source> Resumed<S> {
 
 impl<S: Source> Source for Resumed<S> {
     ghost use Rattle.std.specs.Io.KnownBytes.{prepend_known};
+    ghost use Rattle.sb_checkpoint.specs.Ahead.{name_behind};
 
     ghost left = { λ s. prepend_known s.lines (S.left s.source) };
 
@@ -59,7 +69,7 @@ impl<S: Source> Source for Resumed<S> {
 
     ghost has_ended = { λ s. S.has_ended s.source };
 
-    ghost name = { λ s. S.name s.source };
+    ghost name = { λ s. name_behind (S.left s.begun) (S.name s.source) };
 
     fn read(&mut self, buf: &mut [u8]) -> Result<usize, SourceFault> {
         match self.ahead.give(buf) {
