@@ -94,3 +94,6 @@ second_same a b c d xs ys h = cc h
 
 pub head_same : (a b : ℕ) (xs ys : List ℕ) → a ∷ xs ≡ b ∷ ys → a ≡ b
 head_same a b xs ys h = cc h
+
+pub tail_same : (a b : ℕ) (xs ys : List ℕ) → a ∷ xs ≡ b ∷ ys → xs ≡ ys
+tail_same a b xs ys h = cc h

@@ -2,6 +2,7 @@
 
 ghost use Rattle.std.specs.Prelude.{◌≡◌, ◌≤◌, ℕ, List, [], length};
 ghost use Rattle.std.specs.Io.KnownBytes.{prepend_known};
+ghost use Rattle.sb_checkpoint.specs.Ahead.{AllReadOrNoneOfTheSource};
 ghost use Rattle.sb_checkpoint.specs.Checkpoints.{with_comments};
 ghost use Rattle.sb_checkpoint.specs.LaterRows.{Hands};
 ghost use Rattle.sb_checkpoint.specs.Saved.{items_in};
@@ -36,7 +37,8 @@ pub fn run_rest<W: Threads + Wait + Clock + Sync, S: Source, R: RowOut>(
 ) -> RunEnd
     requires sizes { AreSizes sizes }
     requires room { length (items_in checkpoint) ≤ checkpoint.lines }
-    ensures ends { (rest : List ℕ) × Ends plan sizes
+    ensures ends { (rest : List ℕ) × AllReadOrNoneOfTheSource rest (S.left input.old) (S.left input.new)
+        × Ends plan sizes
         (prepend_known (items_text (with_comments checkpoint.lines (items_in checkpoint))) (S.left input.old))
         (prepend_known rest (S.left input.new)) (Hands R.after) (Hands R.part) out.old out.new [] []
         dropped.old.items dropped.new.items result }

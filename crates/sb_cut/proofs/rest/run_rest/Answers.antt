@@ -1,6 +1,9 @@
-use Rattle.std.proofs.Common.{◌≡◌, ◌∷◌, sym, ap, ◌∙◌}
+use Rattle.std.proofs.Common.{◌≡◌, ◌∷◌, sym, ap, subst, ◌∙◌}
 use Rattle.std.specs.Io.KnownBytes.{prepend_known}
-use Rattle.sb_cut.proofs.OpenEnds.{head_same}
+use Rattle.sb_checkpoint.specs.Ahead.{AllReadOrNoneOfTheSource, name_behind}
+use Rattle.sb_checkpoint.proofs.LinesAhead.{name_behind_same}
+use Rattle.sb_run.specs.RunEnds.{SharedInputCause}
+use Rattle.sb_cut.proofs.OpenEnds.{head_same, tail_same}
 use Rattle.sb_cut.proofs.PartEnds.{none_mapped, without_taps_at}
 use Rattle.sb_cut.proofs.rest.run_rest.Goals as goal
 
@@ -8,11 +11,33 @@ pub returns-clause-ends : goal.returns-clause-ends
 returns-clause-ends g c =
     let S = g.S.Source in
     let p = c.run-end.new.input in
-    let same = c.into_source-source.ensures in
-    let names = c.run-end.ensures.name ∙ (λ i. (c.new-resumed.ensures i).source.ghost_name ∷ S.name ((c.new-resumed.ensures i).source.now)) in
-    let back = c.input-1.given.1 (sym (ap (λ x. x.ghost_name) same ∙ head_same _ _ _ _ names)) in (
+    let same = c.into_source-source.ensures.source in
+    let names = c.run-end.ensures.name ∙ (λ i. name_behind (S.left ((c.new-resumed.ensures i).begun.now)) ((c.new-resumed.ensures i).source.ghost_name ∷ S.name ((c.new-resumed.ensures i).source.now))) in
+    let (begun, named) = name_behind_same _ _ _ _ names in
+    let back = c.input-1.given.1 (sym (ap (λ x. x.ghost_name) same ∙ head_same _ _ _ _ named)) in (
       p.lines,
+      subst (λ l. AllReadOrNoneOfTheSource p.lines l (S.left c.input-1.given.0)) begun (subst (λ x. AllReadOrNoneOfTheSource p.lines (S.left p.begun.now) (S.left x)) (sym back) c.into_source-source.ensures.read),
       without_taps_at _ _ _ (prepend_known p.lines (S.left c.input-1.given.0)) _ _ _ _ _ _ _ _ _ (prepend_known p.lines (S.left p.source.now)) (none_mapped _ _ c.new-taps.ensures.items)
           (λ i. prepend_known ((c.new-resumed.ensures i).lines) (S.left ((c.new-resumed.ensures i).source.now)))
           (ap (λ x. prepend_known p.lines (S.left x.now)) (sym same) ∙ ap (λ x. prepend_known p.lines (S.left x)) (sym back)) c.run-end.result c.run-end.ensures.ends,
     )
+
+pub returns-clause-input : goal.returns-clause-input
+returns-clause-input g c =
+    let S = g.S.Source in
+    let p = c.run-end.new.input in
+    let same = c.into_source-source.ensures.source in
+    let names = c.run-end.ensures.name ∙ (λ i. name_behind (S.left ((c.new-resumed.ensures i).begun.now)) ((c.new-resumed.ensures i).source.ghost_name ∷ S.name ((c.new-resumed.ensures i).source.now))) in
+    let (begun, named) = name_behind_same _ _ _ _ names in
+    let back = c.input-1.given.1 (sym (ap (λ x. x.ghost_name) same ∙ head_same _ _ _ _ named)) in
+    subst (λ n. SharedInputCause n (S.faults c.input-1.given.0) c.run-end.result) (λ i. S.faults ((c.new-resumed.ensures i).source.now))
+    (subst (λ n. SharedInputCause (S.faults c.new-resumed.result.source.now) n c.run-end.result) (ap (λ x. S.faults x.now) (sym same) ∙ ap (λ x. S.faults x) (sym back)) c.run-end.ensures.input)
+
+pub returns-clause-name : goal.returns-clause-name
+returns-clause-name g c =
+    let S = g.S.Source in
+    let same = c.into_source-source.ensures.source in
+    let names = c.run-end.ensures.name ∙ (λ i. name_behind (S.left ((c.new-resumed.ensures i).begun.now)) ((c.new-resumed.ensures i).source.ghost_name ∷ S.name ((c.new-resumed.ensures i).source.now))) in
+    let (begun, named) = name_behind_same _ _ _ _ names in
+    let back = c.input-1.given.1 (sym (ap (λ x. x.ghost_name) same ∙ head_same _ _ _ _ named)) in
+    ap (λ x. S.name x) back ∙ ap (λ x. S.name x.now) same ∙ tail_same _ _ _ _ named
