@@ -83,7 +83,7 @@ module _ (folder : Option Files) (name checkpoint : List ℕ) (options : Options
   rest_is_complete left left' taken taken' before now ending (inr found) cause blames no_tap fine =
       let (other, is_plan, others, gives, rest_is) = found in
       let rest = rest_is.0 in
-      let is = rest_is.1 in
+      let is = rest_is.2 in
       let same = same_plan folder name other plan is_plan.1 tells_plan.0 in
       let one = says_one folder checkpoint plan said tells others (subst (λ p. GivesCheckpoint folder checkpoint p others) same gives) in
       let c = rest_course others.low other is.given in

@@ -8,6 +8,7 @@ use Rattle.sb_watch.specs.base.records.Records.{at_least}
 use Rattle.sb_watch.specs.outside.declared.sink.SinkFault.{SinkFault}
 use Rattle.sb_watch.specs.outside.declared.sink.SinkFault.TheVariants as fault
 use Rattle.sb_watch.specs.base.pipeline.Shapes.{Shape}
+use Rattle.sb_cut.specs.checkpoint.Ahead.{AllReadOrNoneOfTheSource}
 use Rattle.sb_cut.specs.checkpoint.Checkpoints.{with_comments}
 use Rattle.sb_cut.specs.checkpoint.Texts.{items_text}
 use Rattle.sb_watch.specs.run.declared.run_end.RunEnd.{RunEnd}
@@ -44,6 +45,7 @@ module _ (plan : Shape) (options : Options) (said : Said) (left left' taken take
   abbrev EndsBehind : RunEnd → Type 0
   EndsBehind end =
       (rest : List ℕ)
+      × AllReadOrNoneOfTheSource rest left left'
       × Ends plan (sizes_from options) (prepend_known (items_text (with_comments said.lines said.items)) left) (prepend_known rest left') (λ a rows b. Wrote a b (at_least said.low rows)) (λ a rows b. WrotePrefix a b (at_least said.low rows))
       taken taken1 [] [] [] dropped end
 
@@ -55,16 +57,17 @@ module _ (plan : Shape) (options : Options) (said : Said) (left left' taken take
   rest_no_tap (run.Refused refusal) (Ok x) e = tt
   rest_no_tap run.Input (Ok x) e = tt
   rest_no_tap run.Output (Ok x) e = tt
-  rest_no_tap (run.Tap place) (Ok x) e = absurd (none_stops e.1.rows place [] e.1.offered)
+  rest_no_tap (run.Tap place) (Ok x) e = absurd (none_stops e.2.rows place [] e.2.offered)
   rest_no_tap run.Memory (Ok x) e = tt
 
   pub rest_answer : (end : RunEnd) (passed : Result (Unit {0}) SinkFault) → EndsBehind end → IsRestAnswer plan options said left left' taken taken2 (ending_of (status_after end passed) dropped [])
-  rest_answer end passed (rest, e) =
+  rest_answer end passed (rest, read, e) =
       let status = status_after end passed in
       let untold : diaries_told options.diary end status ≡ [] = subst (λ keep. diaries_told keep end status ≡ []) (sym no) (none_kept end status) in
       let lines = prepend_known (items_text (with_comments said.lines said.items)) left in
       let left2 = prepend_known rest left' in (
         rest,
+        read,
         subst (λ diaries. IsAnswerBy plan options lines left2 taken taken2 (λ given. rest_course said.low plan given) (ending_of status dropped diaries)) untold
             (run_answer (at_least said.low) (λ rows more. filter-append (λ r. not (nat_lt r.time said.low)) rows more) plan options lines left2 taken taken1 taken2 [] [] dropped keeps end passed e),
       )

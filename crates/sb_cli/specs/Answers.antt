@@ -30,6 +30,7 @@ use Rattle.sb_cli.specs.Statuses.{audit_text}
 use Rattle.sb_cli.specs.Told.{TellsDiaries}
 use Rattle.sb_watch.specs.diary.Audits.{TextAudit, AreLegalTexts, first_text_audit, end_of}
 use Rattle.sb_watch.specs.diary.Texts.{NodeDiary}
+use Rattle.sb_cut.specs.checkpoint.Ahead.{AllReadOrNoneOfTheSource}
 use Rattle.sb_cut.specs.checkpoint.Checkpoints.{with_comments}
 use Rattle.sb_cut.specs.checkpoint.Texts.{items_text}
 use Rattle.sb_cli.specs.CheckpointFiles.{GivesCheckpoint, HasFaultyLine, IsTooLong, Said}
@@ -208,7 +209,7 @@ IsPlanAnswer folder wanted left left' taken taken' ending =
 abbrev pub IsRestAnswer
     : Shape → Options → Said → Option (List ℕ) → Option (List ℕ) → Option (List ℕ) → Option (List ℕ) → Ending → Type 0
 IsRestAnswer plan options said left left' taken taken' ending =
-    (rest : List ℕ) × IsAnswerBy plan options
+    (rest : List ℕ) × AllReadOrNoneOfTheSource rest left left' × IsAnswerBy plan options
     (prepend_known (items_text (with_comments said.lines said.items)) left) (prepend_known rest left') taken taken'
     (λ given. rest_course said.low plan given) ending
 

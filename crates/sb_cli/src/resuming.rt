@@ -4,6 +4,7 @@ ghost use Rattle.std.specs.Prelude.{◌≡◌, ◌≢◌, ◌≤◌, ◌∷◌, 
 ghost use Rattle.std.specs.Io.KnownBytes.{prepend_known};
 ghost use Rattle.sb_watch.specs.base.records.Records.{at_least};
 ghost use Rattle.sb_watch.specs.outside.Folders.{Load};
+ghost use Rattle.sb_cut.specs.checkpoint.Ahead.{AllReadOrNoneOfTheSource};
 ghost use Rattle.sb_cut.specs.checkpoint.Checkpoints.{with_comments};
 ghost use Rattle.sb_cut.specs.checkpoint.Reach.{HasNoSession};
 ghost use Rattle.sb_cut.specs.checkpoint.Saved.{items_in};
@@ -174,7 +175,8 @@ fn rest_to<W: Threads + Wait + Clock + Sync, S: Source, K: Sink>(
 ) -> RunEnd
     requires sizes { ends.AreSizes sizes }
     requires room { length (items_in checkpoint) ≤ checkpoint.lines }
-    ensures ends { (rest : List ℕ) × ends.Ends plan sizes
+    ensures ends { (rest : List ℕ) × AllReadOrNoneOfTheSource rest (S.left source.old) (S.left source.new)
+        × ends.Ends plan sizes
         (prepend_known (items_text (with_comments checkpoint.lines (items_in checkpoint))) (S.left source.old))
         (prepend_known rest (S.left source.new))
         (λ taken rows taken'. Wrote taken taken' (at_least checkpoint.low rows))
