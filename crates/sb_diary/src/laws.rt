@@ -1,9 +1,15 @@
 //! The laws of diaries, over any lines, and a worked diary. Each function has its law for a contract, and does nothing.
 
 ghost use Rattle.sb_diary.specs.Laws as law;
+ghost use Rattle.sb_diary.specs.Limits as limit;
 ghost use Rattle.sb_diary.specs.Texts as texts;
 ghost use Rattle.sb_diary.specs.Worked as worked;
 ghost use Rattle.sb_diary.specs.WorkedText as worked_text;
+
+/// A diary has at most 2^56 lines.
+pub fn limits()
+    ensures { limit.Limits }
+{}
 
 /// A line more is legal exactly if it is so after what the lines before it say.
 pub fn legal_line_by_line()

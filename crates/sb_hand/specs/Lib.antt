@@ -3,6 +3,7 @@ pub mod HandLaws
 pub mod HandParts
 pub mod Hands
 pub mod LaneGoing
+pub mod Limits
 pub mod Linking
 pub mod NewNodes
 pub mod Readiness

@@ -1,6 +1,12 @@
 //! What holds of each hand, for those who run it. Each function has its law for a contract, and does nothing.
 
 ghost use Rattle.sb_hand.specs.HandLaws as law;
+ghost use Rattle.sb_hand.specs.Limits as limit;
+
+/// A stream has at most 1,024 bundles that wait or are out.
+pub fn limits()
+    ensures { limit.Limits }
+{}
 
 /// Where each node is idle, the moment that a hand shows is at rest.
 pub fn idle_is_rest()

@@ -1,5 +1,6 @@
 pub mod Changes
 pub mod Lasts
+pub mod Limits
 pub mod Naming
 pub mod Rising
 pub mod Following

@@ -1,6 +1,12 @@
 //! What follows from the definitions alone. Each function has its law for a contract, and does nothing.
 
 ghost use Rattle.sb_live.specs.Laws as law;
+ghost use Rattle.sb_live.specs.Limits as limit;
+
+/// A live table is made with at most 64 readers.
+pub fn limits()
+    ensures { limit.Limits }
+{}
 
 /// The last row of a key among changes is the last one among their rows: in which calls they were shown does not
 /// matter.
