@@ -8,6 +8,11 @@ use Rattle.sb_run.specs.base.records.Inputs.{stop_of}
 use Rattle.sb_run.specs.outside.Sources.{Rose}
 use Rattle.sb_run.specs.one_feed.Reads.{FaultCause}
 use Rattle.sb_checkpoint.specs.Cut.{IsCutAt, faults_of}
+use Rattle.sb_run.specs.declared.run_end.RunEnd.{RunEnd}
+use Rattle.sb_run.specs.declared.run_end.RunEnd.TheVariants as run
+use Rattle.sb_cut.specs.declared.cut_end.CutEnd.{CutEnd}
+use Rattle.sb_cut.specs.declared.cut_end.CutEnd.TheVariants.{Done}
+use Rattle.sb_cut.specs.CutEnds.{IsCutEnd}
 use Rattle.sb_cut.specs.Saves.{cut_stop}
 
 -- a count of faults that stood: no read has failed, and none has ended
@@ -31,6 +36,26 @@ pub whole_unfailed : (left : Option (List ℕ)) (before now : ℕ) (ended failed
 whole_unfailed left before now true false cut whole = cut.unfailed refl
 whole_unfailed left before now true true cut whole = cc whole
 whole_unfailed left before now false failed cut whole = cc whole
+
+pub whole_has_ended : (ended failed : Bool) → ended && not failed ≡ true → ended ≡ true
+whole_has_ended true failed whole = refl
+whole_has_ended false failed whole = cc whole
+
+-- a part is done, and saved to its end, only if it is whole
+pub done_is_whole : (whole : Bool) (end : RunEnd) (cut : CutEnd) → IsCutEnd whole end cut → cut ≡ Done → whole ≡ true
+done_is_whole true end cut is done = refl
+done_is_whole false (run.Done hand) cut is done = absurd is
+done_is_whole false (run.Refused refusal) cut is done = cc (is, done)
+done_is_whole false run.Input cut is done = cc (is, done)
+done_is_whole false run.Output cut is done = cc (is, done)
+done_is_whole false (run.Tap place) cut is done = absurd is
+done_is_whole false run.Memory cut is done = cc (is, done)
+
+pub end_is_whole : (whole : Bool) (stop : Stop) → (stop ≡ End → ⊥) → cut_stop whole stop ≡ End → whole ≡ true
+end_is_whole true stop going is = refl
+end_is_whole false End going is = absurd (going refl)
+end_is_whole false (Refused refusal) going is = cc is
+end_is_whole false Fault going is = cc is
 
 -- where reading stopped
 pub cut_stopped : (ended whole : Bool) (refused : Option Refusal) (stop : Stop) → stop ≡ stop_of ended refused → (stop ≡ End → ⊥) → cut_stop whole stop ≡ stop_of whole refused

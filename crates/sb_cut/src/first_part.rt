@@ -1,6 +1,6 @@
 //! A source of which only a first part is there.
 
-ghost use Rattle.std.specs.Prelude.{◌≡◌, ◌+◌, ◌∷◌, ◌&&◌, false, not};
+ghost use Rattle.std.specs.Prelude.{◌≡◌, ◌+◌, ◌∷◌, ◌&&◌, true, false, not};
 ghost use Rattle.sb_checkpoint.specs.Cut.{faults_of};
 ghost use Rattle.sb_cut.specs.FirstParts.{IsPartAt, open_end};
 
@@ -21,7 +21,7 @@ pub(crate) struct FirstPart<S: Source> {
 }
 
 impl<S: Source> Model for FirstPart<S> {
-    ghost use Rattle.std.specs.Prelude.{◌≡◌, false};
+    ghost use Rattle.std.specs.Prelude.{◌≡◌, true, false};
     ghost use Rattle.sb_checkpoint.specs.Cut.{IsCutAt};
     ghost use Rattle.sb_cut.specs.FirstParts.{IsPartAt, Part};
 
@@ -36,7 +36,7 @@ impl<S: Source> Model for FirstPart<S> {
     } };
 
     ghost invariant = { λ s. IsPartAt (S.left s.source) (S.faults s.begun.value) (S.faults s.source)
-        s.ended s.has_failed s.again };
+        s.ended s.has_failed s.again × (s.ended ≡ true → S.has_ended s.source) };
 }
 
 impl<S: Source> FirstPart<S> {
@@ -64,6 +64,7 @@ impl<S: Source> FirstPart<S> {
     /// The source, which is at its end if that was met, and whose count of faults rose only if a read has failed.
     pub(crate) fn into_source(self) -> S
         ensures source { result ≡ self.source }
+        ensures end { self.ended ≡ true → S.has_ended result }
         ensures at { IsPartAt (S.left result) (S.faults self.begun) (S.faults result)
             self.ended self.has_failed self.again }
     {

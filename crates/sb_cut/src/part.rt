@@ -33,6 +33,7 @@ pub fn run_part<W: Threads + Wait + Clock + Sync, S: Source, R: RowOut>(
     ensures ends { PartEnds plan (S.left input.old) (S.left input.new) R.after R.part out.old out.new
         dropped.old.items dropped.new.items result }
     ensures input { CutCause (S.faults input.old) (S.faults input.new) result }
+    ensures end { result ≡ CutEnd.Done → S.has_ended input.new }
     ensures output { CutOutputCause (R.row_state out.old) (R.row_state out.new) result }
     ensures name { S.name input.new ≡ S.name input.old }
 {

@@ -7,7 +7,7 @@ ghost use Rattle.sb_checkpoint.specs.Checkpoints.{with_comments};
 ghost use Rattle.sb_checkpoint.specs.LaterRows.{Hands};
 ghost use Rattle.sb_checkpoint.specs.Saved.{items_in};
 ghost use Rattle.sb_checkpoint.specs.Texts.{items_text};
-ghost use Rattle.sb_run.specs.RunEnds.{AreSizes, Ends, OutputCause, SharedInputCause};
+ghost use Rattle.sb_run.specs.RunEnds.{AreSizes, Ends, IsDone, OutputCause, SharedInputCause};
 
 use sb_checkpoint::{Checkpoint, Resumed, RowsFrom};
 use sb_run::sb_base::{Dropped, Plan};
@@ -43,6 +43,7 @@ pub fn run_rest<W: Threads + Wait + Clock + Sync, S: Source, R: RowOut>(
         (prepend_known rest (S.left input.new)) (Hands R.after) (Hands R.part) out.old out.new [] []
         dropped.old.items dropped.new.items result }
     ensures input { SharedInputCause (S.faults input.old) (S.faults input.new) result }
+    ensures end { IsDone result → S.has_ended input.new }
     ensures output { OutputCause (R.row_state out.old.out) (R.row_state out.new.out) result }
     ensures name { S.name input.new ≡ S.name input.old }
 {

@@ -41,6 +41,7 @@ pub fn save<S: Source>(
         dropped.old.items dropped.new.items) }
     ensures cause { IfOk result (λ s. FaultCause (S.faults input.old) (S.faults input.new) s.stop) }
     ensures unfailed { OnErr result (S.faults input.new ≡ S.faults input.old) }
+    ensures end { IfOk result (λ s. s.stop ≡ Stop.End → S.has_ended input.new) }
     ensures name { S.name input.new ≡ S.name input.old }
 {
     let mut part = FirstPart::new(&mut *input);

@@ -1,6 +1,6 @@
 //! A run whose rows are shown in a live table, and the last row of a key there.
 
-ghost use Rattle.std.specs.Prelude.{◌≡◌};
+ghost use Rattle.std.specs.Prelude.{◌≡◌, IfOk};
 ghost use Rattle.sb_live.specs.Changes.{rows_in};
 ghost use Rattle.sb_live.specs.Lasts as spec;
 ghost use Rattle.sb_run.specs.RunEnds.{AreSizes};
@@ -38,7 +38,7 @@ fn last_if_any<R: Wait + Drop>(out: &LiveOut<R>, key: Option<Key>) -> Option<Rec
 /// key with this text among the rows that are due there: all rows at the end of the input, else those below the low
 /// watermark. A text that names no key has no row. The late records that the plan drops go to the end of `dropped`.
 ///
-/// Whether the call returns is not said if there are several workers: they wait for one another.
+/// Whether the call returns is not said: the table waits for its readers, and workers for one another.
 ///
 /// # Errors
 ///
@@ -56,6 +56,7 @@ pub fn watch<W: Threads + Wait + Clock + Sync, S: Source>(
     ensures watched { Watches plan key.now (S.left input.old) (S.left input.new)
         dropped.old.items dropped.new.items result }
     ensures input { WatchCause (S.faults input.old) (S.faults input.new) result }
+    ensures end { IfOk result (λ watched. watched.stop ≡ Stop.End → S.has_ended input.new) }
     ensures name { S.name input.new ≡ S.name input.old }
 {
     let named = key_named(plan.keys(), key);

@@ -41,3 +41,12 @@ returns-clause-name g c =
     let (begun, named) = name_behind_same _ _ _ _ names in
     let back = c.input-1.given.1 (sym (ap (λ x. x.ghost_name) same ∙ head_same _ _ _ _ named)) in
     ap (λ x. S.name x) back ∙ ap (λ x. S.name x.now) same ∙ tail_same _ _ _ _ named
+
+pub returns-clause-end : goal.returns-clause-end
+returns-clause-end g c = λ done.
+    let S = g.S.Source in
+    let same = c.into_source-source.ensures.source in
+    let names = c.run-end.ensures.name ∙ (λ i. name_behind (S.left ((c.new-resumed.ensures i).begun.now)) ((c.new-resumed.ensures i).source.ghost_name ∷ S.name ((c.new-resumed.ensures i).source.now))) in
+    let (begun, named) = name_behind_same _ _ _ _ names in
+    let back = c.input-1.given.1 (sym (ap (λ x. x.ghost_name) same ∙ head_same _ _ _ _ named)) in
+    subst (λ x. S.has_ended x) (sym back) (subst (λ x. S.has_ended x.now) (sym same) (c.run-end.ensures.end done))

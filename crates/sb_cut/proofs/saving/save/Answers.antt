@@ -1,6 +1,7 @@
 use Rattle.std.proofs.Common.{◌≡◌, ◌∷◌, not, ◌&&◌, sym, ap, subst, ◌∙◌}
 use Rattle.sb_cut.specs.FirstParts.{open_end}
 use Rattle.sb_cut.specs.Saves.{Gathers, GathersNone, Saves, SavesNone, cut_stop}
+use Rattle.sb_cut.proofs.CutCauses.{end_is_whole, whole_has_ended}
 use Rattle.sb_cut.proofs.OpenEnds.{second_same}
 use Rattle.sb_cut.proofs.SavedParts.{saved, saved_none}
 use Rattle.sb_cut.proofs.saving.save.Goals as goal
@@ -26,6 +27,17 @@ returns-in-Ok-clause-saves g c =
     let stop_is = c.stop_by.ensures ∙ ap (λ w. cut_stop w stop) c.is_whole-is_whole.ensures in
     subst (λ l. Saves plan (S.left c.args.input.now) l c.into_checkpoint.result c.stop_by.result dropped dropped') (ap S.left (sym back))
     (subst (λ x. Saves plan (S.left c.args.input.now) (S.left s.now) c.into_checkpoint.result x dropped dropped') (sym stop_is) is)
+
+pub returns-in-Ok-clause-end : goal.returns-in-Ok-clause-end
+returns-in-Ok-clause-end g c = λ done.
+    let S = g.S.Source in
+    let p = c.gather-gathered.new.source in
+    let same = c.into_source-source.ensures.source in
+    let names = c.in-Ok.ensures.name ∙ (λ i. S.faults ((c.new-part.ensures i).begun.now) ∷ (c.new-part.ensures i).source.ghost_name ∷ S.name ((c.new-part.ensures i).source.now)) in
+    let back = c.input-1.given.1 (sym (ap (λ x. x.ghost_name) same ∙ second_same _ _ _ _ _ _ names)) in
+    let stop_is = c.stop_by.ensures ∙ ap (λ w. cut_stop w c.in-Ok.field-0.stop) c.is_whole-is_whole.ensures in
+    let whole = end_is_whole (p.ended && not p.has_failed) c.in-Ok.field-0.stop c.in-Ok.ensures.end (sym stop_is ∙ done) in
+    subst (λ x. S.has_ended x) (sym back) (c.into_source-source.ensures.end (whole_has_ended p.ended p.has_failed whole))
 
 pub returns-in-Err-clause-none : goal.returns-in-Err-clause-none
 returns-in-Err-clause-none g c =
