@@ -59,10 +59,11 @@ memory_answer plan options left left' taken ending given is none untold =
     (record { given = given; written = nothing_written taken (all_rows plan (items_of plan given)); lists = record { rest = dropped_of (items_of plan given); are = refl }; tells = refl })
 
 -- and the taps were offered nothing of which anything is said
-pub memory_offered : (plan : Shape) (left left' taken taken' : Option (List ℕ)) (taps taps' : List TapState) (status : Status) → Given left left' → status ≡ Memory
-    → IsOfferedOf plan left left' taken taken' taps taps' status
-memory_offered plan left left' taken taken' taps taps' status given is =
-    subst (IsOfferedOf plan left left' taken taken' taps taps') (sym is) (record { given = given; offered = tt })
+pub memory_offered : (plan : Shape) (left left' taken : Option (List ℕ)) (taps taps' : List TapState) (status : Status) → Given left left' → status ≡ Memory
+    → IsOfferedOf plan left left' taken taken taps taps' status
+memory_offered plan left left' taken taps taps' status given is =
+    subst (IsOfferedOf plan left left' taken taken taps taps') (sym is)
+    (record { given = given; written = nothing_written taken (all_rows plan (items_of plan given)); offered = tt })
 
 -- nothing was read
 pub unread : (left : Option (List ℕ)) → Given left left

@@ -9,6 +9,7 @@ use Rattle.sb_cut.specs.declared.cut_end.CutEnd.{CutEnd}
 use Rattle.sb_cut.specs.declared.cut_end.CutEnd.TheVariants as cut
 use Rattle.sb_cut.specs.CutEnds.{CutCause, CutOutputCause, IsCutWritten}
 use Rattle.sb_cli.specs.Answers.{IsRead}
+use Rattle.sb_cli.specs.declared.status.Status.TheVariants.{Done}
 use Rattle.sb_cli.specs.CutSteps.{status_after_cut}
 use Rattle.sb_cli.specs.Faults.{HasCause, HidesNoFault, faults_of}
 use Rattle.sb_cli.specs.Offered.{IsNoTap}
@@ -56,3 +57,13 @@ module _ (reads reads' : ℕ) (sink sink1 sink2 : SinkState) where
   cut_hides_none cut.Input (Ok x) loads input output cause told = (writes_same cut.Input x output cause told tt, refl)
   cut_hides_none cut.Output (Ok x) loads input output cause told = refl
   cut_hides_none cut.Memory (Ok x) loads input output cause told = refl
+
+-- the status is that the part is done only if it is
+pub cut_is_done : (end : CutEnd) (passed : Result (Unit {0}) SinkFault) → status_after_cut end passed ≡ Done → end ≡ cut.Done
+cut_is_done end (Err fault.Failed) is = cc is
+cut_is_done end (Err fault.Memory) is = cc is
+cut_is_done cut.Done (Ok x) is = refl
+cut_is_done (cut.Refused refusal) (Ok x) is = cc is
+cut_is_done cut.Input (Ok x) is = cc is
+cut_is_done cut.Output (Ok x) is = cc is
+cut_is_done cut.Memory (Ok x) is = cc is

@@ -32,7 +32,7 @@ use Rattle.sb_cli.specs.declared.late.LateRecords.TheVariants.{OfFiles}
 use Rattle.sb_cli.specs.declared.status.Status.TheVariants.{Done, Output, Memory, Tap, FileLine}
 use Rattle.sb_cli.specs.Answers.{IsAnswerToTwo, IsRead, Wrote, WrotePrefix, ending_with}
 use Rattle.sb_cli.specs.FileSteps.{status_after_two}
-use Rattle.sb_cli.specs.Offered.{BlamesTap, HasOfferedOfFiles}
+use Rattle.sb_cli.specs.Offered.{BlamesTap, HasOfferedOfFiles, IsOfferedOfBytes}
 use Rattle.sb_cli.specs.Pipelines.{all_rows}
 use Rattle.sb_cli.specs.RunSteps.{CanTellAt, diaries_told, sizes_from}
 use Rattle.sb_cli.proofs.Blaming.{stops_blames}
@@ -132,7 +132,7 @@ module _ (plan : Shape) (options : Options) (files : Stream → List ℕ) (taken
   files_answer (two.Tap place) (Ok x) e = let s = some_early _ e in record { written = s.wrote; lists = (s.late_a, s.late_b); tells = refl }
   files_answer two.Memory (Ok x) e = let s = some_early _ e in record { written = s.wrote; lists = (s.late_a, s.late_b); tells = refl }
 
-  pub files_offered : (end : TwoEnd) (passed : Result (Unit {0}) SinkFault) → EndsSo end → HasOfferedOfFiles plan files taken taken2 taps taps' (status_after_two end passed)
+  files_offered : (end : TwoEnd) (passed : Result (Unit {0}) SinkFault) → EndsSo end → HasOfferedOfFiles plan files taken taken2 taps taps' (status_after_two end passed)
   files_offered end (Err fault.Failed) e = tt
   files_offered end (Err fault.Memory) e = tt
   files_offered (two.Done hand) (Ok x) e = (e.0, e.1.offered)
@@ -140,6 +140,9 @@ module _ (plan : Shape) (options : Options) (files : Stream → List ℕ) (taken
   files_offered two.Output (Ok x) e = tt
   files_offered (two.Tap place) (Ok x) e = record { rows = e.rows; first = e.first; wrote = prefix_kept taken taken1 taken2 e.rows e.wrote keeps; stops = e.offered }
   files_offered two.Memory (Ok x) e = tt
+
+  pub files_written_and_offered : (end : TwoEnd) (passed : Result (Unit {0}) SinkFault) → EndsSo end → IsOfferedOfBytes plan files taken taken2 taps taps' (status_after_two end passed)
+  files_written_and_offered end passed e = record { written = (files_answer end passed e).written; offered = files_offered end passed e }
 
   pub files_blame : (end : TwoEnd) (passed : Result (Unit {0}) SinkFault) (place : ℕ) → EndsSo end → status_after_two end passed ≡ Tap place → BlamesTap place taps taps'
   files_blame end (Err fault.Failed) place e is = cc is

@@ -7,6 +7,7 @@ pub mod DiaryReading
 pub mod AuditAnswers
 pub mod Blaming
 pub mod Offering
+pub mod ReadingOn
 pub mod DoneHands
 pub mod RunAnswers
 pub mod RunFaults

@@ -1,5 +1,5 @@
 -- From how a run of the engine ended to its answer.
-use Rattle.std.proofs.Common.{◌≡◌, ℕ, ◌+◌, ◌≤◌, Bool, true, false, List, [], ◌∷◌, ◌++◌, Option, Some, Result, Ok, Err, length, refl, sym, ap, subst, ◌∙◌, arith, append-nil, length-append, zero, suc, slice_get, map}
+use Rattle.std.proofs.Common.{◌≡◌, ◌⊎◌, inl, inr, ℕ, ◌+◌, ◌≤◌, Bool, true, false, List, [], ◌∷◌, ◌++◌, Option, Some, Result, Ok, Err, length, refl, sym, ap, subst, ◌∙◌, arith, append-nil, length-append, zero, suc, slice_get, map}
 use Rattle.std.specs.Io.KnownBytes.{Appends, Keeps}
 use Rattle.std.specs.Option.{option_map}
 use Rattle.std.proofs.lemmas.Option.{same_Some, slice_get-map}
@@ -34,12 +34,12 @@ use Rattle.sb_watch.specs.one_feed.Given.{Given, items_of, stop_at}
 use Rattle.sb_watch.specs.one_feed.TapLists.{LeavesThoseThatStay}
 use Rattle.sb_watch.specs.run.declared.run_end.RunEnd.{RunEnd}
 use Rattle.sb_watch.specs.run.declared.run_end.RunEnd.TheVariants as run
-use Rattle.sb_watch.specs.run.RunEnds.{Ends, EndsAt, EndsEarly, IsDoneHand}
+use Rattle.sb_watch.specs.run.RunEnds.{Ends, EndsAt, EndsEarly, InputCause, IsDoneHand}
 use Rattle.sb_words.specs.declared.options.Options.{Options}
 use Rattle.sb_cli.specs.declared.status.Status.{Status}
 use Rattle.sb_cli.specs.declared.status.Status.TheVariants.{Done, Words, Plan, Line, Input, Output, Folder, Memory, Tap, Audit, FileTooLong, FileLine, Checkpoint}
-use Rattle.sb_cli.specs.Answers.{IsAnswerBy, Wrote, WrotePrefix, ending_of}
-use Rattle.sb_cli.specs.Courses.{Course, shown_course}
+use Rattle.sb_cli.specs.Answers.{IsAnswerBy, Wrote, WroteAllDue, WrotePrefix, ending_of}
+use Rattle.sb_cli.specs.Courses.{Course, run_course, shown_course}
 use Rattle.sb_cli.specs.Offered.{BlamesTap, IsOfferedOf}
 use Rattle.sb_cli.specs.Pipelines.{all_rows}
 use Rattle.sb_cli.specs.RunSteps.{CanTellAt, diaries_told, kept_at, sizes_from, status_after}
@@ -168,7 +168,7 @@ module _ (shown : List Record → List Record) (are : AreShown shown) (plan : Sh
   some_answer status is w = answers_some plan options left left' taken taken2 course dropped status is w
 
   -- the rows that are due were written
-  due_written : (at : Stop) (e : EndsAt at plan left left' W taken taken1 taps taps' [] dropped) → Appends taken taken2 (course e.given).due
+  pub due_written : (at : Stop) (e : EndsAt at plan left left' W taken taken1 taps taps' [] dropped) → Appends taken taken2 (course e.given).due
   due_written at e =
       subst (λ s. Appends taken taken2 (text_of (shown (due_rows plan s (items_of plan e.given))))) (sym e.stopped)
       (appends_kept taken taken1 taken2 (text_of (shown (due_rows plan at (items_of plan e.given)))) e.wrote keeps)
@@ -185,6 +185,18 @@ module _ (shown : List Record → List Record) (are : AreShown shown) (plan : Sh
   run_answer (run.Tap place) (Ok x) e = some_answer (Tap place) tt (some_early _ e)
   run_answer run.Memory (Ok x) e = some_answer Memory tt (some_early _ e)
 
+  -- one worker is told of a failed write before a read fails, or once all that was due there was written
+  pub output_alone : (reads reads' : ℕ) (end : RunEnd) (passed : Result (Unit {0}) SinkFault) → InputCause reads reads' end → EndsSo end → status_after end passed ≡ Output
+      → (reads' ≡ reads) ⊎ WroteAllDue left left' taken taken2 course
+  output_alone reads reads' (run.Done hand) passed cause e is = inl cause
+  output_alone reads reads' (run.Refused refusal) passed cause e is = inl cause
+  output_alone reads reads' run.Output passed cause e is = inl cause
+  output_alone reads reads' (run.Tap place) passed cause e is = inl cause
+  output_alone reads reads' run.Memory passed cause e is = inl cause
+  output_alone reads reads' run.Input (Err fault.Failed) cause e is = inr (record { given = e.given; failed = e.stopped; wrote = due_written _ e })
+  output_alone reads reads' run.Input (Err fault.Memory) cause e is = cc is
+  output_alone reads reads' run.Input (Ok x) cause e is = cc is
+
 -- of a run past taps
 module _ (plan : Shape) (options : Options) (left left' taken taken1 taken2 : Option (List ℕ)) (taps taps' : List TapState) (dropped : List Dropped)
     (keeps : Keeps taken1 taken2) where
@@ -197,27 +209,35 @@ module _ (plan : Shape) (options : Options) (left left' taken taken1 taken2 : Op
   abbrev EndsPast : RunEnd → Type 0
   EndsPast end = Ends plan (sizes_from options) left left' Whole Some_of taken taken1 taps taps' [] dropped end
 
-  given_in : (end : RunEnd) → EndsPast end → Given left left'
-  given_in (run.Done hand) e = e.0.given
-  given_in (run.Refused refusal) e = e.given
-  given_in run.Input e = e.given
-  given_in run.Output e = e.given
-  given_in (run.Tap place) e = e.given
-  given_in run.Memory e = e.given
+  -- what the run answers with all its rows
+  answer : (end : RunEnd) (passed : Result (Unit {0}) SinkFault) → EndsPast end
+      → IsAnswerBy plan options left left' taken taken2 (λ given. run_course plan given) (ending_of (status_after end passed) dropped (diaries_told options.diary end (status_after end passed)))
+  answer end passed e = run_answer (λ rows. rows) (λ rows more. refl) plan options left left' taken taken1 taken2 taps taps' dropped keeps end passed e
+
+  all_due : (at : Stop) (e : EndsAt at plan left left' Whole taken taken1 taps taps' [] dropped) → Appends taken taken2 (run_course plan e.given).due
+  all_due at e = due_written (λ rows. rows) (λ rows more. refl) plan options left left' taken taken1 taken2 taps taps' dropped keeps at e
+
+  some_rows : (Offered : List Record → Type 0) (e : EndsEarly plan left left' Some_of taken taken1 Offered [] dropped) → AppendsPrefix taken taken2 (run_course plan e.given).whole
+  some_rows Offered e =
+      part_of_shown (λ rows. rows) (λ rows more. refl) plan (items_of plan e.given) e.rows taken taken2 e.first (prefix_kept taken taken1 taken2 e.rows e.wrote keeps)
 
   due_offered : (at : Stop) (e : EndsAt at plan left left' Whole taken taken1 taps taps' [] dropped) → LeavesThoseThatStay (due_rows plan (stop_at plan e.given) (items_of plan e.given)) taps taps'
   due_offered at e = subst (λ s. LeavesThoseThatStay (due_rows plan s (items_of plan e.given)) taps taps') (sym e.stopped) e.offered
 
   pub run_offered : (end : RunEnd) (passed : Result (Unit {0}) SinkFault) → EndsPast end → IsOfferedOf plan left left' taken taken2 taps taps' (status_after end passed)
-  run_offered end (Err fault.Failed) e = record { given = given_in end e; offered = tt }
-  run_offered end (Err fault.Memory) e = record { given = given_in end e; offered = tt }
-  run_offered (run.Done hand) (Ok x) e = record { given = e.0.given; offered = (e.0.stopped, due_offered _ e.0) }
-  run_offered (run.Refused refusal) (Ok x) e = record { given = e.given; offered = (e.stopped, due_offered _ e) }
-  run_offered run.Input (Ok x) e = record { given = e.given; offered = (e.stopped, due_offered _ e) }
-  run_offered run.Output (Ok x) e = record { given = e.given; offered = tt }
+  run_offered end (Err fault.Failed) e = let a = answer end (Err fault.Failed) e in record { given = a.given; written = a.written; offered = tt }
+  run_offered end (Err fault.Memory) e = let a = answer end (Err fault.Memory) e in record { given = a.given; written = a.written; offered = tt }
+  run_offered (run.Done hand) (Ok x) e = record { given = e.0.given; written = (e.0.stopped, all_due _ e.0); offered = (e.0.stopped, due_offered _ e.0) }
+  run_offered (run.Refused refusal) (Ok x) e = record { given = e.given; written = (e.stopped, all_due _ e); offered = (e.stopped, due_offered _ e) }
+  run_offered run.Input (Ok x) e = record { given = e.given; written = (e.stopped, all_due _ e); offered = (e.stopped, due_offered _ e) }
+  run_offered run.Output (Ok x) e = record { given = e.given; written = some_rows _ e; offered = tt }
   run_offered (run.Tap place) (Ok x) e =
-      record { given = e.given; offered = record { rows = e.rows; first = e.first; wrote = prefix_kept taken taken1 taken2 e.rows e.wrote keeps; stops = e.offered } }
-  run_offered run.Memory (Ok x) e = record { given = e.given; offered = tt }
+      record {
+        given = e.given;
+        written = some_rows _ e;
+        offered = record { rows = e.rows; first = e.first; wrote = prefix_kept taken taken1 taken2 e.rows e.wrote keeps; stops = e.offered };
+      }
+  run_offered run.Memory (Ok x) e = record { given = e.given; written = some_rows _ e; offered = tt }
 
   pub run_blames : (end : RunEnd) (passed : Result (Unit {0}) SinkFault) (place : ℕ) → EndsPast end → status_after end passed ≡ Tap place → BlamesTap place taps taps'
   run_blames end (Err fault.Failed) place e is = cc is

@@ -8,9 +8,9 @@ use Rattle.sb_watch.specs.outside.declared.sink.SinkFault.{SinkFault}
 use Rattle.sb_watch.specs.outside.declared.sink.SinkFault.TheVariants as fault
 use Rattle.sb_watch.specs.run.declared.run_end.RunEnd.{RunEnd}
 use Rattle.sb_watch.specs.run.declared.run_end.RunEnd.TheVariants as run
-use Rattle.sb_watch.specs.run.RunEnds.{InputCause, IsWritten, OutputCause, SharedInputCause}
+use Rattle.sb_watch.specs.run.RunEnds.{InputCause, IsDone, IsWritten, OutputCause, SharedInputCause}
 use Rattle.sb_cli.specs.Faults.{HasCause, HidesNoFault, faults_of}
-use Rattle.sb_cli.specs.declared.status.Status.TheVariants.{Tap}
+use Rattle.sb_cli.specs.declared.status.Status.TheVariants.{Done, Tap}
 use Rattle.sb_cli.specs.RunSteps.{status_after}
 use Rattle.sb_cli.specs.Answers.{IsRead}
 
@@ -75,3 +75,14 @@ tap_alone before now place run.Input (Ok x) cause is = cc is
 tap_alone before now place run.Output (Ok x) cause is = cc is
 tap_alone before now place (run.Tap at) (Ok x) cause is = cause
 tap_alone before now place run.Memory (Ok x) cause is = cc is
+
+-- the status is that the run is done only if it is
+pub done_is_done : (end : RunEnd) (passed : Result (Unit {0}) SinkFault) → status_after end passed ≡ Done → IsDone end
+done_is_done end (Err fault.Failed) is = cc is
+done_is_done end (Err fault.Memory) is = cc is
+done_is_done (run.Done hand) (Ok x) is = tt
+done_is_done (run.Refused refusal) (Ok x) is = cc is
+done_is_done run.Input (Ok x) is = cc is
+done_is_done run.Output (Ok x) is = cc is
+done_is_done (run.Tap place) (Ok x) is = cc is
+done_is_done run.Memory (Ok x) is = cc is

@@ -97,6 +97,21 @@ abbrev pub ListsOfFiles : (Stream → List Item) → LateRecords → Status → 
 ListsOfFiles items (OfFiles a b) status = ListsDropped (items A) a status × ListsDropped (items B) b status
 ListsOfFiles items (OfInput dropped) status = ⊥
 
+-- a read has failed, and all that was due there was written
+pub record WroteAllDue
+    (left left' taken taken' : Option (List ℕ)) (course : Given left left' → Course) : Type 0 where
+  pub given : Given left left'
+  pub failed : (course given).stop ≡ Fault
+  pub wrote : Appends taken taken' (course given).due
+
+-- no read has failed, or one did once all that is due of the plan that is asked for was written
+abbrev pub ReadsNoMore : Option Files → Asked → Option (List ℕ) → Option (List ℕ) → Option (List ℕ) → Option (List ℕ)
+    → ℕ → ℕ → Type 0
+ReadsNoMore folder wanted left left' taken taken' reads reads' =
+    (reads' ≡ reads)
+    ⊎ ((plan : Shape) × IsPlanFor folder wanted plan
+    × WroteAllDue left left' taken taken' (λ given. course_in wanted plan given))
+
 -- the answer to what the source gave, for a plan and what has to be written: what was written, the late records that
 -- are listed, and the diaries that are told
 pub record IsAnswerBy

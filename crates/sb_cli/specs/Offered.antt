@@ -1,4 +1,4 @@
--- What the taps of a run were offered, and which of them has failed.
+-- What a run has written and what its taps were offered of the same, and which of them has failed.
 use Rattle.std.specs.Prelude.{◌≡◌, ◌⊎◌, ℕ, List, ◌∷◌, ◌++◌, Option, ⊤}
 use Rattle.sb_watch.specs.base.records.declared.intake.Stop.{Stop}
 use Rattle.sb_watch.specs.base.records.declared.intake.Stop.TheVariants.{End, Refused, Fault}
@@ -19,7 +19,8 @@ use Rattle.sb_words.specs.Words.{Asked, Asked as ask}
 use Rattle.sb_words.specs.Words.Asked.{Sum, Run, Slow, Work, Watch, Feeds, Part, Save, Resume}
 use Rattle.sb_cli.specs.declared.status.Status.{Status}
 use Rattle.sb_cli.specs.declared.status.Status.TheVariants.{Done, Words, Plan, Line, Input, Output, Folder, Memory, Tap, Audit, FileTooLong, FileLine, Checkpoint}
-use Rattle.sb_cli.specs.Answers.{HasNoPlan}
+use Rattle.sb_cli.specs.Answers.{HasNoPlan, HasWritten, HasWrittenOfFiles}
+use Rattle.sb_cli.specs.Courses.{run_course}
 use Rattle.sb_cli.specs.Pipelines.{IsPlanFor}
 use Rattle.sb_cli.specs.RecordFiles.{HaveBytes}
 
@@ -52,10 +53,12 @@ HasOffered plan stop items taken taken' taps taps' (Audit fault) = ⊥
 HasOffered plan stop items taken taken' taps taps' FileTooLong = ⊥
 HasOffered plan stop items taken taken' taps taps' (Checkpoint line) = ⊥
 
--- what the taps were offered of what the source gave, for a plan
+-- what was written of what the source gave, for a plan, and what the taps were offered of the same
 pub record IsOfferedOf (plan : Shape) (left left' taken taken' : Option (List ℕ)) (taps taps' : List TapState)
     (status : Status) : Type 0 where
   pub given : Given left left'
+  pub written : HasWritten (stop_at plan given) (run_course plan given).due (run_course plan given).whole
+      taken taken' status
   pub offered : HasOffered plan (stop_at plan given) (items_of plan given) taken taken' taps taps' status
 
 -- what the taps were offered of two files, by how the run ended
@@ -79,14 +82,20 @@ HasOfferedOfFiles plan files taken taken' taps taps' (Audit fault) = ⊥
 HasOfferedOfFiles plan files taken taken' taps taps' FileTooLong = ⊥
 HasOfferedOfFiles plan files taken taken' taps taps' (Checkpoint line) = ⊥
 
--- what they were offered of the files of these names, for a plan
+-- what was written of two files, for a plan, and what the taps were offered of the same
+pub record IsOfferedOfBytes (plan : Shape) (files : Stream → List ℕ) (taken taken' : Option (List ℕ))
+    (taps taps' : List TapState) (status : Status) : Type 0 where
+  pub written : HasWrittenOfFiles plan files taken taken' status
+  pub offered : HasOfferedOfFiles plan files taken taken' taps taps' status
+
+-- what was written and offered of the files of these names, for a plan
 abbrev pub IsOfferedOfFiles : Shape → Option Files → List ℕ → List ℕ → Option (List ℕ) → Option (List ℕ)
     → List TapState → List TapState → Status → Type 0
 IsOfferedOfFiles plan folder file_a file_b taken taken' taps taps' status =
     (files : Stream → List ℕ) × HaveBytes folder file_a file_b files
-    × HasOfferedOfFiles plan files taken taken' taps taps' status
+    × IsOfferedOfBytes plan files taken taken' taps taps' status
 
--- what they were offered for a plan: of what the source gave, or of two files
+-- what was written and offered for a plan: of what the source gave, or of two files
 abbrev pub IsOfferedFor : Option Files → Asked → Shape → Option (List ℕ) → Option (List ℕ) → Option (List ℕ)
     → Option (List ℕ) → List TapState → List TapState → Status → Type 0
 IsOfferedFor folder (Feeds name file_a file_b options) plan left left' taken taken' taps taps' status =
@@ -110,7 +119,7 @@ IsOfferedFor folder (Save name) plan left left' taken taken' taps taps' status =
 IsOfferedFor folder (Resume name checkpoint options) plan left left' taken taken' taps taps' status =
     IsOfferedOf plan left left' taken taken' taps taps' status
 
--- what the taps were offered where a plan is asked for: nothing if there is none
+-- what was written and what the taps were offered where a plan is asked for: nothing if there is none
 abbrev pub IsOffered : Option Files → Asked → Option (List ℕ) → Option (List ℕ) → Option (List ℕ) → Option (List ℕ)
     → List TapState → List TapState → Status → Type 0
 IsOffered folder wanted left left' taken taken' taps taps' status =

@@ -45,6 +45,32 @@ HasOneWorker (Part name options) = options.workers ≡ 1
 HasOneWorker (Save name) = ⊥
 HasOneWorker (Resume name checkpoint options) = options.workers ≡ 1
 
+-- a run by one worker that writes rows as it reads
+abbrev pub WritesAsItReads : Asked → Type 0
+WritesAsItReads (Sum size options) = options.workers ≡ 1
+WritesAsItReads (Run name options) = options.workers ≡ 1
+WritesAsItReads (Slow name) = ⊥
+WritesAsItReads Audit = ⊥
+WritesAsItReads (Work records options) = ⊥
+WritesAsItReads (Watch name key options) = ⊥
+WritesAsItReads (Feeds name file_a file_b options) = ⊥
+WritesAsItReads (Part name options) = ⊥
+WritesAsItReads (Save name) = ⊥
+WritesAsItReads (Resume name checkpoint options) = ⊥
+
+-- the input is read: `work` makes its records, and `feeds` has them from two files
+abbrev pub ReadsInput : Asked → Type 0
+ReadsInput (Sum size options) = Unit {0}
+ReadsInput (Run name options) = Unit {0}
+ReadsInput (Slow name) = Unit {0}
+ReadsInput Audit = Unit {0}
+ReadsInput (Work records options) = ⊥
+ReadsInput (Watch name key options) = Unit {0}
+ReadsInput (Feeds name file_a file_b options) = ⊥
+ReadsInput (Part name options) = Unit {0}
+ReadsInput (Save name) = Unit {0}
+ReadsInput (Resume name checkpoint options) = Unit {0}
+
 -- the plan in a file, or its first fault, or that the file or one that it names is not there. One byte more than a plan
 -- may have shows that it is too long
 abbrev pub plan_in : Files → List ℕ → Result Shape (Failure PlanFault)

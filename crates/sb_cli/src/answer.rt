@@ -1,6 +1,6 @@
 //! The answer to a request for rows: its plan, and what the engine or the plain program answers to it.
 
-ghost use Rattle.std.specs.Prelude.{◌≡◌, ◌<◌, ◌^◌, false, IfOk, IsTrue, List, ℕ, Some, length, map};
+ghost use Rattle.std.specs.Prelude.{◌≡◌, ◌<◌, ◌^◌, ◌⊎◌, false, IfOk, IsTrue, List, ℕ, Some, length, map};
 ghost use Rattle.sb_watch.specs.outside.Folders.{Files, Load};
 ghost use Rattle.sb_watch.specs.base.pipeline.Plans.{IsPlan};
 ghost use Rattle.sb_watch.specs.base.pipeline.Shapes.{sum_shape};
@@ -9,7 +9,8 @@ ghost use Rattle.sb_plan.specs.Wants.{BlamesLoad};
 ghost use Rattle.sb_words.specs.Options.{AreInRange};
 ghost use Rattle.sb_words.specs.Words.{IsSize};
 ghost use Rattle.sb_words.specs.Words.Asked.{Run, Slow};
-ghost use Rattle.sb_cli.specs.Answers.{IsAnswer, IsAnswerOf, IsRead, IsUnread};
+ghost use Rattle.sb_cli.specs.Answers.{IsAnswer, IsAnswerOf, IsRead, IsUnread, ReadsNoMore, WroteAllDue};
+ghost use Rattle.sb_cli.specs.Courses.{run_course};
 ghost use Rattle.sb_cli.specs.Faults.{BlamesFile, HasCause, HidesNoFault, IsWantedFor, faults_of};
 ghost use Rattle.sb_cli.specs.Offered.{BlamesTap, IsNoTap, IsOffered, IsOfferedOf};
 ghost use Rattle.sb_cli.specs.Pipelines.{plan_in};
@@ -75,9 +76,13 @@ pub(crate) fn answer_sum<W: Threads + Wait + Clock + Sync, S: Source, K: Sink>(
         (map (λ t. tap_state t) taps.old.items) (map (λ t. tap_state t) taps.new.items) }
     ensures read_no_more { (place : ℕ) → options.workers ≡ 1 → result.status ≡ Status.Tap place
         → S.faults source.new ≡ S.faults source.old }
+    ensures read_no_more_at_output { options.workers ≡ 1 → result.status ≡ Status.Output
+        → (S.faults source.new ≡ S.faults source.old) ⊎ WroteAllDue (S.left source.old) (S.left source.new)
+        (K.taken out.old) (K.taken out.new) (λ given. run_course (sum_shape size) given) }
     ensures no_fault_hidden { (loads : List Load) → HidesNoFault
         (faults_of (S.faults source.old) (K.sink_state out.old) loads)
         (faults_of (S.faults source.new) (K.sink_state out.new) loads) result.status }
+    ensures end { result.status ≡ Status.Done → S.has_ended source.new }
 {
     match sum_plan(alloc, size) {
         Ok(plan) => answer_run(rt, alloc, plan, options, source, out, taps),
@@ -116,9 +121,13 @@ pub(crate) fn answer_file<W: Threads + Wait + Clock + Sync, S: Source, K: Sink, 
         (map (λ t. tap_state t) taps.old.items) (map (λ t. tap_state t) taps.new.items) }
     ensures read_no_more { (place : ℕ) → options.workers ≡ 1 → result.status ≡ Status.Tap place
         → S.faults source.new ≡ S.faults source.old }
+    ensures read_no_more_at_output { options.workers ≡ 1 → result.status ≡ Status.Output
+        → ReadsNoMore (F.files folder.old) (Run name.now options) (S.left source.old) (S.left source.new)
+        (K.taken out.old) (K.taken out.new) (S.faults source.old) (S.faults source.new) }
     ensures no_fault_hidden { HidesNoFault
         (faults_of (S.faults source.old) (K.sink_state out.old) (F.failed folder.old))
         (faults_of (S.faults source.new) (K.sink_state out.new) (F.failed folder.new)) result.status }
+    ensures end { result.status ≡ Status.Done → S.has_ended source.new }
 {
     match load_plan(alloc, name, folder) {
         Ok(plan) => answer_run(rt, alloc, plan, options, source, out, taps),
@@ -149,6 +158,7 @@ pub(crate) fn answer_slow<S: Source, K: Sink, F: Folder>(
     ensures no_fault_hidden { HidesNoFault
         (faults_of (S.faults source.old) (K.sink_state out.old) (F.failed folder.old))
         (faults_of (S.faults source.new) (K.sink_state out.new) (F.failed folder.new)) result.status }
+    ensures end { result.status ≡ Status.Done → S.has_ended source.new }
 {
     match load_plan(alloc, name, folder) {
         Ok(plan) => answer_plain(alloc, &plan, source, out),

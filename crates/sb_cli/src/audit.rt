@@ -1,6 +1,6 @@
 //! The answer to `audit`: a diary text is read, and what it says is written as one line.
 
-ghost use Rattle.std.specs.Prelude.{List};
+ghost use Rattle.std.specs.Prelude.{◌≡◌, List};
 ghost use Rattle.sb_watch.specs.outside.Folders.{Load};
 ghost use Rattle.sb_cli.specs.Answers.{IsAuditAnswer, IsRead};
 ghost use Rattle.sb_cli.specs.Faults.{HasCause, HidesNoFault, faults_of};
@@ -26,6 +26,7 @@ pub(crate) fn answer_audit<S: Source, K: Sink>(alloc: Global, source: &mut S, ou
     ensures no_fault_hidden { (loads : List Load) → HidesNoFault
         (faults_of (S.faults source.old) (K.sink_state out.old) loads)
         (faults_of (S.faults source.new) (K.sink_state out.new) loads) result.status }
+    ensures end { result.status ≡ Status.Done → S.has_ended source.new }
 {
     let input = read_diary(alloc, source);
     match input.halt {

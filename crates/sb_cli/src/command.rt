@@ -8,14 +8,15 @@ ghost use Rattle.sb_watch.specs.diary.Texts.{NodeDiary};
 ghost use Rattle.sb_watch.specs.base.pipeline.Shapes.{Shape};
 ghost use Rattle.sb_cli.specs.declared.late.LateRecords.{LateRecords};
 ghost use Rattle.sb_cli.specs.declared.late.LateRecords.TheVariants.{OfInput};
-ghost use Rattle.sb_cli.specs.Answers.{IsAnswer, IsUnread, ending_with};
+ghost use Rattle.sb_cli.specs.Answers.{IsAnswer, IsUnread, ReadsNoMore, ending_with};
 ghost use Rattle.sb_cli.specs.CheckpointFiles.{Said, TellsCheckpoint};
 ghost use Rattle.sb_cli.specs.Courses.{course_in};
 ghost use Rattle.sb_cli.specs.Faults.{BlamesFile, HasCause, HidesNoFault, IsDoneOrMemory, NothingFails};
 ghost use Rattle.sb_cli.specs.Faults.{NothingFailsBehind, NothingFailsInAudit, NothingFailsInFiles, faults_of};
 ghost use Rattle.sb_cli.specs.Notes.{HasNoted};
 ghost use Rattle.sb_cli.specs.Offered.{BlamesTap, IsNoTap, IsOffered};
-ghost use Rattle.sb_cli.specs.Pipelines.{HasOneWorker, TellsCutPlan, TellsPlan, TellsPlanIn, options_in};
+ghost use Rattle.sb_cli.specs.Pipelines.{HasOneWorker, ReadsInput, WritesAsItReads};
+ghost use Rattle.sb_cli.specs.Pipelines.{TellsCutPlan, TellsPlan, TellsPlanIn, options_in};
 ghost use Rattle.sb_cli.specs.RecordFiles.{TellsBoth};
 ghost use Rattle.sb_cli.specs.Statuses.{note_text, notes_text};
 ghost use Rattle.sb_words.specs.declared.options.Options.{Options};
@@ -57,7 +58,7 @@ use std::time::Clock;
 /// them on, whatever `--workers`, `--bundle` and `--pending` say. What becomes of the notes does not change the status.
 ///
 /// With one worker it waits for nobody and starts no thread, but for `feeds`, which reads each file in a thread of its
-/// own. With more, or for `feeds`, whether it returns is not said.
+/// own, and `watch`, whose table waits for its readers. With more, or for these two, whether it returns is not said.
 pub fn streambox<W: Threads + Wait + Clock + Sync, S: Source, K: Sink, N: Sink, F: Folder>(
     rt: &W,
     alloc: Global,
@@ -122,9 +123,17 @@ pub fn streambox<W: Threads + Wait + Clock + Sync, S: Source, K: Sink, N: Sink, 
     ensures blames_tap { (place : ℕ) → result ≡ Status.Tap place → BlamesTap place
         (map (λ t. tap_state t) taps.old.items) (map (λ t. tap_state t) taps.new.items) }
 
-    // With one worker no read has failed before a tap fails.
+    // With one worker no read has failed before a tap or a write fails. Where the output fails as it passes on what it
+    // took, one may have, and all that was due there had been written.
     ensures read_no_more { (wanted : Asked) (place : ℕ) → IsCommand wanted (texts words.now) → HasOneWorker wanted
         → result ≡ Status.Tap place → S.faults input.new ≡ S.faults input.old }
+    ensures read_no_more_at_output { (wanted : Asked) → IsCommand wanted (texts words.now) → WritesAsItReads wanted
+        → result ≡ Status.Output → ReadsNoMore (F.files folder.old) wanted (S.left input.old) (S.left input.new)
+        (K.taken out.old) (K.taken out.new) (S.faults input.old) (S.faults input.new) }
+
+    // A run that is done has met the end of its input.
+    ensures end { (wanted : Asked) → IsCommand wanted (texts words.now) → ReadsInput wanted → result ≡ Status.Done
+        → S.has_ended input.new }
 
     // None is passed over, and a run in which nothing fails is done.
     ensures no_fault_hidden { HidesNoFault
@@ -211,6 +220,11 @@ fn respond<W: Threads + Wait + Clock + Sync, S: Source, K: Sink, F: Folder>(
         (map (λ t. tap_state t) taps.old.items) (map (λ t. tap_state t) taps.new.items) }
     ensures read_no_more { (wanted : Asked) (place : ℕ) → IsCommand wanted (texts words.now) → HasOneWorker wanted
         → result.status ≡ Status.Tap place → S.faults input.new ≡ S.faults input.old }
+    ensures read_no_more_at_output { (wanted : Asked) → IsCommand wanted (texts words.now) → WritesAsItReads wanted
+        → result.status ≡ Status.Output → ReadsNoMore (F.files folder.old) wanted (S.left input.old) (S.left input.new)
+        (K.taken out.old) (K.taken out.new) (S.faults input.old) (S.faults input.new) }
+    ensures end { (wanted : Asked) → IsCommand wanted (texts words.now) → ReadsInput wanted
+        → result.status ≡ Status.Done → S.has_ended input.new }
     ensures no_fault_hidden { HidesNoFault
         (faults_of (S.faults input.old) (K.sink_state out.old) (F.failed folder.old))
         (faults_of (S.faults input.new) (K.sink_state out.new) (F.failed folder.new)) result.status }

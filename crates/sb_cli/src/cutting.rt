@@ -64,6 +64,7 @@ pub(crate) fn answer_part<W: Threads + Wait + Clock + Sync, S: Source, K: Sink, 
     ensures no_fault_hidden { HidesNoFault
         (faults_of (S.faults source.old) (K.sink_state out.old) (F.failed folder.old))
         (faults_of (S.faults source.new) (K.sink_state out.new) (F.failed folder.new)) result.status }
+    ensures end { result.status ≡ Status.Done → S.has_ended source.new }
 {
     match load_plan(alloc, name, folder) {
         Ok(plan) => answer_part_of(rt, alloc, plan, options, source, out),
@@ -94,6 +95,7 @@ fn answer_part_of<W: Threads + Wait + Clock + Sync, S: Source, K: Sink>(
     ensures no_fault_hidden { (loads : List Load) → HidesNoFault
         (faults_of (S.faults source.old) (K.sink_state out.old) loads)
         (faults_of (S.faults source.new) (K.sink_state out.new) loads) result.status }
+    ensures end { result.status ≡ Status.Done → S.has_ended source.new }
 {
     let mut dropped = Vec::new(alloc);
     let end = part_to(
@@ -129,6 +131,7 @@ fn part_to<W: Threads + Wait + Clock + Sync, S: Source, K: Sink>(
         (K.taken out.old) (K.taken out.new) dropped.old.items dropped.new.items result }
     ensures input { cuts.CutCause (S.faults source.old) (S.faults source.new) result }
     ensures output { cuts.CutOutputCause (K.sink_state out.old) (K.sink_state out.new) result }
+    ensures end { result ≡ CutEnd.Done → S.has_ended source.new }
 {
     let mut lent = Lent { sink: &mut *out };
     run_part(rt, alloc, plan, sizes, source, &mut lent, dropped)
@@ -202,6 +205,7 @@ pub(crate) fn answer_save<S: Source, K: Sink, F: Folder>(
     ensures no_fault_hidden { HidesNoFault
         (faults_of (S.faults source.old) (K.sink_state out.old) (F.failed folder.old))
         (faults_of (S.faults source.new) (K.sink_state out.new) (F.failed folder.new)) result.status }
+    ensures end { result.status ≡ Status.Done → S.has_ended source.new }
 {
     match plan_to_cut(alloc, name, folder) {
         Ok(plan) => answer_saved(alloc, &plan, source, out),
@@ -229,6 +233,7 @@ fn answer_saved<S: Source, K: Sink>(
     ensures no_fault_hidden { (loads : List Load) → HidesNoFault
         (faults_of (S.faults source.old) (K.sink_state out.old) loads)
         (faults_of (S.faults source.new) (K.sink_state out.new) loads) result.status }
+    ensures end { result.status ≡ Status.Done → S.has_ended source.new }
 {
     let mut dropped = Vec::new(alloc);
     let status = match save(alloc, plan, source, &mut dropped) {
@@ -250,6 +255,7 @@ fn write_saved<K: Sink>(saved: &Saved, out: &mut K) -> Status
     ensures cause { result ≡ Status.Output → Rose (K.sink_state out.old).faults (K.sink_state out.new).faults }
     ensures told { IsWritten result → (K.sink_state out.new).faults ≡ (K.sink_state out.old).faults }
     ensures fault { result ≡ Status.Input → saved.now.stop ≡ Stop.Fault }
+    ensures end { result ≡ Status.Done → saved.now.stop ≡ Stop.End }
 {
     match saved.stop {
         Stop::End => print_checkpoint(&saved.checkpoint, out),

@@ -1,6 +1,7 @@
 //! Reading a diary text: an auditor takes its lines, up to where reading stops.
 
-ghost use Rattle.std.specs.Prelude.{◌≡◌, None, OnOk, IfErr};
+ghost use Rattle.std.specs.Prelude.{◌≡◌, None, Some, OnOk, IfErr, Err};
+ghost use Rattle.sb_watch.specs.outside.declared.lines.Halt.TheVariants as halt;
 ghost use Rattle.sb_watch.specs.outside.Readings.{reading};
 ghost use Rattle.sb_cli.specs.DiaryReads.{DiaryFaultCause, ReadsDiary, TakesDiaryLine};
 ghost use Rattle.sb_watch.specs.one_feed.Reads.{IsGoing};
@@ -43,6 +44,9 @@ fn take_line<S: Source>(
         auditor.old auditor.new result }
     ensures same { OnOk result (S.faults source.new ≡ S.faults source.old) }
     ensures cause { IfErr result (λ halt. DiaryFaultCause (S.faults source.old) (S.faults source.new) halt) }
+    ensures at_end { result ≡ Err DiaryHalt.End → lines.new.halt ≡ Some halt.End }
+    ensures end { (lines.old.halt ≡ Some halt.End → S.has_ended source.old)
+        → lines.new.halt ≡ Some halt.End → S.has_ended source.new }
 {
     match lines.advance(source) {
         Step::Line => match auditor.line(lines.line()) {
@@ -60,6 +64,7 @@ fn take_line<S: Source>(
 pub(crate) fn read_diary<S: Source>(alloc: Global, source: &mut S) -> DiaryInput
     ensures reads { ReadsDiary (S.left source.old) (S.left source.new) result }
     ensures cause { DiaryFaultCause (S.faults source.old) (S.faults source.new) result.halt }
+    ensures end { result.halt ≡ DiaryHalt.End → S.has_ended source.new }
 {
     let mut lines = LineBuffer::new();
     let mut auditor = Auditor::new(alloc);

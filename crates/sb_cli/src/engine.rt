@@ -1,12 +1,13 @@
 //! The answer of the engine to a plan: rows are written and offered as watermarks close them.
 
-ghost use Rattle.std.specs.Prelude.{◌≡◌, ◌<◌, ◌^◌, true, false, IsTrue, List, ℕ, [], length, map, OnOk};
+ghost use Rattle.std.specs.Prelude.{◌≡◌, ◌<◌, ◌^◌, ◌⊎◌, true, false, IsTrue, List, ℕ, [], length, map, OnOk};
 ghost use Rattle.std.specs.Io.KnownBytes.{Keeps};
 ghost use Rattle.sb_watch.specs.outside.Folders.{Load};
 ghost use Rattle.sb_watch.specs.outside.Sinks.{SinkCause};
 ghost use Rattle.sb_watch.specs.run.RunEnds as ends;
 ghost use Rattle.sb_words.specs.Options.{AreInRange};
-ghost use Rattle.sb_cli.specs.Answers.{IsAnswerOf, IsRead, Wrote, WrotePrefix};
+ghost use Rattle.sb_cli.specs.Answers.{IsAnswerOf, IsRead, Wrote, WroteAllDue, WrotePrefix};
+ghost use Rattle.sb_cli.specs.Courses.{run_course};
 ghost use Rattle.sb_cli.specs.Faults.{HasCause, HidesNoFault, faults_of};
 ghost use Rattle.sb_cli.specs.Offered.{BlamesTap, IsNoTap, IsOfferedOf};
 ghost use Rattle.sb_cli.specs.RunSteps.{CanTellAt, sizes_from, diaries_told, status_after};
@@ -51,9 +52,13 @@ pub(crate) fn answer_run<W: Threads + Wait + Clock + Sync, S: Source, K: Sink>(
         (map (λ t. tap_state t) taps.old.items) (map (λ t. tap_state t) taps.new.items) }
     ensures read_no_more { (place : ℕ) → options.workers ≡ 1 → result.status ≡ Status.Tap place
         → S.faults source.new ≡ S.faults source.old }
+    ensures read_no_more_at_output { options.workers ≡ 1 → result.status ≡ Status.Output
+        → (S.faults source.new ≡ S.faults source.old) ⊎ WroteAllDue (S.left source.old) (S.left source.new)
+        (K.taken out.old) (K.taken out.new) (λ given. run_course plan given) }
     ensures no_fault_hidden { (loads : List Load) → HidesNoFault
         (faults_of (S.faults source.old) (K.sink_state out.old) loads)
         (faults_of (S.faults source.new) (K.sink_state out.new) loads) result.status }
+    ensures end { result.status ≡ Status.Done → S.has_ended source.new }
 {
     if options.taps {
         answer_past(rt, alloc, plan, options, source, out, taps)
@@ -87,9 +92,13 @@ fn answer_past<W: Threads + Wait + Clock + Sync, S: Source, K: Sink>(
         (map (λ t. tap_state t) taps.old.items) (map (λ t. tap_state t) taps.new.items) }
     ensures read_no_more { (place : ℕ) → options.workers ≡ 1 → result.status ≡ Status.Tap place
         → S.faults source.new ≡ S.faults source.old }
+    ensures read_no_more_at_output { options.workers ≡ 1 → result.status ≡ Status.Output
+        → (S.faults source.new ≡ S.faults source.old) ⊎ WroteAllDue (S.left source.old) (S.left source.new)
+        (K.taken out.old) (K.taken out.new) (λ given. run_course plan given) }
     ensures no_fault_hidden { (loads : List Load) → HidesNoFault
         (faults_of (S.faults source.old) (K.sink_state out.old) loads)
         (faults_of (S.faults source.new) (K.sink_state out.new) loads) result.status }
+    ensures end { result.status ≡ Status.Done → S.has_ended source.new }
 {
     let mut dropped = Vec::new(alloc);
     let end = run_to(
@@ -143,6 +152,7 @@ fn run_to<W: Threads + Wait + Clock + Sync, S: Source, K: Sink>(
     ensures input { ends.SharedInputCause (S.faults source.old) (S.faults source.new) result }
     ensures alone { sizes.workers ≡ 1 → ends.InputCause (S.faults source.old) (S.faults source.new) result }
     ensures output { ends.OutputCause (K.sink_state out.old) (K.sink_state out.new) result }
+    ensures end { ends.IsDone result → S.has_ended source.new }
 {
     let mut lent = Lent { sink: &mut *out };
     run(rt, alloc, plan, sizes, source, &mut lent, taps, dropped)

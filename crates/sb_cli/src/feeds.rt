@@ -12,7 +12,7 @@ ghost use Rattle.sb_words.specs.Words.Asked.{Feeds};
 ghost use Rattle.sb_cli.specs.Answers.{IsAnswer, IsAnswerToTwo, IsRead, IsUnread, Wrote, WrotePrefix};
 ghost use Rattle.sb_cli.specs.Faults.{BlamesFile, HasCause, HidesNoFault, faults_of};
 ghost use Rattle.sb_cli.specs.FileSteps.{HasNoBytes, HaveNoBytes, status_after_two};
-ghost use Rattle.sb_cli.specs.Offered.{BlamesTap, HasOfferedOfFiles, IsNoTap, IsOffered};
+ghost use Rattle.sb_cli.specs.Offered.{BlamesTap, IsOfferedOfBytes, IsNoTap, IsOffered};
 ghost use Rattle.sb_cli.specs.RecordFiles.{HasBytes, HaveBytes, IsLoadOfFile, record_load};
 ghost use Rattle.sb_cli.specs.RunSteps.{CanTellAt, diaries_told};
 
@@ -142,7 +142,7 @@ fn answer_files<W: Threads + Wait + Clock + Sync, K: Sink>(
     requires short_b { length files.1.items ≤ MAX_FILE_LENGTH }
     ensures answer { IsAnswerToTwo plan options (by_stream files.0.items files.1.items)
         (K.taken out.old) (K.taken out.new) result }
-    ensures offered { IsTrue options.taps → HasOfferedOfFiles plan (by_stream files.0.items files.1.items)
+    ensures offered { IsTrue options.taps → IsOfferedOfBytes plan (by_stream files.0.items files.1.items)
         (K.taken out.old) (K.taken out.new)
         (map (λ t. tap_state t) taps.old.items) (map (λ t. tap_state t) taps.new.items) result.status }
     ensures unoffered { options.taps ≡ false → (taps.new ≡ taps.old) × IsNoTap result.status }
@@ -180,7 +180,7 @@ fn answer_past<W: Threads + Wait + Clock + Sync, K: Sink>(
     requires short_b { length files.1.items ≤ MAX_FILE_LENGTH }
     ensures answer { IsAnswerToTwo plan options (by_stream files.0.items files.1.items)
         (K.taken out.old) (K.taken out.new) result }
-    ensures offered { HasOfferedOfFiles plan (by_stream files.0.items files.1.items) (K.taken out.old) (K.taken out.new)
+    ensures offered { IsOfferedOfBytes plan (by_stream files.0.items files.1.items) (K.taken out.old) (K.taken out.new)
         (map (λ t. tap_state t) taps.old.items) (map (λ t. tap_state t) taps.new.items) result.status }
     ensures read { IsRead result.status }
     ensures cause { (reads : ℕ) (loads : List Load) → HasCause

@@ -1,6 +1,6 @@
 //! Reading an input: what is kept of the items of its lines, up to where reading stops.
 
-ghost use Rattle.std.specs.Prelude.{IfOk};
+ghost use Rattle.std.specs.Prelude.{◌≡◌, IfOk};
 ghost use Rattle.sb_watch.specs.base.pipeline.Plans.{IsPlan};
 ghost use Rattle.sb_watch.specs.one_feed.Reads.{FaultCause};
 ghost use Rattle.sb_cli.specs.Reads.{ReadsAll};
@@ -30,6 +30,7 @@ pub(crate) fn read_input<S: Source>(
 ) -> Result<Input, NoMemory>
     ensures reads { ReadsAll plan.now (S.left source.old) (S.left source.new) result }
     ensures cause { IfOk result (λ input. FaultCause (S.faults source.old) (S.faults source.new) input.stop) }
+    ensures end { IfOk result (λ input. input.stop ≡ Stop.End → S.has_ended source.new) }
     ensures plan { IsPlan plan.now }
 {
     let mut lines = LineBuffer::new();

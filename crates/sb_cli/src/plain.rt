@@ -39,6 +39,7 @@ pub(crate) fn answer_plain<S: Source, K: Sink>(
     ensures no_fault_hidden { (loads : List Load) → HidesNoFault
         (faults_of (S.faults source.old) (K.sink_state out.old) loads)
         (faults_of (S.faults source.new) (K.sink_state out.new) loads) result.status }
+    ensures end { result.status ≡ Status.Done → S.has_ended source.new }
 {
     let Ok(input) = read_input(alloc, plan, source) else {
         return Ending::of(alloc, Status::Memory);
@@ -76,6 +77,7 @@ pub(crate) fn write_due<K: Sink>(rows: &[Record], stop: Stop, out: &mut K) -> St
     ensures cause { result ≡ Status.Output → Rose (K.sink_state out.old).faults (K.sink_state out.new).faults }
     ensures told { IsWritten result → (K.sink_state out.new).faults ≡ (K.sink_state out.old).faults }
     ensures fault { result ≡ Status.Input → stop ≡ Stop.Fault }
+    ensures end { result ≡ Status.Done → stop ≡ Stop.End }
 {
     match write_rows(out, rows) {
         Ok(()) => Status::of_stop(stop),

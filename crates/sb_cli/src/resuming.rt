@@ -66,6 +66,7 @@ pub(crate) fn answer_resume<W: Threads + Wait + Clock + Sync, S: Source, K: Sink
     ensures no_fault_hidden { HidesNoFault
         (faults_of (S.faults source.old) (K.sink_state out.old) (F.failed folder.old))
         (faults_of (S.faults source.new) (K.sink_state out.new) (F.failed folder.new)) result.status }
+    ensures end { result.status ≡ Status.Done → S.has_ended source.new }
 {
     match plan_to_cut(alloc, name, folder) {
         Ok(plan) => match load_checkpoint(alloc, &plan, checkpoint, folder) {
@@ -142,6 +143,7 @@ fn answer_rest<W: Threads + Wait + Clock + Sync, S: Source, K: Sink>(
     ensures no_fault_hidden { (loads : List Load) → HidesNoFault
         (faults_of (S.faults source.old) (K.sink_state out.old) loads)
         (faults_of (S.faults source.new) (K.sink_state out.new) loads) result.status }
+    ensures end { result.status ≡ Status.Done → S.has_ended source.new }
 {
     let mut dropped = Vec::new(alloc);
     let end = rest_to(
@@ -184,6 +186,7 @@ fn rest_to<W: Threads + Wait + Clock + Sync, S: Source, K: Sink>(
         (K.taken out.old) (K.taken out.new) [] [] dropped.old.items dropped.new.items result }
     ensures input { ends.SharedInputCause (S.faults source.old) (S.faults source.new) result }
     ensures output { ends.OutputCause (K.sink_state out.old) (K.sink_state out.new) result }
+    ensures end { ends.IsDone result → S.has_ended source.new }
 {
     let low = checkpoint.low;
     let mut rows = RowsFrom::new(low, Lent { sink: &mut *out });

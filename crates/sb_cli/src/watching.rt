@@ -54,6 +54,7 @@ pub(crate) fn answer_watch<W: Threads + Wait + Clock + Sync, S: Source, K: Sink,
     ensures no_fault_hidden { HidesNoFault
         (faults_of (S.faults source.old) (K.sink_state out.old) (F.failed folder.old))
         (faults_of (S.faults source.new) (K.sink_state out.new) (F.failed folder.new)) result.status }
+    ensures end { result.status ≡ Status.Done → S.has_ended source.new }
 {
     match load_plan(alloc, name, folder) {
         Ok(plan) => answer_watched(rt, alloc, plan, key, options, source, out),
@@ -85,6 +86,7 @@ fn answer_watched<W: Threads + Wait + Clock + Sync, S: Source, K: Sink>(
     ensures no_fault_hidden { (loads : List Load) → HidesNoFault
         (faults_of (S.faults source.old) (K.sink_state out.old) loads)
         (faults_of (S.faults source.new) (K.sink_state out.new) loads) result.status }
+    ensures end { result.status ≡ Status.Done → S.has_ended source.new }
 {
     let mut dropped = Vec::new(alloc);
     let status = match watch(
@@ -115,6 +117,7 @@ fn write_last<K: Sink>(watched: Watched, out: &mut K) -> Status
     ensures cause { result ≡ Status.Output → Rose (K.sink_state out.old).faults (K.sink_state out.new).faults }
     ensures told { IsWritten result → (K.sink_state out.new).faults ≡ (K.sink_state out.old).faults }
     ensures fault { result ≡ Status.Input → watched.stop ≡ Stop.Fault }
+    ensures end { result ≡ Status.Done → watched.stop ≡ Stop.End }
 {
     let Watched { stop, last } = watched;
     match last {

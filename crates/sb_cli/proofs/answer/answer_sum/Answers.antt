@@ -20,4 +20,7 @@ returns-in-Err-clause-answer g c =
 pub returns-in-Err-clause-offered : goal.returns-in-Err-clause-offered
 returns-in-Err-clause-offered g c = λ taps.
     let left = g.S.Source.left c.args.source.now in
-    memory_offered (sum_shape c.args.size) left left _ _ _ _ c.of.result.status (unread left) c.of.ensures.status
+    memory_offered (sum_shape c.args.size) left left (g.K.Sink.taken c.args.out.now) _ _ c.of.result.status (unread left) c.of.ensures.status
+
+pub returns-in-Ok-clause-read_no_more_at_output : goal.returns-in-Ok-clause-read_no_more_at_output
+returns-in-Ok-clause-read_no_more_at_output g c = λ one is. let stops = c.answer_run.ensures.read_no_more_at_output one is in rw c.in-Ok.ensures at stops

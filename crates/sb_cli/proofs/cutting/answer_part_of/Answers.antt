@@ -1,5 +1,5 @@
 use Rattle.sb_cli.proofs.CutAnswers.{part_answer}
-use Rattle.sb_cli.proofs.CutFaults.{cut_cause, cut_hides_none, cut_no_tap, cut_read}
+use Rattle.sb_cli.proofs.CutFaults.{cut_cause, cut_hides_none, cut_is_done, cut_no_tap, cut_read}
 use Rattle.sb_cli.proofs.cutting.answer_part_of.Goals as goal
 
 pub returns-clause-answer : goal.returns-clause-answer
@@ -23,3 +23,6 @@ pub returns-clause-no_fault_hidden : goal.returns-clause-no_fault_hidden
 returns-clause-no_fault_hidden g c = λ loads.
     rw c.cut_status-status.ensures
     (cut_hides_none _ _ _ _ _ c.part_to-end.result c.finish_cut.result loads c.part_to-end.ensures.input c.part_to-end.ensures.output c.finish_cut.ensures.cause c.finish_cut.ensures.told)
+
+pub returns-clause-end : goal.returns-clause-end
+returns-clause-end g c = λ done. c.part_to-end.ensures.end (cut_is_done c.part_to-end.result c.finish_cut.result (rw c.cut_status-status.ensures at done))

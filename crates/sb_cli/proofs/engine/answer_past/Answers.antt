@@ -1,6 +1,6 @@
 use Rattle.std.proofs.Common.{refl}
-use Rattle.sb_cli.proofs.RunAnswers.{run_answer, run_blames, run_can_tell, run_offered}
-use Rattle.sb_cli.proofs.RunFaults.{run_cause, run_hides_none, run_read, tap_alone}
+use Rattle.sb_cli.proofs.RunAnswers.{output_alone, run_answer, run_blames, run_can_tell, run_offered}
+use Rattle.sb_cli.proofs.RunFaults.{done_is_done, run_cause, run_hides_none, run_read, tap_alone}
 use Rattle.sb_cli.proofs.engine.answer_past.Goals as goal
 
 pub tell-requires : goal.tell-requires
@@ -41,3 +41,13 @@ returns-clause-no_fault_hidden g c = λ loads.
 pub returns-clause-read_no_more : goal.returns-clause-read_no_more
 returns-clause-read_no_more g c = λ place one is.
     tap_alone _ _ place c.run_to-end.result c.finish_after.result (c.run_to-end.ensures.alone (rw c.sizes_of.ensures one)) (rw c.status_behind-status.ensures at is)
+
+pub returns-clause-read_no_more_at_output : goal.returns-clause-read_no_more_at_output
+returns-clause-read_no_more_at_output g c = λ one is.
+    let ends = rw (c.sizes_of.ensures, c.new-dropped.ensures.items) at c.run_to-end.ensures.ends in
+    output_alone (λ rows. rows) (λ rows more. refl) c.args.plan c.args.options _ _ _ _ _ _ _ _ c.finish_after.ensures.bytes
+    (g.S.Source.faults c.args.source.now) (g.S.Source.faults c.run_to-end.new.source) c.run_to-end.result c.finish_after.result (c.run_to-end.ensures.alone (rw c.sizes_of.ensures one)) ends
+    (rw c.status_behind-status.ensures at is)
+
+pub returns-clause-end : goal.returns-clause-end
+returns-clause-end g c = λ done. c.run_to-end.ensures.end (done_is_done c.run_to-end.result c.finish_after.result (rw c.status_behind-status.ensures at done))

@@ -4,8 +4,11 @@ use Rattle.sb_cli.proofs.Blaming.{no_tap_of_files, none_to_blame}
 use Rattle.sb_cli.proofs.feeds.answer_files.Goals as goal
 
 pub returns-else-options-clause-unoffered : goal.returns-else-options-clause-unoffered
-returns-else-options-clause-unoffered g c = λ no. (refl, no_tap_of_files c.args.plan (by_stream c.args.files.0.items c.args.files.1.items) _ _ _ _ (rw c.new-none.ensures.items at c.answer_past-else-options.ensures.offered))
+returns-else-options-clause-unoffered g c = λ no.
+    let none = rw c.new-none.ensures.items at c.answer_past-else-options.ensures.offered in
+    (refl, no_tap_of_files c.args.plan (by_stream c.args.files.0.items c.args.files.1.items) _ _ _ _ none.offered)
 
 pub returns-else-options-clause-blames_tap : goal.returns-else-options-clause-blames_tap
 returns-else-options-clause-blames_tap g c = λ place is.
-    absurd (none_to_blame place _ (no_tap_of_files c.args.plan (by_stream c.args.files.0.items c.args.files.1.items) _ _ _ _ (rw c.new-none.ensures.items at c.answer_past-else-options.ensures.offered)) is)
+    let none = rw c.new-none.ensures.items at c.answer_past-else-options.ensures.offered in
+    absurd (none_to_blame place _ (no_tap_of_files c.args.plan (by_stream c.args.files.0.items c.args.files.1.items) _ _ _ _ none.offered) is)

@@ -1,5 +1,5 @@
 use Rattle.sb_watch.specs.slow.Inputs.{by_stream}
-use Rattle.sb_cli.proofs.FilesAnswers.{files_answer, files_blame, files_can_tell, files_offered, files_read}
+use Rattle.sb_cli.proofs.FilesAnswers.{files_answer, files_blame, files_can_tell, files_read, files_written_and_offered}
 use Rattle.sb_cli.proofs.FilesFaults.{files_cause, files_hide_none}
 use Rattle.sb_cli.proofs.feeds.answer_past.Goals as goal
 
@@ -18,7 +18,7 @@ pub returns-clause-offered : goal.returns-clause-offered
 returns-clause-offered g c =
     let ends = rw (c.sizes_of-sizes.ensures, c.new-dropped_a.ensures.items, c.new-dropped_b.ensures.items) at c.files_to-end.ensures.ends in
     rw c.status_behind-status.ensures
-    (files_offered c.args.plan c.args.options (by_stream c.args.files.0.items c.args.files.1.items) _ _ _ _ _ c.files_to-end.new.dropped_a.items c.files_to-end.new.dropped_b.items c.finish_after.ensures.bytes c.files_to-end.result c.finish_after.result ends)
+    (files_written_and_offered c.args.plan c.args.options (by_stream c.args.files.0.items c.args.files.1.items) _ _ _ _ _ c.files_to-end.new.dropped_a.items c.files_to-end.new.dropped_b.items c.finish_after.ensures.bytes c.files_to-end.result c.finish_after.result ends)
 
 pub returns-clause-read : goal.returns-clause-read
 returns-clause-read g c = rw c.status_behind-status.ensures (files_read c.files_to-end.result c.finish_after.result)

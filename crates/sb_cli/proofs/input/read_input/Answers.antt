@@ -1,6 +1,7 @@
-use Rattle.std.proofs.Common.{[], ◌∷◌, ◌++◌, ◌∙◌, false}
+use Rattle.std.proofs.Common.{[], ◌∷◌, ◌++◌, ◌∙◌, ap, false, sym}
 use Rattle.std.proofs.KnownBytes.{Consumes-trans}
 use Rattle.sb_watch.specs.base.records.Intake.{first_progress}
+use Rattle.sb_watch.specs.outside.Readings.{Held}
 use Rattle.sb_watch.proofs.one_feed.ReadSoFar.{read_more, read_nothing}
 use Rattle.sb_cli.proofs.KeptItems.{kept-all, kept-more, reads_err}
 use Rattle.sb_cli.proofs.input.read_input.Goals as goal
@@ -12,6 +13,7 @@ items-init g c =
       read = read_nothing c.args.plan.now (g.S.Source.left c.args.source.now) c.new-lines.result c.new-intake.result (g.S.Source.faults c.args.source.now) c.new-lines.ensures
           (c.new-intake.ensures ∙ (λ i. first_progress (c.streams.ensures.value i) 0 (c.late.ensures i) (c.keys.ensures i)));
       kept = c.nothing-kept.ensures;
+      ends = λ e. absurd (cc (sym (ap (λ (l : Held). l.halt) c.new-lines.ensures), e));
     }
 
 pub returns-in_err-keep-in-Ok-clause-reads : goal.returns-in_err-keep-in-Ok-clause-reads
@@ -34,6 +36,7 @@ items-preserved g c =
           (g.S.Source.faults c.args.source.now) (g.S.Source.faults c.items.source) (g.S.Source.faults c.next_item.new.source)
           c.items.invariant.read c.in-Ok.ensures.takes c.in-Ok.ensures.same c.in-Ok.ensures.room;
       kept = kept-more c.items.invariant.items c.in-Ok.item c.items.kept c.keep.new.self c.items.invariant.kept c.in_ok-keep-in-Ok.ensures;
+      ends = c.in-Ok.ensures.end c.items.invariant.ends;
     }
 
 pub returns-in-Err-clause-reads : goal.returns-in-Err-clause-reads

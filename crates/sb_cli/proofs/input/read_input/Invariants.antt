@@ -1,4 +1,5 @@
-use Rattle.std.proofs.Common.{◌-◌, List}
+use Rattle.std.proofs.Common.{◌≡◌, ◌-◌, List, Some}
+use Rattle.sb_watch.specs.outside.declared.lines.Halt.TheVariants as halt
 use Rattle.sb_watch.specs.base.records.declared.item.Item.{Item}
 use Rattle.sb_watch.proofs.one_feed.ReadSoFar.{ReadSoFar}
 use Rattle.sb_cli.specs.Keeping.{AreKept}
@@ -10,6 +11,7 @@ invariant-items g l =
       items : List Item;
       read : ReadSoFar l.fn.plan (g.S.Source.left l.initial.source) (g.S.Source.left l.source) l.lines l.intake items (g.S.Source.faults l.initial.source) (g.S.Source.faults l.source);
       kept : AreKept l.kept items;
+      ends : l.lines.halt ≡ Some halt.End → g.S.Source.has_ended l.source;
     }
 
 abbrev pub decreases-items : goal.decreases-items

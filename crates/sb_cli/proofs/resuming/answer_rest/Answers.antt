@@ -1,6 +1,6 @@
 use Rattle.sb_cli.specs.RestSteps.{said_by}
 use Rattle.sb_cli.proofs.RestEnds.{rest_answer, rest_no_tap}
-use Rattle.sb_cli.proofs.RunFaults.{run_cause, run_hides_none, run_read}
+use Rattle.sb_cli.proofs.RunFaults.{done_is_done, run_cause, run_hides_none, run_read}
 use Rattle.sb_cli.proofs.resuming.answer_rest.Goals as goal
 
 pub returns-clause-answer : goal.returns-clause-answer
@@ -27,3 +27,6 @@ pub returns-clause-no_fault_hidden : goal.returns-clause-no_fault_hidden
 returns-clause-no_fault_hidden g c = λ loads.
     rw c.status_behind-status.ensures
     (run_hides_none _ _ _ _ _ c.rest_to-end.result c.finish_after.result loads c.rest_to-end.ensures.input c.rest_to-end.ensures.output c.finish_after.ensures.cause c.finish_after.ensures.told)
+
+pub returns-clause-end : goal.returns-clause-end
+returns-clause-end g c = λ done. c.rest_to-end.ensures.end (done_is_done c.rest_to-end.result c.finish_after.result (rw c.status_behind-status.ensures at done))
