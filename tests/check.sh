@@ -9,9 +9,10 @@
 # behind each line (tests/cut/cut.sh); and it is fed by two files, one of each stream. Each plan of the guide is run with
 # several workers, and by two files. Each folder of runs/ is a run: its words (args), its input, its rows, its note and
 # its exit code. tests/cut/faults.sh tries faulty checkpoint files. Record files that are as long as they may be, and
-# longer, are made here. `work` prints the same lines with 1, 2 and 8 workers. live.sh measures whether rows of a live log
-# come in time through all tools; start.sh tries ../streambox itself, without rt. Not tried are the exit codes 7, 8 and 70
-# of the program, and what the guide says in sentences. The last line counts what was as expected.
+# longer, are made here. `work` prints the same lines with 1, 2 and 8 workers, and over its lines, which are made here, too,
+# 8 workers with bundles of one record give the rows that one worker gives with the largest bundles. live.sh measures whether
+# rows of a live log come in time through all tools; start.sh tries ../streambox itself, without rt. Not tried are the exit
+# codes 7, 8 and 70 of the program, and what the guide says in sentences. The last line counts what was as expected.
 # shellcheck disable=SC2016 # Backquotes are those of the guide.
 set -euo pipefail
 shopt -s nullglob
@@ -304,6 +305,31 @@ check_work() {
   echo '3 numbers of workers for work: as expected'
 }
 
+# The lines that `work` makes of a number: in each eight records times fall, and then comes a watermark.
+made_lines() {
+  awk -v count="$1" 'BEGIN {
+    for (i = 0; i < count; i++) {
+      print "r,a," 8 * int(i / 8) + 7 - i % 8 "," i % 5 "," 37 * i % 101 - 50
+      if (i % 8 == 7) print "w,a," 8 * int(i / 8) + 8
+    }
+  }'
+}
+
+# The rows of sums over windows of 10: the end of a window, a key, and the sum of the values, in order.
+sums_of_ten() {
+  awk -F, '$1 == "r" { sums[$3 - $3 % 10 + 10 "," $4] += $5 }
+    END { for (window in sums) print window "," sums[window] }' | sort -t , -k 1,1n -k 2,2n
+}
+
+# Over the same lines one worker with the largest bundles and 8 workers with the smallest write the same bytes.
+check_made() {
+  made_lines 10000 > "$scratch/made"
+  sums_of_ten < "$scratch/made" > "$scratch/sums"
+  gives "$scratch/sums" /dev/null sum 10 --bundle 65536 --workers 1 < "$scratch/made"
+  gives "$scratch/sums" /dev/null sum 10 --bundle 1 --workers 8 < "$scratch/made"
+  echo '2 sizes of bundles for the lines of work: as expected'
+}
+
 # Runs the commands of each example's README, if it has one, in a copy without the files that they make: they print what
 # stands there, and make the files of the folder.
 check_reports() {
@@ -452,6 +478,7 @@ check_long_files
 check_words
 check_devices
 check_work
+check_made
 check_reports
 "$tests/tools.sh"
 STREAMBOX=$program "$tests/live.sh"
@@ -462,7 +489,7 @@ cd "$scratch"
 check_plans
 check_faults
 echo "All is as expected: $folders folders, $keys keys, $((inputs + 1)) inputs that are cut, checkpoint files, \
-$feeds inputs by two files, $long long files, $runs runs, $lists lists of words, $devices devices, work, $reports reports, \
-the tools, a live log, the start script, $plans plans and $faults faults of the guide."
-passed=$((folders + keys + inputs + 2 + feeds + long + runs + lists + devices + 1 + reports + 3 + plans + faults))
+$feeds inputs by two files, $long long files, $runs runs, $lists lists of words, $devices devices, work, its lines, \
+$reports reports, the tools, a live log, the start script, $plans plans and $faults faults of the guide."
+passed=$((folders + keys + inputs + 2 + feeds + long + runs + lists + devices + 2 + reports + 3 + plans + faults))
 echo "$passed passed, 0 failed"
