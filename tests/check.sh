@@ -11,8 +11,9 @@
 # its exit code. tests/cut/faults.sh tries faulty checkpoint files. Record files that are as long as they may be, and
 # longer, are made here. `work` prints the same lines with 1, 2 and 8 workers, and over its lines, which are made here, too,
 # 8 workers with bundles of one record give the rows that one worker gives with the largest bundles. live.sh measures whether
-# rows of a live log come in time through all tools; start.sh tries ../streambox itself, without rt. Not tried are the exit
-# codes 7, 8 and 70 of the program, and what the guide says in sentences. The last line counts what was as expected.
+# rows of a live log come in time through all tools; workers.sh looks whether so many workers work as were asked for; start.sh
+# tries ../streambox itself, without rt. Not tried are the exit codes 7, 8 and 70 of the program, and what the guide says in
+# sentences. The last line counts what was as expected.
 # shellcheck disable=SC2016 # Backquotes are those of the guide.
 set -euo pipefail
 shopt -s nullglob
@@ -482,6 +483,7 @@ check_made
 check_reports
 "$tests/tools.sh"
 STREAMBOX=$program "$tests/live.sh"
+STREAMBOX=$program "$tests/workers.sh"
 "$tests/start.sh"
 refuses 6 'file failed' run "$scratch/missing.toml"
 cp views/ads.csv "$scratch"
@@ -490,6 +492,6 @@ check_plans
 check_faults
 echo "All is as expected: $folders folders, $keys keys, $((inputs + 1)) inputs that are cut, checkpoint files, \
 $feeds inputs by two files, $long long files, $runs runs, $lists lists of words, $devices devices, work, its lines, \
-$reports reports, the tools, a live log, the start script, $plans plans and $faults faults of the guide."
-passed=$((folders + keys + inputs + 2 + feeds + long + runs + lists + devices + 2 + reports + 3 + plans + faults))
+$reports reports, the tools, a live log, workers, the start script, $plans plans and $faults faults of the guide."
+passed=$((folders + keys + inputs + 2 + feeds + long + runs + lists + devices + 2 + reports + 4 + plans + faults))
 echo "$passed passed, 0 failed"
