@@ -1,5 +1,5 @@
 -- Why a run over two files is done if nothing fails, and that no run begins without them.
-use Rattle.std.proofs.Common.{inl, inr, ◌≡◌, ◌<◌, ◌≤◌, ℕ, List, [], Option, Some, length, refl, sym, ap, subst, arith, ◌∙◌}
+use Rattle.std.proofs.Common.{inl, inr, ◌≡◌, ◌<◌, ℕ, List, Option, length, refl, sym, ap, subst, arith, ◌∙◌}
 use Rattle.sb_watch.specs.base.records.declared.item.Stream.{Stream}
 use Rattle.sb_watch.specs.base.records.declared.item.Stream.TheVariants.{A, B}
 use Rattle.sb_watch.specs.outside.Folders.{Files}
@@ -11,11 +11,10 @@ use Rattle.sb_watch.specs.run.Files.{NoneRefused, accepted_of_file}
 use Rattle.sb_words.specs.Words.Asked.{Feeds}
 use Rattle.sb_words.specs.declared.options.Options.{Options}
 use Rattle.sb_cli.specs.declared.ending.Ending.{Ending}
-use Rattle.sb_cli.specs.declared.late.LateRecords.TheVariants.{OfInput}
 use Rattle.sb_cli.specs.declared.status.Status.{Status}
 use Rattle.sb_cli.specs.declared.status.Status.TheVariants.{Done, Words, Plan, Line, Input, Output, Folder, Memory, Tap, Audit, FileTooLong, FileLine, Checkpoint}
-use Rattle.sb_cli.specs.Answers.{HasNoPlan, HasWrittenOfFiles, IsAnswer, IsRead, IsUnread}
-use Rattle.sb_cli.specs.Faults.{BlamesFile, Faults, HasCause, HidesNoFault, IsDoneOrMemory, NothingFailsInFiles, faults_of}
+use Rattle.sb_cli.specs.Answers.{HasNoPlan, HasWrittenOfFiles, IsAnswer}
+use Rattle.sb_cli.specs.Faults.{BlamesFile, Faults, HasCause, HidesNoFault, IsDoneOrMemory, NothingFailsInFiles}
 use Rattle.sb_cli.specs.FileSteps.{HaveNoBytes}
 use Rattle.sb_cli.specs.Offered.{BlamesTap, IsNoTap}
 use Rattle.sb_cli.specs.Pipelines.{HasPlan, TellsPlanIn}

@@ -29,7 +29,7 @@ use Rattle.sb_watch.specs.slow.Inputs.{by_stream}
 use Rattle.sb_watch.specs.run.TwoEnds.{FilesEndAt, FilesEndEarly, TwoEnds, as_run}
 use Rattle.sb_words.specs.declared.options.Options.{Options}
 use Rattle.sb_cli.specs.declared.late.LateRecords.TheVariants.{OfFiles}
-use Rattle.sb_cli.specs.declared.status.Status.TheVariants.{Done, Output, Memory, Tap, FileLine}
+use Rattle.sb_cli.specs.declared.status.Status.TheVariants.{Tap}
 use Rattle.sb_cli.specs.Answers.{IsAnswerToTwo, IsRead, Wrote, WrotePrefix, ending_with}
 use Rattle.sb_cli.specs.FileSteps.{status_after_two}
 use Rattle.sb_cli.specs.Offered.{BlamesTap, HasOfferedOfFiles, IsOfferedOfBytes}

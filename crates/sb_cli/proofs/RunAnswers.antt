@@ -1,9 +1,6 @@
 -- From how a run of the engine ended to its answer.
-use Rattle.std.proofs.Common.{◌≡◌, ◌⊎◌, inl, inr, ℕ, ◌+◌, ◌≤◌, Bool, true, false, List, [], ◌∷◌, ◌++◌, Option, Some, Result, Ok, Err, length, refl, sym, ap, subst, ◌∙◌, arith, append-nil, length-append, zero, suc, slice_get, map}
+use Rattle.std.proofs.Common.{◌≡◌, ◌⊎◌, inl, inr, ℕ, ◌≤◌, List, [], ◌++◌, Option, Result, Ok, Err, refl, sym, ap, subst, ◌∙◌, arith, append-nil}
 use Rattle.std.specs.Io.KnownBytes.{Appends, Keeps}
-use Rattle.std.specs.Option.{option_map}
-use Rattle.std.proofs.lemmas.Option.{same_Some, slice_get-map}
-use Rattle.std.proofs.lemmas.List.{length-map}
 use Rattle.sb_watch.specs.base.records.declared.intake.Stop.{Stop}
 use Rattle.sb_watch.specs.base.records.declared.intake.Stop.TheVariants as at
 use Rattle.sb_watch.specs.base.records.declared.item.Dropped.{Dropped}
@@ -19,22 +16,17 @@ use Rattle.sb_watch.specs.outside.Sinks.{AppendsPrefix}
 use Rattle.sb_watch.proofs.outside.Appending.{appends_kept}
 use Rattle.sb_watch.specs.outside.declared.sink.SinkFault.{SinkFault}
 use Rattle.sb_watch.specs.outside.declared.sink.SinkFault.TheVariants as fault
-use Rattle.sb_watch.specs.base.pipeline.Operators.{operator_of}
-use Rattle.sb_watch.specs.base.pipeline.Operators.Operator.{Sink}
 use Rattle.sb_watch.specs.base.pipeline.Results.{output_of}
 use Rattle.sb_watch.specs.base.pipeline.Shapes.{Shape, streams_of}
-use Rattle.sb_watch.specs.base.pipeline.declared.transform.Step.{Step}
 use Rattle.sb_cut.specs.checkpoint.Laws.{accepted_in}
 use Rattle.sb_watch.specs.emit.Taps.{TapState}
 use Rattle.sb_watch.specs.emit.TextLaws.{part_of_more}
-use Rattle.sb_watch.specs.hand.Hands.{HandView, settings_at, settings_for}
-use Rattle.sb_watch.specs.hand.Showing.{Settings, diaries_of}
 use Rattle.sb_watch.specs.one_feed.Due.{AreFirstDropped, AreFirstRows, due_rows, rows_below, streams_in}
 use Rattle.sb_watch.specs.one_feed.Given.{Given, items_of, stop_at}
 use Rattle.sb_watch.specs.one_feed.TapLists.{LeavesThoseThatStay}
 use Rattle.sb_watch.specs.run.declared.run_end.RunEnd.{RunEnd}
 use Rattle.sb_watch.specs.run.declared.run_end.RunEnd.TheVariants as run
-use Rattle.sb_watch.specs.run.RunEnds.{Ends, EndsAt, EndsEarly, InputCause, IsDoneHand}
+use Rattle.sb_watch.specs.run.RunEnds.{Ends, EndsAt, EndsEarly, InputCause}
 use Rattle.sb_words.specs.declared.options.Options.{Options}
 use Rattle.sb_cli.specs.declared.status.Status.{Status}
 use Rattle.sb_cli.specs.declared.status.Status.TheVariants.{Done, Words, Plan, Line, Input, Output, Folder, Memory, Tap, Audit, FileTooLong, FileLine, Checkpoint}
@@ -42,9 +34,7 @@ use Rattle.sb_cli.specs.Answers.{IsAnswerBy, Wrote, WroteAllDue, WrotePrefix, en
 use Rattle.sb_cli.specs.Courses.{Course, run_course, shown_course}
 use Rattle.sb_cli.specs.Offered.{BlamesTap, IsOfferedOf}
 use Rattle.sb_cli.specs.Pipelines.{all_rows}
-use Rattle.sb_cli.specs.RunSteps.{CanTellAt, diaries_told, kept_at, sizes_from, status_after}
-use Rattle.sb_cli.specs.Telling.{diaries_of_hand}
-use Rattle.sb_cli.specs.Told.{AreDiaries, AreToldIf, node_diaries}
+use Rattle.sb_cli.specs.RunSteps.{CanTellAt, diaries_told, sizes_from, status_after}
 use Rattle.sb_cli.proofs.Blaming.{stops_blames}
 use Rattle.sb_cli.proofs.DoneHands.{can_tell_if, other_ends, told_if}
 

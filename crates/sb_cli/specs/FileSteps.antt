@@ -1,16 +1,13 @@
 -- From the end of a run over two files to its answer, and from a file to its bytes.
-use Rattle.std.specs.Prelude.{◌≡◌, ◌<◌, ℕ, Bool, true, false, List, [], Option, Result, Ok, Err, length, ⊤}
+use Rattle.std.specs.Prelude.{ℕ, List, Option, Result, Ok, Err, ⊤}
 use Rattle.sb_watch.specs.outside.declared.sink.SinkFault.{SinkFault}
 use Rattle.sb_watch.specs.outside.declared.sink.SinkFault.TheVariants as fault
 use Rattle.sb_watch.specs.outside.Folders.{Files}
-use Rattle.sb_watch.specs.diary.Texts.{NodeDiary}
 use Rattle.sb_watch.specs.run.declared.files.two_end.TwoEnd.{TwoEnd}
 use Rattle.sb_watch.specs.run.declared.files.two_end.TwoEnd.TheVariants as two
-use Rattle.sb_watch.specs.run.TwoEnds.{as_run}
 use Rattle.sb_cli.specs.declared.status.Status.{Status}
 use Rattle.sb_cli.specs.declared.status.Status.TheVariants.{Done, Words, Plan, Line, Input, Output, Folder, Memory, Tap, Audit, FileTooLong, FileLine, Checkpoint}
 use Rattle.sb_cli.specs.RecordFiles.{HasLongFile, IsLong}
-use Rattle.sb_cli.specs.RunSteps.{CanTellAt, diaries_told}
 
 -- the status of a run over two files whose rows were passed on
 abbrev pub status_of_two : TwoEnd → Status

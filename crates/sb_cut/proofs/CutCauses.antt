@@ -1,5 +1,5 @@
 -- Whose reads have failed where a first part was read, and where reading it stopped.
-use Rattle.std.proofs.Common.{◌≡◌, ◌≤◌, ℕ, ◌+◌, ◌-◌, ◌^◌, Bool, true, false, not, ◌&&◌, List, ◌∷◌, Option, Some, None, refl, sym, ap, subst, ◌∙◌, arith}
+use Rattle.std.proofs.Common.{◌≡◌, ◌≤◌, ℕ, ◌+◌, Bool, true, false, not, ◌&&◌, List, Option, Some, None, refl, ap, arith}
 use Rattle.std.specs.Io.KnownBytes.{IsAtEnd}
 use Rattle.sb_run.specs.base.records.declared.intake.Refusal.{Refusal}
 use Rattle.sb_run.specs.base.records.declared.intake.Stop.{Stop}

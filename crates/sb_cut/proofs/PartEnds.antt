@@ -1,5 +1,5 @@
 -- How a run over a first part ends, by how the engine's run over it ended.
-use Rattle.std.proofs.Common.{◌≡◌, ◌≤◌, ℕ, ◌+◌, Bool, true, false, not, ◌&&◌, List, [], ◌∷◌, ◌++◌, map, Option, Some, None, refl, sym, ap, subst, ◌∙◌, inl, inr}
+use Rattle.std.proofs.Common.{◌≡◌, ℕ, ◌+◌, Bool, true, false, not, ◌&&◌, List, [], ◌∷◌, ◌++◌, map, Option, Some, None, refl, sym, ap, subst, ◌∙◌, inl, inr}
 use Rattle.std.specs.Io.KnownBytes.{IsAtEnd}
 use Rattle.std.specs.List.{AllZip}
 use Rattle.sb_run.specs.base.records.declared.intake.Refusal.{Refusal}
@@ -16,7 +16,7 @@ use Rattle.sb_run.specs.emit.Offers.{StopsAt}
 use Rattle.sb_run.specs.emit.Taps.{TapState}
 use Rattle.sb_run.specs.one_feed.Due.{AreFirstDropped, AreFirstRows, due_mark, rows_below}
 use Rattle.sb_run.specs.one_feed.Given.{accepted_of, items_of}
-use Rattle.sb_run.specs.one_feed.TapLists.{LeavesThoseThatStay, SawRows, StopsIn}
+use Rattle.sb_run.specs.one_feed.TapLists.{SawRows, StopsIn}
 use Rattle.sb_checkpoint.specs.Checkpoints.{low_of}
 use Rattle.sb_checkpoint.specs.Cut.{IsCutAt, faults_of}
 use Rattle.sb_run.specs.declared.run_end.RunEnd.{RunEnd}
@@ -24,7 +24,6 @@ use Rattle.sb_run.specs.declared.run_end.RunEnd.TheVariants as run
 use Rattle.sb_run.specs.declared.sizes.Sizes.{Sizes}
 use Rattle.sb_run.specs.RunEnds.{Ends, EndsAt, EndsEarly, IsDone, MayHaveFailed, OutputCause, SharedInputCause}
 use Rattle.sb_cut.specs.declared.cut_end.CutEnd.{CutEnd}
-use Rattle.sb_cut.specs.declared.cut_end.CutEnd.TheVariants.{Done, Refused, Input, Output, Memory}
 use Rattle.sb_cut.specs.CutEnds.{CutCause, CutOutputCause, EndsCut, EndsCutEarly, IsCutEnd, IsEndOfPart, PartEnds}
 use Rattle.sb_cut.specs.FirstParts.{open_end}
 use Rattle.sb_cut.proofs.CutCauses.{rose_count, same_count, whole_unfailed}

@@ -1,5 +1,5 @@
 -- What saving a first part does, by what was gathered of it.
-use Rattle.std.proofs.Common.{◌≡◌, ℕ, ◌+◌, Bool, true, false, not, ◌&&◌, List, ◌++◌, Option, sym, ap, subst, ◌∙◌}
+use Rattle.std.proofs.Common.{◌≡◌, ℕ, ◌+◌, Bool, false, not, ◌&&◌, List, ◌++◌, Option, sym, ap, subst, ◌∙◌}
 use Rattle.sb_run.specs.base.records.declared.intake.Stop.{Stop}
 use Rattle.sb_run.specs.base.records.declared.intake.Stop.TheVariants.{End}
 use Rattle.sb_run.specs.base.records.declared.item.Dropped.{Dropped}

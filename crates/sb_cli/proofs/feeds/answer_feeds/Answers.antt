@@ -1,5 +1,4 @@
-use Rattle.std.proofs.Common.{◌≡◌, ◌≢◌, Err, subst, sym, ◌∙◌}
-use Rattle.sb_cli.specs.declared.status.Status.TheVariants as status
+use Rattle.std.proofs.Common.{◌≡◌, subst, sym, ◌∙◌}
 use Rattle.sb_cli.specs.Faults.{HasCause, HidesNoFault, faults_of}
 use Rattle.sb_cli.proofs.feeds.answer_feeds.Goals as goal
 

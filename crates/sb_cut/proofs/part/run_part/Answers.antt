@@ -1,4 +1,4 @@
-use Rattle.std.proofs.Common.{◌≡◌, ◌∷◌, not, ◌&&◌, sym, ap, subst, ◌∙◌}
+use Rattle.std.proofs.Common.{◌∷◌, not, ◌&&◌, sym, ap, subst, ◌∙◌}
 use Rattle.std.specs.Io.KnownBytes.{IsAtEnd}
 use Rattle.sb_cut.specs.CutEnds.{IsCutEnd}
 use Rattle.sb_cut.proofs.CutCauses.{done_is_whole, whole_at_end, whole_has_ended}

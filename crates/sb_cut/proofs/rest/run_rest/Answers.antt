@@ -1,4 +1,4 @@
-use Rattle.std.proofs.Common.{◌≡◌, ◌∷◌, sym, ap, subst, ◌∙◌}
+use Rattle.std.proofs.Common.{◌∷◌, sym, ap, subst, ◌∙◌}
 use Rattle.std.specs.Io.KnownBytes.{prepend_known}
 use Rattle.sb_checkpoint.specs.Ahead.{AllReadOrNoneOfTheSource, name_behind}
 use Rattle.sb_checkpoint.proofs.LinesAhead.{name_behind_same}

@@ -1,4 +1,4 @@
-use Rattle.std.proofs.Common.{◌≡◌, ◌∷◌, not, ◌&&◌, sym, ap, subst, ◌∙◌}
+use Rattle.std.proofs.Common.{◌∷◌, not, ◌&&◌, sym, ap, subst, ◌∙◌}
 use Rattle.sb_cut.specs.FirstParts.{open_end}
 use Rattle.sb_cut.specs.Saves.{Gathers, GathersNone, Saves, SavesNone, cut_stop}
 use Rattle.sb_cut.proofs.CutCauses.{end_is_whole, whole_has_ended}
