@@ -100,7 +100,7 @@ word_some xs w rest h = elim (cases_Bool (is_word (take (comma xs) xs))) [
   | inr other ↦ cc (rw other at h)
 ]
 
-key_some : (keys : Keys) (xs rest : List ℕ) (k : Key) → key_at keys xs ≡ Some (k, rest) → (xs ≡ key_text k ++ rest) × IsKeyInRange keys k
+pub key_some : (keys : Keys) (xs rest : List ℕ) (k : Key) → key_at keys xs ≡ Some (k, rest) → (xs ≡ key_text k ++ rest) × IsKeyInRange keys k
 unfolding key_at
 key_some Numbers xs rest k h =
     let (p, read, is) = bind_some (number_at 1000000000000000000 xs) number_key (k, rest) h in
@@ -138,7 +138,7 @@ mark_some keys s xs i h =
     let whole : xs ≡ decimal t.0 = time.0 ∙ ap (λ l. decimal t.0 ++ l) e ∙ append-nil (decimal t.0) in
     subst (λ j. IsTextOf keys j (119 ∷ 44 ∷ letter s ∷ 44 ∷ xs)) is (time.1, λ j. 119 ∷ 44 ∷ letter s ∷ 44 ∷ whole j)
 
-between_some : (xs rest : List ℕ) (s : Stream) → between xs ≡ Some (s, rest) → xs ≡ 44 ∷ letter s ∷ 44 ∷ rest
+pub between_some : (xs rest : List ℕ) (s : Stream) → between xs ≡ Some (s, rest) → xs ≡ 44 ∷ letter s ∷ 44 ∷ rest
 unfolding between
 between_some xs rest s h =
     let (b, rb, h1) = bind_some (byte_at 44 xs) _ (s, rest) h in
@@ -182,7 +182,7 @@ word_reads w rest is =
     let ends = comma-word w rest (are_word_bytes w is) in
     rw (ends, take-append_seam w (44 ∷ rest), drop-append_seam w (44 ∷ rest), is) refl
 
-key_reads : (keys : Keys) (k : Key) (rest : List ℕ) → IsKeyInRange keys k → key_at keys (key_text k ++ 44 ∷ rest) ≡ Some (k, 44 ∷ rest)
+pub key_reads : (keys : Keys) (k : Key) (rest : List ℕ) → IsKeyInRange keys k → key_at keys (key_text k ++ 44 ∷ rest) ≡ Some (k, 44 ∷ rest)
 unfolding key_at
 key_reads Numbers (Number n) rest fits = rw (number_of_text 1000000000000000000 n (44 ∷ rest) (omega arith) fits refl) refl
 key_reads Numbers (Word w) rest fits = absurd fits
@@ -202,7 +202,7 @@ mark_reads : (s : Stream) (t : ℕ) → t ≤ 1000000000000000 → mark_at s (de
 unfolding mark_at at_end
 mark_reads s t fits = rw (number_of_whole 1000000000000000 t (omega arith) fits) refl
 
-between_reads : (s : Stream) (rest : List ℕ) → between (44 ∷ letter s ∷ 44 ∷ rest) ≡ Some (s, rest)
+pub between_reads : (s : Stream) (rest : List ℕ) → between (44 ∷ letter s ∷ 44 ∷ rest) ≡ Some (s, rest)
 unfolding between byte_at stream_at
 between_reads A rest = refl
 between_reads B rest = refl

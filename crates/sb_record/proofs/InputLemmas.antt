@@ -51,7 +51,7 @@ progress-more streams late keys items i =
     said (Late n t m) = refl
 
 -- ---- what is accepted is what its line says
-late_ok : (late : LatePolicy) (n t m : ℕ) (i : Item) → when_late late n t m ≡ Ok i → Late n t m ≡ i
+pub late_ok : (late : LatePolicy) (n t m : ℕ) (i : Item) → when_late late n t m ≡ Ok i → Late n t m ≡ i
 late_ok Refuse n t m i h = cc
 late_ok Drop n t m i h = cc
 

@@ -13,4 +13,7 @@ pub mod Firsts
 pub mod Different
 pub mod Earlier
 pub mod InputLemmas
+pub mod FrontLines
+pub mod PlainTexts
+pub mod FrontAccepts
 pub mod OnLanes

@@ -9,6 +9,8 @@ pub mod Reading
 pub mod Streams
 pub mod Progress
 pub mod Intake
+pub mod Fronts
+pub mod FrontReading
 pub mod Inputs
 pub mod Rows
 pub mod Elements

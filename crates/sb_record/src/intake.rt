@@ -1,9 +1,12 @@
 //! The tests that the lines of an input pass, in their order.
 
-ghost use Rattle.std.specs.Prelude.{◌≡◌, ◌≤◌, ◌<◌, length, OnErr, IfOk};
+ghost use Rattle.std.specs.Prelude.{◌≡◌, ◌≤◌, ◌<◌, ◌↔◌, length, Some, OnErr, IfOk, IfSome, IfNone};
+ghost use Rattle.sb_record.specs.FrontReading.{is_timely as spec_is_timely};
+ghost use Rattle.sb_record.specs.Fronts.{IsAcceptedFront};
 ghost use Rattle.sb_record.specs.Intake as spec;
 ghost use Rattle.sb_record.specs.Streams as streams_spec;
 
+use crate::front::{FrontLine, read_front};
 use crate::item::{Item, Stream, Streams};
 use crate::key::Keys;
 use crate::line::{Malformed, read_line};
@@ -133,13 +136,65 @@ impl Intake {
         ensures room { IfOk result (λ _. self.old.lines < MAX_LINES) }
     {
         let item = self.tested(line)?;
+        self.keep(&item);
+        Ok(item)
+    }
+
+    /// Tests the line that these bytes begin with, where it is a record or a watermark and its line feed is at hand, and
+    /// gives it if it is accepted: it is then counted and its watermark kept, as by [`Intake::accept`]. Where it gives
+    /// none, nothing changes. It looks at each byte once, and needs no search for the end of the line.
+    pub fn accept_front(&mut self, bytes: &[u8]) -> Option<FrontLine>
+        ensures exact { (f : FrontLine) → (result ≡ Some f) ↔ IsAcceptedFront self.old f.item f.len bytes.now }
+        ensures some { IfSome result (λ f. self.new ≡ spec.after f.item self.old) }
+        ensures none { IfNone result (self.new ≡ self.old) }
+        ensures room { IfSome result (λ _. self.old.lines < MAX_LINES) }
+    {
+        let Some(front) = self.front(bytes) else {
+            return None;
+        };
+        self.keep(&front.item);
+        Some(front)
+    }
+
+    /// The line that these bytes begin with, where it is one that is accepted.
+    fn front(&self, bytes: &[u8]) -> Option<FrontLine>
+        ensures exact { (f : FrontLine) → (result ≡ Some f) ↔ IsAcceptedFront self.now f.item f.len bytes.now }
+        ensures room { IfSome result (λ _. self.now.lines < MAX_LINES) }
+    {
+        if self.before >= MAX_LINES {
+            return None;
+        }
+        let Some(front) = read_front(bytes, self.keys) else {
+            return None;
+        };
+        if !self.is_timely(&front.item) {
+            return None;
+        }
+        Some(front)
+    }
+
+    /// Counts the next line, which is accepted and gives this item, and keeps its watermark.
+    fn keep(&mut self, item: &Item)
+        requires { self.old.lines < MAX_LINES }
+        ensures { self.new ≡ spec.after item.now self.old }
+    {
         self.before += 1;
         match item {
-            Item::Mark(Stream::A, time) => self.mark_a = time,
-            Item::Mark(Stream::B, time) => self.mark_b = time,
+            Item::Mark(Stream::A, time) => self.mark_a = *time,
+            Item::Mark(Stream::B, time) => self.mark_b = *time,
             _ => {}
         }
-        Ok(item)
+    }
+
+    /// Whether the item's stream is one of the pipeline's and its time is not below the stream's last watermark.
+    fn is_timely(&self, item: &Item) -> bool
+        ensures { result ≡ spec_is_timely self.now item.now }
+    {
+        match item {
+            Item::Rec(stream, record) => self.uses(*stream) && self.last(*stream) <= record.time,
+            Item::Mark(stream, time) => self.uses(*stream) && self.last(*stream) <= *time,
+            Item::Skip | Item::Late { .. } => true,
+        }
     }
 
     /// The item of the next line, or the first test that it fails.

@@ -2,11 +2,13 @@
 //!
 //! An input is a list of lines. A line gives an [`Item`]: a record of a stream, a watermark of a stream, or nothing.
 //! The [`Key`] of a record is a number or a word.
-//! [`read_line`] reads one line, [`Intake`] tests the lines of an input in their order, and [`row_bytes`] prints a row.
+//! [`read_line`] reads one line, [`Intake`] tests the lines of an input in their order, also a [`FrontLine`] that bytes
+//! begin with, and [`row_bytes`] prints a row.
 //! [`laws`] has the limits as numbers, and what every other crate rests on. Nothing in this crate allocates memory.
 #![tactic(auto)]
 
 mod element;
+mod front;
 mod intake;
 mod item;
 mod key;
@@ -19,6 +21,7 @@ mod text;
 mod trail;
 
 pub use element::KeptRec;
+pub use front::FrontLine;
 pub use intake::{Intake, LatePolicy, MAX_LINE_LENGTH, MAX_LINES, Refusal, Stop};
 pub use item::{Dropped, END_MARK, Item, MAX_TIME, NoMemory, Record, Stream, Streams};
 pub use key::{Key, Keys, MAX_KEY, MAX_WORD_LENGTH, Word};

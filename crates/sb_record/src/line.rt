@@ -26,7 +26,7 @@ pub struct Malformed;
 
 /// What follows this byte, where it stands at the front.
 #[tactic(auto, unfolding(crate::specs::Reading::byte_at))]
-fn after(byte: u8, bytes: &[u8]) -> Option<&[u8]>
+pub(crate) fn after(byte: u8, bytes: &[u8]) -> Option<&[u8]>
     ensures { option_map (λ r. r.now) result ≡ spec.byte_at byte bytes.now }
 {
     match bytes {
@@ -49,7 +49,7 @@ fn leading_stream(bytes: &[u8]) -> Option<(Stream, &[u8])>
 
 /// The signed number at the front, and what follows it.
 #[tactic(auto, unfolding(crate::specs::Reading::signed_at))]
-fn leading_signed(bytes: &[u8]) -> Option<(i64, &[u8])>
+pub(crate) fn leading_signed(bytes: &[u8]) -> Option<(i64, &[u8])>
     ensures { option_map (λ x. (x.0, x.1.now)) result ≡ spec.signed_at bytes.now }
 {
     match after(b'-', bytes) {
@@ -79,7 +79,7 @@ fn leading_positive(bytes: &[u8]) -> Option<(i64, &[u8])>
 
 /// The word up to the first comma or to the end, and what follows it.
 #[tactic(auto, unfolding(crate::specs::Reading::word_at))]
-fn leading_word(bytes: &[u8]) -> Option<(Word, &[u8])>
+pub(crate) fn leading_word(bytes: &[u8]) -> Option<(Word, &[u8])>
     ensures { option_map (λ x. (x.0, x.1.now)) result ≡ spec.word_at bytes.now }
 {
     let length = length_before(b',', bytes);
@@ -108,7 +108,7 @@ fn leading_key(keys: Keys, bytes: &[u8]) -> Option<(Key, &[u8])>
 
 /// `,S,` at the front, and what follows it.
 #[tactic(auto, unfolding(crate::specs::Reading::between))]
-fn leading_field(bytes: &[u8]) -> Option<(Stream, &[u8])>
+pub(crate) fn leading_field(bytes: &[u8]) -> Option<(Stream, &[u8])>
     ensures { option_map (λ x. (x.0, x.1.now)) result ≡ spec.between bytes.now }
 {
     let bytes = after(b',', bytes)?;
