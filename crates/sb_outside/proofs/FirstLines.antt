@@ -1,13 +1,15 @@
 -- The first of the lines of bytes, and what follows it.
-use Rattle.std.proofs.Common.{◌≡◌, ◌==◌, ◌&&◌, ℕ, suc, ◌+◌, ◌-◌, ◌<◌, ◌≤◌, ◌++◌, List, [], ◌∷◌, length, take, drop, Bool, true, false, refl, sym, ap, ◌∙◌, arith, inl, inr, append_assoc, append-nil, length-append, subst}
+use Rattle.std.proofs.Common.{◌≡◌, ◌==◌, ◌&&◌, ℕ, suc, ◌+◌, ◌-◌, ◌<◌, ◌≤◌, ◌++◌, List, [], ◌∷◌, length, take, drop, get_or, Bool, true, false, refl, sym, ap, ◌∙◌, arith, inl, inr, append_assoc, append-nil, length-append, subst}
 use Rattle.std.specs.Prelude.{nat_lt}
-use Rattle.std.proofs.lemmas.Bool.{cases_Bool, lt-ltb, ltb-false, or_right}
+use Rattle.std.specs.List.{AllByRecursion}
+use Rattle.std.proofs.lemmas.Bool.{cases_Bool, lt-ltb, ltb-false, ne_eqb, or_right}
 use Rattle.std.proofs.lemmas.Bool.Decides.{nat_tests}
 use Rattle.std.proofs.lemmas.List.{length-take, take_all}
+use Rattle.std.proofs.lemmas.List.Elements.{All-from_recursion}
 use Rattle.std.specs.Io.BufRead.{ends_with_byte}
 use Rattle.sb_outside.specs.Lines.{without_cr, is_too_long, last_line, lines_from, lines}
 use Rattle.sb_outside.specs.Readings.{BeginTooLong, IsTooLong}
-use Rattle.sb_outside.specs.Looks.{line_len}
+use Rattle.sb_outside.specs.Looks.{line_len, IsFirstLine}
 
 -- the bytes before the first LF
 abbrev pub front : List ℕ → List ℕ
@@ -99,3 +101,24 @@ long_line bytes h e later = elim (cases_Bool (has_line bytes)) [
 
 pub open_rest : (bytes : List ℕ) → has_line bytes ≡ false → is_too_long (without_cr bytes) ≡ false → lines false bytes ≡ []
 open_rest bytes none short = no_line_at_end bytes false none ∙ rw short refl
+
+-- ---- bytes that are no control characters, with an LF behind them
+ends_line : (e : Bool) (f line rest : List ℕ) → AllByRecursion (λ b. 32 < b) line → lines_from e f (line ++ 10 ∷ rest) ≡ without_cr (f ++ line) ∷ lines e rest
+ends_line e f [] rest high = ap (λ l. without_cr l ∷ lines e rest) (sym (append-nil f))
+ends_line e f (b ∷ line) rest high =
+    let other : (b == 10) ≡ false = ne_eqb b 10 (λ same. omega (arith, same, high.0)) in
+    rw other (ends_line e (f ++ b ∷ []) line rest high.1 ∙ ap (λ l. without_cr l ∷ lines e rest) (append_assoc f (b ∷ []) line))
+
+no_cr : (line : List ℕ) → AllByRecursion (λ b. 32 < b) line → without_cr line ≡ line
+no_cr [] high = refl
+no_cr (b ∷ line) high =
+    let place : suc (length line) - 1 ≡ length line = omega arith in
+    let last : 32 < get_or (b ∷ line) (length line) 0 = All-from_recursion (λ x. 32 < x) (b ∷ line) high (length line) 0 (omega arith) in
+    let other : (get_or (b ∷ line) (length line) 0 == 13) ≡ false = ne_eqb _ 13 (λ same. omega (arith, same, last)) in
+    let plain : ends_with_byte 13 (b ∷ line) ≡ false = rw (lt-ltb 0 (suc (length line)) (omega arith), place, other) refl in
+    rw plain refl
+
+-- they are the first line
+pub visible_first : (line rest : List ℕ) → AllByRecursion (λ b. 32 < b) line → IsFirstLine line rest (line ++ 10 ∷ rest)
+visible_first line rest high ended later =
+    ap (lines ended) (append_assoc line (10 ∷ rest) later) ∙ ends_line ended [] line (rest ++ later) high ∙ ap (λ l. l ∷ lines ended (rest ++ later)) (no_cr line high)

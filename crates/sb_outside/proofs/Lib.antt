@@ -4,6 +4,7 @@ pub mod FirstLines
 pub mod Windows
 pub mod Appending
 pub mod Searches
+pub mod AtHand
 pub mod MemoryReads
 pub mod Folders
 pub mod SinkCauses

@@ -10,6 +10,7 @@ pub mod MemoryFolders
 pub mod Counts
 pub mod Refusals
 pub mod Looks
+pub mod AtHand
 pub mod Fills
 pub mod Buffers
 pub mod Searches

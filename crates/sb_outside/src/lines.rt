@@ -4,8 +4,9 @@
 //! An empty rest after the last LF is no line. A line has at most 128 bytes after the CR is taken
 //! off; a longer one is refused as soon as its bytes show that, also where its end has not come yet.
 
-ghost use Rattle.std.specs.Prelude.{◌≡◌, ◌≢◌, ◌≤◌, [], None, Some, length};
+ghost use Rattle.std.specs.Prelude.{◌≡◌, ◌≢◌, ◌≤◌, ◌+◌, [], None, Some, take, drop, length};
 ghost use Rattle.std.specs.Borrow.{sem};
+ghost use Rattle.sb_outside.specs.AtHand.{BeginsWithLine, to_read};
 ghost use Rattle.sb_outside.specs.Lines.{longest_line};
 ghost use Rattle.sb_outside.specs.Readings.{Advances, reading, step_at};
 ghost use Rattle.sb_outside.specs.Rests.{Leaves, IsShort};
@@ -112,6 +113,31 @@ impl LineBuffer {
         ensures { result.now ≡ self.now.line }
     {
         &self.buffer.bytes[self.from..self.from + self.len]
+    }
+
+    /// The bytes at hand, which begin with the next line. There are none once the reader stands.
+    pub fn at_hand(&self) -> &[u8]
+        ensures { result.now ≡ to_read self.now }
+    {
+        match self.halt {
+            None => self.buffer.held(),
+            Some(_) => &[],
+        }
+    }
+
+    /// Goes to the next line where it is known: so many of the bytes at hand are a line, and an LF
+    /// stands behind them. It looks for nothing and reads nothing.
+    pub fn take_line(&mut self, len: usize)
+        requires { BeginsWithLine len (to_read self.old) }
+        ensures { self.new ≡ record {
+          at_hand = drop (len + 1) self.old.at_hand;
+          line = take len self.old.at_hand;
+          halt = None;
+        } }
+    {
+        self.from = self.buffer.start;
+        self.len = len;
+        self.buffer.take(len + 1);
     }
 
     /// Goes to the next line of the source.
