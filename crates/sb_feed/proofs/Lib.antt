@@ -1,6 +1,7 @@
 pub mod OfferedRows
 pub mod GiveLaws
 pub mod ReadSteps
+pub mod FrontTakes
 pub mod LaterItems
 pub mod ReadSoFar
 pub mod ItemSteps

@@ -30,6 +30,32 @@ pub fn next_item<S: Source>(
         → lines.new.halt ≡ Some halt.End → S.has_ended source.new }
     ensures name { S.name source.new ≡ S.name source.old }
 {
+    match intake.accept_front(lines.at_hand()) {
+        Some(front) => {
+            lines.take_line(front.len);
+            Ok(front.item)
+        }
+        None => line_item(source, lines, intake),
+    }
+}
+
+// The same of a line whose end is looked for before it is read.
+fn line_item<S: Source>(
+    source: &mut S,
+    lines: &mut LineBuffer,
+    intake: &mut Intake,
+) -> Result<Item, Stop>
+    requires { IsGoing lines.old.halt (S.left source.old) }
+    ensures takes { TakesNext S.left (reading source.old lines.old) (reading source.new lines.new)
+        intake.old intake.new result }
+    ensures same { OnOk result (S.faults source.new ≡ S.faults source.old) }
+    ensures cause { IfErr result (λ stop. FaultCause (S.faults source.old) (S.faults source.new) stop) }
+    ensures room { OnOk result (intake.old.lines < MAX_LINES) }
+    ensures at_end { result ≡ Err Stop.End → lines.new.halt ≡ Some halt.End }
+    ensures end { (lines.old.halt ≡ Some halt.End → S.has_ended source.old)
+        → lines.new.halt ≡ Some halt.End → S.has_ended source.new }
+    ensures name { S.name source.new ≡ S.name source.old }
+{
     match lines.advance(source) {
         Step::Line => match intake.accept(lines.line()) {
             Ok(item) => Ok(item),
