@@ -8,5 +8,9 @@ pub mod PartialValues
 pub mod LeastOfTwo
 pub mod SortedLists
 pub mod Unions
+pub mod Found
+pub mod Merging
+pub mod Splitting
+pub mod FoundIn
 pub mod Ends
 pub mod Absorbing

@@ -14,10 +14,13 @@
 
 mod aggregate;
 mod grouping;
+mod joiner;
 pub mod laws;
 mod part;
 mod partial;
 mod partials;
+mod run;
+mod runs;
 mod session;
 mod sorted_list;
 mod value_set;

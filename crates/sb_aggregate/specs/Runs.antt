@@ -1,0 +1,50 @@
+-- Sorted runs: lists of keyed windows with a value each, every window once, in order. A run is seen as a finite map.
+use Rattle.std.specs.Prelude.{◌≡◌, ℕ, nat_lt, Bool, false, not, List, [], ◌∷◌, ◌++◌, Option, Some, None}
+use Rattle.std.specs.BTreeMap.{is_at}
+use Rattle.std.specs.List.Sorted.{IsStrictlySortedBy}
+use Rattle.std.specs.Map.{keys_of, lookup}
+use Rattle.std.specs.declared.cmp.Ordering.{Ordering}
+use Rattle.sb_window.specs.declared.keyed_window.KeyedWindow.{KeyedWindow}
+use Rattle.sb_window.specs.Gatherings.{joined_value}
+use Rattle.sb_window.specs.Windows.{keyed_window_cmp}
+
+-- the windows rise, so none comes twice
+abbrev pub IsRun : {V : Type 0} → List (KeyedWindow × V) → Type 0
+IsRun entries = IsStrictlySortedBy keyed_window_cmp (keys_of entries)
+
+-- the value of a keyed window, if it has one
+abbrev pub found : {V : Type 0} → List (KeyedWindow × V) → KeyedWindow → Option V
+found entries q = lookup (is_at (keyed_window_cmp q)) entries
+
+-- what several runs have for a keyed window, joined from the first run on
+abbrev pub found_in : {V : Type 0} → (V → V → V) → List (List (KeyedWindow × V)) → KeyedWindow → Option V
+found_in join [] q = None
+found_in join (run ∷ runs) q = joined_value join (found run q) (found_in join runs q)
+
+-- of three values it does not matter which two are joined first
+abbrev pub IsAssociative : {V : Type 0} → (V → V → V) → Type 0
+IsAssociative {V} join = (u v w : V) → join (join u v) w ≡ join u (join v w)
+
+-- how the first windows of two runs compare, where both have one
+abbrev pub firsts_cmp : {V : Type 0} → List (KeyedWindow × V) → List (KeyedWindow × V) → Option Ordering
+firsts_cmp [] others = None
+firsts_cmp (e ∷ es) [] = None
+firsts_cmp (e ∷ es) (f ∷ fs) = Some (keyed_window_cmp e.0 f.0)
+
+-- one entry of the first ones of two runs, with the window of the first run
+abbrev pub joined_firsts : {V : Type 0}
+    → (V → V → V) → List (KeyedWindow × V) → List (KeyedWindow × V) → List (KeyedWindow × V)
+joined_firsts join [] others = []
+joined_firsts join (e ∷ es) [] = []
+joined_firsts join (e ∷ es) (f ∷ fs) = (e.0, join e.1 f.1) ∷ []
+
+-- whether there is a first window, and it ends by the mark
+abbrev pub begins_by : {V : Type 0} → ℕ → List (KeyedWindow × V) → Bool
+begins_by mark [] = false
+begins_by mark (e ∷ es) = not (nat_lt mark e.0.end)
+
+-- the runs with one more, where it has entries
+abbrev pub with_run : {V : Type 0}
+    → List (List (KeyedWindow × V)) → List (KeyedWindow × V) → List (List (KeyedWindow × V))
+with_run runs [] = runs
+with_run runs (e ∷ es) = runs ++ (e ∷ es) ∷ []

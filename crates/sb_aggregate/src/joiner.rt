@@ -1,0 +1,22 @@
+//! What joins two values of a keyed window.
+
+ghost use Rattle.std.specs.Prelude.{◌≡◌, OnOk};
+
+use sb_record::NoMemory;
+
+/// Joins two values of a keyed window into one.
+pub(crate) trait Joiner {
+    /// What is joined.
+    type Value: Drop;
+
+    // what is made of a value and of one that comes after it
+    ghost joined: { Self → Self.Value → Self.Value → Self.Value };
+
+    /// Joins to a value one that comes after it.
+    ///
+    /// # Errors
+    ///
+    /// [`NoMemory`]; both are lost then.
+    fn join(&self, value: &mut Self::Value, later: Self::Value) -> Result<(), NoMemory>
+        ensures { OnOk result (value.new ≡ joined self.now value.old later) };
+}
