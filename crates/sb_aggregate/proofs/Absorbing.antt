@@ -1,33 +1,31 @@
 -- What an aggregate gives once a part is absorbed, and once windows are closed.
-use Rattle.std.proofs.Common.{◌≡◌, ℕ, ◌≤◌, ◌<◌, Bool, true, false, cond, List, [], ◌∷◌, ◌++◌, append-nil, append_assoc, sym, refl, ap, ◌∙◌}
-use Rattle.std.specs.Prelude.{◌||◌, nat_lt, sum_by, min, ◌+◌, None}
+use Rattle.std.proofs.Common.{◌≡◌, ℕ, ◌≤◌, Bool, true, false, cond, List, [], ◌∷◌, ◌++◌, append-nil, append_assoc, sym, refl, ap, ◌∙◌}
+use Rattle.std.specs.Prelude.{◌||◌, nat_lt, sum_by, None}
 use Rattle.std.specs.List.{flat_map, list_any, AllByRecursion}
-use Rattle.std.specs.BTreeMap.{IsOrdered, get}
 use Rattle.std.proofs.lemmas.Bool.{le-ltb, ltb-false}
 use Rattle.std.proofs.lemmas.List.{map-append}
 use Rattle.sb_record.specs.declared.element.KeptRec.{KeptRec}
 use Rattle.sb_record.specs.declared.item.Record.{Record}
-use Rattle.sb_record.specs.declared.item.TheConstants.{END_MARK}
 use Rattle.sb_record.specs.Elements.{all_records}
 use Rattle.sb_record.specs.Records.{sorted_records, at_least}
 use Rattle.sb_record.specs.Reorderings.{IsReordered}
-use Rattle.sb_record.proofs.Elements.{All-join}
 use Rattle.sb_record.proofs.Sums.{IsReordered-append, any_reordered}
 use Rattle.sb_window.specs.declared.keyed_window.KeyedWindow.{KeyedWindow}
 use Rattle.sb_window.specs.Spacing.{Spacing}
-use Rattle.sb_window.specs.Windows.{keyed_window_cmp}
 use Rattle.sb_window.specs.Gatherings.{joined_value, rows_of_entries}
 use Rattle.sb_window.specs.Groupings.{Closes}
 use Rattle.sb_window.specs.Aggregations.{rows_by}
-use Rattle.sb_window.proofs.Closing.{is_between, rows_of_entries-when, closes-between}
+use Rattle.sb_window.proofs.Closing.{is_between, closes-between}
 use Rattle.sb_window.proofs.Rows.{when}
 use Rattle.sb_aggregate.specs.declared.aggregate.Agg.{Agg}
 use Rattle.sb_aggregate.specs.Aggregates.{aggregate_values, aggregate_rows}
 use Rattle.sb_aggregate.specs.Partials.{PartialValues, partial_values, join_values, final_values}
 use Rattle.sb_aggregate.specs.Groups.{HasPartials, HasPartialsFrom}
+use Rattle.sb_aggregate.specs.Runs.{IsRun, found, found_in}
 use Rattle.sb_aggregate.specs.Orderless.{aggregate_rows-orderless}
 use Rattle.sb_aggregate.proofs.PartialValues.{final-partial}
 use Rattle.sb_aggregate.proofs.Ends.{partial_from-append, partials-closed, partials-open}
+use Rattle.sb_aggregate.proofs.RunRows.{rows-when}
 
 -- one list more after others
 pub flat-more : (ls : List (List Record)) (l : List Record) → flat_map (λ l. l) (ls ++ l ∷ []) ≡ flat_map (λ l. l) ls ++ l
@@ -51,13 +49,11 @@ late-reordered mark l m same late = from_none l (any_reordered (λ r. nat_lt r.t
         by_case false e h rest = (ltb-false r.time mark e, rest h)
 
 -- ---- absorbing
-pub partials-absorbed : (agg : Agg) (windows : Spacing) (mark : ℕ) (absorbed records : List Record) (m more joined_map : PartialValues) → HasPartialsFrom mark agg windows absorbed m → HasPartials agg windows records more
+pub partials-absorbed : (agg : Agg) (windows : Spacing) (mark : ℕ) (absorbed records : List Record) (runs later : List PartialValues) (run : PartialValues) → HasPartialsFrom mark agg windows absorbed runs → HasPartials agg windows records run
     → AllByRecursion (λ r. mark ≤ r.time) records
-    → ((q : KeyedWindow) → get keyed_window_cmp joined_map q ≡ joined_value (join_values agg) (get keyed_window_cmp m q) (get keyed_window_cmp more q)) → HasPartialsFrom mark agg windows (absorbed ++ records) joined_map
-partials-absorbed agg windows mark absorbed records m more joined_map has has_more late join = record {
-  in_time = All-join (λ r. r.time < END_MARK) absorbed records has.in_time has_more.in_time;
-  at = λ q. join q ∙ (λ i. joined_value (join_values agg) (has.at q i) (has_more.at q i)) ∙ partial_from-append agg windows mark absorbed records late q;
-}
+    → ((q : KeyedWindow) → found_in (join_values agg) later q ≡ joined_value (join_values agg) (found_in (join_values agg) runs q) (found run q)) → HasPartialsFrom mark agg windows (absorbed ++ records) later
+partials-absorbed agg windows mark absorbed records runs later run has has_more late join q =
+    join q ∙ (λ i. joined_value (join_values agg) (has q i) (has_more q i)) ∙ partial_from-append agg windows mark absorbed records late q
 
 pub rows-absorbed : (agg : Agg) (windows : Spacing) (mark : ℕ) (absorbed records : List Record) (es l : List KeptRec) → IsReordered records (all_records es)
     → at_least mark (aggregate_rows agg windows ((absorbed ++ records) ++ all_records l)) ≡ at_least mark (aggregate_rows agg windows (absorbed ++ all_records (es ++ l)))
@@ -70,19 +66,16 @@ rows-absorbed agg windows mark absorbed records es l same = ap (at_least mark) (
         ∙ ap (λ rs. sum_by f (absorbed ++ rs)) (sym (map-append (λ (e : KeptRec). e.rec) es l))
 
 -- ---- closing
-module _ (agg : Agg) (windows : Spacing) (closed mark : ℕ) (within : closed ≤ mark) (absorbed : List Record) (m : PartialValues) (has : HasPartialsFrom closed agg windows absorbed m) where
-  pub partials-left : (n : PartialValues) → ((q : KeyedWindow) → get keyed_window_cmp n q ≡ cond (nat_lt (min mark (END_MARK + windows.size)) q.end) (get keyed_window_cmp m q) None) → HasPartialsFrom mark agg windows absorbed n
-  partials-left n at = record {
-    in_time = has.in_time;
-    at = λ q. at q ∙ ap (λ o. cond (nat_lt (min mark (END_MARK + windows.size)) q.end) o None) (has.at q) ∙ partials-open agg windows closed mark within absorbed has.in_time q;
-  }
+module _ (agg : Agg) (windows : Spacing) (closed mark : ℕ) (within : closed ≤ mark) (absorbed : List Record) (runs : List PartialValues) (has : HasPartialsFrom closed agg windows absorbed runs) where
+  pub partials-left : (later : List PartialValues) → ((q : KeyedWindow) → found_in (join_values agg) later q ≡ cond (nat_lt mark q.end) (found_in (join_values agg) runs q) None) → HasPartialsFrom mark agg windows absorbed later
+  partials-left later at q = at q ∙ ap (λ o. cond (nat_lt mark q.end) o None) (has q) ∙ partials-open agg windows closed mark within absorbed q
 
-  pub closes-with : (n : PartialValues) (rows : List Record) → IsOrdered keyed_window_cmp n → ((q : KeyedWindow) → get keyed_window_cmp n q ≡ cond (nat_lt (min mark (END_MARK + windows.size)) q.end) None (get keyed_window_cmp m q))
-      → rows ≡ sorted_records (rows_of_entries (final_values agg) n.entries)
+  pub closes-with : (run : PartialValues) (rows : List Record) → IsRun run → ((q : KeyedWindow) → found run q ≡ cond (nat_lt mark q.end) None (found_in (join_values agg) runs q))
+      → rows ≡ sorted_records (rows_of_entries (final_values agg) run)
       → Closes mark (λ l. at_least closed (aggregate_rows agg windows (absorbed ++ all_records l))) rows (λ l. at_least mark (aggregate_rows agg windows (absorbed ++ all_records l)))
-  closes-with n rows ordered at are =
+  closes-with run rows ordered at are =
       closes-between (aggregate_values agg) windows closed mark within absorbed rows
       (are ∙ ap sorted_records (
-      rows_of_entries-when (partial_values agg) (final_values agg) windows (is_between closed mark) absorbed n ordered
-      (λ q. at q ∙ ap (λ o. cond (nat_lt (min mark (END_MARK + windows.size)) q.end) None o) (has.at q) ∙ partials-closed agg windows closed mark within absorbed has.in_time q)
+      rows-when (partial_values agg) (final_values agg) windows (is_between closed mark) absorbed run ordered
+      (λ q. at q ∙ ap (λ o. cond (nat_lt mark q.end) None o) (has q) ∙ partials-closed agg windows closed mark within absorbed q)
       ∙ (λ i. when (is_between closed mark) (rows_by (λ vs. final-partial agg vs i) windows absorbed))))

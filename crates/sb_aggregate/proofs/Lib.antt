@@ -12,5 +12,7 @@ pub mod Found
 pub mod Merging
 pub mod Splitting
 pub mod FoundIn
+pub mod Placed
+pub mod RunRows
 pub mod Ends
 pub mod Absorbing

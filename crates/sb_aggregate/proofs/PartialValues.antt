@@ -1,5 +1,5 @@
 -- The partial value of values is made of those of their parts.
-use Rattle.std.proofs.Common.{◌≡◌, ℕ, ℤ, ◌+◌, ◌%◌, ◌^◌, List, [], ◌∷◌, ◌++◌, length, sym, refl, ap, ◌∙◌, arith, w64, length-append}
+use Rattle.std.proofs.Common.{◌≡◌, ℕ, ℤ, ◌+◌, ◌%◌, ◌^◌, List, [], ◌∷◌, ◌++◌, length, append_assoc, sym, refl, ap, ◌∙◌, arith, w64, length-append}
 use Rattle.std.specs.Prelude.{sum_by}
 use Rattle.std.specs.Int.{cast_signed, cast_unsigned, int_wrapping_add}
 use Rattle.std.specs.Cmp.{int_cmp_total}
@@ -17,6 +17,7 @@ use Rattle.sb_aggregate.specs.declared.aggregate.Agg.TheVariants.{Count, Sum, Mi
 use Rattle.sb_aggregate.specs.Aggregates.{signed_value, aggregate_values}
 use Rattle.sb_aggregate.specs.Orderless.{greatest_total, exact_greatest, aggregates-orderless}
 use Rattle.sb_aggregate.specs.Partials.{partial_values, joining, join_values, final_values}
+use Rattle.sb_aggregate.specs.Runs.{IsAssociative}
 
 pub partials-orderless : (agg : Agg) → IgnoresOrder (partial_values agg)
 partials-orderless Count vs ws h = aggregates-orderless Count vs ws h
@@ -78,6 +79,15 @@ partials-joined (Top k) vs ws = both-kept (Top k) vs ws
 
 pub join_values-swapped : (agg : Agg) (vs ws : List ℤ) → join_values agg vs ws ≡ join_values agg ws vs
 join_values-swapped agg vs ws = partials-orderless (joining agg) (vs ++ ws) (ws ++ vs) (IsReordered-swap vs ws)
+
+-- of three partial values it does not matter which two are joined first
+pub join_values-grouped : (agg : Agg) → IsAssociative (join_values agg)
+join_values-grouped agg us vs ws =
+    kept agg (us ++ vs) ws
+    ∙ ap (partial_values (joining agg)) (append_assoc us vs ws)
+    ∙ join_values-swapped agg us (vs ++ ws)
+    ∙ sym (kept agg (vs ++ ws) us)
+    ∙ join_values-swapped agg (join_values agg vs ws) us
 
 -- what is made of a partial value is what is made of its values
 pub final-partial : (agg : Agg) (vs : List ℤ) → final_values agg (partial_values agg vs) ≡ aggregate_values agg vs

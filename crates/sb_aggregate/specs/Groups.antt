@@ -1,19 +1,16 @@
 -- What contracts see of a part of an aggregate, and of an aggregate.
-use Rattle.std.specs.Prelude.{◌≡◌, ℕ, ◌<◌, Bool, List, ◌++◌}
-use Rattle.std.specs.BTreeMap.{get}
-use Rattle.std.specs.List.{AllByRecursion}
+use Rattle.std.specs.Prelude.{◌≡◌, ℕ, Bool, List, ◌++◌}
 use Rattle.sb_record.specs.declared.item.Record.{Record}
-use Rattle.sb_record.specs.declared.item.TheConstants.{END_MARK}
 use Rattle.sb_record.specs.declared.element.KeptRec.{KeptRec}
 use Rattle.sb_record.specs.Elements.{all_records}
 use Rattle.sb_record.specs.Records.{at_least}
 use Rattle.sb_record.specs.Reorderings.{IsReordered}
 use Rattle.sb_window.specs.declared.keyed_window.KeyedWindow.{KeyedWindow}
 use Rattle.sb_window.specs.Spacing.{Spacing}
-use Rattle.sb_window.specs.Windows.{keyed_window_cmp}
 use Rattle.sb_aggregate.specs.declared.aggregate.Agg.{Agg}
 use Rattle.sb_aggregate.specs.Aggregates.{aggregate_rows}
-use Rattle.sb_aggregate.specs.Partials.{PartialValues, partial_at, partial_from}
+use Rattle.sb_aggregate.specs.Partials.{PartialValues, join_values, partial_at, partial_from}
+use Rattle.sb_aggregate.specs.Runs.{found, found_in}
 
 -- a part: the records that were grouped
 pub record Grouped : Type 0 where
@@ -42,13 +39,11 @@ pub record IsLike (g : Absorbed) (p : Grouped) : Type 0 where
 abbrev pub IsMadeOf : Grouped → List KeptRec → Type 0
 IsMadeOf p es = IsReordered p.records (all_records es)
 
--- the map has the partial values of the records, whose times are below the mark of the end
-pub record HasPartials (agg : Agg) (windows : Spacing) (records : List Record) (m : PartialValues) : Type 0 where
-  pub in_time : AllByRecursion (λ r. r.time < END_MARK) records
-  pub at : (q : KeyedWindow) → get keyed_window_cmp m q ≡ partial_at agg windows records q
+-- the run has the partial values of the records
+abbrev pub HasPartials : Agg → Spacing → List Record → PartialValues → Type 0
+HasPartials agg windows records run = (q : KeyedWindow) → found run q ≡ partial_at agg windows records q
 
--- the map has those of the windows whose rows are from a mark on
-pub record HasPartialsFrom (mark : ℕ) (agg : Agg) (windows : Spacing) (records : List Record) (m : PartialValues)
-    : Type 0 where
-  pub in_time : AllByRecursion (λ r. r.time < END_MARK) records
-  pub at : (q : KeyedWindow) → get keyed_window_cmp m q ≡ partial_from agg windows mark records q
+-- the runs have those of the windows whose rows are from a mark on
+abbrev pub HasPartialsFrom : ℕ → Agg → Spacing → List Record → List PartialValues → Type 0
+HasPartialsFrom mark agg windows records runs =
+    (q : KeyedWindow) → found_in (join_values agg) runs q ≡ partial_from agg windows mark records q

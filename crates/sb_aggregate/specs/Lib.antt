@@ -3,6 +3,7 @@ pub mod Sessions
 pub mod Laws
 pub mod Orderless
 pub mod Runs
+pub mod Placed
 pub mod Partials
 pub mod Held
 pub mod Groups

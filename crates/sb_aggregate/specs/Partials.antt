@@ -1,6 +1,5 @@
 -- What is kept of the values of a keyed window until it closes: its partial value, a list of values.
 use Rattle.std.specs.Prelude.{ℕ, ℤ, ◌-◌, nat_lt, if◌then◌else◌, List, [], ◌∷◌, ◌++◌, length, map, Option, None}
-use Rattle.std.specs.BTreeMap.{BTreeMap}
 use Rattle.std.specs.Ordering.{int_cmp}
 use Rattle.sb_record.specs.declared.item.Record.{Record}
 use Rattle.sb_record.specs.Orders.{distinct}
@@ -13,7 +12,7 @@ use Rattle.sb_aggregate.specs.Aggregates.{signed_value, aggregate_values}
 
 -- a partial value for each of some keyed windows
 abbrev pub PartialValues : Type 0
-PartialValues = BTreeMap KeyedWindow (List ℤ)
+PartialValues = List (KeyedWindow × List ℤ)
 
 -- the partial value of values: the different ones, where these are counted, and else what is made of the values
 abbrev pub partial_values : Agg → List ℤ → List ℤ

@@ -1,17 +1,18 @@
 //! The grouping of an aggregation: it keeps a partial value for each keyed window that is open.
 
-ghost use Rattle.std.specs.Prelude.{◌≡◌, ◌+◌, ◌-◌, ◌^◌, ◌<◌, ◌≤◌, ℕ, [], List, true, false, OnOk, OnErr, IfOk};
+ghost use Rattle.std.specs.Prelude.{◌≡◌, ◌≤◌, ℕ, [], List, true, false, OnOk, OnErr, IfOk};
 ghost use Rattle.sb_aggregate.specs.Groups.{given, IsLike, IsMadeOf};
 ghost use Rattle.sb_aggregate.specs.Aggregates.{IsValid};
 ghost use Rattle.sb_aggregate.specs.Orderless.{given-orderless};
 
 use crate::aggregate::Agg;
 use crate::part::AggPart;
-use crate::partials::{Partials, join_all, rows_of, split_at};
-use sb_record::{END_MARK, NoMemory, Record, Trail};
+use crate::partial::{Partial, PartialJoiner};
+use crate::rows::rows_of;
+use crate::runs::Runs;
+use sb_record::{NoMemory, Record, Trail};
 use sb_window::{Grouping, Windows};
 use std::alloc::Global;
-use std::collections::BTreeMap;
 use std::marker::Model;
 
 /// An aggregation over windows, as records come. Contracts see it as the records that it absorbed and the mark of its
@@ -21,7 +22,7 @@ pub struct Aggregate {
     alloc: Global,
     agg: Agg,
     windows: Windows,
-    partials: Partials,
+    partials: Runs<Partial>,
     absorbed: Trail<Trail<Record>>,
     closed: u64,
     spent: bool,
@@ -55,19 +56,11 @@ impl Aggregate {
             alloc,
             agg,
             windows,
-            partials: BTreeMap::new(alloc),
+            partials: Runs::new(alloc),
             absorbed: Trail::start(),
             closed: 0,
             spent: false,
         }
-    }
-
-    // No window of a record ends after this.
-    fn last_end(&self) -> u64
-        ensures value { result ≡ END_MARK + self.now.windows.size }
-        ensures room { result < 2 ^ 64 - 1 }
-    {
-        END_MARK + self.windows.size()
     }
 }
 
@@ -95,7 +88,11 @@ impl Grouping for Aggregate {
             return Err(NoMemory);
         }
         self.spent = true;
-        join_all(self.alloc, self.agg, &mut self.partials, part.partials)?;
+        let joiner = PartialJoiner {
+            alloc: self.alloc,
+            agg: self.agg,
+        };
+        self.partials.push(self.alloc, &joiner, part.partials)?;
         self.absorbed = self.absorbed.with(part.records);
         self.spent = false;
         Ok(())
@@ -106,9 +103,11 @@ impl Grouping for Aggregate {
             return Err(NoMemory);
         }
         self.spent = true;
-        let last = self.last_end();
-        let open = split_at(&mut self.partials, mark.min(last))?;
-        let closed = std::mem::replace(&mut self.partials, open);
+        let joiner = PartialJoiner {
+            alloc: self.alloc,
+            agg: self.agg,
+        };
+        let closed = self.partials.close(self.alloc, &joiner, mark)?;
         let rows = rows_of(self.alloc, self.agg, closed)?;
         self.closed = mark;
         self.spent = false;

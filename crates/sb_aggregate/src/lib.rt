@@ -18,7 +18,7 @@ mod joiner;
 pub mod laws;
 mod part;
 mod partial;
-mod partials;
+mod rows;
 mod run;
 mod runs;
 mod session;

@@ -1,20 +1,19 @@
 //! Parts of an aggregate: what a worker makes of a bundle outside of any turn.
 
-ghost use Rattle.std.specs.Prelude.{◌≡◌, ◌<◌, [], ◌∷◌, ℕ, All, OnOk, IfOk};
-ghost use Rattle.std.specs.BTreeMap.{get};
+ghost use Rattle.std.specs.Prelude.{◌≡◌, ◌<◌, ◌++◌, All, OnOk, IfOk};
+ghost use Rattle.sb_record.specs.Reorderings.{IsReordered};
 ghost use Rattle.sb_window.specs.declared.keyed_window.KeyedWindow.{KeyedWindow as Window};
-ghost use Rattle.sb_window.specs.Gatherings.{joined_value};
-ghost use Rattle.sb_window.specs.Windows.{keyed_window_cmp};
 ghost use Rattle.sb_aggregate.specs.Aggregates.{IsValid};
-ghost use Rattle.sb_aggregate.specs.Partials.{join_values, partial_at};
+ghost use Rattle.sb_aggregate.specs.Partials.{partial_values};
+ghost use Rattle.sb_aggregate.specs.Placed.{placed_of, placed_value};
+ghost use Rattle.sb_aggregate.specs.Runs.{found};
 
 use crate::aggregate::Agg;
-use crate::partial::Partial;
-use crate::partials::{Partials, join_at};
+use crate::partial::{Partial, PartialJoiner};
+use crate::run::Run;
 use sb_record::{END_MARK, NoMemory, Record, Trail};
 use sb_window::{KeyedWindow, Windows};
 use std::alloc::Global;
-use std::collections::BTreeMap;
 use std::marker::Model;
 
 /// The partial values of the records of a bundle. Contracts see it as the records that were grouped.
@@ -22,7 +21,7 @@ use std::marker::Model;
 pub struct AggPart {
     pub(crate) agg: Agg,
     pub(crate) windows: Windows,
-    pub(crate) partials: Partials,
+    pub(crate) partials: Run<Partial>,
     pub(crate) records: Trail<Record>,
 }
 
@@ -36,7 +35,8 @@ impl Model for AggPart {
     ghost invariant = { λ p. HasPartials p.agg p.windows p.records p.partials };
 }
 
-/// Groups the records of a bundle. It takes memory for each keyed window that they lie in.
+/// Groups the records of a bundle. It takes memory for each keyed window that they lie in, and works with room for each
+/// record in each of its windows.
 ///
 /// # Errors
 ///
@@ -51,12 +51,14 @@ pub fn part_of(
     requires times { All (λ r. r.time < END_MARK) records.now }
     ensures { IfOk result (λ p. p ≡ record { agg = agg; windows = windows.now; records = records.now }) }
 {
-    let mut partials = BTreeMap::new(alloc);
+    let mut placed = Vec::with_capacity(alloc, records.len())?;
     let mut grouped = Trail::start();
     for record in records {
-        add_record(alloc, agg, windows, &mut partials, record)?;
+        place(&mut placed, windows, record)?;
         grouped = grouped.with(Record { ..*record });
     }
+    sort_placed(&mut placed);
+    let partials = run_of(alloc, agg, &placed)?;
     Ok(AggPart {
         agg,
         windows: *windows,
@@ -65,32 +67,42 @@ pub fn part_of(
     })
 }
 
-// Joins the value of a record to the partial value of each of its windows.
-fn add_record(
-    alloc: Global,
-    agg: Agg,
+// Adds the value of a record at each of its windows.
+fn place(
+    placed: &mut Vec<(KeyedWindow, i64)>,
     windows: &Windows,
-    partials: &mut Partials,
     record: &Record,
 ) -> Result<(), NoMemory>
-    requires valid { IsValid agg }
-    requires time { «record».now.time < END_MARK }
-    ensures { OnOk result ((q : Window) → get keyed_window_cmp partials.new q
-        ≡ joined_value (join_values agg) (get keyed_window_cmp partials.old q)
-        (partial_at agg windows.now («record».now ∷ []) q)) }
+    requires { «record».now.time < END_MARK }
+    ensures { OnOk result (placed.new.items ≡ placed.old.items ++ placed_of windows.now «record».now) }
 {
     for end in windows.ends(record.time) {
         let window = KeyedWindow {
             end,
             key: record.key,
         };
-        join_at(
-            alloc,
-            agg,
-            partials,
-            window,
-            Partial::of_one(agg, record.value),
-        )?;
+        placed.push((window, record.value))?;
     }
     Ok(())
+}
+
+// Puts what is placed in the order of windows. Nothing but time depends on that order.
+fn sort_placed(placed: &mut Vec<(KeyedWindow, i64)>)
+    ensures { IsReordered placed.new.items placed.old.items }
+{
+    placed.sort_unstable();
+}
+
+// The partial values of what is placed.
+fn run_of(alloc: Global, agg: Agg, placed: &[(KeyedWindow, i64)]) -> Result<Run<Partial>, NoMemory>
+    requires { IsValid agg }
+    ensures { IfOk result (λ run. (q : Window) → found run q ≡ placed_value (partial_values agg) placed.now q) }
+{
+    let joiner = PartialJoiner { alloc, agg };
+    let mut run = Run::new(alloc);
+    for entry in placed {
+        let window = KeyedWindow { ..entry.0 };
+        run = run.with(alloc, &joiner, window, Partial::of_one(agg, entry.1))?;
+    }
+    Ok(run)
 }

@@ -6,6 +6,7 @@ ghost use Rattle.sb_aggregate.specs.Partials.{partial_values, join_values, final
 ghost use Rattle.sb_aggregate.specs.Held.{held_values};
 
 use crate::aggregate::{Agg, aggregated};
+use crate::joiner::Joiner;
 use crate::value_set::ValueSet;
 use sb_record::{NoMemory, Record};
 use sb_window::KeyedWindow;
@@ -104,6 +105,23 @@ impl Partial {
                 Ok(())
             }
         }
+    }
+}
+
+/// Joins the partial values of an aggregation.
+#[derive(Drop)]
+pub(crate) struct PartialJoiner {
+    pub(crate) alloc: Global,
+    pub(crate) agg: Agg,
+}
+
+impl Joiner for PartialJoiner {
+    type Value = Partial;
+
+    ghost joined = { λ j v w. join_values j.agg v w };
+
+    fn join(&self, value: &mut Partial, later: Partial) -> Result<(), NoMemory> {
+        value.join(self.alloc, self.agg, later)
     }
 }
 

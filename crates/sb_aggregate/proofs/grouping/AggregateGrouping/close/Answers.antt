@@ -1,34 +1,29 @@
-use Rattle.std.proofs.Common.{◌≡◌, ◌+◌, ◌≤◌, ◌++◌, true, false, cond, None, subst, sym, ap, ◌∙◌}
-use Rattle.std.specs.Prelude.{min, nat_lt}
-use Rattle.std.specs.BTreeMap.{get}
+use Rattle.std.proofs.Common.{◌≡◌, ◌≤◌, ◌++◌, true, false, subst, sym, ap, ◌∙◌}
 use Rattle.std.specs.List.{flat_map}
-use Rattle.sb_record.specs.declared.item.TheConstants.{END_MARK}
 use Rattle.sb_record.specs.Elements.{all_records}
 use Rattle.sb_record.specs.Records.{at_least}
 use Rattle.sb_window.specs.Groupings.{Closes}
-use Rattle.sb_window.specs.Windows.{keyed_window_cmp}
 use Rattle.sb_aggregate.specs.Aggregates.{aggregate_rows}
 use Rattle.sb_aggregate.specs.Groups.{Absorbed, given}
-use Rattle.sb_aggregate.specs.Partials.{PartialValues}
+use Rattle.sb_aggregate.proofs.PartialValues.{join_values-grouped}
 use Rattle.sb_aggregate.proofs.Absorbing.{partials-left, closes-with}
 use Rattle.sb_aggregate.proofs.grouping.AggregateGrouping.close.Goals as goal
+
+pub close-requires : goal.close-requires
+close-requires c = join_values-grouped c.self.inside.agg
 
 pub invariant_of-self-2 : goal.invariant_of-self-2
 invariant_of-self-2 c _ =
     let g = c.self.inside in
     let not_spent : c.args.self.now.spent ≡ true → ⊥ = λ e. let k : true ≡ false = sym e ∙ sym (ap (λ (x : Absorbed). x.spent) c.self.view_is) ∙ c.if-self.false in cc in
     let within : c.self.inside.closed ≤ c.args.mark = subst (λ (x : Absorbed). x.closed ≤ c.args.mark) (sym c.self.view_is) (c.requires.from not_spent) in
-    let bound : c.min.result ≡ min c.args.mark (END_MARK + c.self.inside.windows.size) = c.min.ensures ∙ ap (min c.args.mark) c.last_end-last.ensures.value in
-    partials-left g.agg g.windows g.closed c.args.mark within (flat_map (λ l. l) g.absorbed) g.partials (c.self.invariant c.if-self.false) c.replace-closed.new.dest
-    (λ q. ap (λ (m : PartialValues). get keyed_window_cmp m q) c.replace-closed.ensures.after ∙ c.in_ok-open.ensures.opened q ∙ ap (λ b. cond (nat_lt b q.end) (get keyed_window_cmp g.partials q) None) bound)
+    partials-left g.agg g.windows g.closed c.args.mark within (flat_map (λ l. l) g.absorbed) g.partials (c.self.invariant c.if-self.false) c.close.new.self c.in_ok-closed.ensures.opened
 
 pub returns-clause-closes : goal.returns-clause-closes
 returns-clause-closes c =
     let g = c.self.inside in
     let not_spent : c.args.self.now.spent ≡ true → ⊥ = λ e. let k : true ≡ false = sym e ∙ sym (ap (λ (x : Absorbed). x.spent) c.self.view_is) ∙ c.if-self.false in cc in
     let within : c.self.inside.closed ≤ c.args.mark = subst (λ (x : Absorbed). x.closed ≤ c.args.mark) (sym c.self.view_is) (c.requires.from not_spent) in
-    let bound : c.min.result ≡ min c.args.mark (END_MARK + c.self.inside.windows.size) = c.min.ensures ∙ ap (min c.args.mark) c.last_end-last.ensures.value in
     subst (λ (x : Absorbed). Closes c.args.mark (given x) c.in_ok-rows.rows.items (λ l. at_least c.args.mark (aggregate_rows g.agg g.windows (flat_map (λ l. l) g.absorbed ++ all_records l)))) c.self.view_is
-    (closes-with g.agg g.windows g.closed c.args.mark within (flat_map (λ l. l) g.absorbed) g.partials (c.self.invariant c.if-self.false) c.replace-closed.result c.in_ok-rows.rows.items c.in_ok-rows.ensures.ordered
-    (λ q. ap (λ (m : PartialValues). get keyed_window_cmp m q) c.replace-closed.ensures.value ∙ c.in_ok-open.ensures.closed q ∙ ap (λ b. cond (nat_lt b q.end) None (get keyed_window_cmp g.partials q)) bound)
-    c.in_ok-rows.ensures.rows)
+    (closes-with g.agg g.windows g.closed c.args.mark within (flat_map (λ l. l) g.absorbed) g.partials (c.self.invariant c.if-self.false) c.in_ok-closed.closed c.in_ok-rows.rows.items c.in_ok-rows.ensures.ordered
+    c.in_ok-closed.ensures.closed c.in_ok-rows.ensures.rows)

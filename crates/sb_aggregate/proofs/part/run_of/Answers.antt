@@ -1,0 +1,23 @@
+use Rattle.std.proofs.Common.{◌≡◌, ℤ, [], ◌∷◌, ◌++◌, rules, take, sym, ap, ◌∙◌, arith}
+use Rattle.std.proofs.lemmas.List.{take_more}
+use Rattle.sb_window.specs.declared.keyed_window.KeyedWindow.{KeyedWindow}
+use Rattle.sb_window.specs.Gatherings.{joined_value}
+use Rattle.sb_aggregate.specs.Partials.{join_values, partial_values}
+use Rattle.sb_aggregate.specs.Placed.{placed_value}
+use Rattle.sb_aggregate.specs.Runs.{found}
+use Rattle.sb_aggregate.proofs.PartialValues.{partials-joined}
+use Rattle.sb_aggregate.proofs.Placed.{placed-more}
+use Rattle.sb_aggregate.proofs.part.run_of.Goals as goal
+
+pub loop-entry-preserved : goal.loop-entry-preserved
+loop-entry-preserved c q =
+    let agg = c.args.agg in
+    let i = c.loop-entry.entry-index in
+    let placed = c.args.placed.now in
+    let x : KeyedWindow × ℤ = c.entry-item.result in
+    let one : c.of_one.result ≡ partial_values c.args.agg (c.entry-item.result.1 ∷ []) = search rules in
+    c.in_ok-run.ensures q
+    ∙ (λ j. joined_value (join_values agg) (c.loop-entry.invariant q j) (found ((x.0, one j) ∷ []) q))
+    ∙ sym (placed-more (partial_values agg) (join_values agg) (λ v w vs ws. partials-joined agg (v ∷ vs) (w ∷ ws)) (take i placed) x.0 x.1 q)
+    ∙ ap (λ y. placed_value (partial_values agg) (take i placed ++ y ∷ []) q) c.entry-item.is
+    ∙ ap (λ l. placed_value (partial_values agg) l q) (sym (take_more placed i x (omega arith)))
