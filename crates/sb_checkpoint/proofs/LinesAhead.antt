@@ -1,12 +1,13 @@
 -- Lines that are given before the bytes of a source, piece by piece.
-use Rattle.std.proofs.Common.{◌≡◌, ◌≤◌, ℕ, ◌+◌, List, [], ◌∷◌, ◌++◌, Option, Some, None, Result, length, take, drop, refl, sym, ap, subst, ◌∙◌, append_assoc, length-append, arith}
+use Rattle.std.proofs.Common.{◌≡◌, ◌≤◌, ℕ, ◌+◌, List, [], ◌∷◌, ◌++◌, Option, Some, None, Result, Ok, Err, length, take, drop, refl, sym, ap, subst, ◌∙◌, append_assoc, length-append, arith, inl, inr}
 use Rattle.std.specs.List.{slice_get}
-use Rattle.std.specs.Io.KnownBytes.{ReadConsumes, prepend_known}
+use Rattle.std.specs.Io.KnownBytes.{Consumes, ReadConsumes, prepend_known}
 use Rattle.std.proofs.Math.Seq.{take-append_seam}
+use Rattle.std.proofs.KnownBytes.{Consumes-kept, Consumes-nil, Consumes-trans}
 use Rattle.std.proofs.lemmas.List.{take-append-drop, drop-drop, drop_more, length-drop}
 use Rattle.std.proofs.lemmas.Option.{slice_get_within, get_or_from_slice_get}
 use Rattle.sb_record.specs.declared.item.Item.{Item}
-use Rattle.sb_checkpoint.specs.Ahead.{Lines, bytes, name_behind}
+use Rattle.sb_checkpoint.specs.Ahead.{AllReadOrNoneOfTheSource, Lines, bytes, name_behind}
 use Rattle.sb_checkpoint.specs.Texts.{item_text, with_end, items_text}
 
 take-length : {X : Type 0} (n : ℕ) (l : List X) → n ≤ length l → length (take n l) ≡ n
@@ -29,7 +30,7 @@ given_of_all old mid new piece same given behind =
     same ∙ (λ i. given i ++ sym behind i) ∙ append_assoc piece new.at_hand new.behind
 
 -- where nothing is given, nothing is left
-nothing_left : (old new : List ℕ) (n : ℕ) (buf : List ℕ) → n ≡ 0 → old ≡ [] → old ≡ take n buf ++ new → new ≡ []
+pub nothing_left : (old new : List ℕ) (n : ℕ) (buf : List ℕ) → n ≡ 0 → old ≡ [] → old ≡ take n buf ++ new → new ≡ []
 nothing_left old new n buf none over given = sym (given ∙ ap (λ k. take k buf ++ new) none) ∙ over
 
 nothing_known : (known : Option (List ℕ)) → prepend_known [] known ≡ known
@@ -44,6 +45,29 @@ read_behind old new n buf a b r piece none end given read =
     subst (λ l. ReadConsumes (prepend_known l a) (prepend_known new b) r piece) (sym over)
     (subst (λ l. ReadConsumes (prepend_known [] a) (prepend_known l b) r piece) (sym (nothing_left old new n buf none over given))
     (subst (λ k. ReadConsumes k (prepend_known [] b) r piece) (sym (nothing_known a)) (subst (λ k. ReadConsumes a k r piece) (sym (nothing_known b)) read)))
+
+-- ---- what was read of the source
+pub none_of_both : {X : Type 0} (xs ys : List X) → xs ++ ys ≡ [] → (xs ≡ []) × (ys ≡ [])
+none_of_both [] ys h = (refl, h)
+none_of_both (x ∷ xs) ys h = cc h
+
+-- the bytes that the source has given
+so_far : (lines : List ℕ) (left now : Option (List ℕ)) → AllReadOrNoneOfTheSource lines left now → (bytes : List ℕ) × Consumes left now bytes
+so_far lines left now (inl all) = (all.1, all.2)
+so_far lines left now (inr unread) = ([], subst (λ l. Consumes left l []) (sym unread) (Consumes-nil left))
+
+-- and with one read more
+with_read : {E : Type 0} (left now next : Option (List ℕ)) (bytes : List ℕ) (r : Result ℕ E) (buf : List ℕ) → Consumes left now bytes → ReadConsumes now next r buf → (more : List ℕ) × Consumes left next more
+with_read left now next bytes (Ok n) buf given read = (bytes ++ take n buf, Consumes-trans left now next bytes (take n buf) given read.0)
+with_read left now next bytes (Err e) buf given read = (bytes, Consumes-kept left now next bytes given read)
+
+-- no line is left, and the source is read
+pub source_read : {E : Type 0} (old new : List ℕ) (left now next : Option (List ℕ)) (r : Result ℕ E) (buf : List ℕ) → new ≡ [] → AllReadOrNoneOfTheSource old left now → ReadConsumes now next r buf
+    → AllReadOrNoneOfTheSource new left next
+source_read old new left now next r buf over before read =
+    let (bytes, given) = so_far old left now before in
+    let (more, all) = with_read left now next bytes r buf given read in
+    inl (over, more, all)
 
 -- ---- names
 parts_same : (xs ys m n : List ℕ) → length xs ≡ length ys → xs ++ m ≡ ys ++ n → (xs ≡ ys) × (m ≡ n)

@@ -1,5 +1,6 @@
 -- Lines that are given before the bytes of a source.
 use Rattle.std.specs.Prelude.{◌≡◌, ◌⊎◌, ℕ, ◌+◌, List, [], ◌∷◌, ◌++◌, Option, None, Some, length, slice_get}
+use Rattle.std.specs.Io.KnownBytes.{Consumes}
 use Rattle.sb_record.specs.declared.item.Item.{Item}
 use Rattle.sb_checkpoint.specs.Texts.{item_text, with_end}
 
@@ -24,9 +25,10 @@ pub record Before (S : Type 0) : Type 0 where
   pub source : S
   pub begun : S
 
--- all the lines were read, or nothing of the source behind them was
+-- all the lines were read, and then the source behind them gave more bytes, or none; or nothing of it was read
 abbrev pub AllReadOrNoneOfTheSource : List ℕ → Option (List ℕ) → Option (List ℕ) → Type 0
-AllReadOrNoneOfTheSource lines left left' = (lines ≡ []) ⊎ (left' ≡ left)
+AllReadOrNoneOfTheSource lines left left' =
+    ((lines ≡ []) × (more : List ℕ) × Consumes left left' more) ⊎ (left' ≡ left)
 
 -- a name that begins with what was left of a source
 abbrev pub name_behind : Option (List ℕ) → List ℕ → List ℕ
