@@ -109,3 +109,7 @@ lines-of_items streams keys ended (i ∷ items) bytes all =
     ap (lines ended) (append_assoc (item_text i ++ 10 ∷ []) (items_text items) bytes ∙ append_assoc (item_text i) (10 ∷ []) (items_text items ++ bytes))
     ∙ begun-line ended [] (item_text i) (items_text items ++ bytes) (item-plain streams keys i all.0)
     ∙ (λ j. plain-without_cr (item_text i) (item-plain streams keys i all.0) j ∷ lines-of_items streams keys ended items bytes all.1 j)
+
+-- and those of the texts alone
+pub own-lines : (streams : Streams) (keys : Keys) (items : List Item) → AllByRecursion (IsFit streams keys) items → lines false (items_text items) ≡ map item_text items
+own-lines streams keys items all = ap (lines false) (sym (append-nil (items_text items))) ∙ lines-of_items streams keys false items [] all ∙ append-nil (map item_text items)

@@ -88,7 +88,7 @@ text-of streams keys (Mark s t) h = (h.1, refl)
 text-of streams keys Skip h = ([], refl)
 text-of streams keys (Late n t m) h = absurd h
 
-text-short : (streams : Streams) (keys : Keys) (i : Item) → IsFit streams keys i → length (item_text i) ≤ 128
+pub text-short : (streams : Streams) (keys : Keys) (i : Item) → IsFit streams keys i → length (item_text i) ≤ 128
 text-short streams keys (Rec s r) h = h.2
 text-short streams keys (Mark s t) h = h.2
 text-short streams keys Skip h = omega arith

@@ -31,7 +31,7 @@ use Rattle.sb_checkpoint.specs.Reach.{reach, is_within}
 use Rattle.sb_checkpoint.specs.Texts.{item_text, items_text, end_text, may_follow, may_stand, with_item, is_same, is_whole, if_last, read_pieces, read_lines}
 use Rattle.sb_checkpoint.specs.Checkpoints.{low_of, with_comments}
 use Rattle.sb_checkpoint.specs.Laws.{accepted_in, Accepts, ReadItemsAreAccepted}
-use Rattle.sb_checkpoint.proofs.LinesOfTexts.{lines-of_items}
+use Rattle.sb_checkpoint.proofs.LinesOfTexts.{own-lines}
 use Rattle.sb_checkpoint.proofs.ReadAgain.{IsFit, AreTimely, takes, skips-timely, skips-fit}
 use Rattle.sb_checkpoint.proofs.Runs.{join-assoc, IsInTime, length-skips}
 use Rattle.sb_checkpoint.proofs.SoFar.{both}
@@ -181,6 +181,4 @@ read-accepted plan parts count low items is = (own, bytes)
         (omega (arith, few.0, few.1, length-append items (replicate (count - length items) Skip), length-skips (count - length items)))
 
     bytes : Accepts plan (lines false (items_text (with_comments count items))) (with_comments count items)
-    bytes =
-        ap (accepted_in plan) (ap (lines false) (sym (append-nil (items_text (with_comments count items)))) ∙ lines-of_items streams plan.keys false (with_comments count items) [] fits ∙ append-nil (map item_text (with_comments count items)))
-        ∙ own
+    bytes = ap (accepted_in plan) (own-lines streams plan.keys (with_comments count items) fits) ∙ own

@@ -130,15 +130,18 @@ kept-give plan free items more = later-rows plan free low (streams_in (items ++ 
         ∙ sym (ap (within n low) (records-append s (resumed_items plan items) more))
 
 -- ---- sorted lists
+-- no sorted record before a time is from a later time on
+pub none-later : (v w : ℕ) (l : List Record) → v ≤ w → at_least w (sorted_records (before v l)) ≡ []
+none-later v w l le =
+    none_pass_of (λ r. not (nat_lt r.time w)) (sorted_records (before v l))
+    (every_by (λ r h. let early : r.time < w = omega (arith, h, le) in grind (arith, nat_tests)) (sorted_records (before v l)) (All-in_order (λ r. r.time < v) record_cmp (before v l) (before-low v l)))
+
 pub at_least-sorted : (v : ℕ) (l : List Record) → at_least v (sorted_records l) ≡ sorted_records (at_least v l)
 at_least-sorted v l =
     ap (at_least v) (sorted-split v l)
     ∙ filter-append (λ r. not (nat_lt r.time v)) (sorted_records (before v l)) (sorted_records (at_least v l))
-    ∙ (λ i. none i ++ all i)
+    ∙ (λ i. none-later v v l (omega arith) i ++ all i)
   where
-    none : at_least v (sorted_records (before v l)) ≡ []
-    none = none_pass_of (λ r. not (nat_lt r.time v)) (sorted_records (before v l)) (every_by (λ r h. grind (arith, nat_tests)) (sorted_records (before v l)) (All-in_order (λ r. r.time < v) record_cmp (before v l) (before-low v l)))
-
     all : at_least v (sorted_records (at_least v l)) ≡ sorted_records (at_least v l)
     all = all_pass_of (λ r. not (nat_lt r.time v)) (sorted_records (at_least v l)) (every_by (λ r h. grind (arith, nat_tests)) (sorted_records (at_least v l)) (All-in_order (λ r. v ≤ r.time) record_cmp (at_least v l) (at_least-high v l)))
 

@@ -173,7 +173,7 @@ dropped-skips : (n : ℕ) → dropped_of (replicate n Skip) ≡ []
 dropped-skips zero = refl
 dropped-skips (suc n) = dropped-skips n
 
-dropped-resumed : (plan : Shape) (items : List Item) → dropped_of (resumed_items plan items) ≡ []
+pub dropped-resumed : (plan : Shape) (items : List Item) → dropped_of (resumed_items plan items) ≡ []
 dropped-resumed plan items =
     dropped-append (saved_items plan items) (replicate (length items - length (saved_items plan items)) Skip)
     ∙ (λ i. saved i ++ dropped-skips (length items - length (saved_items plan items)) i)
