@@ -33,7 +33,7 @@ none_refused ended None e = refl
 none_refused ended (Some refusal) e = cc e
 
 -- what a checkpoint says of these items
-abbrev said_of : Shape → List Item → Said
+abbrev pub said_of : Shape → List Item → Said
 said_of plan items = record { lines = length items; low = low_of plan items; items = saved_items plan items }
 
 -- what is read in a saved text is what was saved
@@ -81,16 +81,22 @@ module _ (plan : Shape) (none : HasNoSession plan) (first more : List ℕ) (ende
   pub dropped_in_parts : dropped_of whole.items ≡ dropped_of items ++ dropped_of resumed.items
   dropped_in_parts = resumes.dropped
 
-module _ (plan : Shape) (none : HasNoSession plan) {part_left part_left' rest_left rest_left' left left' : Option (List ℕ)}
-    (part : Given part_left part_left') (rest : Given rest_left rest_left') (whole : Given left left') (said : Said) (is : IsSavedPart plan part said) (cut : AreCutBehind said part rest whole) where
-  fine : (part_accepted plan part).refused ≡ None
+-- of a first part that was saved
+module _ (plan : Shape) {part_left part_left' : Option (List ℕ)} (part : Given part_left part_left') (said : Said) (is : IsSavedPart plan part said) where
+  pub fine : (part_accepted plan part).refused ≡ None
   fine = none_refused part.ended (part_accepted plan part).refused is.done
 
-  said_is : said ≡ said_of plan (part_items plan part)
+  pub said_is : said ≡ said_of plan (part_items plan part)
   said_is = read_as_saved plan (lines false part.bytes) said (subst (λ s. IsRead plan (pieces (if_ended s (saved_text plan (part_items plan part)))) said.lines said.low said.items) is.done is.saved)
 
+  -- the bytes that are read in its place
+  pub lines_are : items_text (with_comments said.lines said.items) ≡ resumed_bytes plan part.bytes
+  lines_are = ap (λ (s : Said). items_text (with_comments s.lines s.items)) said_is
+
+module _ (plan : Shape) (none : HasNoSession plan) {part_left part_left' rest_left rest_left' left left' : Option (List ℕ)}
+    (part : Given part_left part_left') (rest : Given rest_left rest_left') (whole : Given left left') (said : Said) (is : IsSavedPart plan part said) (cut : AreCutBehind said part rest whole) where
   rest_bytes : rest.bytes ≡ resumed_bytes plan part.bytes ++ cut.more
-  rest_bytes = cut.rest_is ∙ ap (λ (s : Said). items_text (with_comments s.lines s.items) ++ cut.more) said_is
+  rest_bytes = cut.rest_is ∙ ap (λ b. b ++ cut.more) (lines_are plan part said is)
 
   -- what is accepted of the whole and of the rest
   abbrev of_whole : Accepted
@@ -107,19 +113,20 @@ module _ (plan : Shape) (none : HasNoSession plan) {part_left part_left' rest_le
 
   pub cut_run : WriteTheWhole (part_course plan part) (rest_course said.low plan rest) (run_course plan whole)
   cut_run =
-      let stops = same_stop plan none part.bytes cut.more whole.ended is.whole_lines fine in
+      let good = fine plan part said is in
+      let stops = same_stop plan none part.bytes cut.more whole.ended is.whole_lines good in
       record {
         stop = (λ i. stop_of whole.ended (whole_accepted i).refused) ∙ stops ∙ (λ i. stop_of (sym cut.end i) (rest_accepted i).refused);
         due =
             (λ i. text_of (due_rows plan (stop_of whole.ended (whole_accepted i).refused) (whole_accepted i).items))
             ∙ ap (λ s. text_of (due_rows plan s of_whole.items)) stops
-            ∙ texts_in_parts plan none part.bytes cut.more whole.ended is.whole_lines fine (stop_of whole.ended of_rest.refused)
+            ∙ texts_in_parts plan none part.bytes cut.more whole.ended is.whole_lines good (stop_of whole.ended of_rest.refused)
             ∙ (λ i.
             text_of (rows_below (low_of plan (part_items plan part)) plan (part_items plan part))
-            ++ text_of (at_least (sym said_is i).low (due_rows plan (stop_of (sym cut.end i) (rest_accepted i).refused) (rest_accepted i).items)));
+            ++ text_of (at_least (sym (said_is plan part said is) i).low (due_rows plan (stop_of (sym cut.end i) (rest_accepted i).refused) (rest_accepted i).items)));
         dropped =
             (λ i. dropped_of (whole_accepted i).items)
-            ∙ dropped_in_parts plan none part.bytes cut.more whole.ended is.whole_lines fine
+            ∙ dropped_in_parts plan none part.bytes cut.more whole.ended is.whole_lines good
             ∙ (λ i. dropped_of (part_items plan part) ++ dropped_of (rest_accepted i).items);
       }
 

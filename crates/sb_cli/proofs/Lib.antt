@@ -28,6 +28,7 @@ pub mod FeedsAnswers
 pub mod SaveAnswers
 pub mod Sessions
 pub mod CutLaws
+pub mod RestLaws
 pub use Rattle.sb_generator.proofs as generator
 pub use Rattle.sb_watch.proofs.live
 pub use Rattle.sb_watch.proofs.base

@@ -1,6 +1,8 @@
 -- What the answers of a run that is cut in two have to do with that of one run.
-use Rattle.std.specs.Prelude.{◌≡◌, ℕ, List, ◌++◌, Option}
+use Rattle.std.specs.Prelude.{◌≡◌, ℕ, List, ◌++◌, Option, Some}
+use Rattle.std.specs.Io.KnownBytes.{Appends}
 use Rattle.sb_watch.specs.base.records.declared.intake.Stop.TheVariants.{End}
+use Rattle.sb_watch.specs.base.records.declared.item.Dropped.{Dropped}
 use Rattle.sb_watch.specs.base.records.Streams.{dropped_of}
 use Rattle.sb_watch.specs.base.pipeline.Shapes.{Shape}
 use Rattle.sb_cut.specs.checkpoint.Checkpoints.{with_comments}
@@ -8,8 +10,13 @@ use Rattle.sb_cut.specs.checkpoint.Laws.{AreWholeLines}
 use Rattle.sb_cut.specs.checkpoint.Reach.{HasNoSession}
 use Rattle.sb_cut.specs.checkpoint.Texts.{IsRead, items_text, pieces}
 use Rattle.sb_watch.specs.one_feed.Given.{Given}
+use Rattle.sb_words.specs.declared.options.Options.{Options}
+use Rattle.sb_cli.specs.declared.ending.Ending.{Ending}
+use Rattle.sb_cli.specs.declared.late.LateRecords.TheVariants.{OfInput}
+use Rattle.sb_cli.specs.Answers.{IsRestAnswer, IsWritten}
 use Rattle.sb_cli.specs.CheckpointFiles.{Said}
 use Rattle.sb_cli.specs.Courses.{Course, part_course, rest_course, run_course, save_course}
+use Rattle.sb_cli.specs.Statuses.{status_of}
 
 -- a first part was read to its end, no line of it was refused, and it has ended with a line; and in the text that
 -- `save` writes of it this is read
@@ -42,3 +49,24 @@ CutRunsWriteTheWhole =
     → (part : Given part_left part_left') (rest : Given rest_left rest_left') (whole : Given left left') (said : Said)
     → IsSavedPart plan part said → AreCutBehind said part rest whole
     → WriteTheWhole (part_course plan part) (rest_course said.low plan rest) (run_course plan whole)
+
+-- what was written, the status and the late records that are listed are those of the whole, behind those of the part
+pub record AnswersTheRest (part whole : Course) (taken taken' : Option (List ℕ)) (ending : Ending) : Type 0 where
+  pub text : List ℕ
+  pub due : whole.due ≡ part.due ++ text
+  pub wrote : Appends taken taken' text
+  pub status : ending.status ≡ status_of whole.stop
+  pub late : List Dropped
+  pub dropped : dropped_of whole.items ≡ dropped_of part.items ++ late
+  pub listed : ending.late ≡ OfInput late
+
+-- what `resume` answers behind a first part that was saved, over a source with these bytes, if it has written all that
+-- is due, is the rest of what `run` gives of the part and what the source gave
+abbrev pub ResumedAnswersAreTheRest : Type 0
+ResumedAnswersAreTheRest =
+    (plan : Shape) → HasNoSession plan → (part_left part_left' left' taken taken' : Option (List ℕ))
+    → (part : Given part_left part_left') (said : Said) → IsSavedPart plan part said
+    → (options : Options) (bytes : List ℕ) (ending : Ending)
+    → IsRestAnswer plan options said (Some bytes) left' taken taken' ending → IsWritten ending.status
+    → (whole : Given (Some (part.bytes ++ bytes)) left')
+    × AnswersTheRest (part_course plan part) (run_course plan whole) taken taken' ending

@@ -17,3 +17,13 @@ pub fn limits()
 pub fn cut_runs_write_the_whole()
     ensures { law.CutRunsWriteTheWhole }
 {}
+
+/// Where a first part was saved, what `resume` answers behind it is the rest of what `run` gives of the whole. This is
+/// said of each answer that the contract of `resume` allows, over a source whose bytes are known, where all that is due
+/// was written: at the end of the input, at a refused line, and where a read has failed. Then `resume` has written what
+/// `run`, of the part and what the source has given, writes behind the rows of `part`; it has the status of that run;
+/// and it lists the late records that this run drops behind the part. It holds of plans without sessions, and of parts
+/// that end with a line and of which none is refused.
+pub fn resumed_answers_are_the_rest()
+    ensures { law.ResumedAnswersAreTheRest }
+{}
