@@ -44,10 +44,12 @@ pub record MaySeal (c : Cascade) (p : CascadePass) (stream : Stream) (mark : ℕ
 abbrev pub LeftSource : Cascade → Stream → (Change → Type 0) → CascadePass → CascadePass → Type 0
 LeftSource c stream so p q = (d : Down) × (source (plan_of c) stream ≡ Some d) × LeftBy d.node so p q
 
-abbrev pub SaysFull : Change → Type 0
-SaysFull c = (lane : ℕ) × (c ≡ change.Full lane)
+-- the pass left that node, and told that the lane that takes the bundles of the stream is full
+abbrev pub LeftFull : Cascade → Stream → CascadePass → CascadePass → Type 0
+LeftFull c stream p q =
+    (d : Down) × (source (plan_of c) stream ≡ Some d) × LeftBy d.node (Is (change.Full d.lane)) p q
 
--- the bundle comes back; the lane is full only if a look under the turn said so, and else nothing has changed
+-- the bundle comes back; `Full` only if a look under the turn said that the lane is, and else nothing has changed
 abbrev pub IsTurnedBack : Cascade → Stream → Bundle → CascadePass → CascadePass → ArriveStop → Type 0
-IsTurnedBack c stream bundle p q (Full back) = (back ≡ bundle) × LeftSource c stream SaysFull p q
+IsTurnedBack c stream bundle p q (Full back) = (back ≡ bundle) × LeftFull c stream p q
 IsTurnedBack c stream bundle p q (Memory back) = (back ≡ bundle) × LeftSource c stream (Is change.Nothing) p q

@@ -1,6 +1,9 @@
 -- What a leaving owes: that it is its event on what the node shows, and that it tells the truth.
-use Rattle.std.specs.Prelude.{◌≡◌, ◌≢◌, ◌⊎◌, ℕ, ◌≤◌, true, All, List, [], ◌∷◌, ◌++◌, length, Some, slice_get}
+use Rattle.std.specs.Prelude.{◌≡◌, ◌≢◌, ◌⊎◌, ℕ, ◌≤◌, ◌<◌, true, All, List, [], ◌∷◌, ◌++◌, length, Some, slice_get}
 use Rattle.sb_hand.specs.base.records.declared.item.Record.{Record}
+use Rattle.sb_hand.specs.base.records.declared.item.Stream.{Stream}
+use Rattle.sb_hand.specs.base.pipeline.declared.transform.Down.{Down}
+use Rattle.sb_hand.specs.base.pipeline.Shapes.{source}
 use Rattle.sb_hand.specs.core.declared.moment.Node.{Node}
 use Rattle.sb_hand.specs.core.Laws.{concerns, place_of}
 use Rattle.sb_hand.specs.core.Parts.{Part, only_node, part_after, held_after}
@@ -28,23 +31,33 @@ abbrev pub IsFull : ℕ → SharedView → Type 0
 IsFull l x = (lane : LaneView) × (slice_get x.own.lanes.items l ≡ Some lane)
     × (lane.pending ≤ unfinished_of (conts_of lane.containers))
 
--- which change a leaving of node k may tell that found the state x and leaves y: a look tells only what is there
-abbrev pub Looks : ℕ → SharedView → SharedView → Change → Type 0
-Looks k x y Idle = All NoneWaits x.own.lanes.items
-Looks k x y (NotYet why) = IsNotYet x.own.lanes.items why
-Looks k x y (Full lane) = IsFull lane x
-Looks k x y (Drain rows) = y.tray ≡ []
-Looks k x y Spent = y.spent ≡ true
-Looks k x y (Arrive stream records) = Unit {0}
-Looks k x y (Seal stream mark) = Unit {0}
-Looks k x y (Take c link) = Unit {0}
-Looks k x y (Deliver c place) = Unit {0}
-Looks k x y (Finish c delivered) = Unit {0}
-Looks k x y (Begin c passed) = Unit {0}
-Looks k x y (Rows c first most place) = Unit {0}
-Looks k x y (Pass c) = Unit {0}
-Looks k x y (End c) = Unit {0}
-Looks k x y Nothing = Unit {0}
+-- fewer are
+abbrev pub HasRoom : ℕ → SharedView → Type 0
+HasRoom l x = (lane : LaneView) × (slice_get x.own.lanes.items l ≡ Some lane)
+    × (unfinished_of (conts_of lane.containers) < lane.pending)
+
+-- fewer are of the lane that takes the bundles of a stream, and it is one of node k
+abbrev pub HasRoomFor : Setting → Stream → ℕ → SharedView → Type 0
+HasRoomFor a stream k x = (d : Down) × (source a.plan stream ≡ Some d) × (d.node ≡ k) × HasRoom d.lane x
+
+-- which change a leaving of node k may tell that found the state x and leaves y: a look tells only what is there, and
+-- a bundle of a stream comes only where there is room for it
+abbrev pub Looks : Setting → ℕ → SharedView → SharedView → Change → Type 0
+Looks a k x y Idle = All NoneWaits x.own.lanes.items
+Looks a k x y (NotYet why) = IsNotYet x.own.lanes.items why
+Looks a k x y (Full lane) = IsFull lane x
+Looks a k x y (Drain rows) = y.tray ≡ []
+Looks a k x y Spent = y.spent ≡ true
+Looks a k x y (Arrive stream records) = HasRoomFor a stream k x
+Looks a k x y (Seal stream mark) = Unit {0}
+Looks a k x y (Take c link) = Unit {0}
+Looks a k x y (Deliver c place) = Unit {0}
+Looks a k x y (Finish c delivered) = Unit {0}
+Looks a k x y (Begin c passed) = Unit {0}
+Looks a k x y (Rows c first most place) = Unit {0}
+Looks a k x y (Pass c) = Unit {0}
+Looks a k x y (End c) = Unit {0}
+Looks a k x y Nothing = Unit {0}
 
 -- what the event makes of the node's part and of what the pass has in hand, if its condition holds
 abbrev pub May : Setting → ℕ → Hands → Hands → Node → Doing → Part → Type 0

@@ -42,7 +42,7 @@ impl Cascade {
         requires pass { IsPassOf self.now.turns pass.old × (guard.node ≤ length self.now.setting.plan.steps) }
         requires turn { Holds guard.node guard.found.value pass.old }
         requires found { IsFound self.now.setting (seat_view pass.old).client guard.node guard.found.value }
-        requires looks { Looks guard.node guard.found.value guard.state change }
+        requires looks { Looks self.now.setting guard.node guard.found.value guard.state change }
         requires does { Does self.now.setting (seat_view pass.old).client (seat_view pass.old).seen
             guard.node guard.found.value guard.state change }
         ensures pass { IsSamePass pass.old pass.new }

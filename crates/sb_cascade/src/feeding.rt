@@ -25,7 +25,8 @@ impl Cascade {
     /// # Errors
     ///
     /// The bundle comes back: [`ArriveStop::Full`] only if, under the turn, as many bundles as the limit were waiting
-    /// or out in the lane, and [`ArriveStop::Memory`] if no memory was found.
+    /// or out in the lane, and [`ArriveStop::Memory`] if no memory was found. A bundle is never taken where so many
+    /// are.
     pub fn arrive<R: Wait>(
         &self,
         rt: &R,

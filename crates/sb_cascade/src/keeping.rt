@@ -44,7 +44,7 @@ impl Keep for Keeping {
 
     ghost rule = { ShowsMoment };
 
-    ghost allows = { λ a w i x y c. Looks i x y c };
+    ghost allows = { λ a w i x y c. Looks a i x y c };
 
     ghost finds = { IsFound };
 

@@ -6,9 +6,8 @@ use Rattle.sb_hand.specs.node.Coming.{IsBackFrom}
 use Rattle.sb_cascade.specs.declared.telling.Change.TheVariants.{Arrive, Full, Nothing}
 use Rattle.sb_cascade.specs.declared.telling.Hands.{Hands}
 use Rattle.sb_cascade.specs.declared.telling.Setting.{Setting}
-use Rattle.sb_cascade.specs.Bringing.{SaysFull}
 use Rattle.sb_cascade.specs.Found.{IsFound}
-use Rattle.sb_cascade.specs.Leavings.{IsFull}
+use Rattle.sb_cascade.specs.Leavings.{HasRoom, IsFull}
 use Rattle.sb_cascade.specs.SharedNodes.{SharedView}
 use Rattle.sb_cascade.specs.Told.{Is}
 use Rattle.sb_cascade.specs.Views.{as_list}
@@ -59,6 +58,19 @@ leave-requires-clause-does g c =
       links = record { lane = d.lane; place_is = from; sets = arrive-sets d.lane b.epoch at.0 _ _ x y came.1 refl (may.epoch ∙ sym (epoch_fed a w d.node x f on s d from refl at.0 at.1)) };
     })
 
+pub leave-requires-clause-looks : goal.leave-requires-clause-looks
+leave-requires-clause-looks g c =
+    let turn = c.enter-guard.ensures.turn in
+    let a : Setting = c.args.self.now.setting in
+    let w : Hands = c.args.pass.now.seat.me.0.client in
+    let d = c.in-Some.down in
+    let x : SharedView = c.enter-guard.result.state in
+    let same : about c.args.self.now.turns ≡ a = search rules in
+    let f : IsFound a w d.node x = found_by a _ w d.node x same c.enter-guard.ensures.finds in
+    let from : source a.plan c.args.stream ≡ Some d = sym c.source.ensures.value ∙ c.in-Some.is in
+    let at = source_lane a w d.node x f c.args.stream d from refl in
+    (d, from, sym turn.0, subst (λ (z : SharedView). HasRoom d.lane z) (sym turn.1) (at.0, at.1, c.in-Ok.ensures.fewer at.0 at.1))
+
 pub leave-requires-in-Err-Full-clause-looks : goal.leave-requires-in-Err-Full-clause-looks
 leave-requires-in-Err-Full-clause-looks g c =
     let turn = c.enter-guard.ensures.turn in
@@ -86,7 +98,7 @@ returns-in-Err-Full-clause-back g c =
     let at = source_lane a w d.node x f c.args.stream d from refl in
     let back = subst (λ (e : ArriveStop). IsBackFrom at.0 c.args.bundle e) c.in-Err-Full.field-0-is (c.in-Err-Full.ensures.back at.0 at.1) in (
       c.in-Err-Full.bundle-is ∙ back.0,
-      (d, from, left_by d.node SaysFull c.args.pass.now _ c.enter-guard.new.pass.me c.enter-guard.result.node turn.2.0 _ _ (Full d.lane) _ _ _ turn.0 turn.2.1 c.leave-in-Err-Full.ensures.turn (d.lane, refl)),
+      (d, from, left_by d.node (Is (Full d.lane)) c.args.pass.now _ c.enter-guard.new.pass.me c.enter-guard.result.node turn.2.0 _ _ (Full d.lane) _ _ _ turn.0 turn.2.1 c.leave-in-Err-Full.ensures.turn refl),
     )
 
 pub returns-clause-back : goal.returns-clause-back

@@ -3,6 +3,7 @@ use Rattle.sb_turn.specs.Owed.{Leaves}
 use Rattle.sb_turn.specs.Passes.{about}
 use Rattle.sb_cascade.specs.declared.telling.Setting.{Setting}
 use Rattle.sb_cascade.specs.Doings.{is_event}
+use Rattle.sb_cascade.specs.Leavings.{Looks}
 use Rattle.sb_cascade.specs.Shown.{ShowsMoment}
 use Rattle.sb_cascade.specs.SharedNodes.{lines_of}
 use Rattle.sb_cascade.specs.Views.{after}
@@ -26,3 +27,9 @@ leave-requires-clause-rule c =
     let same : about c.args.self.now.turns ≡ c.args.self.now.setting = search rules in
     subst (λ (a : Setting). Leaves is_event (ShowsMoment a) c.args.pass.now.id me.client me.seen g.node g.found.value g.state c.args.change (after me.client g.node c.args.change)) (sym same)
     (leaves_by c.args.self.now.setting c.args.pass.now.id g.node me.seen me.client g.found.value g.state c.args.change c.requires.does)
+
+pub leave-requires-clause-allowed : goal.leave-requires-clause-allowed
+leave-requires-clause-allowed c =
+    let g = c.args.guard in
+    let same : about c.args.self.now.turns ≡ c.args.self.now.setting = search rules in
+    subst (λ (a : Setting). Looks a g.node g.found.value g.state c.args.change) (sym same) c.requires.looks
