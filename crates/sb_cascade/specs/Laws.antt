@@ -1,5 +1,6 @@
 -- What a cascade keeps, between any two steps of its passes: laws over its rule.
-use Rattle.std.specs.Prelude.{◌≡◌, ◌≤◌, ◌==◌, ℕ, true, List, length, count_by, slice_set, Option, Some, IsPermutation}
+use Rattle.std.specs.Prelude.{◌≡◌, ◌≤◌, ◌==◌, ℕ, true, false, List, [], ◌∷◌, ◌++◌, length, max, count_by, slice_set}
+use Rattle.std.specs.Prelude.{Option, Some, None, IsPermutation}
 use Rattle.std.specs.List.{list_any}
 use mathlib.Core.Option.{some}
 use lib.ListN.{get_elem?}
@@ -17,11 +18,11 @@ use Rattle.sb_cascade.specs.declared.telling.Change.{Change}
 use Rattle.sb_cascade.specs.declared.telling.Hands.{Hands}
 use Rattle.sb_cascade.specs.declared.telling.Piece.{Piece}
 use Rattle.sb_cascade.specs.declared.telling.Setting.{Setting}
-use Rattle.sb_cascade.specs.Doings.{Doing, Quiet, Fresh, Of, doing_of, is_event}
+use Rattle.sb_cascade.specs.Doings.{Doing, Quiet, Fresh, Of, doing_of, is_event, work_of}
 use Rattle.sb_cascade.specs.Leavings.{Does}
 use Rattle.sb_cascade.specs.SharedNodes.{SharedView}
-use Rattle.sb_cascade.specs.Shown.{ShowsMoment, moment_of}
-use Rattle.sb_cascade.specs.Views.{after, all_in_hand}
+use Rattle.sb_cascade.specs.Shown.{ShowsMoment, diaries_in, moment_of}
+use Rattle.sb_cascade.specs.Views.{after, all_in_hand, hands_after_claim, hands_after_put, idle_hands}
 
 -- the moment that is shown
 abbrev pub shown_by : {a : Setting} {shelf : List (Option Piece)} {status : ℕ} {states : List SharedView}
@@ -35,9 +36,13 @@ IsAfter plan e m n = (held : List Held) × (later : List Held)
     × IsPermutation m.held held × IsPermutation later n.held
     × (events.after plan (with_held held m) e ≡ Some (with_held later n))
 
+-- the second moment is the first, if the order of what is in hand does not count
+abbrev pub IsSameMoment : Moment → Moment → Type 0
+IsSameMoment m n = (n.nodes ≡ m.nodes) × (n.rows ≡ m.rows) × IsPermutation m.held n.held
+
 -- a leaving with an event makes the moment after this one event; any other leaving changes nothing of it
 abbrev pub IsLeaving : Shape → Doing → Moment → Moment → Type 0
-IsLeaving plan Quiet m n = (n.nodes ≡ m.nodes) × (n.rows ≡ m.rows) × IsPermutation m.held n.held
+IsLeaving plan Quiet m n = IsSameMoment m n
 IsLeaving plan (Fresh e) m n = IsAfter plan e m n
 IsLeaving plan (Of e h) m n = IsAfter plan e m n
 
@@ -51,6 +56,45 @@ EachLeavingIsOneEvent =
     → (later : ShowsMoment a shelf status (slice_set states k y) (logs_after is_event k c logs)
     (slice_set views id (after w k c)))
     × IsLeaving a.plan (doing_of k c) (shown_by r) (shown_by later)
+
+-- all that the rule speaks of
+pub record Standing : Type 0 where
+  pub shelf : List (Option Piece)
+  pub status : ℕ
+  pub states : List SharedView
+  pub logs : List (List Change)
+  pub views : List Hands
+
+-- the rule holds of it
+abbrev pub IsRuled : Setting → Standing → Type 0
+IsRuled a s = ShowsMoment a s.shelf s.status s.states s.logs s.views
+
+-- A step of a pass that leaves no node. It lays the bundle that it has in hand on a free place of the shelf, or with
+-- nothing in hand claims the bundle of a place. It raises the state word, and has in hand and has fed what it had. It
+-- splits a pass off. As it enters a node, joins a pass or loads the state word, nothing of all this changes.
+pub data IsOtherStep (s : Standing) : Standing → Type 0 where
+  Lays : (id k : ℕ) (w : Hands) (p : Piece) → get_elem? s.views id ≡ some w → get_elem? s.shelf k ≡ some None
+      → w.held ≡ Some (work_of p.claim false)
+      → IsOtherStep s (record s {
+        shelf = slice_set s.shelf k (Some p);
+        views = slice_set s.views id (hands_after_put w p);
+      })
+  Claims : (id k : ℕ) (w : Hands) (p : Piece) → get_elem? s.views id ≡ some w → get_elem? s.shelf k ≡ some (Some p)
+      → w.held ≡ None
+      → IsOtherStep s (record s {
+        shelf = slice_set s.shelf k None;
+        views = slice_set s.views id (hands_after_claim w p);
+      })
+  Raises : (id n : ℕ) (w told : Hands) → get_elem? s.views id ≡ some w → told.held ≡ w.held → told.feed ≡ w.feed
+      → IsOtherStep s (record s { status = max s.status n; views = slice_set s.views id told })
+  Splits : IsOtherStep s (record s { views = s.views ++ idle_hands ∷ [] })
+  Stays : IsOtherStep s s
+
+-- a pass takes a step that leaves no node: what is shown then is what was shown, and each diary is as it was
+abbrev pub OnlyLeavingsChangeWhatIsShown : Type 0
+OnlyLeavingsChangeWhatIsShown =
+    (a : Setting) (s t : Standing) → IsOtherStep s t → (r : IsRuled a s) (later : IsRuled a t)
+    → IsSameMoment (shown_by r) (shown_by later) × (diaries_in t.states ≡ diaries_in s.states)
 
 -- a bundle was taken from a lane, and is not done with
 abbrev pub IsTaken : Moment → Down → ℕ → Type 0
