@@ -127,6 +127,7 @@ splits a shelf status states logs views r =
       feeds = r.feeds;
       others = λ j w e. ⊎_elim (λ t. r.others j w t) (λ t. ap (λ (w : Hands). w.feed) (sym t))
           (at_snoc views idle_hands w (suc j) e);
+      word = r.word;
       sound = subst (λ (l : List Held). IsSound a.plan (moment_of a.bundle r.parts l r.rows)) (sym same) r.sound;
       exact = subst (λ (l : List Held). IsExact a.plan (moment_of a.bundle r.parts l r.rows)
           (records_of_feed r.feeder.feed)) (sym same) r.exact;

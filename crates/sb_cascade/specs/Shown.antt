@@ -59,7 +59,7 @@ diaries_in states = map (λ x. x.own.diary.events) states
 -- A state of each node of the plan shows its part of a moment, which is what the node's leavings made of it, and so is
 -- its diary. The moment has in hand what the passes have and what lies on the shelf. It is sound, exact for what the
 -- feeder has fed, and tallies with the diaries. Its rows are those that the feeder has drained, and then the sink's
--- tray.
+-- tray. The feeder alone has ended the work, unless there was no memory.
 pub record ShowsMoment (a : Setting) (shelf : List (Option Piece)) (status : ℕ) (states : List SharedView)
     (logs : List (List Change)) (views : List Hands) : Type 0 where
   pub plan : IsPlan a.plan
@@ -79,6 +79,8 @@ pub record ShowsMoment (a : Setting) (shelf : List (Option Piece)) (status : ℕ
   pub first : get_elem? views 0 ≡ some feeder
   pub feeds : feeder.feed.on ≡ true
   pub others : (j : ℕ) (w : Hands) → get_elem? views (suc j) ≡ some w → w.feed ≡ no_feed
+  -- the state word says that there was no memory, or it is what the feeder raised it to
+  pub word : status < 3 → status ≡ feeder.feed.raised
   pub sound : IsSound a.plan (moment_of a.bundle parts (all_in_hand views shelf) rows)
   pub exact : IsExact a.plan (moment_of a.bundle parts (all_in_hand views shelf) rows) (records_of_feed feeder.feed)
   pub tallied : IsTallied a.plan (moment_of a.bundle parts (all_in_hand views shelf) rows) (diaries_in states)

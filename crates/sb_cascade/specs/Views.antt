@@ -1,5 +1,6 @@
--- What a pass knows, and what it knows after a leaving, a laying and a claim.
-use Rattle.std.specs.Prelude.{ℕ, true, false, List, [], ◌∷◌, ◌++◌, length, drop, map, Option, Some, None}
+-- What a pass knows, and what it knows after a leaving, a laying, a claim and a raise of the state word.
+use Rattle.std.specs.Prelude.{ℕ, true, false, if◌then◌else◌, nat_lt, max, List, [], ◌∷◌, ◌++◌, length, drop, map}
+use Rattle.std.specs.Prelude.{Option, Some, None}
 use Rattle.sb_hand.specs.base.records.declared.item.Record.{Record}
 use Rattle.sb_hand.specs.base.records.declared.item.Stream.{Stream}
 use Rattle.sb_hand.specs.base.records.declared.item.Stream.TheVariants.{A, B}
@@ -23,7 +24,7 @@ nothing_fed = record { bundles = []; marks = [] }
 
 -- what a pass feeds that is not the feeder's
 abbrev pub no_feed : Feed
-no_feed = record { on = false; a = nothing_fed; b = nothing_fed; drained = [] }
+no_feed = record { on = false; a = nothing_fed; b = nothing_fed; drained = []; raised = 0 }
 
 -- a pass with nothing in hand, that is not the feeder's
 abbrev pub idle_hands : Hands
@@ -50,6 +51,10 @@ with_mark B mark f = record f { b = record f.b { marks = f.b.marks ++ mark ∷ [
 -- these rows drained more
 abbrev pub with_drained : List Record → Feed → Feed
 with_drained rows f = record f { drained = f.drained ++ rows }
+
+-- the state word raised to n
+abbrev pub with_raise : ℕ → Feed → Feed
+with_raise n f = record f { raised = max f.raised n }
 
 -- what a pass has after this
 abbrev pub hands_with : Held → Option ℕ → Hands → Hands
@@ -83,6 +88,10 @@ hands_after_put w p = with_empty_hands w
 
 abbrev pub hands_after_claim : Hands → Piece → Hands
 hands_after_claim w p = hands_with (work_of p.claim false) p.link w
+
+-- after it raised the state word to n: to 3, which says that there was no memory, any pass may, and no view tells it
+abbrev pub hands_after_raise : Hands → ℕ → Hands
+hands_after_raise w n = if nat_lt n 3 then record w { feed = with_raise n w.feed } else w
 
 -- the one thing, if there is one
 abbrev pub as_list : {X : Type 0} → Option X → List X

@@ -14,7 +14,8 @@ impl Keep for Keeping {
     ghost use Rattle.sb_cascade.specs.Passing.{fitting, found, splits};
     ghost use Rattle.sb_cascade.specs.Shown.{ShowsMoment};
     ghost use Rattle.sb_cascade.specs.SharedNodes.{lines_of};
-    ghost use Rattle.sb_cascade.specs.Views.{after, hands_after_claim, first_hands, idle_hands, hands_after_put};
+    ghost use Rattle.sb_cascade.specs.Views.{after, first_hands, idle_hands};
+    ghost use Rattle.sb_cascade.specs.Views.{hands_after_claim, hands_after_put, hands_after_raise};
 
     type State = SharedNode;
 
@@ -40,7 +41,7 @@ impl Keep for Keeping {
 
     ghost claimed = { hands_after_claim };
 
-    ghost told = { λ w _. w };
+    ghost told = { hands_after_raise };
 
     ghost rule = { ShowsMoment };
 

@@ -90,14 +90,16 @@ pub struct StreamFeed {
     pub marks: LinkedList<u64>,
 }
 
-/// What the feeder's pass alone knows: what it brought of each stream, and the rows that it drained. No value of it is
-/// made.
+/// What the feeder's pass alone knows: what it brought of each stream, the rows that it drained, and how it ended the
+/// work. No value of it is made.
 pub struct Feed {
     /// Whether it is the feeder's.
     pub on: bool,
     pub a: StreamFeed,
     pub b: StreamFeed,
     pub drained: LinkedList<Record>,
+    /// The greatest number to which it raised the state word, but for that of no memory.
+    pub raised: u64,
 }
 
 /// What a pass knows: the bundle or closing that it has in hand, where what it gives goes below, if that is known, and

@@ -21,13 +21,14 @@ use Rattle.sb_worker.specs.cascade.declared.pass.CascadePass.{CascadePass}
 use Rattle.sb_worker.specs.cascade.declared.telling.Hands.{Hands}
 use Rattle.sb_worker.specs.cascade.Bringing as bring
 use Rattle.sb_worker.specs.cascade.Bringing.{sealed_lane}
-use Rattle.sb_worker.specs.cascade.Calls.{IsEmptyHanded, IsFeeder, IsReady, IsSame, hands, plan_of, setting_of}
+use Rattle.sb_worker.specs.cascade.Calls.{IsEmptyHanded, IsFeeder, IsReady, IsSame, hands, passes_out, plan_of, setting_of, view_of}
 use Rattle.sb_worker.specs.cascade.Found.{IsDrained}
 use Rattle.sb_worker.specs.cascade.Views as view
-use Rattle.sb_worker.proofs.cascade.feeds.FeedOfChanges.{bundle-dry, bundle-fed, drained-fed, mark-dry, mark-fed}
+use Rattle.sb_worker.specs.turn.Turning.{raised_view}
+use Rattle.sb_worker.proofs.cascade.feeds.FeedOfChanges.{bundle-dry, bundle-fed, drained-fed, mark-dry, mark-fed, raise-fed, raise-keeps}
 use Rattle.sb_feeds.specs.one_feed.Feeds.{AreRowsSoFar, Fed, MayArrive, MaySeal, bundles_in, records_of_feed, floor_in, marks_in, with_bundle, with_mark}
 use Rattle.sb_feeds.proofs.one_feed.RowsSoFar.{so_far_bundle, so_far_mark}
-use Rattle.sb_run.specs.Feeders.{HasFed}
+use Rattle.sb_run.specs.Feeders.{HasFed, IsStill}
 use Rattle.sb_run.specs.Rested.{feed_of}
 use Rattle.sb_run.proofs.Coming.{goes}
 use Rattle.sb_run.proofs.SoFar.{back, floor_is, moment_in_time, moment_so_far}
@@ -40,6 +41,41 @@ records-are (b ∷ bs) = ap (λ l. b.records ++ l) (records-are bs)
 
 pub fed-are : (f : Fed) (s : Stream) → tally.records_of_feed (feed_of f) s ≡ records_of_feed f s
 fed-are f s = records-are (bundles_in f s)
+
+-- a step as a worker leaves the pass that of the feeder
+pub still-stepped : (c : Cascade) (p q : CascadePass) → IsReady c q → IsSame p q → IsStill c p q
+still-stepped c p q ready same = record {
+  ready = ready;
+  out = same.out;
+  feeder = λ f. (same.id ∙ f.0, ap (λ g. g.on) same.feed ∙ f.1);
+}
+
+-- a raise of the state word
+module _ (c : Cascade) (p q : CascadePass) (n : ℕ) (ready : IsReady c q) (same : q.seat.id ≡ p.seat.id) (told : view_of q ≡ raised_view n (view.hands_after_raise (hands p) n) (view_of p)) where
+  -- leaves it so, too
+  pub still-raised : IsStill c p q
+  still-raised = record {
+    ready = ready;
+    out = ap (λ v. v.count) told;
+    feeder = λ f. (same ∙ f.0, ap (λ v. v.client.feed.on) told ∙ raise-keeps (λ w. w.feed.on) (hands p) n refl ∙ f.1);
+  }
+
+  -- and feeds and drains nothing
+  pub fed-raised : (f : Fed) (rows : List Record) → q.kept ≡ p.kept → HasFed c p f rows → HasFed c q f rows
+  fed-raised f rows kept h = record {
+    ready = ready;
+    feeder = still-raised.feeder h.feeder;
+    empty = record {
+      held = ap (λ v. v.client.held) told ∙ raise-keeps (λ w. w.held) (hands p) n refl ∙ h.empty.held;
+      link = ap (λ v. v.client.link) told ∙ raise-keeps (λ w. w.link) (hands p) n refl ∙ h.empty.link;
+      kept = kept ∙ h.empty.kept;
+    };
+    is_plan = h.is_plan;
+    fed = ap (λ v. view.feed_of v.client.feed) told ∙ raise-keeps (λ w. view.feed_of w.feed) (hands p) n (raise-fed n (hands p).feed) ∙ h.fed;
+    drained = ap (λ v. v.client.feed.drained) told ∙ raise-keeps (λ w. w.feed.drained) (hands p) n refl ∙ h.drained;
+    so_far = h.so_far;
+    bound = h.bound;
+  }
 
 module _ (c : Cascade) (p q : CascadePass) (f : Fed) (rows : List Record) (h : HasFed c p f rows) where
   -- a call that feeds and drains nothing

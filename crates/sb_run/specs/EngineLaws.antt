@@ -28,10 +28,14 @@ same_as_before a = record { plan = refl; bundle = refl; pending = refl; stays_sp
 
 -- the pass may still be used
 pub still_here : (c : Cascade) (p : CascadePass) → IsReady c p → IsStill c p p
-still_here c p ready = record { ready = ready; out = refl }
+still_here c p ready = record { ready = ready; out = refl; feeder = λ f. f }
 
 pub still_then : (c : Cascade) (p q r : CascadePass) → IsStill c p q → IsStill c q r → IsStill c p r
-still_then c p q r first then = record { ready = then.ready; out = then.out ∙ first.out }
+still_then c p q r first then = record {
+  ready = then.ready;
+  out = then.out ∙ first.out;
+  feeder = λ f. then.feeder (first.feeder f);
+}
 
 -- also of a cascade that is the same
 pub still_of_same : (c d : Cascade) (p q r : CascadePass) → d ≡ c → IsStill c p q → IsStill d q r → IsStill c p r

@@ -34,10 +34,11 @@ pub record HasFed (c : Cascade) (p : CascadePass) (f : Fed) (rows : List Record)
   pub so_far : AreRowsSoFar (plan_of c) f rows
   pub bound : (s : Stream) → floor_in f s ≤ END_MARK
 
--- the pass has no turn, and as many others are out as before
+-- the pass has no turn, as many others are out as before, and it is the feeder's if it was
 pub record IsStill (c : Cascade) (p q : CascadePass) : Type 0 where
   pub ready : IsReady c q
   pub out : passes_out q ≡ passes_out p
+  pub feeder : IsFeeder p → IsFeeder q
 
 -- the hand has the plan and the sizes that the cascade was made with, and so have its nodes
 pub record IsGivenBack (a : Setting) (h : HandView) : Type 0 where

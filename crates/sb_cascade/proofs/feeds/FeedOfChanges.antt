@@ -1,5 +1,5 @@
 -- What a pass knows that it fed and drained, after a leaving.
-use Rattle.std.proofs.Common.{◌≡◌, ℕ, Bool, true, false, List, [], ◌∷◌, ◌++◌, length, map, sym, refl, ◌∙◌, append-nil, inl, inr}
+use Rattle.std.proofs.Common.{◌≡◌, ℕ, Bool, true, false, cond, nat_lt, List, [], ◌∷◌, ◌++◌, length, map, sym, refl, ◌∙◌, append-nil, inl, inr}
 use Rattle.std.proofs.lemmas.List.{map-append}
 use Rattle.std.specs.declared.snapshot.Snapshot.{Snapshot}
 use Rattle.sb_hand.specs.base.records.declared.item.Record.{Record}
@@ -17,7 +17,7 @@ use Rattle.sb_cascade.specs.Doings.{doing_of, drained_rows}
 use Rattle.sb_cascade.specs.Linked.{LinksBy}
 use Rattle.sb_cascade.specs.Leavings.{Does, Feeds}
 use Rattle.sb_cascade.specs.SharedNodes.{SharedView}
-use Rattle.sb_cascade.specs.Views.{after, fed_bundle, stream_feed, feed_of, with_bundle, with_drained, with_mark}
+use Rattle.sb_cascade.specs.Views.{after, fed_bundle, hands_after_raise, stream_feed, feed_of, with_bundle, with_drained, with_mark, with_raise}
 use Rattle.sb_cascade.proofs.leavings.Acts.{Acts}
 
 -- whether the change is the feeder's alone
@@ -124,6 +124,40 @@ same-feed rows B f = refl
 -- and so it is for the tally
 pub drained-fed : (rows : List Record) (f : Feed) → feed_of (with_drained rows f) ≡ feed_of f
 drained-fed rows f = λ i. record { bundles = λ t. map fed_bundle (same-feed rows t f i).bundles; marks = λ t. (same-feed rows t f i).marks; drained = 0 }
+
+-- ---- a raise of the state word
+-- what was fed is as it was
+feed-raised : (n : ℕ) (t : Stream) (f : Feed) → stream_feed t (with_raise n f) ≡ stream_feed t f
+feed-raised n A f = refl
+feed-raised n B f = refl
+
+-- and so it is for the tally
+pub raise-fed : (n : ℕ) (f : Feed) → feed_of (with_raise n f) ≡ feed_of f
+raise-fed n f = λ i. record { bundles = λ t. map fed_bundle (feed-raised n t f i).bundles; marks = λ t. (feed-raised n t f i).marks; drained = 0 }
+
+-- nor is anything else new that a raise leaves as it is where the view tells it
+pub raise-keeps : {A : Type 0} (f : Hands → A) (w : Hands) (n : ℕ) → f (record w { feed = with_raise n w.feed }) ≡ f w → f (hands_after_raise w n) ≡ f w
+raise-keeps f w n same = by_case (nat_lt n 3)
+  where
+    by_case : (b : Bool) → f (cond b (record w { feed = with_raise n w.feed }) w) ≡ f w
+    by_case true = same
+    by_case false = refl
+
+-- a bundle raises nothing
+bundle-raised : (s : Stream) (records : List Record) (f : Feed) → (with_bundle s records f).raised ≡ f.raised
+bundle-raised A records f = refl
+bundle-raised B records f = refl
+
+-- and no mark does
+mark-raised : (s : Stream) (mark : ℕ) (f : Feed) → (with_mark s mark f).raised ≡ f.raised
+mark-raised A mark f = refl
+mark-raised B mark f = refl
+
+-- so no leaving does
+pub after-raised : (w : Hands) (k : ℕ) (c : Change) → (after w k c).feed.raised ≡ w.feed.raised
+after-raised w k (Arrive stream records) = bundle-raised stream records.value w.feed
+after-raised w k (Seal stream mark) = mark-raised stream mark w.feed
+after-raised w k c = refl
 
 -- ---- the feeder's changes
 module _ (w : Hands) (k : ℕ) (on : w.feed.on ≡ true) where

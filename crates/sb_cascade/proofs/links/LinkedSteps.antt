@@ -4,7 +4,7 @@ use Rattle.std.specs.Prelude.{slice_get, slice_set, map}
 use Rattle.std.proofs.lemmas.Option.{same_Some}
 use mathlib.Core.Option.{some, some-injective, some-ne-none}
 use lib.ListN.{get_elem?}
-use Rattle.atomic_table.proofs.Lists.{at_set, set_again}
+use Rattle.atomic_table.proofs.Lists.{at_set}
 use Rattle.sb_hand.specs.base.records.declared.item.Record.{Record}
 use Rattle.sb_hand.specs.core.declared.held.Held.{Held}
 use Rattle.sb_hand.specs.core.declared.held.Held.TheVariants.{Work}
@@ -23,7 +23,7 @@ use Rattle.sb_cascade.specs.Linked.{AreLinked, HasLaneIn, IsDelivered, LeadsRigh
 use Rattle.sb_cascade.specs.SharedNodes.{SharedView}
 use Rattle.sb_cascade.specs.Views.{hands_after_claim, idle_hands, hands_after_put, as_list}
 use Rattle.sb_cascade.proofs.links.LeftLanes.{of-map, still}
-use Rattle.sb_cascade.proofs.links.LinkedAfter.{keeps-empty, keeps-working}
+use Rattle.sb_cascade.proofs.links.LinkedAfter.{keeps-empty, keeps-same, keeps-working}
 
 -- nothing in hand is not something
 nothing-some : (h : Held) → ◌≡◌ {A = Option Held} None (Some h) → ⊥
@@ -72,9 +72,25 @@ module _ (a : Setting) (shelf : List (Option Piece)) (states : List SharedView) 
       nothing-piece : (q : Piece) → ◌≡◌ {A = Option Piece} None (Some q) → ⊥
       nothing-piece q e = cc
 
-  -- the state word is raised
-  pub raised-linked : AreLinked a shelf states (slice_set views id w)
-  raised-linked = subst (AreLinked a shelf states) (sym (set_again views id w at)) linked
+  -- the state word is raised, and the pass has what it had
+  pub raised-linked : (w' : Hands) → w'.held ≡ w.held → w'.link ≡ w.link → AreLinked a shelf states (slice_set views id w')
+  raised-linked w' held link = record {
+    own = λ j own under pardo has u e l there from. ⊎_elim (λ is. inl is) (λ t. inr (t.0, keeps-same a shelf states views linked id w w' at held j e t.1))
+        (linked.own j own under pardo has u e l there from);
+    in_hand = λ j u h there has. ⊎_elim
+        (λ t.
+        let mine : LeadsRight a states h w.link = linked.in_hand id w h at (sym held ∙ ap (λ (z : Hands). z.held) t.1 ∙ has) in
+        subst (λ (z : Hands). LeadsRight a states h z.link) t.1 (subst (LeadsRight a states h) (sym link) mine))
+        (λ t. linked.in_hand j u h t.1 has)
+        (at_set views id j w' u there);
+    on_shelf = linked.on_shelf;
+    delivered = λ j e d. ⊎_elim
+        (λ t.
+        let mine = linked.delivered j e (record { id = id; pass = w; there = at; lane = d.lane; floor = d.floor; number = d.number; records = d.records; held = sym held ∙ ap (λ (z : Hands). z.held) t.1 ∙ d.held }) in
+        (mine.0, ap (λ (z : Hands). z.link) (sym t.1) ∙ link ∙ mine.1))
+        (λ t. linked.delivered j e (still j e (slice_set views id w') views d t.1))
+        (at_set views id d.id w' d.pass d.there);
+  }
 
 -- ---- at the start and at the end
 -- the two ways to read a list give the same

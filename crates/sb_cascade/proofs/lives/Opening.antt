@@ -175,6 +175,7 @@ module _ (a : Setting) (h : HandView) (ok : IsPlan a.plan) (new : IsNewHand a.pl
     first = refl;
     feeds = refl;
     others = λ j w e. absurd (some-ne-none w (sym e));
+    word = λ low. refl;
     sound = subst (λ l. IsSound a.plan (moment_of a.bundle parts l [])) (sym none_laid) stands.sound;
     exact = subst (λ (t : List Held × tally.Feed). IsExact a.plan (moment_of a.bundle parts t.0 []) (tally.records_of_feed t.1)) (λ i. (sym none_laid i, nothing_came i))
         (first-exact a.plan ok a.bundle);

@@ -1,12 +1,14 @@
 -- Raising the state word keeps the rule, and so do laying a bundle on the shelf and claiming one.
-use Rattle.std.proofs.Common.{◌≡◌, ℕ, false, List, [], ◌++◌, set, max, sym, refl, ap, ◌∙◌, subst, arith, append-nil, inl, Option, Some, None}
+use Rattle.std.proofs.Common.{◌≡◌, ℕ, suc, ◌≤◌, ◌<◌, false, cond, List, [], ◌++◌, set, max, sym, refl, ap, ◌∙◌, subst, arith, append-nil, inl, ⊎_elim, Option, Some, None}
 use Rattle.std.specs.List.Sorted.{IsPermutation}
-use Rattle.std.proofs.lemmas.List.Sorted.{IsPermutation-refl}
-use mathlib.Core.Option.{some}
+use Rattle.std.proofs.lemmas.Bool.{cases_lt, le-ltb, lt-ltb}
+use Rattle.std.proofs.lemmas.List.Sorted.{IsPermutation-refl, IsPermutation-trans}
+use mathlib.Core.Option.{some, some-injective}
 use lib.ListN.{get_elem?}
-use Rattle.atomic_table.proofs.Lists.{set_again}
+use Rattle.atomic_table.proofs.Lists.{at_set, set_here}
 use Rattle.sb_turn.specs.Owed.{Lays, Raises, Takes}
 use Rattle.sb_turn.proofs.Held.{laying, taking}
+use Rattle.sb_turn.proofs.Totals.{within}
 use Rattle.sb_hand.specs.core.declared.held.Held.{Held}
 use Rattle.sb_cascade.specs.declared.telling.Change.{Change}
 use Rattle.sb_cascade.specs.declared.telling.Hands.{Hands}
@@ -15,19 +17,28 @@ use Rattle.sb_cascade.specs.declared.telling.Setting.{Setting}
 use Rattle.sb_cascade.specs.Doings.{Quiet, work_of}
 use Rattle.sb_cascade.specs.SharedNodes.{SharedView}
 use Rattle.sb_cascade.specs.Shown.{AreLater, ShowsMoment, diaries_in}
-use Rattle.sb_cascade.specs.Views.{all_in_hand, hands_after_claim, feed_of, held_by, hands_after_put, as_list, work_on}
+use Rattle.sb_cascade.specs.Views.{all_in_hand, hands_after_claim, hands_after_raise, feed_of, held_by, hands_after_put, as_list, with_raise, work_on}
 use Rattle.sb_cascade.proofs.leavings.Acting.{IsGood, in_any_order}
+use Rattle.sb_cascade.proofs.leavings.Leaving.{hand_changes}
 use Rattle.sb_cascade.specs.Linked.{AreLinked}
-use Rattle.sb_cascade.proofs.feeds.FedViews.{IsFed, fed_on}
-use Rattle.sb_cascade.proofs.links.LinkedSteps.{claimed-linked, laid-linked}
+use Rattle.sb_cascade.proofs.feeds.FedViews.{IsFed, fed_on, raised_on}
+use Rattle.sb_cascade.proofs.feeds.FeedOfChanges.{raise-fed}
+use Rattle.sb_cascade.proofs.links.LinkedSteps.{claimed-linked, laid-linked, raised-linked}
+
+-- what a pass knows after a raise that its view tells
+told-raise : (w : Hands) (n : ℕ) → n < 3 → hands_after_raise w n ≡ record w { feed = with_raise n w.feed }
+told-raise w n low = ap (λ b. cond b (record w { feed = with_raise n w.feed }) w) (lt-ltb n 3 low)
+
+-- and after one that it does not tell
+untold-raise : (w : Hands) (n : ℕ) → 3 ≤ n → hands_after_raise w n ≡ w
+untold-raise w n high = ap (λ b. cond b (record w { feed = with_raise n w.feed }) w) (le-ltb n 3 high)
 
 module _ (a : Setting) where
-  -- only a pass and the shelf change, and what they have together is the same
-  pub moves : (shelf shelf' : List (Option Piece)) (status : ℕ) (states : List SharedView) (logs : List (List Change)) (views : List Hands) (id : ℕ) (w w' : Hands)
-      → ShowsMoment a shelf status states logs views → get_elem? views id ≡ some w → w'.feed ≡ w.feed
-      → IsPermutation (all_in_hand views shelf) (all_in_hand (set views id w') shelf') → AreLinked a shelf' states (set views id w') → ShowsMoment a shelf' status states logs (set views id w')
-  moves shelf shelf' status states logs views id w w' r at feed same linked =
-      let fed : IsFed (set views id w') r.feeder Quiet [] = fed_on views id w w' r.feeder Quiet [] at r.first r.feeds r.others (inl (record { same = feed; nothing = λ f. refl; none = refl })) in
+  -- only a pass, the shelf and the state word change, and what passes and shelf have together is the same
+  moved : (shelf shelf' : List (Option Piece)) (status status' : ℕ) (states : List SharedView) (logs : List (List Change)) (views : List Hands) (id : ℕ) (w' : Hands)
+      → (r : ShowsMoment a shelf status states logs views) (fed : IsFed (set views id w') r.feeder Quiet []) → status ≤ status' → (status' < 3 → status' ≡ fed.g.feed.raised)
+      → IsPermutation (all_in_hand views shelf) (all_in_hand (set views id w') shelf') → AreLinked a shelf' states (set views id w') → ShowsMoment a shelf' status' states logs (set views id w')
+  moved shelf shelf' status status' states logs views id w' r fed rises word same linked =
       let drained : r.feeder.feed.drained ≡ fed.g.feed.drained = sym (fed.drained ∙ append-nil r.feeder.feed.drained) in
       let good : IsGood a r.parts (all_in_hand (set views id w') shelf') r.rows (diaries_in states) (feed_of fed.g.feed) =
       subst (IsGood a r.parts (all_in_hand (set views id w') shelf') r.rows (diaries_in states)) (sym fed.feed)
@@ -40,10 +51,11 @@ module _ (a : Setting) where
         as_many = r.as_many;
         shown = r.shown;
         settings = r.settings;
-        spent = r.spent;
+        spent = λ k x e s. let o = r.spent k x e s in omega arith;
         first = fed.at;
         feeds = fed.on;
         others = fed.others;
+        word = word;
         sound = good.sound;
         exact = good.exact;
         tallied = good.tallied;
@@ -52,27 +64,51 @@ module _ (a : Setting) where
         linked = linked;
       }
 
-  -- a raise of the state word
-  pub raises_by : (id n : ℕ) (w : Hands) → Raises (ShowsMoment a) id w n w
-  raises_by id n w shelf status states logs views r at = subst (ShowsMoment a shelf (max status n) states logs) (sym (set_again views id w at)) record {
-    plan = r.plan;
-    parts = r.parts;
-    rows = r.rows;
-    feeder = r.feeder;
-    as_many = r.as_many;
-    shown = r.shown;
-    settings = r.settings;
-    spent = λ k x e s. let o = r.spent k x e s in omega arith;
-    first = r.first;
-    feeds = r.feeds;
-    others = r.others;
-    sound = r.sound;
-    exact = r.exact;
-    tallied = r.tallied;
-    tray = r.tray;
-    later = r.later;
-    linked = r.linked;
-  }
+  -- only a pass and the shelf change
+  pub moves : (shelf shelf' : List (Option Piece)) (status : ℕ) (states : List SharedView) (logs : List (List Change)) (views : List Hands) (id : ℕ) (w w' : Hands)
+      → ShowsMoment a shelf status states logs views → get_elem? views id ≡ some w → w'.feed ≡ w.feed
+      → IsPermutation (all_in_hand views shelf) (all_in_hand (set views id w') shelf') → AreLinked a shelf' states (set views id w') → ShowsMoment a shelf' status states logs (set views id w')
+  moves shelf shelf' status states logs views id w w' r at feed same linked =
+      let fed : IsFed (set views id w') r.feeder Quiet [] = fed_on views id w w' r.feeder Quiet [] at r.first r.feeds r.others (inl (record { same = feed; nothing = λ f. refl; none = refl })) in
+      moved shelf shelf' status status states logs views id w' r fed (omega arith)
+      (λ low. r.word low ∙ sym (raised_on views id w w' r.feeder fed.g at r.first (ap (λ f. f.raised) feed) fed.at))
+      same linked
+
+  -- a raise of the state word, of which the feeder's view tells
+  feeder_raises : (n : ℕ) (w : Hands) → n < 3 → Raises (ShowsMoment a) 0 w n (record w { feed = with_raise n w.feed })
+  feeder_raises n w low shelf status states logs views r at =
+      let w' : Hands = record w { feed = with_raise n w.feed } in
+      let is : w ≡ r.feeder = some-injective w r.feeder (sym at ∙ r.first) in
+      let fed : IsFed (set views 0 w') r.feeder Quiet [] = record {
+        g = w';
+        at = set_here views 0 w' (within views 0 w at);
+        on = ap (λ (u : Hands). u.feed.on) is ∙ r.feeds;
+        others = λ j u e. ⊎_elim (λ t. absurd (omega (arith, t.0))) (λ t. r.others j u t.1) (at_set views 0 (suc j) w' u e);
+        drained = ap (λ (u : Hands). u.feed.drained) is ∙ sym (append-nil r.feeder.feed.drained);
+        feed = raise-fed n w.feed ∙ ap (λ (u : Hands). feed_of u.feed) is;
+      } in
+      let o = hand_changes views shelf 0 w w' at in
+      moved shelf shelf status (max status n) states logs views 0 w' r fed (omega arith)
+      (λ less. ap (λ s. max s n) (r.word (omega (arith, less)) ∙ ap (λ (u : Hands). u.feed.raised) (sym is)))
+      (IsPermutation-trans (all_in_hand views shelf) (held_by w ++ o.0) (all_in_hand (set views 0 w') shelf) o.1 o.2)
+      (raised-linked a shelf states views r.linked 0 w at w' refl refl)
+
+  -- a raise to say that there was no memory, of any pass
+  any_raises : (id n : ℕ) (w : Hands) → 3 ≤ n → Raises (ShowsMoment a) id w n w
+  any_raises id n w high shelf status states logs views r at =
+      let fed : IsFed (set views id w) r.feeder Quiet [] = fed_on views id w w r.feeder Quiet [] at r.first r.feeds r.others (inl (record { same = refl; nothing = λ f. refl; none = refl })) in
+      let o = hand_changes views shelf id w w at in
+      moved shelf shelf status (max status n) states logs views id w r fed (omega arith)
+      (λ less. absurd (omega (arith, less, high)))
+      (IsPermutation-trans (all_in_hand views shelf) (held_by w ++ o.0) (all_in_hand (set views id w) shelf) o.1 o.2)
+      (raised-linked a shelf states views r.linked id w at w refl refl)
+
+  -- a raise of the state word, by the feeder if not to say that there was no memory
+  pub raises_by : (id n : ℕ) (w : Hands) → (n < 3 → id ≡ 0) → Raises (ShowsMoment a) id w n (hands_after_raise w n)
+  raises_by id n w first = ⊎_elim
+      (λ low. subst (λ (t : ℕ × Hands). Raises (ShowsMoment a) t.0 w n t.1) (λ i. (sym (first low) i, sym (told-raise w n low) i)) (feeder_raises n w low))
+      (λ high. subst (Raises (ShowsMoment a) id w n) (sym (untold-raise w n high)) (any_raises id n w high))
+      (cases_lt n 3)
 
   -- a pass lays the bundle that it has in hand on the shelf
   pub lays_by : (id : ℕ) (w : Hands) (p : Piece) → w.held ≡ Some (work_of p.claim false) → w.link ≡ p.link → Lays (ShowsMoment a) id w p (hands_after_put w p)

@@ -2,7 +2,7 @@
 
 ghost use Rattle.std.specs.Prelude.{◌≡◌, ◌≤◌, ◌<◌, ◌^◌, [], List, map, length, Ok, OnOk};
 ghost use Rattle.sb_feeds.specs.base.records.declared.item.Record.{Record as ARecord};
-ghost use Rattle.sb_worker.specs.cascade.Calls.{IsEmptyHanded, IsReady, plan_of, setting_of};
+ghost use Rattle.sb_worker.specs.cascade.Calls.{IsEmptyHanded, IsFeeder, IsReady, plan_of, setting_of};
 ghost use Rattle.sb_feeds.specs.one_feed.Feeds.{Fed, nothing_fed};
 ghost use Rattle.sb_feeds.specs.one_feed.GiveCauses.{GiveCause};
 ghost use Rattle.sb_feeds.specs.one_feed.InputFeeds.{FeedCause, Feeds};
@@ -80,7 +80,7 @@ pub(crate) fn end_work<W: Wait, G: Gate>(
     pass: &mut CascadePass,
     gate: &G,
 ) -> Result<(), NoMemory>
-    requires pass { IsReady cascade.now pass.old × IsEmptyHanded pass.old }
+    requires pass { IsReady cascade.now pass.old × IsFeeder pass.old × IsEmptyHanded pass.old }
     ensures same { IsStill cascade.now pass.old pass.new }
     ensures feeder { OnOk result ((f : Fed) (rows : List ARecord) → HasFed cascade.now pass.old f rows
         → HasFed cascade.now pass.new f rows) }

@@ -1,4 +1,4 @@
-use Rattle.std.proofs.Common.{◌≡◌, [], Some, drop, if◌then◌else◌, refl, sym, ap, subst, ◌∙◌}
+use Rattle.std.proofs.Common.{◌≡◌, [], Some, drop, if◌then◌else◌, refl, sym, ap, subst, ◌∙◌, arith}
 use Rattle.std.specs.Prelude.{◌==◌}
 use Rattle.sb_hand.specs.core.Closings.{is_sink}
 use Rattle.sb_hand.specs.node.Looking.{IsNotYet}
@@ -57,7 +57,7 @@ leave-requires-in-Err-NotYet-clause-looks g c =
     subst (λ (x : SharedView). IsNotYet x.own.lanes.items e.why) (sym c.enter-guard.ensures.turn.1) stops.0
 
 pub stop-requires-clause-rule : goal.stop-requires-clause-rule
-stop-requires-clause-rule g c = raises_by _ _ _ _
+stop-requires-clause-rule g c = raises_by _ _ 3 _ (λ low. absurd (omega (arith, low)))
 
 pub returns-in-Ok-clause-begun : goal.returns-in-Ok-clause-begun
 returns-in-Ok-clause-begun g c =

@@ -1,4 +1,4 @@
-use Rattle.std.proofs.Common.{rules, ◌≡◌, false, [], ◌∷◌, refl, sym, ap, subst}
+use Rattle.std.proofs.Common.{rules, ◌≡◌, false, [], ◌∷◌, refl, sym, ap, subst, arith}
 use Rattle.sb_turn.specs.Passes.{about}
 use Rattle.sb_cascade.specs.declared.telling.Change.TheVariants.{Finish}
 use Rattle.sb_cascade.specs.declared.telling.Hands.{Hands}
@@ -67,4 +67,4 @@ leave-requires-clause-does g c =
     (absorb-sets k.lane k.bundle.epoch k.bundle.number at.0 c.args.part x y (c.in-Ok.ensures.absorbs at.0 at.1)))))
 
 pub stop-requires-clause-rule : goal.stop-requires-clause-rule
-stop-requires-clause-rule g c = raises_by _ _ _ _
+stop-requires-clause-rule g c = raises_by _ _ 3 _ (λ low. absurd (omega (arith, low)))

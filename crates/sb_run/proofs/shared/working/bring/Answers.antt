@@ -47,6 +47,6 @@ loop-preserved g c =
           let now = inv.feeder f rows h in
           room.feeder f rows (fed-still cascade c.loop.pass c.arrive.new.pass f rows now pass.0 pass.2 (pass.1.0 ∙ sym now.feeder.0) (ap (λ (w : Hands). w.feed) full.same.0));
       same = still_then cascade c.args.pass.now c.loop.pass c.make_room.new.pass inv.same
-          (still_then cascade c.loop.pass c.arrive.new.pass c.make_room.new.pass (record { ready = pass.0; out = c.arrive.ensures.out }) room.same);
+          (still_then cascade c.loop.pass c.arrive.new.pass c.make_room.new.pass (record { ready = pass.0; out = c.arrive.ensures.out; feeder = λ f. pass.1 }) room.same);
       bundle = (rw c.in-Err-Full.field-0-is at full.back).0 ∙ inv.bundle;
     }
