@@ -3,7 +3,7 @@
 ghost use Rattle.std.specs.Prelude.{◌≤◌, All, IfOk};
 
 use sb_run::sb_base::{
-    Agg, Down, Dropped, Kind, LatePolicy, MAX_BUNDLE, Plan, Refusal, Step, Windows,
+    Agg, Down, Dropped, Kind, LatePolicy, MAX_BUNDLE, Op, Plan, Refusal, Sequence, Step, Windows,
 };
 use sb_run::sb_emit::{CountTap, Printing, Tap};
 use sb_run::sb_outside::{MemSink, MemSource};
@@ -252,5 +252,50 @@ fn late_records_are_listed_if_the_plan_drops_them(rt: HostRuntime) -> Result<(),
         mark: 10,
     };
     assert!(rt; ran.dropped.as_slice() == [late].as_slice());
+    Ok(())
+}
+
+/// The sums over windows of 10 of what an expansion by 0 alone gives.
+fn sums_of_expanded(alloc: Global) -> Result<Plan, Fail> {
+    let expand = Kind::Do(Op::Expand(Sequence::new(vec![in alloc; 0]?)));
+    let sum = Kind::Group(Agg::Sum, Windows::new(10, 10)?);
+    let steps = vec![in alloc;
+        Step {
+            kind: expand,
+            down: Down { node: 1, lane: 0 }
+        },
+        Step {
+            kind: sum,
+            down: Down { node: 2, lane: 0 }
+        },
+    ]?;
+    let plan = Plan::new(steps, Some(Down { node: 0, lane: 0 }), None).ok_or("no plan")?;
+    Ok(plan)
+}
+
+/// How often the lanes of all nodes but the first have looked for a container in a run that is done.
+fn searches_below(alloc: Global, end: RunEnd) -> Result<Vec<u64>, Fail> {
+    let RunEnd::Done(hand) = end else {
+        return Err("not done".into());
+    };
+    let parts = hand.into_parts();
+    let mut searches = Vec::new(alloc);
+    for node in parts.nodes.iter().skip(1) {
+        for lane in &node.lanes {
+            searches.push(lane.searches())?;
+        }
+    }
+    Ok(searches)
+}
+
+#[test]
+fn one_worker_looks_for_a_container_once_in_an_epoch(rt: HostRuntime) -> Result<(), Fail> {
+    let alloc = rt.alloc();
+    let plan = sums_of_expanded(alloc)?;
+    let mut input = source(alloc, FIRST, &[])?;
+    let ran = run(&rt, alloc, plan, 1, 1, &mut input, &[], &[], &OpenGate)?;
+    let Ran { end, rows, .. } = ran;
+    assert!(rt; rows.as_slice() == b"10,1,7\n20,1,4\n".as_slice());
+    assert!(rt; searches_below(alloc, end)?.as_slice() == [2, 2].as_slice());
     Ok(())
 }
