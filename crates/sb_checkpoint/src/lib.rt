@@ -3,11 +3,11 @@
 //! [`laws`] says why that is enough: the rows of the first part, and then those that a run gives from the low
 //! watermark of that part on over what was kept and the rest of the input, are the rows of one run over all of it.
 //!
-//! A run over a first part reads it by [`Cutoff`], whose end is no end of the input. [`checkpoint_of`] says what is
-//! kept of its items, a [`Keeper`] the same while they are read one by one, and [`write_checkpoint`] writes that as
-//! text. [`read_checkpoint`] reads such a text again, or says which line is the first that has no place in it. A run
-//! that goes on reads what was kept, and then the rest, by [`Resumed`], and gives its rows to [`RowsFrom`], which
-//! leaves out those that the first run gave. Plans with sessions cannot be cut ([`has_session`]).
+//! A [`Cutoff`] gives a first part of an input, whose end is no end of the input. [`checkpoint_of`] says what is kept
+//! of its items, a [`Keeper`] the same while they are read one by one, and [`write_checkpoint`] writes that as text.
+//! [`read_checkpoint`] reads such a text again, or says which line is the first that has no place in it. A run that
+//! goes on reads what was kept, and then the rest, by [`Resumed`], and gives its rows to [`RowsFrom`], which leaves out
+//! those that the first run gave. Plans with sessions cannot be cut ([`has_session`]).
 #![tactic(auto)]
 
 mod ahead;

@@ -14,7 +14,8 @@ use sb_feeds::sb_outside::Source;
 use sb_worker::sb_hand::Hand;
 use std::alloc::Global;
 
-/// Runs a plan over an input with one worker: it waits for nobody, starts no thread, and always returns.
+/// Runs a plan over an input with one worker: it waits for nobody but its input, its output and its taps, and starts no
+/// thread.
 ///
 /// After each bundle and each watermark that comes it works off all that can be worked off, and writes and offers the
 /// rows that no later line can change: each row that can be written is written before the next read. The late records
