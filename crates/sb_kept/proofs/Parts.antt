@@ -22,7 +22,7 @@ use Rattle.sb_work.specs.declared.outputs.Part.TheVariants as part
 use Rattle.sb_work.specs.Processing.{IsPart, side_of}
 use Rattle.sb_kept.specs.declared.kept.Kept.{Kept}
 use Rattle.sb_kept.specs.declared.kept.Kept.TheVariants as kept
-use Rattle.sb_kept.specs.Keeping.{IsMadeFor, IsPartFor, closed_mark, gives}
+use Rattle.sb_kept.specs.Keeping.{IsSpent, IsMadeFor, IsPartFor, closed_mark, gives}
 
 -- what taking in a part makes of a grouping, and that it was made for the same nodes
 abbrev pub AddsPart : Kept → Part → Kept → Type 0
@@ -56,6 +56,16 @@ pub aggregate-adds : (g h : aggregate.Absorbed) (p : aggregate.Grouped) → ((es
     → AddsPart (kept.Aggregate g) (part.Agg p) (kept.Aggregate h)
 aggregate-adds g h p adds lane records is =
     adds (on_lane lane records) (λ f. ap (sum_by f) (records_are is.operator g p lane records is.made is.is_part ∙ sym (all_records-of lane records))) is.from
+
+-- the part stands for the elements that came on its lane
+pub aggregate-stands : {old : Kept} {p : Part} (g : aggregate.Absorbed) (q : aggregate.Grouped) → old ≡ kept.Aggregate g → p ≡ part.Agg q
+    → ((IsSpent old → ⊥) → (lane : ℕ) × (records : List Record) × IsPartFor old p lane records)
+    → (IsSpent (kept.Aggregate g) → ⊥) → (es : List KeptRec) × aggregate.IsMadeOf q es × IsFrom g.closed es
+aggregate-stands {old} {p} g q old_is p_is takes unspent =
+    let of_part = subst (λ (x : Part). (IsSpent old → ⊥) → (lane : ℕ) × (records : List Record) × IsPartFor old x lane records) p_is takes in
+    let of_both = subst (λ (x : Kept). (IsSpent x → ⊥) → (lane : ℕ) × (records : List Record) × IsPartFor x (part.Agg q) lane records) old_is of_part in
+    let came = of_both unspent in
+    (on_lane came.0 came.1, (λ f. ap (sum_by f) (records_are came.2.operator g q came.0 came.1 came.2.made came.2.is_part ∙ sym (all_records-of came.0 came.1))), came.2.from)
 
 -- ---- sessions
 -- lane 0 is the only one

@@ -1,6 +1,6 @@
 use Rattle.std.proofs.Common.{rules}
 use Rattle.std.proofs.lemmas.Result.{on_ok_weaker}
-use Rattle.sb_kept.proofs.Parts.{AddsPart, StaysMade, carried, aggregate-adds, session-adds, join-adds, sink-adds}
+use Rattle.sb_kept.proofs.Parts.{AddsPart, StaysMade, carried, aggregate-adds, aggregate-stands, session-adds, join-adds, sink-adds}
 use Rattle.sb_kept.proofs.Staying.{aggregate-stays}
 use Rattle.sb_kept.proofs.kept.Kept.absorb.Goals as goal
 use Rattle.sb_kept.proofs.kept.Kept.absorb.Goals.{in-Aggregate-Agg, in-Session-Rows, in-Join-Join, in-Sink-Rows, in_default+in-Agg+in-More-1, in_default+in-Agg+in-Start-1, in_default+in-Join-1, in_default+in-Rows-1}
@@ -30,3 +30,6 @@ returns-clause-adds c =
       | in_default+in-Join-1 w ↦ (search rules)
       | in_default+in-Rows-1 w ↦ (search rules)
     ]
+
+pub absorb-requires-clause-from : goal.absorb-requires-clause-from
+absorb-requires-clause-from c = (let a = c.in-Aggregate-Agg in aggregate-stands a.kept a.part a.is-0 a.is-1 c.requires.takes)
