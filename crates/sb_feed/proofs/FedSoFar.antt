@@ -31,7 +31,7 @@ use Rattle.sb_feed.specs.Reads.{IsGoing, TakesItem, StopsReading}
 use Rattle.sb_feed.specs.TapLists.{LeavesThoseThatStay}
 use Rattle.sb_feed.specs.Takes.{MayEnd, MayTake, Takes, Fails}
 use Rattle.sb_feed.proofs.FirstRows.{rows_are_first, rows_same}
-use Rattle.sb_feed.proofs.GivesInTurn.{AddsUp, taps_behind}
+use Rattle.sb_feed.proofs.GivesInTurn.{AddsUp, taps_behind, wrote_behind}
 use Rattle.sb_feed.proofs.InputEnds.{same_records}
 use Rattle.sb_feed.proofs.ItemSteps.{fed_nothing}
 use Rattle.sb_feed.proofs.LaterItems.{GoesOnTo, accepted_goes_on, following, mark_within, no_more, said_by, starting, tested_is_timely}
@@ -155,8 +155,8 @@ module _ {S O : Type 0} (left_of : S → Option (List ℕ)) (faults_of : S → �
 
       -- it could not be taken
       pub item_fails : (i : Item) (why : GiveStop) → TakesItem left_of (reading now.source held) (reading next.source held') p p' i → faults_of next.source ≡ faults_of now.source → p.lines < MAX_LINES
-          → Fails plan2 part now.out next.out now.taps next.taps (h.items ++ i ∷ []) h.rows why → next.dropped ≡ now.dropped
-          → FeedsSome plan (left_of start.source) (left_of next.source) part start.out next.out start.taps next.taps start.dropped next.dropped why
+          → Fails plan2 after part now.out next.out now.taps next.taps (h.items ++ i ∷ []) h.rows why → next.dropped ≡ now.dropped
+          → FeedsSome plan (left_of start.source) (left_of next.source) after part start.out next.out start.taps next.taps start.dropped next.dropped why
       item_fails i why takes same room fails kept =
           let read = read_more left_of plan (left_of start.source) now.source next.source held held' p p' h.items i (faults_of start.source) (faults_of now.source) (faults_of next.source) h.read takes same room in
           let (given, goes_on) = given_so_far plan (left_of start.source) (left_of next.source) held' p' (h.items ++ i ∷ []) (faults_of start.source) (faults_of next.source) read in
@@ -164,7 +164,7 @@ module _ {S O : Type 0} (left_of : S → Option (List ℕ)) (faults_of : S → �
             given = given;
             rows = h.rows ++ fails.stops.rows;
             first = rows_are_first plan (h.items ++ i ∷ []) (items_of plan given) fails.f (h.rows ++ fails.stops.rows) fails.covers goes_on (so_far_of fails.f (h.rows ++ fails.stops.rows) fails.stops.so_far);
-            wrote = laws.part_later start.out now.out next.out h.rows fails.stops.rows h.wrote fails.stops.wrote;
+            wrote = wrote_behind after part laws why start.out now.out next.out h.rows fails.stops.rows h.wrote fails.stops.wrote;
             at = taps_behind why h.rows fails.stops.rows start.taps now.taps next.taps h.offered fails.stops.at;
             late = dropped_of h.items;
             first_late = first_dropped h.items (i ∷ goes_on.later) (items_of plan given) (goes_on.are ∙ append_assoc h.items (i ∷ []) goes_on.later);
@@ -194,8 +194,8 @@ module _ {S O : Type 0} (left_of : S → Option (List ℕ)) (faults_of : S → �
 
       -- it could not be taken
       pub end_fails : (stop : Stop) (why : GiveStop) → StopsReading left_of (reading now.source held) (reading next.source held') p p' stop
-          → Fails plan2 part now.out next.out now.taps next.taps (h.items ++ end_items (streams_of plan2) stop) h.rows why → next.dropped ≡ now.dropped
-          → FeedsSome plan (left_of start.source) (left_of next.source) part start.out next.out start.taps next.taps start.dropped next.dropped why
+          → Fails plan2 after part now.out next.out now.taps next.taps (h.items ++ end_items (streams_of plan2) stop) h.rows why → next.dropped ≡ now.dropped
+          → FeedsSome plan (left_of start.source) (left_of next.source) after part start.out next.out start.taps next.taps start.dropped next.dropped why
       end_fails stop why stops fails kept =
           let (given, are, stopped) = reading_stops left_of plan (left_of start.source) now.source next.source held held' p p' h.items stop (faults_of start.source) (faults_of now.source) h.read stops in
           let all = h.items ++ end_items (streams_of plan) stop in
@@ -208,7 +208,7 @@ module _ {S O : Type 0} (left_of : S → Option (List ℕ)) (faults_of : S → �
               rest = first.rest;
               are = rows_same END_MARK plan (streams_in (items_of plan given)) (streams_in all) (λ s. ap (records_of s) (sym are) ∙ sym (same_records (streams_of plan) stop h.items s)) ∙ first.are;
             };
-            wrote = laws.part_later start.out now.out next.out h.rows fails.stops.rows h.wrote fails.stops.wrote;
+            wrote = wrote_behind after part laws why start.out now.out next.out h.rows fails.stops.rows h.wrote fails.stops.wrote;
             at = taps_behind why h.rows fails.stops.rows start.taps now.taps next.taps h.offered fails.stops.at;
             late = dropped_of h.items;
             first_late = record { rest = []; are = ap dropped_of (sym are) ∙ sym (append-nil (dropped_of h.items)) };

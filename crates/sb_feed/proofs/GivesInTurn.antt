@@ -6,7 +6,7 @@ use Rattle.sb_emit.specs.Taps.{TapState}
 use Rattle.sb_feed.specs.declared.give.GiveStop.{GiveStop}
 use Rattle.sb_feed.specs.declared.give.GiveStop.TheVariants as stop
 use Rattle.sb_feed.specs.Feeds.{Fed, AreRowsSoFar}
-use Rattle.sb_feed.specs.Gives.{Gives, GivesOut, OffersRows, StopsOut, TapsAt, WritesRows}
+use Rattle.sb_feed.specs.Gives.{Gives, GivesOut, OffersRows, StopsOut, TapsAt, WritesRows, WroteAt}
 use Rattle.sb_feed.specs.TapLists.{LeavesThoseThatStay}
 use Rattle.sb_feed.proofs.OfferedRows.{both_offered, none_offered, stops_behind}
 
@@ -23,6 +23,17 @@ taps_behind stop.Output l m a b c first at = tt
 taps_behind stop.Memory l m a b c first at = tt
 
 module _ {O : Type 0} (after part : O → List Record → O → Type 0) (laws : AddsUp after part) where
+  pub wrote_behind : (why : GiveStop) (o p q : O) (l m : List Record) → after o l p → WroteAt after part why p m q → WroteAt after part why o (l ++ m) q
+  wrote_behind (stop.Tap place) o p q l m first wrote = laws.after_more o p q l m first wrote
+  wrote_behind stop.Output o p q l m first wrote = laws.part_later o p q l m first wrote
+  wrote_behind stop.Memory o p q l m first wrote = laws.part_later o p q l m first wrote
+
+  -- in each case a part was written
+  pub wrote_part : (why : GiveStop) (o p : O) (l : List Record) → WroteAt after part why o l p → part o l p
+  wrote_part (stop.Tap place) o p l wrote = subst (λ m. part o m p) (append-nil l) (laws.part_of_all o p l [] wrote)
+  wrote_part stop.Output o p l wrote = wrote
+  wrote_part stop.Memory o p l wrote = wrote
+
   -- rows that came out, and then others
   pub gives_both : (first second : List Record → Type 0) (o p q : O) (a b c : List TapState) (before : List Record)
       → (g : GivesOut first after o p a b before) → GivesOut second after p q b c (before ++ g.rows) → GivesOut second after o q a c before
@@ -35,11 +46,11 @@ module _ {O : Type 0} (after part : O → List Record → O → Type 0) (laws : 
 
   -- rows that came out, and then others of which not all did
   pub stops_then : (plan : Shape) (first : List Record → Type 0) (o p q : O) (a b c : List TapState) (f : Fed) (before : List Record) (why : GiveStop)
-      → (g : GivesOut first after o p a b before) → StopsOut plan part p q b c f (before ++ g.rows) why → StopsOut plan part o q a c f before why
+      → (g : GivesOut first after o p a b before) → StopsOut plan after part p q b c f (before ++ g.rows) why → StopsOut plan after part o q a c f before why
   stops_then plan first o p q a b c f before why g n = record {
     rows = g.rows ++ n.rows;
     so_far = subst (AreRowsSoFar plan f) (append_assoc before g.rows n.rows) n.so_far;
-    wrote = laws.part_later o p q g.rows n.rows g.wrote n.wrote;
+    wrote = wrote_behind why o p q g.rows n.rows g.wrote n.wrote;
     at = taps_behind why g.rows n.rows a b c g.offered n.at;
   }
 
@@ -52,7 +63,7 @@ module _ {O : Type 0} (after part : O → List Record → O → Type 0) (laws : 
   pub gives_none : (stands : List Record → Type 0) (o : O) (taps : List TapState) (before : List Record) → stands before → GivesOut stands after o o taps taps before
   gives_none stands o taps before h = record { rows = []; stand = subst stands (sym (append-nil before)) h; wrote = laws.after_none o; offered = none_offered taps }
 
-  pub stops_none : (plan : Shape) (o : O) (taps : List TapState) (f : Fed) (before : List Record) → AreRowsSoFar plan f before → StopsOut plan part o o taps taps f before stop.Memory
+  pub stops_none : (plan : Shape) (o : O) (taps : List TapState) (f : Fed) (before : List Record) → AreRowsSoFar plan f before → StopsOut plan after part o o taps taps f before stop.Memory
   stops_none plan o taps f before h = record { rows = []; so_far = subst (AreRowsSoFar plan f) (sym (append-nil before)) h; wrote = laws.part_of_all o o [] [] (laws.after_none o); at = tt }
 
   -- rows that can be given then are given out
@@ -61,6 +72,6 @@ module _ {O : Type 0} (after part : O → List Record → O → Type 0) (laws : 
       → Gives plan stands after part o p a b f before result
   gives_due plan later stands o p a b f before rows (Ok x) same so stand wrote offered = record { rows = rows; stand = stand; wrote = wrote; offered = offered }
   gives_due plan later stands o p a b f before rows (Err (stop.Tap place)) same so stand wrote offered =
-      record { rows = rows; so_far = subst (λ s. AreRowsSoFar s f (before ++ rows)) same so; wrote = subst (λ l. part o l p) (append-nil rows) (laws.part_of_all o p rows [] wrote); at = offered }
+      record { rows = rows; so_far = subst (λ s. AreRowsSoFar s f (before ++ rows)) same so; wrote = wrote; at = offered }
   gives_due plan later stands o p a b f before rows (Err stop.Output) same so stand wrote offered = record { rows = rows; so_far = subst (λ s. AreRowsSoFar s f (before ++ rows)) same so; wrote = wrote; at = tt }
   gives_due plan later stands o p a b f before rows (Err stop.Memory) same so stand wrote offered = record { rows = rows; so_far = subst (λ s. AreRowsSoFar s f (before ++ rows)) same so; wrote = wrote; at = tt }

@@ -140,9 +140,9 @@ module _ {O : Type 0} (after part : O → List Record → O → Type 0) (laws : 
       by_result (Err why) n = record { f = n.f; covers = subst (λ l. Covers l n.f) whole n.covers; stops = stops_then after part laws plan (between t.f) o p q x y z n.f rows why t.gives n.stops }
 
   pub first_fails : (o p : O) (x y : List TapState) (why : GiveStop)
-      → ((items : List Item) (f : Fed) (rows : List Record) → MayEnd stands size c (MAX_LINES + 2) items f rows → Fails plan part o p x y (items ++ end_item (streams_of plan) A) rows why)
+      → ((items : List Item) (f : Fed) (rows : List Record) → MayEnd stands size c (MAX_LINES + 2) items f rows → Fails plan after part o p x y (items ++ end_item (streams_of plan) A) rows why)
       → (items : List Item) (f : Fed) (rows : List Record) → MayEnd stands size c (MAX_LINES + 1) items f rows
-      → Fails plan part o p x y (items ++ end_items (streams_of plan) End) rows why
+      → Fails plan after part o p x y (items ++ end_items (streams_of plan) End) rows why
   first_fails o p x y why first items f rows may =
       let n = first items f rows (may_end_first items f rows may) in
       record {

@@ -79,7 +79,7 @@ module _ {O : Type 0} (after part : O → List Record → O → Type 0) (laws : 
   -- a record that finds no memory
   pub lost_record : (s : Stream) (r : Record) (o : O) (x : List TapState) → ((f : Fed) (rows : List Record) → stands f rows → AreRowsSoFar plan f rows)
       → (items : List Item) (f : Fed) (rows : List Record) → MayTake stands plan size c (item.Rec s r) items f rows
-      → Fails plan part o o x x (items ++ item.Rec s r ∷ []) rows stop.Memory
+      → Fails plan after part o o x x (items ++ item.Rec s r ∷ []) rows stop.Memory
   lost_record s r o x so_far items f rows may = record {
     f = f;
     covers = with_one plan items s r f (fed_covers size items f c may.fed) may.timely;
@@ -118,9 +118,9 @@ module _ {O : Type 0} (after part : O → List Record → O → Type 0) (laws : 
   -- the last bundle of an epoch does not arrive, or its rows are not given out
   pub bundle_stops : (s : Stream) (t : ℕ) (g : Option Bundle) (b : Bundle) (o p : O) (x y : List TapState) (why : GiveStop)
       → g ≡ Some b → g ≡ given_at_mark (cutter_of c s) → IfSome g (IsBundleOf (cutter_of c s))
-      → ((f : Fed) (rows : List Record) → stands f rows → MayArrive plan size f s b → StopsOut plan part o p x y (with_bundle s b f) rows why)
+      → ((f : Fed) (rows : List Record) → stands f rows → MayArrive plan size f s b → StopsOut plan after part o p x y (with_bundle s b f) rows why)
       → (items : List Item) (f : Fed) (rows : List Record) → MayTake stands plan size c (item.Mark s t) items f rows
-      → Fails plan part o p x y (items ++ item.Mark s t ∷ []) rows why
+      → Fails plan after part o p x y (items ++ item.Mark s t ∷ []) rows why
   bundle_stops s t g b o p x y why some given sound arrives items f rows may =
       let last = sym given ∙ some in
       let f1 = with_bundle s b f in
@@ -143,6 +143,6 @@ module _ {O : Type 0} (after part : O → List Record → O → Type 0) (laws : 
   pub quiet_lost : (i : Item) (o : O) (x : List TapState) → call_in A i ≡ [] → call_in B i ≡ [] → watermark_in A i ≡ [] → watermark_in B i ≡ []
       → ((f : Fed) (rows : List Record) → stands f rows → AreRowsSoFar plan f rows)
       → (items : List Item) (f : Fed) (rows : List Record) → MayTake stands plan size c i items f rows
-      → Fails plan part o o x x (items ++ i ∷ []) rows stop.Memory
+      → Fails plan after part o o x x (items ++ i ∷ []) rows stop.Memory
   quiet_lost i o x call_a call_b mark_a mark_b so_far items f rows may =
       record { f = f; covers = fed_covers size (items ++ i ∷ []) f c (fed_quiet size items i f c call_a call_b mark_a mark_b may.fed); stops = stops_none after part laws plan o x f rows (so_far f rows may.stand) }

@@ -8,13 +8,18 @@ use Rattle.sb_feed.specs.declared.give.GiveStop.TheVariants as stop
 use Rattle.sb_feed.specs.Feeds.{Fed, AreRowsSoFar}
 use Rattle.sb_feed.specs.TapLists.{LeavesThoseThatStay, StopsIn}
 
+-- what was written of the rows where giving out stopped, by why it did: all of them if a tap failed, else a part
+abbrev pub WroteAt : {O : Type 0} → (O → List Record → O → Type 0) → (O → List Record → O → Type 0) → GiveStop
+    → O → List Record → O → Type 0
+WroteAt after part (stop.Tap place) o rows p = after o rows p
+WroteAt after part stop.Output o rows p = part o rows p
+WroteAt after part stop.Memory o rows p = part o rows p
+
 -- all of the rows were written, also if a tap then failed; else a part of them
 abbrev pub WritesRows : {O T : Type 0} → (O → List Record → O → Type 0) → (O → List Record → O → Type 0)
     → O → List Record → O → Result T GiveStop → Type 0
 WritesRows after part o rows p (Ok x) = after o rows p
-WritesRows after part o rows p (Err (stop.Tap place)) = after o rows p
-WritesRows after part o rows p (Err stop.Output) = part o rows p
-WritesRows after part o rows p (Err stop.Memory) = part o rows p
+WritesRows after part o rows p (Err why) = WroteAt after part why o rows p
 
 -- all of the rows were offered, or those up to one at which a tap failed; none if writing failed. Nothing is said of
 -- the taps where memory was wanting
@@ -38,12 +43,12 @@ pub record GivesOut {O : Type 0} (stands : List Record → Type 0) (after : O �
   pub wrote : after o rows p
   pub offered : LeavesThoseThatStay rows taps taps'
 
--- rows came out behind those before, and were written in part, or not all offered
-pub record StopsOut {O : Type 0} (plan : Shape) (part : O → List Record → O → Type 0) (o p : O)
+-- rows came out behind those before: a part of them was written, or all and a tap failed at one
+pub record StopsOut {O : Type 0} (plan : Shape) (after part : O → List Record → O → Type 0) (o p : O)
     (taps taps' : List TapState) (f : Fed) (before : List Record) (why : GiveStop) : Type 0 where
   pub rows : List Record
   pub so_far : AreRowsSoFar plan f (before ++ rows)
-  pub wrote : part o rows p
+  pub wrote : WroteAt after part why o rows p
   pub at : TapsAt why rows taps taps'
 
 -- what a call gives out that feeds an engine
@@ -51,4 +56,5 @@ abbrev pub Gives : {O T : Type 0} → Shape → (List Record → Type 0) → (O 
     → (O → List Record → O → Type 0) → O → O → List TapState → List TapState → Fed → List Record
     → Result T GiveStop → Type 0
 Gives plan stands after part o p taps taps' f before (Ok x) = GivesOut stands after o p taps taps' before
-Gives plan stands after part o p taps taps' f before (Err why) = StopsOut plan part o p taps taps' f before why
+Gives plan stands after part o p taps taps' f before (Err why) =
+    StopsOut plan after part o p taps taps' f before why

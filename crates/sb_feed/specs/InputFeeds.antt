@@ -12,7 +12,7 @@ use Rattle.sb_feed.specs.Due.{AreFirstDropped, AreFirstRows}
 use Rattle.sb_feed.specs.FedByItems.{IsFedBy, end_items}
 use Rattle.sb_feed.specs.Feeds.{Fed}
 use Rattle.sb_feed.specs.Given.{Given, items_of, stop_at}
-use Rattle.sb_feed.specs.Gives.{GivesOut, TapsAt}
+use Rattle.sb_feed.specs.Gives.{GivesOut, TapsAt, WroteAt}
 use Rattle.sb_feed.specs.Reads.{FaultCause}
 
 -- the input was fed up to where reading stopped, and all late records that were dropped are listed
@@ -27,14 +27,15 @@ pub record FeedsAll {O : Type 0} (plan : Shape) (size : ℕ) (left left' : Optio
   pub gives : GivesOut (stands f) after o p taps taps' []
   pub listed : dropped' ≡ dropped ++ dropped_of (items_of plan given)
 
--- a part of the first rows was written, and the first of the late records that were dropped are listed
+-- of some first rows a part was written, or all and a tap failed at one, and the first of the late records that were
+-- dropped are listed
 pub record FeedsSome {O : Type 0} (plan : Shape) (left left' : Option (List ℕ))
-    (part : O → List Record → O → Type 0) (o p : O)
+    (after part : O → List Record → O → Type 0) (o p : O)
     (taps taps' : List TapState) (dropped dropped' : List Dropped) (why : GiveStop) : Type 0 where
   pub given : Given left left'
   pub rows : List Record
   pub first : AreFirstRows plan (items_of plan given) rows
-  pub wrote : part o rows p
+  pub wrote : WroteAt after part why o rows p
   pub at : TapsAt why rows taps taps'
   pub late : List Dropped
   pub first_late : AreFirstDropped (items_of plan given) late
@@ -46,7 +47,7 @@ abbrev pub Feeds : {O : Type 0} → Shape → ℕ → Option (List ℕ) → Opti
 Feeds plan size left left' stands after part o p taps taps' dropped dropped' (Ok stop) =
     FeedsAll plan size left left' stands after o p taps taps' dropped dropped' stop
 Feeds plan size left left' stands after part o p taps taps' dropped dropped' (Err why) =
-    FeedsSome plan left left' part o p taps taps' dropped dropped' why
+    FeedsSome plan left left' after part o p taps taps' dropped dropped' why
 
 -- a fault of the source is told by its own stop alone
 abbrev pub FeedCause : ℕ → ℕ → Result Stop GiveStop → Type 0

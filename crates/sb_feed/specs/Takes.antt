@@ -41,11 +41,11 @@ pub record Takes {O : Type 0} (stands : Fed → List Record → Type 0) (after :
   pub gives : GivesOut (stands f) after o p taps taps' before
 
 -- the last of the items could not be taken, or what it gives could not be fed or given out
-pub record Fails {O : Type 0} (plan : Shape) (part : O → List Record → O → Type 0) (o p : O)
+pub record Fails {O : Type 0} (plan : Shape) (after part : O → List Record → O → Type 0) (o p : O)
     (taps taps' : List TapState) (items : List Item) (before : List Record) (why : GiveStop) : Type 0 where
   pub f : Fed
   pub covers : Covers items f
-  pub stops : StopsOut plan part o p taps taps' f before why
+  pub stops : StopsOut plan after part o p taps taps' f before why
 
 abbrev pub TakesOrFails : {O T : Type 0} → Shape → ℕ → (Fed → List Record → Type 0)
     → (O → List Record → O → Type 0) → (O → List Record → O → Type 0) → O → O → List TapState → List TapState
@@ -53,4 +53,4 @@ abbrev pub TakesOrFails : {O T : Type 0} → Shape → ℕ → (Fed → List Rec
 TakesOrFails plan size stands after part o p taps taps' items cutters before (Ok x) =
     Takes stands after o p taps taps' size items cutters before
 TakesOrFails plan size stands after part o p taps taps' items cutters before (Err why) =
-    Fails plan part o p taps taps' items before why
+    Fails plan after part o p taps taps' items before why
