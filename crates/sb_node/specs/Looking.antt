@@ -1,5 +1,5 @@
 -- What a look at the lanes of a node finds.
-use Rattle.std.specs.Prelude.{◌≡◌, ◌⊎◌, ℕ, ◌+◌, true, false, List, All, length, None, Some, Err, slice_get}
+use Rattle.std.specs.Prelude.{◌≡◌, ◌⊎◌, ℕ, ◌+◌, true, false, List, All, length, None, Some, Err, slice_get, take}
 use Rattle.sb_lane.specs.core.Marks.{first_is_closing}
 use Rattle.sb_lane.specs.declared.answers.NotYet.{NotYet}
 use Rattle.sb_lane.specs.LaneView.{LaneView}
@@ -14,6 +14,10 @@ NoneWaits lane = take_first (conts_of lane.containers) ≡ None
 -- the lane's oldest container cannot close, and this is why
 abbrev pub CannotClose : LaneView → Type 0
 CannotClose lane = (why : NotYet) × (look_of (conts_of lane.containers) ≡ Err why)
+
+-- each lane before lane l cannot close
+abbrev pub EarlierCannotClose : ℕ → List LaneView → Type 0
+EarlierCannotClose l lanes = All CannotClose (take l lanes)
 
 -- no lane's oldest container is closing
 abbrev pub NoneClosing : List LaneView → Type 0

@@ -9,7 +9,7 @@ ghost use Rattle.sb_lane.specs.Looks.{look_of};
 ghost use Rattle.sb_lane.specs.Placed.{conts_of};
 ghost use Rattle.sb_lane.specs.Taking.{take_first};
 ghost use Rattle.sb_node.specs.Changes.{HasLane};
-ghost use Rattle.sb_node.specs.Looking.{IsNotYet, NoneClosing, NoneWaits};
+ghost use Rattle.sb_node.specs.Looking.{EarlierCannotClose, IsNotYet, NoneClosing, NoneWaits};
 
 use crate::state::NodeState;
 use sb_lane::{Lane, LaneClose, NotYet};
@@ -28,6 +28,7 @@ fn look_at(lane: &Lane) -> (Result<LaneClose, NotYet>, bool)
 fn first_of_two(left: &Lane, right: &Lane) -> Result<(u32, u64), NotYet>
     ensures ok { IfOk result (λ p. (at : LaneView) × (slice_get (left.now ∷ right.now ∷ []) p.0 ≡ Some at)
         × (close : AClose) × (look_of (conts_of at.containers) ≡ Ok close) × (close.epoch ≡ p.1)) }
+    ensures first { IfOk result (λ p. EarlierCannotClose p.0 (left.now ∷ right.now ∷ [])) }
     ensures none { IfOk result (λ p. NoneClosing (left.now ∷ right.now ∷ [])) }
     ensures err { IfErr result (λ why. IsNotYet (left.now ∷ right.now ∷ []) why) }
 {
@@ -65,6 +66,7 @@ impl NodeState {
         requires lanes { (1 ≤ length self.now.lanes.items) × (length self.now.lanes.items ≤ 2) }
         ensures ok { IfOk result (λ p. (at : LaneView) × HasLane p.0 at self.now
             × (close : AClose) × (look_of (conts_of at.containers) ≡ Ok close) × (close.epoch ≡ p.1)) }
+        ensures first { IfOk result (λ p. EarlierCannotClose p.0 self.now.lanes.items) }
         ensures none { IfOk result (λ p. NoneClosing self.now.lanes.items) }
         ensures err { IfErr result (λ why. IsNotYet self.now.lanes.items why) }
     {
