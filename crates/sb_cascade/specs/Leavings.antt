@@ -10,7 +10,7 @@ use Rattle.sb_hand.specs.core.Parts.{Part, only_node, part_after, held_after}
 use Rattle.sb_hand.specs.lane.LaneView.{LaneView}
 use Rattle.sb_hand.specs.lane.Placed.{conts_of}
 use Rattle.sb_hand.specs.lane.Unfinished.{unfinished_of}
-use Rattle.sb_hand.specs.node.Looking.{IsNotYet, NoneWaits}
+use Rattle.sb_hand.specs.node.Looking.{EarlierCannotClose, IsNotYet, NoneWaits}
 use Rattle.sb_hand.specs.tally.Keeping.{feed_after}
 use Rattle.sb_hand.specs.tally.Tally.{Feed}
 use Rattle.sb_cascade.specs.declared.telling.Change.{Change}
@@ -40,8 +40,8 @@ HasRoom l x = (lane : LaneView) × (slice_get x.own.lanes.items l ≡ Some lane)
 abbrev pub HasRoomFor : Setting → Stream → ℕ → SharedView → Type 0
 HasRoomFor a stream k x = (d : Down) × (source a.plan stream ≡ Some d) × (d.node ≡ k) × HasRoom d.lane x
 
--- which change a leaving of node k may tell that found the state x and leaves y: a look tells only what is there, and
--- a bundle of a stream comes only where there is room for it
+-- which change a leaving of node k may tell that found the state x and leaves y: a look tells only what is there, a
+-- bundle of a stream comes only where there is room for it, and a closing begins only in the first lane that can close
 abbrev pub Looks : Setting → ℕ → SharedView → SharedView → Change → Type 0
 Looks a k x y Idle = All NoneWaits x.own.lanes.items
 Looks a k x y (NotYet why) = IsNotYet x.own.lanes.items why
@@ -53,7 +53,7 @@ Looks a k x y (Seal stream mark) = Unit {0}
 Looks a k x y (Take c link) = Unit {0}
 Looks a k x y (Deliver c place) = Unit {0}
 Looks a k x y (Finish c delivered) = Unit {0}
-Looks a k x y (Begin c passed) = Unit {0}
+Looks a k x y (Begin c passed) = EarlierCannotClose c.value.lane x.own.lanes.items
 Looks a k x y (Rows c first most place) = Unit {0}
 Looks a k x y (Pass c) = Unit {0}
 Looks a k x y (End c) = Unit {0}

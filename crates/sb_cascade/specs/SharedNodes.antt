@@ -15,7 +15,7 @@ use Rattle.sb_hand.specs.lane.Looks.{look_of}
 use Rattle.sb_hand.specs.lane.Placed.{conts_of}
 use Rattle.sb_hand.specs.lane.declared.answers.LaneClose.{LaneClose}
 use Rattle.sb_hand.specs.node.Changes.{ClosesKept, Starts}
-use Rattle.sb_hand.specs.node.Looking.{IsNotYet, NoneClosing}
+use Rattle.sb_hand.specs.node.Looking.{EarlierCannotClose, IsNotYet, NoneClosing}
 use Rattle.sb_hand.specs.node.Marking.{mark_for}
 use Rattle.sb_hand.specs.node.declared.closing.Closing.{Closing}
 use Rattle.sb_hand.specs.node.declared.state.NodeState.{NodeState}
@@ -98,12 +98,13 @@ with_link_once (Some place) epoch links = if is_some (down_of epoch links) then 
 abbrev pub FinishesLinked : ℕ → Option ℕ → LaneView → LaneView → Type 0
 FinishesLinked epoch link was is = links_of is.containers ≡ with_link_once link epoch (links_of was.containers)
 
--- a closing begins, of the oldest container of a lane; its rows are in it, or of the sink's in the tray
+-- a closing begins, of the oldest container of the first lane that can close; its rows are in it, or of the sink's in the tray
 pub record BeginsAt (sink : Bool) (c : Closing) (old new : SharedView) : Type 0 where
   pub lane : LaneView
   pub close : LaneClose
   pub looks : look_of (conts_of lane.containers) ≡ Ok close
   pub epoch_is : close.epoch ≡ c.epoch
+  pub first : EarlierCannotClose c.lane old.own.lanes.items
   pub none : NoneClosing old.own.lanes.items
   pub rows : List Record
   pub mid : NodeState

@@ -23,7 +23,7 @@ ghost use Rattle.sb_hand.specs.lane.declared.answers.LaneClose.{LaneClose as ACl
 ghost use Rattle.sb_hand.specs.node.Changes.{Absorbs, HasLane, Takes, Turns};
 ghost use Rattle.sb_hand.specs.node.Coming.{IsBackFrom};
 ghost use Rattle.sb_hand.specs.node.LinkChanges.{DropsLink, GetsPlace};
-ghost use Rattle.sb_hand.specs.node.Looking.{NoneClosing, NoneWaits};
+ghost use Rattle.sb_hand.specs.node.Looking.{EarlierCannotClose, NoneClosing, NoneWaits};
 ghost use Rattle.sb_hand.specs.node.Marking.{mark_for};
 ghost use Rattle.sb_cascade.specs.SharedNodes.{ChangesOwn, FinishesLinked, IsOut, LosesKept, PutsAt, ShowsSame};
 ghost use Rattle.sb_cascade.specs.SharedNodes.{BeginsAt, StopsAt, lines_of, owed_lines};
@@ -82,8 +82,8 @@ pub(crate) enum BeginStop {
     Spent,
 }
 
-/// A closing of a node begins, of the oldest container of a lane, which can close and has this epoch. At the sink its
-/// rows go to the tray. If there is no memory, what the node keeps is unknown, and all else is as it was.
+/// A closing of a node begins, of the oldest container of the first lane that can close, which has this epoch. At the
+/// sink its rows go to the tray. If there is no memory, what the node keeps is unknown, and all else is as it was.
 fn close(
     own: &mut NodeState,
     tray: &mut Vec<Record>,
@@ -97,6 +97,7 @@ fn close(
     requires few { length own.old.lanes.items ≤ 2 }
     requires lane { (at : LaneView) × HasLane lane at own.old
         × (oldest : AClose) × (look_of (conts_of at.containers) ≡ Ok oldest) × (oldest.epoch ≡ epoch) }
+    requires first { EarlierCannotClose lane own.old.lanes.items }
     requires none { NoneClosing own.old.lanes.items }
     requires rises { closed_mark own.old.kept ≤ mark_for lane (map lane_of own.old.lanes.items) }
     ensures begins { IfOk result (λ c. (c.node ≡ node) × BeginsAt is_sink c

@@ -6,7 +6,7 @@ use Rattle.sb_hand.specs.core.declared.moment.CoreLane.{CoreLane}
 use Rattle.sb_hand.specs.lane.LaneView.{lane_of}
 use Rattle.sb_hand.specs.lane.Placed.{conts_of}
 use Rattle.sb_hand.specs.node.Changes.{ClosesKept}
-use Rattle.sb_hand.specs.node.Looking.{NoneClosing}
+use Rattle.sb_hand.specs.node.Looking.{EarlierCannotClose, NoneClosing}
 use Rattle.sb_hand.specs.node.Marking.{mark_for}
 use Rattle.sb_hand.specs.node.declared.closing.Closing.{Closing}
 use Rattle.sb_hand.specs.node.declared.state.NodeState.{NodeState}
@@ -33,6 +33,7 @@ begins-reserved sink c old mid new room tray is unspent b = record {
   close = b.close;
   looks = b.looks;
   epoch_is = b.epoch_is;
+  first = subst (λ (m : NodeState). EarlierCannotClose c.lane m.lanes.items) is b.first;
   none = subst (λ (m : NodeState). NoneClosing m.lanes.items) is b.none;
   rows = b.rows;
   mid = b.mid;

@@ -1,6 +1,7 @@
-use Rattle.std.proofs.Common.{rules, ◌≡◌, ◌+◌, ◌-◌, length, length-append, ap, refl, ◌∙◌, arith}
+use Rattle.std.proofs.Common.{rules, ◌≡◌, ◌+◌, ◌-◌, length, length-append, sym, ap, subst, refl, ◌∙◌, arith}
 use Rattle.sb_hand.specs.diary.Diaries.{Written}
 use Rattle.sb_hand.specs.node.Changes.{HasLane}
+use Rattle.sb_hand.specs.node.Looking.{EarlierCannotClose}
 use Rattle.sb_hand.specs.node.declared.state.NodeState.{NodeState}
 use Rattle.sb_cascade.proofs.shared_node.close.Goals as goal
 use Rattle.sb_cascade.proofs.shared_node.close.Goals.{then-is_sink+in_ok-append, else-is_sink}
@@ -15,6 +16,7 @@ returns-clause-begins c =
         close = at.2;
         looks = at.3;
         epoch_is = search rules;
+        first = subst (λ l. EarlierCannotClose l c.args.own.now.lanes.items) (sym c.start.ensures.names.1) c.requires.first;
         none = c.requires.none;
         rows = c.in_ok-rows.rows.items;
         mid = c.close.new.self;

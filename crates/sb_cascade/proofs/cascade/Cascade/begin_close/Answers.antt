@@ -1,7 +1,7 @@
 use Rattle.std.proofs.Common.{◌≡◌, [], Some, drop, if◌then◌else◌, refl, sym, ap, subst, ◌∙◌, arith}
 use Rattle.std.specs.Prelude.{◌==◌}
 use Rattle.sb_hand.specs.core.Closings.{is_sink}
-use Rattle.sb_hand.specs.node.Looking.{IsNotYet}
+use Rattle.sb_hand.specs.node.Looking.{EarlierCannotClose, IsNotYet}
 use Rattle.sb_hand.specs.node.declared.closing.Closing.{Closing}
 use Rattle.sb_cascade.specs.declared.shared_node.BeginStop.TheVariants.{NotYet}
 use Rattle.sb_cascade.specs.declared.telling.Change.TheVariants.{Begin}
@@ -48,6 +48,14 @@ leave-requires-clause-does g c =
     let begins = c.in-Ok.ensures.begins in
     does_at a q.me.0.client w q.me.0.seen r.node n r.found.value r.state c.begin.new.self (Begin c.of-told.result sink) turn.0 (knew p.seat.me q.me n turn.2.0 r.state _ turn.2.1) turn.1
     (begins_does a w q.me.0.seen n r.state c.begin.new.self c.of-told.result k c.of-told.ensures sink (sym is) begins.0 begins.1 free)
+
+pub leave-requires-clause-looks : goal.leave-requires-clause-looks
+leave-requires-clause-looks g c =
+    let r = c.enter-guard.result in
+    let k = c.in-Ok.closing in
+    let first : EarlierCannotClose k.lane r.state.own.lanes.items = c.in-Ok.ensures.begins.1.first in
+    let told = subst (λ (z : Closing). EarlierCannotClose z.lane r.state.own.lanes.items) (sym c.of-told.ensures) first in
+    subst (λ (x : SharedView). EarlierCannotClose c.of-told.result.value.lane x.own.lanes.items) (sym c.enter-guard.ensures.turn.1) told
 
 pub leave-requires-in-Err-NotYet-clause-looks : goal.leave-requires-in-Err-NotYet-clause-looks
 leave-requires-in-Err-NotYet-clause-looks g c =
