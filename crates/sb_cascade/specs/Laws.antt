@@ -22,7 +22,7 @@ use Rattle.sb_cascade.specs.Doings.{Doing, Quiet, Fresh, Of, doing_of, is_event,
 use Rattle.sb_cascade.specs.Leavings.{Does}
 use Rattle.sb_cascade.specs.SharedNodes.{SharedView}
 use Rattle.sb_cascade.specs.Shown.{ShowsMoment, diaries_in, moment_of}
-use Rattle.sb_cascade.specs.Views.{after, all_in_hand, hands_after_claim, hands_after_put, idle_hands}
+use Rattle.sb_cascade.specs.Views.{after, all_in_hand, hands_after_claim, hands_after_put, hands_after_raise, idle_hands}
 
 -- the moment that is shown
 abbrev pub shown_by : {a : Setting} {shelf : List (Option Piece)} {status : ℕ} {states : List SharedView}
@@ -70,8 +70,8 @@ abbrev pub IsRuled : Setting → Standing → Type 0
 IsRuled a s = ShowsMoment a s.shelf s.status s.states s.logs s.views
 
 -- A step of a pass that leaves no node. It lays the bundle that it has in hand on a free place of the shelf, or with
--- nothing in hand claims the bundle of a place. It raises the state word, and has in hand and has fed what it had. It
--- splits a pass off. As it enters a node, joins a pass or loads the state word, nothing of all this changes.
+-- nothing in hand claims the bundle of a place. It raises the state word. It splits a pass off. As it enters a node,
+-- joins a pass or loads the state word, nothing of all this changes.
 pub data IsOtherStep (s : Standing) : Standing → Type 0 where
   Lays : (id k : ℕ) (w : Hands) (p : Piece) → get_elem? s.views id ≡ some w → get_elem? s.shelf k ≡ some None
       → w.held ≡ Some (work_of p.claim false)
@@ -85,8 +85,8 @@ pub data IsOtherStep (s : Standing) : Standing → Type 0 where
         shelf = slice_set s.shelf k None;
         views = slice_set s.views id (hands_after_claim w p);
       })
-  Raises : (id n : ℕ) (w told : Hands) → get_elem? s.views id ≡ some w → told.held ≡ w.held → told.feed ≡ w.feed
-      → IsOtherStep s (record s { status = max s.status n; views = slice_set s.views id told })
+  Raises : (id n : ℕ) (w : Hands) → get_elem? s.views id ≡ some w
+      → IsOtherStep s (record s { status = max s.status n; views = slice_set s.views id (hands_after_raise w n) })
   Splits : IsOtherStep s (record s { views = s.views ++ idle_hands ∷ [] })
   Stays : IsOtherStep s s
 

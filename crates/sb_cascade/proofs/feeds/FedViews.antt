@@ -1,4 +1,4 @@
--- What the feeder has fed and raised, after a leaving of any pass.
+-- What the feeder knows, after a step of any pass.
 use Rattle.std.proofs.Common.{◌≡◌, ℕ, zero, suc, true, false, List, [], ◌++◌, set, sym, ap, ◌∙◌, arith, append-nil, ⊎_elim}
 use mathlib.Core.Option.{some, some-injective}
 use lib.ListN.{get_elem?}
@@ -68,12 +68,12 @@ fed_on views (suc id) w w' f d rows at first on others feeds = ⊎_elim
     (λ (t : FeedsThis w w' d rows). let off : false ≡ true = ap (λ u. u.on) (sym (others id w at)) ∙ t.was in absurd (cc off))
     feeds
 
--- the feeder has raised what it had, if the pass has
-pub raised_on : (views : List Hands) (id : ℕ) (w w' f g : Hands) → get_elem? views id ≡ some w → get_elem? views 0 ≡ some f → w'.feed.raised ≡ w.feed.raised
-    → get_elem? (set views id w') 0 ≡ some g → g.feed.raised ≡ f.feed.raised
-raised_on views id w w' f g at first same there = ⊎_elim
+-- what the feeder's view says of something stays, if the pass's does
+pub kept_on : {A : Type 0} (says : Hands → A) (views : List Hands) (id : ℕ) (w w' f g : Hands) → get_elem? views id ≡ some w → get_elem? views 0 ≡ some f → says w' ≡ says w
+    → get_elem? (set views id w') 0 ≡ some g → says g ≡ says f
+kept_on says views id w w' f g at first same there = ⊎_elim
     (λ t.
     let is : w ≡ f = some-injective w f (sym at ∙ ap (get_elem? views) (sym t.0) ∙ first) in
-    ap (λ (u : Hands). u.feed.raised) (sym t.1) ∙ same ∙ ap (λ (u : Hands). u.feed.raised) is)
-    (λ t. ap (λ (u : Hands). u.feed.raised) (some-injective g f (sym t.1 ∙ first)))
+    ap says (sym t.1) ∙ same ∙ ap says is)
+    (λ t. ap says (some-injective g f (sym t.1 ∙ first)))
     (at_set views id 0 w' g there)

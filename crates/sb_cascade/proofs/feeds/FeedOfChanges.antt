@@ -1,4 +1,4 @@
--- What a pass knows that it fed and drained, after a leaving.
+-- What a pass knows that it fed, drained and raised, after a leaving or a raise of the state word.
 use Rattle.std.proofs.Common.{◌≡◌, ℕ, Bool, true, false, cond, nat_lt, List, [], ◌∷◌, ◌++◌, length, map, sym, refl, ◌∙◌, append-nil, inl, inr}
 use Rattle.std.proofs.lemmas.List.{map-append}
 use Rattle.std.specs.declared.snapshot.Snapshot.{Snapshot}
@@ -135,7 +135,7 @@ feed-raised n B f = refl
 pub raise-fed : (n : ℕ) (f : Feed) → feed_of (with_raise n f) ≡ feed_of f
 raise-fed n f = λ i. record { bundles = λ t. map fed_bundle (feed-raised n t f i).bundles; marks = λ t. (feed-raised n t f i).marks; drained = 0 }
 
--- nor is anything else new that a raise leaves as it is where the view tells it
+-- what a view says of something stays, if it does at a raise that the view tells
 pub raise-keeps : {A : Type 0} (f : Hands → A) (w : Hands) (n : ℕ) → f (record w { feed = with_raise n w.feed }) ≡ f w → f (hands_after_raise w n) ≡ f w
 raise-keeps f w n same = by_case (nat_lt n 3)
   where

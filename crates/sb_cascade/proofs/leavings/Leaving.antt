@@ -40,7 +40,7 @@ use Rattle.sb_cascade.specs.Views.{after, all_in_hand, records_of_feed, feed_of,
 use Rattle.sb_cascade.proofs.leavings.Acting.{IsGood, acts, in_any_order, is_event_of}
 use Rattle.sb_cascade.specs.LinkedPassing.{place-here}
 use Rattle.sb_cascade.proofs.links.LinksKept.{links-kept}
-use Rattle.sb_cascade.proofs.feeds.FedViews.{IsFed, fed_on, more_none, raised_on}
+use Rattle.sb_cascade.proofs.feeds.FedViews.{IsFed, fed_on, kept_on, more_none}
 use Rattle.sb_cascade.proofs.feeds.FeedOfChanges.{after-raised}
 use Rattle.sb_cascade.proofs.leavings.LaterRows.{added_high, drained_low, later_none, later_too}
 use Rattle.sb_cascade.proofs.entered.Lookups.{slice_at}
@@ -250,7 +250,7 @@ module _ (a : Setting) where
         first = is_fed.at;
         feeds = is_fed.on;
         others = is_fed.others;
-        word = λ low. r.word low ∙ sym (raised_on views id w w' r.feeder is_fed.g at r.first (after-raised w k c) is_fed.at);
+        word = λ low. r.word low ∙ sym (kept_on (λ u. u.feed.raised) views id w w' r.feeder is_fed.g at r.first (after-raised w k c) is_fed.at);
         sound = now.sound;
         exact = now.exact;
         tallied = now.tallied;

@@ -1,5 +1,5 @@
 -- A step that leaves no node changes nothing that is shown.
-use Rattle.std.proofs.Common.{◌≡◌, ℕ, suc, List, [], ◌∷◌, ◌++◌, length, max, set, sym, refl, ap, ◌∙◌, subst, arith, append-nil, inl, Option, Some, None}
+use Rattle.std.proofs.Common.{◌≡◌, ℕ, suc, List, [], ◌∷◌, ◌++◌, length, max, set, sym, refl, ap, ◌∙◌, subst, arith, Option, Some, None}
 use Rattle.std.specs.Prelude.{slice_get}
 use Rattle.std.specs.List.Sorted.{IsPermutation}
 use Rattle.std.proofs.lemmas.List.Sorted.{IsPermutation-refl, IsPermutation-trans}
@@ -16,13 +16,14 @@ use Rattle.sb_cascade.specs.declared.telling.Change.{Change}
 use Rattle.sb_cascade.specs.declared.telling.Hands.{Hands}
 use Rattle.sb_cascade.specs.declared.telling.Piece.{Piece}
 use Rattle.sb_cascade.specs.declared.telling.Setting.{Setting}
-use Rattle.sb_cascade.specs.Doings.{Quiet, Story}
+use Rattle.sb_cascade.specs.Doings.{Story}
 use Rattle.sb_cascade.specs.Laws.{IsSameMoment, OnlyLeavingsChangeWhatIsShown, shown_by}
 use Rattle.sb_cascade.specs.Laws.IsOtherStep.{Lays, Claims, Raises, Splits, Stays}
 use Rattle.sb_cascade.specs.SharedNodes.{SharedView}
 use Rattle.sb_cascade.specs.Shown.{ShowsMoment}
-use Rattle.sb_cascade.specs.Views.{all_in_hand, as_list, hands_after_claim, hands_after_put, held_by, idle_hands, work_on}
-use Rattle.sb_cascade.proofs.feeds.FedViews.{IsFed, fed_on}
+use Rattle.sb_cascade.specs.Views.{all_in_hand, as_list, hands_after_claim, hands_after_put, hands_after_raise, held_by, idle_hands, work_on}
+use Rattle.sb_cascade.proofs.feeds.FedViews.{kept_on}
+use Rattle.sb_cascade.proofs.feeds.FeedOfChanges.{raise-keeps}
 use Rattle.sb_cascade.proofs.leavings.Leaving.{hand_changes}
 
 -- two lists are the same, if they are as long as a third, and the same at each of its places
@@ -65,15 +66,13 @@ module _ (a : Setting) (states : List SharedView) (logs : List (List Change)) (s
   same_drained : (f : Hands) → get_elem? views' 0 ≡ some f → f.feed.drained ≡ r.feeder.feed.drained → later.feeder.feed.drained ≡ r.feeder.feed.drained
   same_drained f at drained = ap (λ (u : Hands). u.feed.drained) (some-injective later.feeder f (sym later.first ∙ at)) ∙ drained
 
--- a pass has other things in hand, and has fed the same
+-- a pass has other things in hand, and has drained the same
 module _ (a : Setting) (states : List SharedView) (logs : List (List Change)) (shelf shelf' : List (Option Piece)) (status status' : ℕ) (views : List Hands) (id : ℕ) (w w' : Hands)
     (r : ShowsMoment a shelf status states logs views) (later : ShowsMoment a shelf' status' states logs (set views id w')) where
-  moved : get_elem? views id ≡ some w → w'.feed ≡ w.feed → IsPermutation (all_in_hand views shelf) (all_in_hand (set views id w') shelf') → IsSameMoment (shown_by r) (shown_by later)
-  moved at feed held =
-      let fed : IsFed (set views id w') r.feeder Quiet [] = fed_on views id w w' r.feeder Quiet [] at r.first r.feeds r.others (inl (record { same = feed; nothing = λ f. refl; none = refl })) in
+  moved : get_elem? views id ≡ some w → w'.feed.drained ≡ w.feed.drained → IsPermutation (all_in_hand views shelf) (all_in_hand (set views id w') shelf') → IsSameMoment (shown_by r) (shown_by later)
+  moved at drained held =
       same_moment a states logs shelf shelf' status status' views (set views id w') r later
-      (same_drained a states logs shelf shelf' status status' views (set views id w') r later fed.g fed.at (fed.drained ∙ append-nil r.feeder.feed.drained))
-      held
+      (kept_on (λ (u : Hands). u.feed.drained) views id w w' r.feeder later.feeder at r.first drained later.first) held
 
 -- what all have in hand stays, if what one has does
 held_stays : (views : List Hands) (shelf : List (Option Piece)) (id : ℕ) (w w' : Hands) → get_elem? views id ≡ some w → w'.held ≡ w.held
@@ -97,10 +96,12 @@ only_leavings a s _ (Claims id k w p at full bare) r later = (
       (subst (λ (o : Option Held). IsPermutation (as_list o ++ work_on p) (work_on p)) (sym bare) (IsPermutation-refl (work_on p)))),
   refl,
 )
-only_leavings a s _ (Raises id n w told at held feed) r later = (
-  moved a s.states s.logs s.shelf s.shelf s.status (max s.status n) s.views id w told r later at feed (held_stays s.views s.shelf id w told at held),
-  refl,
-)
+only_leavings a s _ (Raises id n w at) r later =
+    let told : Hands = hands_after_raise w n in (
+      moved a s.states s.logs s.shelf s.shelf s.status (max s.status n) s.views id w told r later at (raise-keeps (λ u. u.feed.drained) w n refl)
+          (held_stays s.views s.shelf id w told at (raise-keeps (λ u. u.held) w n refl)),
+      refl,
+    )
 only_leavings a s _ Splits r later =
     let more : List Hands = s.views ++ idle_hands ∷ [] in
     let same : all_in_hand more s.shelf ≡ all_in_hand s.views s.shelf = ap (λ (l : List Held). l ++ flat (on_place work_on) s.shelf) (flat_more held_by s.views idle_hands refl) in (

@@ -21,17 +21,17 @@ use Rattle.sb_cascade.specs.Views.{all_in_hand, hands_after_claim, hands_after_r
 use Rattle.sb_cascade.proofs.leavings.Acting.{IsGood, in_any_order}
 use Rattle.sb_cascade.proofs.leavings.Leaving.{hand_changes}
 use Rattle.sb_cascade.specs.Linked.{AreLinked}
-use Rattle.sb_cascade.proofs.feeds.FedViews.{IsFed, fed_on, raised_on}
+use Rattle.sb_cascade.proofs.feeds.FedViews.{IsFed, fed_on, kept_on}
 use Rattle.sb_cascade.proofs.feeds.FeedOfChanges.{raise-fed}
 use Rattle.sb_cascade.proofs.links.LinkedSteps.{claimed-linked, laid-linked, raised-linked}
 
--- what a pass knows after a raise that its view tells
-told-raise : (w : Hands) (n : ℕ) → n < 3 → hands_after_raise w n ≡ record w { feed = with_raise n w.feed }
-told-raise w n low = ap (λ b. cond b (record w { feed = with_raise n w.feed }) w) (lt-ltb n 3 low)
+-- what a pass knows after it ended the work
+view-after-end : (w : Hands) (n : ℕ) → n < 3 → hands_after_raise w n ≡ record w { feed = with_raise n w.feed }
+view-after-end w n low = ap (λ b. cond b (record w { feed = with_raise n w.feed }) w) (lt-ltb n 3 low)
 
--- and after one that it does not tell
-untold-raise : (w : Hands) (n : ℕ) → 3 ≤ n → hands_after_raise w n ≡ w
-untold-raise w n high = ap (λ b. cond b (record w { feed = with_raise n w.feed }) w) (le-ltb n 3 high)
+-- and after it said that there was no memory
+view-after-memory : (w : Hands) (n : ℕ) → 3 ≤ n → hands_after_raise w n ≡ w
+view-after-memory w n high = ap (λ b. cond b (record w { feed = with_raise n w.feed }) w) (le-ltb n 3 high)
 
 module _ (a : Setting) where
   -- only a pass, the shelf and the state word change, and what passes and shelf have together is the same
@@ -71,12 +71,12 @@ module _ (a : Setting) where
   moves shelf shelf' status states logs views id w w' r at feed same linked =
       let fed : IsFed (set views id w') r.feeder Quiet [] = fed_on views id w w' r.feeder Quiet [] at r.first r.feeds r.others (inl (record { same = feed; nothing = λ f. refl; none = refl })) in
       moved shelf shelf' status status states logs views id w' r fed (omega arith)
-      (λ low. r.word low ∙ sym (raised_on views id w w' r.feeder fed.g at r.first (ap (λ f. f.raised) feed) fed.at))
+      (λ low. r.word low ∙ sym (kept_on (λ u. u.feed.raised) views id w w' r.feeder fed.g at r.first (ap (λ f. f.raised) feed) fed.at))
       same linked
 
-  -- a raise of the state word, of which the feeder's view tells
-  feeder_raises : (n : ℕ) (w : Hands) → n < 3 → Raises (ShowsMoment a) 0 w n (record w { feed = with_raise n w.feed })
-  feeder_raises n w low shelf status states logs views r at =
+  -- the feeder ends the work
+  feeder-ends : (n : ℕ) (w : Hands) → n < 3 → Raises (ShowsMoment a) 0 w n (record w { feed = with_raise n w.feed })
+  feeder-ends n w low shelf status states logs views r at =
       let w' : Hands = record w { feed = with_raise n w.feed } in
       let is : w ≡ r.feeder = some-injective w r.feeder (sym at ∙ r.first) in
       let fed : IsFed (set views 0 w') r.feeder Quiet [] = record {
@@ -93,9 +93,9 @@ module _ (a : Setting) where
       (IsPermutation-trans (all_in_hand views shelf) (held_by w ++ o.0) (all_in_hand (set views 0 w') shelf) o.1 o.2)
       (raised-linked a shelf states views r.linked 0 w at w' refl refl)
 
-  -- a raise to say that there was no memory, of any pass
-  any_raises : (id n : ℕ) (w : Hands) → 3 ≤ n → Raises (ShowsMoment a) id w n w
-  any_raises id n w high shelf status states logs views r at =
+  -- any pass says that there was no memory
+  memory-said : (id n : ℕ) (w : Hands) → 3 ≤ n → Raises (ShowsMoment a) id w n w
+  memory-said id n w high shelf status states logs views r at =
       let fed : IsFed (set views id w) r.feeder Quiet [] = fed_on views id w w r.feeder Quiet [] at r.first r.feeds r.others (inl (record { same = refl; nothing = λ f. refl; none = refl })) in
       let o = hand_changes views shelf id w w at in
       moved shelf shelf status (max status n) states logs views id w r fed (omega arith)
@@ -103,11 +103,11 @@ module _ (a : Setting) where
       (IsPermutation-trans (all_in_hand views shelf) (held_by w ++ o.0) (all_in_hand (set views id w) shelf) o.1 o.2)
       (raised-linked a shelf states views r.linked id w at w refl refl)
 
-  -- a raise of the state word, by the feeder if not to say that there was no memory
+  -- a raise of the state word: it says that there was no memory, or it is the feeder's
   pub raises_by : (id n : ℕ) (w : Hands) → (n < 3 → id ≡ 0) → Raises (ShowsMoment a) id w n (hands_after_raise w n)
   raises_by id n w first = ⊎_elim
-      (λ low. subst (λ (t : ℕ × Hands). Raises (ShowsMoment a) t.0 w n t.1) (λ i. (sym (first low) i, sym (told-raise w n low) i)) (feeder_raises n w low))
-      (λ high. subst (Raises (ShowsMoment a) id w n) (sym (untold-raise w n high)) (any_raises id n w high))
+      (λ low. subst (λ (t : ℕ × Hands). Raises (ShowsMoment a) t.0 w n t.1) (λ i. (sym (first low) i, sym (view-after-end w n low) i)) (feeder-ends n w low))
+      (λ high. subst (Raises (ShowsMoment a) id w n) (sym (view-after-memory w n high)) (memory-said id n w high))
       (cases_lt n 3)
 
   -- a pass lays the bundle that it has in hand on the shelf
