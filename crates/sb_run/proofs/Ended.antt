@@ -120,10 +120,10 @@ module _ {O : Type 0} (h : HandView) (sizes : Sizes) (left left' : Option (List 
       let items = items_of h.plan e.given in
       due_low h sizes.bundle items e.f e.cutters e.gives.rows e.gives.stand (subst (λ l. IsFedBy sizes.bundle l e.f e.cutters) (ap (λ l. items ++ l) none ∙ append-nil items) e.fed)
 
-  ends_early : (why : GiveStop) (e : FeedsSome h.plan left left' part o p taps taps' dropped dropped' why) (Offered : List Record → Type 0) → Offered e.rows
-      → EndsEarly h.plan left left' part o p Offered dropped dropped'
-  ends_early why e Offered is =
-      record { given = e.given; rows = e.rows; first = e.first; wrote = e.wrote; offered = is; late = e.late; first_late = e.first_late; listed = e.listed }
+  ends_early : (why : GiveStop) (e : FeedsSome h.plan left left' after part o p taps taps' dropped dropped' why) (Wrote : O → List Record → O → Type 0) → Wrote o e.rows p
+      → (Offered : List Record → Type 0) → Offered e.rows → EndsEarly h.plan left left' Wrote o p Offered dropped dropped'
+  ends_early why e Wrote wrote Offered is =
+      record { given = e.given; rows = e.rows; first = e.first; wrote = wrote; offered = is; late = e.late; first_late = e.first_late; listed = e.listed }
 
   pub ends_here : (fed : Result Stop GiveStop) → (h.spent ≡ false → settings_of h.nodes ≡ settings_at sizes.keeps_diaries sizes.pending h.plan)
       → Feeds h.plan sizes.bundle left left' (IsRested h) after part o p taps taps' dropped dropped' fed
@@ -136,6 +136,6 @@ module _ {O : Type 0} (h : HandView) (sizes : Sizes) (left left' : Option (List 
       )
   ends_here (Ok (at.Refused refusal)) settings e = ends_at (at.Refused refusal) e (low_at (at.Refused refusal) e refl)
   ends_here (Ok at.Fault) settings e = ends_at at.Fault e (low_at at.Fault e refl)
-  ends_here (Err stop.Output) settings e = ends_early stop.Output e (λ rows. ⊤) tt
-  ends_here (Err (stop.Tap place)) settings e = ends_early (stop.Tap place) e (λ rows. StopsIn rows place taps taps') e.at
-  ends_here (Err stop.Memory) settings e = ends_early stop.Memory e (λ rows. ⊤) tt
+  ends_here (Err stop.Output) settings e = ends_early stop.Output e part e.wrote (λ rows. ⊤) tt
+  ends_here (Err (stop.Tap place)) settings e = ends_early (stop.Tap place) e after e.wrote (λ rows. StopsIn rows place taps taps') e.at
+  ends_here (Err stop.Memory) settings e = ends_early stop.Memory e part e.wrote (λ rows. ⊤) tt

@@ -40,7 +40,7 @@ use Rattle.sb_feeds.specs.one_feed.GiveCauses.{GiveCause}
 use Rattle.sb_feeds.specs.one_feed.Gives.{GivesOut}
 use Rattle.sb_feeds.specs.one_feed.TapLists.{LeavesThoseThatStay, StopsIn}
 use Rattle.sb_feeds.proofs.one_feed.FirstRows.{rows_same}
-use Rattle.sb_feeds.proofs.one_feed.GivesInTurn.{AddsUp, gives_both}
+use Rattle.sb_feeds.proofs.one_feed.GivesInTurn.{AddsUp, gives_both, wrote_part}
 use Rattle.sb_feeds.proofs.one_feed.LaterItems.{from_later}
 use Rattle.sb_feeds.specs.declared.fed.Fed.{Fed as AValue}
 use Rattle.sb_feeds.specs.Fed.{values_of_accepted, has_stop, stop_from}
@@ -118,7 +118,7 @@ module _ (plan : Shape) (files : Stream → List ℕ) where
     shorter : (popped later : List AValue) (s : Stream) → values s ≡ popped ++ later → IsPrefix popped (values_of_accepted (accepted_of_file plan s (files s)))
     shorter popped later s are = let (more, e) = fed s in (later ++ more, sym (append_assoc popped later more) ∙ ap (λ l. l ++ more) (sym are) ∙ e)
 
-    module _ {O : Type 0} (part : O → List Record → O → Type 0) (o p : O) (taps taps' : List TapState) (dropped dropped' : Stream → List Dropped) (why : GiveStop) (e : FeedsPart plan values part o p taps taps' dropped dropped' why) where
+    module _ {O : Type 0} (after part : O → List Record → O → Type 0) (o p : O) (taps taps' : List TapState) (dropped dropped' : Stream → List Dropped) (why : GiveStop) (e : FeedsPart plan values after part o p taps taps' dropped dropped' why) where
       of : (s : Stream) → IsTakenOf plan s (files s) (e.popped s)
       of s = taken_of_file plan s (files s) (short s) (e.popped s) (shorter (e.popped s) (e.later s) s (e.are s))
 
@@ -157,21 +157,22 @@ module _ (plan : Shape) (files : Stream → List ℕ) where
             ∙ append_assoc (e.late s) (e.first_late s).rest (dropped_of (of s).back);
       }
 
-      early : (Offered : List Record → Type 0) → Offered e.rows → FilesEndEarly plan files part o p Offered dropped dropped'
-      early Offered is = record { rows = e.rows; first = first_rows; wrote = e.wrote; offered = is; late = e.late; first_late = first_late; listed = e.listed }
+      early : (Wrote : O → List Record → O → Type 0) → Wrote o e.rows p → (Offered : List Record → Type 0) → Offered e.rows → FilesEndEarly plan files Wrote o p Offered dropped dropped'
+      early Wrote wrote Offered is = record { rows = e.rows; first = first_rows; wrote = wrote; offered = is; late = e.late; first_late = first_late; listed = e.listed }
 
     module _ {O : Type 0} (after part : O → List Record → O → Type 0) (sizes : Sizes) (o p : O) (taps taps' : List TapState) (dropped dropped' : Stream → List Dropped) where
-      pub files_early : (why : GiveStop) → FeedsPart plan values part o p taps taps' dropped dropped' why → TwoEnds plan sizes files after part o p taps taps' dropped dropped' (early_by why)
-      files_early give.Output e = early part o p taps taps' dropped dropped' give.Output e (λ rows. ⊤) tt
-      files_early (give.Tap place) e = early part o p taps taps' dropped dropped' (give.Tap place) e (λ rows. StopsIn rows place taps taps') e.at
-      files_early give.Memory e = early part o p taps taps' dropped dropped' give.Memory e (λ rows. ⊤) tt
+      pub files_early : (why : GiveStop) → FeedsPart plan values after part o p taps taps' dropped dropped' why → TwoEnds plan sizes files after part o p taps taps' dropped dropped' (early_by why)
+      files_early give.Output e = early after part o p taps taps' dropped dropped' give.Output e part e.wrote (λ rows. ⊤) tt
+      files_early (give.Tap place) e = early after part o p taps taps' dropped dropped' (give.Tap place) e after e.wrote (λ rows. StopsIn rows place taps taps') e.at
+      files_early give.Memory e = early after part o p taps taps' dropped dropped' give.Memory e part e.wrote (λ rows. ⊤) tt
 
       -- there was no memory for one of the workers, whatever the feeder met
       pub files_memory : (laws : AddsUp after part) (size : ℕ) (stands : Fed → List Record → Type 0) → ((f : Fed) (rows : List Record) → stands f rows → AreRowsSoFar plan f rows)
           → (result : Result FilesStop GiveStop) → FeedsValues plan size values stands after part o p taps taps' dropped dropped' result → TwoEnds plan sizes files after part o p taps taps' dropped dropped' two.Memory
       files_memory laws size stands so (Ok stop) e =
-          early part o p taps taps' dropped dropped' give.Memory (files_without after part laws plan size values stands o p taps taps' dropped dropped' stop e so) (λ rows. ⊤) tt
-      files_memory laws size stands so (Err why) e = early part o p taps taps' dropped dropped' why e (λ rows. ⊤) tt
+          let w = files_without after part laws plan size values stands o p taps taps' dropped dropped' stop e so in
+          early after part o p taps taps' dropped dropped' give.Memory w part w.wrote (λ rows. ⊤) tt
+      files_memory laws size stands so (Err why) e = early after part o p taps taps' dropped dropped' why e part (wrote_part after part laws why o p e.rows e.wrote) (λ rows. ⊤) tt
 
     -- ---- all was fed, up to the stop of each
     module _ (items : List Item) (merged : AreMerged items (λ s. items_taken (streams_of plan) s (values s))) (stop : FilesStop) (stopped : files_stop_if (stop_among (values A)) (stop_among (values B)) ≡ Some stop) where
@@ -275,9 +276,9 @@ module _ {O : Type 0} (after part : O → List Record → O → Type 0) (laws : 
     (shared : IsShared plan sizes.bundle sizes.pending sizes.keeps_diaries (setting_of c)) (files : Stream → List ℕ) (short : (s : Stream) → length (files s) ≤ MAX_FILE_LENGTH) (values : Stream → List AValue)
     (fed : (s : Stream) → IsPrefix (values s) (values_of_accepted (accepted_of_file plan s (files s)))) (o p : O) (taps taps1 : List TapState) (dropped dropped' : Stream → List Dropped) where
   -- feeding stopped early
-  pub two_early : (why : GiveStop) → FeedsPart (plan_of c) values part o p taps taps1 dropped dropped' why → TwoEnds plan sizes files after part o p taps taps1 dropped dropped' (early_by why)
+  pub two_early : (why : GiveStop) → FeedsPart (plan_of c) values after part o p taps taps1 dropped dropped' why → TwoEnds plan sizes files after part o p taps taps1 dropped dropped' (early_by why)
   two_early why e =
-      files_early plan files short values fed after part sizes o p taps taps1 dropped dropped' why (subst (λ u. FeedsPart u values part o p taps taps1 dropped dropped' why) shared.plan_is e)
+      files_early plan files short values fed after part sizes o p taps taps1 dropped dropped' why (subst (λ u. FeedsPart u values after part o p taps taps1 dropped dropped' why) shared.plan_is e)
 
   -- a worker found no memory
   pub two_memory : (result : Result FilesStop GiveStop) → FeedsValues (plan_of c) (setting_of c).bundle values (HasFed c pass) after part o p taps taps1 dropped dropped' result
@@ -305,7 +306,7 @@ module _ {O : Type 0} (after part : O → List Record → O → Type 0) (laws : 
     pub two_stopped : (why : GiveStop) → ((f : Fed) (rows : List Record) → HasFed c pass f rows → ComesBack c after part p q taps1 taps2 f rows (Err why)) → TwoEnds plan sizes files after part o q taps taps2 dropped dropped' (early_by why)
     two_stopped why comes =
         files_early plan files short values fed after part sizes o q taps taps2 dropped dropped' why
-        (subst (λ u. FeedsPart u values part o q taps taps2 dropped dropped' why) shared.plan_is
+        (subst (λ u. FeedsPart u values after part o q taps taps2 dropped dropped' why) shared.plan_is
         (files_stopped after part laws (plan_of c) (setting_of c).bundle values (HasFed c pass) o p taps taps1 dropped dropped' stop e q taps2 why (comes e.f e.gives.rows e.gives.stand)))
 
 -- something was fed

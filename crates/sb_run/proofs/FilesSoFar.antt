@@ -21,7 +21,7 @@ use Rattle.sb_feeds.specs.one_feed.Gives.{StopsOut}
 use Rattle.sb_feeds.specs.one_feed.TapLists.{LeavesThoseThatStay}
 use Rattle.sb_feeds.specs.one_feed.Takes.{Fails, MayEnd, MayTake, Takes, TakesOrFails}
 use Rattle.sb_feeds.proofs.one_feed.FirstRows.{fed_covers}
-use Rattle.sb_feeds.proofs.one_feed.GivesInTurn.{AddsUp, stops_none, stops_then, taps_behind}
+use Rattle.sb_feeds.proofs.one_feed.GivesInTurn.{AddsUp, stops_none, stops_then, taps_behind, wrote_behind}
 use Rattle.sb_feeds.proofs.one_feed.InputEnds.{same_records}
 use Rattle.sb_feeds.proofs.one_feed.ItemSteps.{fed_nothing}
 use Rattle.sb_feeds.proofs.one_feed.LaterItems.{mark_within}
@@ -146,7 +146,7 @@ module _ {O : Type 0} (after part : O → List Record → O → Type 0) (laws : 
     }
 
     -- there was no memory for a step
-    pub files_wanting : ((f : Fed) (rows : List Record) → stands f rows → AreRowsSoFar plan f rows) → FeedsPart plan values part start.out now.out start.taps now.taps start.dropped now.dropped give.Memory
+    pub files_wanting : ((f : Fed) (rows : List Record) → stands f rows → AreRowsSoFar plan f rows) → FeedsPart plan values after part start.out now.out start.taps now.taps start.dropped now.dropped give.Memory
     files_wanting so = record {
       popped = values;
       later = λ s. [];
@@ -196,8 +196,8 @@ module _ {O : Type 0} (after part : O → List Record → O → Type 0) (laws : 
       }
 
       -- it could not be taken
-      pub files_fail : (next : AroundFiles O) (why : GiveStop) → Fails plan part now.out next.out now.taps next.taps (h.items ++ i ∷ []) h.rows why → ((t : Stream) → next.dropped t ≡ now.dropped t)
-          → FeedsPart plan values' part start.out next.out start.taps next.taps start.dropped next.dropped why
+      pub files_fail : (next : AroundFiles O) (why : GiveStop) → Fails plan after part now.out next.out now.taps next.taps (h.items ++ i ∷ []) h.rows why → ((t : Stream) → next.dropped t ≡ now.dropped t)
+          → FeedsPart plan values' after part start.out next.out start.taps next.taps start.dropped next.dropped why
       files_fail next why fails kept = record {
         popped = values';
         later = λ t. [];
@@ -206,7 +206,7 @@ module _ {O : Type 0} (after part : O → List Record → O → Type 0) (laws : 
         covers = covers_own plan values' (h.items ++ i ∷ []) merged_then fails.f fails.covers;
         rows = h.rows ++ fails.stops.rows;
         so_far = fails.stops.so_far;
-        wrote = laws.part_later start.out now.out next.out h.rows fails.stops.rows h.wrote fails.stops.wrote;
+        wrote = wrote_behind after part laws why start.out now.out next.out h.rows fails.stops.rows h.wrote fails.stops.wrote;
         at = taps_behind why h.rows fails.stops.rows start.taps now.taps next.taps h.offered fails.stops.at;
         late = λ t. dropped_of (items_taken (streams_of plan) t (values t));
         first_late = λ t. record { rest = dropped_of (item_for s i t); are = ap dropped_of (more t) ∙ flat_map-append dropped_in (items_taken (streams_of plan) t (values t)) (item_for s i t) };
@@ -236,8 +236,8 @@ module _ {O : Type 0} (after part : O → List Record → O → Type 0) (laws : 
       }
 
       -- it could not be taken
-      pub files_end_fails : (next : AroundFiles O) (why : GiveStop) → Fails plan part now.out next.out now.taps next.taps (h.items ++ end_items (streams_of plan) (as_stop stop)) h.rows why
-          → ((t : Stream) → next.dropped t ≡ now.dropped t) → FeedsPart plan values part start.out next.out start.taps next.taps start.dropped next.dropped why
+      pub files_end_fails : (next : AroundFiles O) (why : GiveStop) → Fails plan after part now.out next.out now.taps next.taps (h.items ++ end_items (streams_of plan) (as_stop stop)) h.rows why
+          → ((t : Stream) → next.dropped t ≡ now.dropped t) → FeedsPart plan values after part start.out next.out start.taps next.taps start.dropped next.dropped why
       files_end_fails next why fails kept = record {
         popped = values;
         later = λ t. [];
@@ -246,7 +246,7 @@ module _ {O : Type 0} (after part : O → List Record → O → Type 0) (laws : 
         covers = covers_end plan values h.items h.merged fails.f stop stopped fails.covers;
         rows = h.rows ++ fails.stops.rows;
         so_far = fails.stops.so_far;
-        wrote = laws.part_later start.out now.out next.out h.rows fails.stops.rows h.wrote fails.stops.wrote;
+        wrote = wrote_behind after part laws why start.out now.out next.out h.rows fails.stops.rows h.wrote fails.stops.wrote;
         at = taps_behind why h.rows fails.stops.rows start.taps now.taps next.taps h.offered fails.stops.at;
         late = λ t. dropped_of (items_taken (streams_of plan) t (values t));
         first_late = λ t. record { rest = []; are = sym (append-nil (dropped_of (items_taken (streams_of plan) t (values t)))) };
@@ -263,9 +263,9 @@ module _ {O : Type 0} (after part : O → List Record → O → Type 0) (laws : 
 
 -- ---- behind the loop
 -- more values came, and were dropped
-pub part_grows : {O : Type 0} (part : O → List Record → O → Type 0) (plan : Shape) (values values' : Stream → List AValue) (o p : O) (taps taps' : List TapState) (dropped dropped' : Stream → List Dropped) (why : GiveStop)
-    → ((s : Stream) → (came : List AValue) × (values' s ≡ values s ++ came)) → FeedsPart plan values part o p taps taps' dropped dropped' why → FeedsPart plan values' part o p taps taps' dropped dropped' why
-part_grows part plan values values' o p taps taps' dropped dropped' why grows e = record {
+pub part_grows : {O : Type 0} (after part : O → List Record → O → Type 0) (plan : Shape) (values values' : Stream → List AValue) (o p : O) (taps taps' : List TapState) (dropped dropped' : Stream → List Dropped) (why : GiveStop)
+    → ((s : Stream) → (came : List AValue) × (values' s ≡ values s ++ came)) → FeedsPart plan values after part o p taps taps' dropped dropped' why → FeedsPart plan values' after part o p taps taps' dropped dropped' why
+part_grows after part plan values values' o p taps taps' dropped dropped' why grows e = record {
   popped = e.popped;
   later = λ s. e.later s ++ (grows s).0;
   are = λ s. (grows s).1 ∙ ap (λ l. l ++ (grows s).0) (e.are s) ∙ append_assoc (e.popped s) (e.later s) (grows s).0;
@@ -296,7 +296,7 @@ module _ {O : Type 0} (after part : O → List Record → O → Type 0) (laws : 
   }
 
   -- not all rows came out
-  pub files_stopped : (q : O) (taps2 : List TapState) (why : GiveStop) → StopsOut plan part p q taps1 taps2 e.f e.gives.rows why → FeedsPart plan values part o q taps taps2 dropped dropped' why
+  pub files_stopped : (q : O) (taps2 : List TapState) (why : GiveStop) → StopsOut plan after part p q taps1 taps2 e.f e.gives.rows why → FeedsPart plan values after part o q taps taps2 dropped dropped' why
   files_stopped q taps2 why stops =
       let n = stops_then after part laws plan (stands e.f) o p q taps taps1 taps2 e.f [] why e.gives stops in
       record {
@@ -315,5 +315,5 @@ module _ {O : Type 0} (after part : O → List Record → O → Type 0) (laws : 
       }
 
   -- there was no memory
-  pub files_without : ((f : Fed) (rows : List Record) → stands f rows → AreRowsSoFar plan f rows) → FeedsPart plan values part o p taps taps1 dropped dropped' give.Memory
+  pub files_without : ((f : Fed) (rows : List Record) → stands f rows → AreRowsSoFar plan f rows) → FeedsPart plan values after part o p taps taps1 dropped dropped' give.Memory
   files_without so = files_stopped p taps1 give.Memory (stops_none after part laws plan p taps1 e.f e.gives.rows (so e.f e.gives.rows e.gives.stand))

@@ -37,7 +37,7 @@ use Rattle.sb_feeds.specs.one_feed.Gives.{Gives, StopsOut}
 use Rattle.sb_feeds.specs.one_feed.InputFeeds.{Feeds, FeedsAll, FeedsSome}
 use Rattle.sb_feeds.specs.one_feed.TapLists.{StopsIn}
 use Rattle.sb_feeds.proofs.one_feed.FirstRows.{fed_covers, rows_are_first, rows_same}
-use Rattle.sb_feeds.proofs.one_feed.GivesInTurn.{AddsUp, gives_both, stops_none, stops_then}
+use Rattle.sb_feeds.proofs.one_feed.GivesInTurn.{AddsUp, gives_both, stops_none, stops_then, wrote_part}
 use Rattle.sb_feeds.proofs.one_feed.InputEnds.{same_records}
 use Rattle.sb_feeds.proofs.one_feed.LaterItems.{no_more}
 use Rattle.sb_run.specs.declared.run_end.RunEnd.TheVariants as run
@@ -137,8 +137,8 @@ module _ {O : Type 0} (after part : O → List Record → O → Type 0) (laws : 
     (o p : O) (taps taps1 : List TapState) (dropped dropped' : List Dropped) (stop : Stop)
     (e : FeedsAll plan size left left' stands after o p taps taps1 dropped dropped' stop) where
   -- behind all that was fed not all rows came out
-  pub feeds-stopped : (q : O) (taps2 : List TapState) (why : GiveStop) → StopsOut plan part p q taps1 taps2 e.f e.gives.rows why
-      → FeedsSome plan left left' part o q taps taps2 dropped dropped' why
+  pub feeds-stopped : (q : O) (taps2 : List TapState) (why : GiveStop) → StopsOut plan after part p q taps1 taps2 e.f e.gives.rows why
+      → FeedsSome plan left left' after part o q taps taps2 dropped dropped' why
   feeds-stopped q taps2 why stops =
       let n = stops_then after part laws plan (stands e.f) o p q taps taps1 taps2 e.f [] why e.gives stops in
       record {
@@ -153,7 +153,7 @@ module _ {O : Type 0} (after part : O → List Record → O → Type 0) (laws : 
       }
 
   -- there was no memory
-  pub feeds-wanting : ((f : Fed) (rows : List Record) → stands f rows → AreRowsSoFar plan f rows) → FeedsSome plan left left' part o p taps taps1 dropped dropped' give.Memory
+  pub feeds-wanting : ((f : Fed) (rows : List Record) → stands f rows → AreRowsSoFar plan f rows) → FeedsSome plan left left' after part o p taps taps1 dropped dropped' give.Memory
   feeds-wanting so = feeds-stopped p taps1 give.Memory (stops_none after part laws plan p taps1 e.f e.gives.rows (so e.f e.gives.rows e.gives.stand))
 
   -- others came out
@@ -195,24 +195,26 @@ feeds-rested plan size left left' h after part o p taps taps' dropped dropped' (
 -- ---- the ends
 module _ {O : Type 0} (plan : Shape) (sizes : Sizes) (left left' : Option (List ℕ)) (after part : O → List Record → O → Type 0) (o p : O)
     (taps taps' : List TapState) (dropped dropped' : List Dropped) where
-  early : (why : GiveStop) (e : FeedsSome plan left left' part o p taps taps' dropped dropped' why) (Offered : List Record → Type 0) → Offered e.rows → EndsEarly plan left left' part o p Offered dropped dropped'
-  early why e Offered is =
-      record { given = e.given; rows = e.rows; first = e.first; wrote = e.wrote; offered = is; late = e.late; first_late = e.first_late; listed = e.listed }
+  early : (why : GiveStop) (e : FeedsSome plan left left' after part o p taps taps' dropped dropped' why) (Wrote : O → List Record → O → Type 0) → Wrote o e.rows p → (Offered : List Record → Type 0) → Offered e.rows
+      → EndsEarly plan left left' Wrote o p Offered dropped dropped'
+  early why e Wrote wrote Offered is =
+      record { given = e.given; rows = e.rows; first = e.first; wrote = wrote; offered = is; late = e.late; first_late = e.first_late; listed = e.listed }
 
   -- feeding stopped early
-  pub ends-early : (h : HandView) (why : GiveStop) → FeedsSome plan left left' part o p taps taps' dropped dropped' why
+  pub ends-early : (h : HandView) (why : GiveStop) → FeedsSome plan left left' after part o p taps taps' dropped dropped' why
       → Ends plan sizes left left' after part o p taps taps' dropped dropped' (end_by h (Err why))
-  ends-early h give.Output e = early give.Output e (λ rows. ⊤) tt
-  ends-early h (give.Tap place) e = early (give.Tap place) e (λ rows. StopsIn rows place taps taps') e.at
-  ends-early h give.Memory e = early give.Memory e (λ rows. ⊤) tt
+  ends-early h give.Output e = early give.Output e part e.wrote (λ rows. ⊤) tt
+  ends-early h (give.Tap place) e = early (give.Tap place) e after e.wrote (λ rows. StopsIn rows place taps taps') e.at
+  ends-early h give.Memory e = early give.Memory e part e.wrote (λ rows. ⊤) tt
 
   -- there was no memory for one of the workers, whatever the feeder met
   pub ends-wanting : (laws : AddsUp after part) (size : ℕ) (stands : Fed → List Record → Type 0) → ((f : Fed) (rows : List Record) → stands f rows → AreRowsSoFar plan f rows)
       → (fed : Result Stop GiveStop) → Feeds plan size left left' stands after part o p taps taps' dropped dropped' fed
       → Ends plan sizes left left' after part o p taps taps' dropped dropped' run.Memory
   ends-wanting laws size stands so (Ok stop) e =
-      early give.Memory (feeds-wanting after part laws plan size left left' stands o p taps taps' dropped dropped' stop e so) (λ rows. ⊤) tt
-  ends-wanting laws size stands so (Err why) e = early why e (λ rows. ⊤) tt
+      let w = feeds-wanting after part laws plan size left left' stands o p taps taps' dropped dropped' stop e so in
+      early give.Memory w part w.wrote (λ rows. ⊤) tt
+  ends-wanting laws size stands so (Err why) e = early why e part (wrote_part after part laws why o p e.rows e.wrote) (λ rows. ⊤) tt
 
 -- all was fed, and the hand that came back was worked off
 pub ends-back : {O : Type 0} (plan : Shape) (sizes : Sizes) (c : Cascade) (h0 h : HandView) (left left' : Option (List ℕ)) (after part : O → List Record → O → Type 0) (o p : O)
@@ -257,12 +259,12 @@ module _ {O : Type 0} (after part : O → List Record → O → Type 0) (laws : 
         )
 
     pub back-stopped : (T : Type 0) (why : GiveStop) → (AreRowsSoFar h0.plan f rows → Gives {T = T} h0.plan (IsRested h f) after part o q taps taps' f rows (Err why)) → ComesBack c after part o q taps taps' f rows (Err why)
-    back-stopped T why gives = subst (λ u. StopsOut u part o q taps taps' f rows why) back.plan (gives so)
+    back-stopped T why gives = subst (λ u. StopsOut u after part o q taps taps' f rows why) back.plan (gives so)
 
 -- all was fed to a shared cascade, or as much as came before the stop
 module _ {O : Type 0} (after part : O → List Record → O → Type 0) (laws : AddsUp after part) (plan : Shape) (sizes : Sizes) (c : Cascade) (pass : CascadePass)
     (shared : IsShared plan sizes.bundle sizes.pending sizes.keeps_diaries (setting_of c)) (left left' : Option (List ℕ)) (o p : O) (taps taps1 : List TapState) (dropped dropped' : List Dropped) where
-  pub shared-early : (h : HandView) (why : GiveStop) → FeedsSome (plan_of c) left left' part o p taps taps1 dropped dropped' why
+  pub shared-early : (h : HandView) (why : GiveStop) → FeedsSome (plan_of c) left left' after part o p taps taps1 dropped dropped' why
       → Ends plan sizes left left' after part o p taps taps1 dropped dropped' (end_by h (Err why))
   shared-early h why e =
       subst (λ q. Ends q sizes left left' after part o p taps taps1 dropped dropped' (end_by h (Err why))) shared.plan_is

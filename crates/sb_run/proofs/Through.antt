@@ -22,18 +22,19 @@ module _ {O P : Type 0} (after part : O → List Record → O → Type 0) (after
   abbrev at_stop : (at : Stop) → EndsAt at plan left left' after o p taps taps' dropped dropped' → EndsAt at plan left left' after' o' p' taps taps' dropped dropped'
   at_stop at e = record { given = e.given; stopped = e.stopped; wrote = whole _ e.wrote; offered = e.offered; listed = e.listed }
 
-  early : (Offered : List Record → Type 0) → EndsEarly plan left left' part o p Offered dropped dropped' → EndsEarly plan left left' part' o' p' Offered dropped dropped'
-  early Offered e =
-      record { given = e.given; rows = e.rows; first = e.first; wrote = some e.rows e.wrote; offered = e.offered; late = e.late; first_late = e.first_late; listed = e.listed }
+  early : (Wrote : O → List Record → O → Type 0) (Wrote' : P → List Record → P → Type 0) → ((l : List Record) → Wrote o l p → Wrote' o' l p') → (Offered : List Record → Type 0)
+      → EndsEarly plan left left' Wrote o p Offered dropped dropped' → EndsEarly plan left left' Wrote' o' p' Offered dropped dropped'
+  early Wrote Wrote' so Offered e =
+      record { given = e.given; rows = e.rows; first = e.first; wrote = so e.rows e.wrote; offered = e.offered; late = e.late; first_late = e.first_late; listed = e.listed }
 
   pub ends_through : (sizes : Sizes) (end : RunEnd) → Ends plan sizes left left' after part o p taps taps' dropped dropped' end
       → Ends plan sizes left left' after' part' o' p' taps taps' dropped dropped' end
   ends_through sizes (Done hand) e = (at_stop _ e.0, e.1)
   ends_through sizes (Refused refusal) e = at_stop _ e
   ends_through sizes Input e = at_stop _ e
-  ends_through sizes Output e = early _ e
-  ends_through sizes (Tap place) e = early _ e
-  ends_through sizes Memory e = early _ e
+  ends_through sizes Output e = early part part' some _ e
+  ends_through sizes (Tap place) e = early after after' whole _ e
+  ends_through sizes Memory e = early part part' some _ e
 
 -- what follows both from all that was written and from a part of it
 module _ {O X : Type 0} (after part : O → List Record → O → Type 0) (o p : O) (whole : (l : List Record) → after o l p → X) (some : (l : List Record) → part o l p → X)
@@ -43,7 +44,7 @@ module _ {O X : Type 0} (after part : O → List Record → O → Type 0) (o p :
   in_ends sizes (Refused refusal) e = whole _ e.wrote
   in_ends sizes Input e = whole _ e.wrote
   in_ends sizes Output e = some _ e.wrote
-  in_ends sizes (Tap place) e = some _ e.wrote
+  in_ends sizes (Tap place) e = whole _ e.wrote
   in_ends sizes Memory e = some _ e.wrote
 
 -- of one worker the cause is the stronger one

@@ -52,7 +52,7 @@ abbrev pub ComesBack : {O : Type 0} → Cascade → (O → List Record → O →
     → O → O → List TapState → List TapState → Fed → List Record → Result HandView GiveStop → Type 0
 ComesBack c after part o p taps taps' f rows (Ok h) =
     IsGivenBack (setting_of c) h × GivesOut (IsRested h f) after o p taps taps' rows
-ComesBack c after part o p taps taps' f rows (Err why) = StopsOut (plan_of c) part o p taps taps' f rows why
+ComesBack c after part o p taps taps' f rows (Err why) = StopsOut (plan_of c) after part o p taps taps' f rows why
 
 -- workers begin to share a cascade of the plan: the feeder has fed nothing, and each helper has a pass
 pub record IsBegun (plan : Shape) (sizes : Sizes) (c : Cascade) (p : CascadePass) (helpers : List CascadePass)

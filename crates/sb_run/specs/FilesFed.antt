@@ -15,7 +15,7 @@ use Rattle.sb_feeds.specs.one_feed.declared.give.GiveStop.{GiveStop}
 use Rattle.sb_feeds.specs.one_feed.Due.{AreFirstDropped}
 use Rattle.sb_feeds.specs.one_feed.FedByItems.{IsFedBy, end_items}
 use Rattle.sb_feeds.specs.one_feed.Feeds.{AreRowsSoFar, Fed, IsFrom, records_of_feed, floor_in}
-use Rattle.sb_feeds.specs.one_feed.Gives.{GivesOut, TapsAt}
+use Rattle.sb_feeds.specs.one_feed.Gives.{GivesOut, TapsAt, WroteAt}
 use Rattle.sb_feeds.specs.declared.fed.Fed.{Fed as AValue}
 use Rattle.sb_feeds.specs.Fed.{has_stop}
 use Rattle.sb_run.specs.declared.files.inlets.FilesStop.{FilesStop}
@@ -42,10 +42,10 @@ pub record FeedsFiles {O : Type 0} (plan : Shape) (size : ℕ) (values : Stream 
   pub gives : GivesOut (stands f) after o p taps taps' []
   pub listed : (s : Stream) → dropped' s ≡ dropped s ++ dropped_of (items_taken (streams_of plan) s (values s))
 
--- feeding failed when so many of the values had come: a part of the rows so far was written, and the first of the late
--- records that were dropped are listed
+-- feeding failed when so many of the values had come: a part of the rows so far was written, or all and a tap failed at
+-- one, and the first of the late records that were dropped are listed
 pub record FeedsPart {O : Type 0} (plan : Shape) (values : Stream → List AValue)
-    (part : O → List Record → O → Type 0) (o p : O) (taps taps' : List TapState)
+    (after part : O → List Record → O → Type 0) (o p : O) (taps taps' : List TapState)
     (dropped dropped' : Stream → List Dropped) (why : GiveStop) : Type 0 where
   pub popped : Stream → List AValue
   pub later : Stream → List AValue
@@ -54,7 +54,7 @@ pub record FeedsPart {O : Type 0} (plan : Shape) (values : Stream → List AValu
   pub covers : CoversTaken (streams_of plan) popped f
   pub rows : List Record
   pub so_far : AreRowsSoFar plan f rows
-  pub wrote : part o rows p
+  pub wrote : WroteAt after part why o rows p
   pub at : TapsAt why rows taps taps'
   pub late : Stream → List Dropped
   pub first_late : (s : Stream) → AreFirstDropped (items_taken (streams_of plan) s (popped s)) (late s)
@@ -66,4 +66,4 @@ abbrev pub FeedsValues : {O : Type 0} → Shape → ℕ → (Stream → List AVa
 FeedsValues plan size values stands after part o p taps taps' dropped dropped' (Ok stop) =
     FeedsFiles plan size values stands after o p taps taps' dropped dropped' stop
 FeedsValues plan size values stands after part o p taps taps' dropped dropped' (Err why) =
-    FeedsPart plan values part o p taps taps' dropped dropped' why
+    FeedsPart plan values after part o p taps taps' dropped dropped' why

@@ -49,14 +49,14 @@ pub record EndsAt {O : Type 0} (at : Stop) (plan : Shape) (left left' : Option (
   pub offered : LeavesThoseThatStay (due_rows plan at (items_of plan given)) taps taps'
   pub listed : dropped' ≡ dropped ++ dropped_of (items_of plan given)
 
--- a part of the first rows was written, and the first of the late records are listed; of the taps this is said
+-- of some first rows this was written and this was offered, and the first of the late records are listed
 pub record EndsEarly {O : Type 0} (plan : Shape) (left left' : Option (List ℕ))
-    (part : O → List Record → O → Type 0) (o p : O) (Offered : List Record → Type 0) (dropped dropped' : List Dropped)
-    : Type 0 where
+    (Wrote : O → List Record → O → Type 0) (o p : O) (Offered : List Record → Type 0)
+    (dropped dropped' : List Dropped) : Type 0 where
   pub given : Given left left'
   pub rows : List Record
   pub first : AreFirstRows plan (items_of plan given) rows
-  pub wrote : part o rows p
+  pub wrote : Wrote o rows p
   pub offered : Offered rows
   pub late : List Dropped
   pub first_late : AreFirstDropped (items_of plan given) late
@@ -89,7 +89,7 @@ Ends plan sizes left left' after part o p taps taps' dropped dropped' Input =
 Ends plan sizes left left' after part o p taps taps' dropped dropped' Output =
     EndsEarly plan left left' part o p (λ rows. ⊤) dropped dropped'
 Ends plan sizes left left' after part o p taps taps' dropped dropped' (Tap place) =
-    EndsEarly plan left left' part o p (λ rows. StopsIn rows place taps taps') dropped dropped'
+    EndsEarly plan left left' after o p (λ rows. StopsIn rows place taps taps') dropped dropped'
 Ends plan sizes left left' after part o p taps taps' dropped dropped' Memory =
     EndsEarly plan left left' part o p (λ rows. ⊤) dropped dropped'
 

@@ -28,13 +28,12 @@ pub record FilesEndAt {O : Type 0} (at : Stop) (plan : Shape) (files : Stream �
   pub offered : LeavesThoseThatStay (due_rows plan at (items_of_files plan files)) taps taps'
   pub listed : (s : Stream) → dropped' s ≡ dropped s ++ dropped_of (items_of_file plan s (files s))
 
--- a part of the first rows was written, and the first of the late records of each file are listed; of the taps this is
--- said
-pub record FilesEndEarly {O : Type 0} (plan : Shape) (files : Stream → List ℕ) (part : O → List Record → O → Type 0)
+-- of some first rows this was written and this was offered, and the first of the late records of each file are listed
+pub record FilesEndEarly {O : Type 0} (plan : Shape) (files : Stream → List ℕ) (Wrote : O → List Record → O → Type 0)
     (o p : O) (Offered : List Record → Type 0) (dropped dropped' : Stream → List Dropped) : Type 0 where
   pub rows : List Record
   pub first : AreFirstRows plan (items_of_files plan files) rows
-  pub wrote : part o rows p
+  pub wrote : Wrote o rows p
   pub offered : Offered rows
   pub late : Stream → List Dropped
   pub first_late : (s : Stream) → AreFirstDropped (items_of_file plan s (files s)) (late s)
@@ -53,7 +52,7 @@ TwoEnds plan sizes files after part o p taps taps' dropped dropped' (Refused str
 TwoEnds plan sizes files after part o p taps taps' dropped dropped' Output =
     FilesEndEarly plan files part o p (λ rows. ⊤) dropped dropped'
 TwoEnds plan sizes files after part o p taps taps' dropped dropped' (Tap place) =
-    FilesEndEarly plan files part o p (λ rows. StopsIn rows place taps taps') dropped dropped'
+    FilesEndEarly plan files after o p (λ rows. StopsIn rows place taps taps') dropped dropped'
 TwoEnds plan sizes files after part o p taps taps' dropped dropped' Memory =
     FilesEndEarly plan files part o p (λ rows. ⊤) dropped dropped'
 

@@ -7,7 +7,7 @@ use Rattle.sb_run.proofs.files.feeding.feed_files.Goals as goal
 
 pub returns-in-Err-clause-feeds : goal.returns-in-Err-clause-feeds
 returns-in-Err-clause-feeds g c =
-    part_grows g.R.RowOut.part (plan_of c.args.cascade.now) (values_of c.feed_values.new.inlets) (values_of c.empty.new.self) c.args.out.now c.feed_values.new.out _ _ _ _ c.in-Err.why c.empty.ensures.grows c.in-Err.ensures.feeds
+    part_grows g.R.RowOut.after g.R.RowOut.part (plan_of c.args.cascade.now) (values_of c.feed_values.new.inlets) (values_of c.empty.new.self) c.args.out.now c.feed_values.new.out _ _ _ _ c.in-Err.why c.empty.ensures.grows c.in-Err.ensures.feeds
 
 pub returns-in-Ok-end_work-clause-feeds : goal.returns-in-Ok-end_work-clause-feeds
 returns-in-Ok-end_work-clause-feeds g c =
