@@ -66,8 +66,8 @@ module _ (plan : Shape) (options : Options) (files : Stream → List ℕ) (taken
   abbrev EndsAt : Stop → Type 0
   EndsAt stop = FilesEndAt stop plan files W taken taken1 taps taps' (by_stream [] []) (by_stream a b)
 
-  abbrev EndsEarly : (List Record → Type 0) → Type 0
-  EndsEarly Offered = FilesEndEarly plan files P taken taken1 Offered (by_stream [] []) (by_stream a b)
+  abbrev EndsEarly : (Option (List ℕ) → List Record → Option (List ℕ) → Type 0) → (List Record → Type 0) → Type 0
+  EndsEarly Said Offered = FilesEndEarly plan files Said taken taken1 Offered (by_stream [] []) (by_stream a b)
 
   abbrev EndsSo : TwoEnd → Type 0
   EndsSo end = TwoEnds plan (sizes_from options) files W P taken taken1 taps taps' (by_stream [] []) (by_stream a b) end
@@ -96,18 +96,32 @@ module _ (plan : Shape) (options : Options) (files : Stream → List ℕ) (taken
     late_b = all_first (items_of_file plan B (files B)) b (e.listed B);
   }
 
-  some_early : (Offered : List Record → Type 0) → EndsEarly Offered → HasSome
+  some_early : (Offered : List Record → Type 0) → EndsEarly P Offered → HasSome
   some_early Offered e = record {
     wrote = part_of_all e.rows e.first (prefix_kept taken taken1 taken2 e.rows e.wrote keeps);
     late_a = some_first (items_of_file plan A (files A)) a (e.late A) (e.first_late A) (e.listed A);
     late_b = some_first (items_of_file plan B (files B)) b (e.late B) (e.first_late B) (e.listed B);
   }
 
+  -- all of some first rows were written
+  all_early : (Offered : List Record → Type 0) → EndsEarly W Offered → HasSome
+  all_early Offered e =
+      some_early Offered
+      (record {
+        rows = e.rows;
+        first = e.first;
+        wrote = wrote_is_prefix taken taken1 e.rows e.wrote;
+        offered = e.offered;
+        late = e.late;
+        first_late = e.first_late;
+        listed = e.listed;
+      })
+
   some : (end : TwoEnd) → EndsSo end → HasSome
   some (two.Done hand) e = some_at at.End e.1
   some (two.Refused stream refusal) e = some_at (at.Refused refusal) e.1
   some two.Output e = some_early _ e
-  some (two.Tap place) e = some_early _ e
+  some (two.Tap place) e = all_early _ e
   some two.Memory e = some_early _ e
 
   -- the rows that are due stay written
@@ -129,7 +143,7 @@ module _ (plan : Shape) (options : Options) (files : Stream → List ℕ) (taken
     tells = refl;
   }
   files_answer two.Output (Ok x) e = let s = some_early _ e in record { written = s.wrote; lists = (s.late_a, s.late_b); tells = refl }
-  files_answer (two.Tap place) (Ok x) e = let s = some_early _ e in record { written = s.wrote; lists = (s.late_a, s.late_b); tells = refl }
+  files_answer (two.Tap place) (Ok x) e = let s = all_early _ e in record { written = s.wrote; lists = (s.late_a, s.late_b); tells = refl }
   files_answer two.Memory (Ok x) e = let s = some_early _ e in record { written = s.wrote; lists = (s.late_a, s.late_b); tells = refl }
 
   files_offered : (end : TwoEnd) (passed : Result (Unit {0}) SinkFault) → EndsSo end → HasOfferedOfFiles plan files taken taken2 taps taps' (status_after_two end passed)
@@ -138,7 +152,7 @@ module _ (plan : Shape) (options : Options) (files : Stream → List ℕ) (taken
   files_offered (two.Done hand) (Ok x) e = (e.0, e.1.offered)
   files_offered (two.Refused stream refusal) (Ok x) e = (e.0, e.1.offered)
   files_offered two.Output (Ok x) e = tt
-  files_offered (two.Tap place) (Ok x) e = record { rows = e.rows; first = e.first; wrote = prefix_kept taken taken1 taken2 e.rows e.wrote keeps; stops = e.offered }
+  files_offered (two.Tap place) (Ok x) e = record { rows = e.rows; first = e.first; wrote = appends_kept taken taken1 taken2 (text_of e.rows) e.wrote keeps; stops = e.offered }
   files_offered two.Memory (Ok x) e = tt
 
   pub files_written_and_offered : (end : TwoEnd) (passed : Result (Unit {0}) SinkFault) → EndsSo end → IsOfferedOfBytes plan files taken taken2 taps taps' (status_after_two end passed)

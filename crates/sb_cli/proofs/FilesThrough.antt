@@ -20,17 +20,18 @@ module _ {O P : Type 0} (after part : O → List Record → O → Type 0) (after
   abbrev at_stop : (at : Stop) → FilesEndAt at plan files after o p taps taps' dropped dropped' → FilesEndAt at plan files after' o' p' taps taps' dropped dropped'
   at_stop at e = record { wrote = whole _ e.wrote; offered = e.offered; listed = e.listed }
 
-  early : (Offered : List Record → Type 0) → FilesEndEarly plan files part o p Offered dropped dropped' → FilesEndEarly plan files part' o' p' Offered dropped dropped'
-  early Offered e =
-      record { rows = e.rows; first = e.first; wrote = some e.rows e.wrote; offered = e.offered; late = e.late; first_late = e.first_late; listed = e.listed }
+  early : (Said : O → List Record → O → Type 0) (Said' : P → List Record → P → Type 0) → ((l : List Record) → Said o l p → Said' o' l p') → (Offered : List Record → Type 0)
+      → FilesEndEarly plan files Said o p Offered dropped dropped' → FilesEndEarly plan files Said' o' p' Offered dropped dropped'
+  early Said Said' so Offered e =
+      record { rows = e.rows; first = e.first; wrote = so e.rows e.wrote; offered = e.offered; late = e.late; first_late = e.first_late; listed = e.listed }
 
   pub files_through : (sizes : Sizes) (end : TwoEnd) → TwoEnds plan sizes files after part o p taps taps' dropped dropped' end
       → TwoEnds plan sizes files after' part' o' p' taps taps' dropped dropped' end
   files_through sizes (Done hand) e = (e.0, at_stop _ e.1, e.2)
   files_through sizes (Refused stream refusal) e = (e.0, at_stop _ e.1)
-  files_through sizes Output e = early _ e
-  files_through sizes (Tap place) e = early _ e
-  files_through sizes Memory e = early _ e
+  files_through sizes Output e = early part part' some _ e
+  files_through sizes (Tap place) e = early after after' whole _ e
+  files_through sizes Memory e = early part part' some _ e
 
 -- what follows both from all that was written and from a part of it
 module _ {O X : Type 0} (after part : O → List Record → O → Type 0) (o p : O) (whole : (l : List Record) → after o l p → X) (some : (l : List Record) → part o l p → X)
@@ -39,7 +40,7 @@ module _ {O X : Type 0} (after part : O → List Record → O → Type 0) (o p :
   in_files sizes (Done hand) e = whole _ e.1.wrote
   in_files sizes (Refused stream refusal) e = whole _ e.1.wrote
   in_files sizes Output e = some _ e.wrote
-  in_files sizes (Tap place) e = some _ e.wrote
+  in_files sizes (Tap place) e = whole _ e.wrote
   in_files sizes Memory e = some _ e.wrote
 
 -- a sink that is lent keeps its name, and what it has taken is what was written

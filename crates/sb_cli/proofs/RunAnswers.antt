@@ -146,12 +146,27 @@ module _ (shown : List Record → List Record) (are : AreShown shown) (plan : Sh
         first_late = record { rest = e.first_late.rest; are = e.first_late.are ∙ ap (λ l. l ++ e.first_late.rest) (sym e.listed) };
       }
 
+  -- all of some first rows were written
+  all_early : (Offered : List Record → Type 0) → EndsEarly plan left left' W taken taken1 Offered [] dropped → WroteSome left left' taken taken2 course dropped
+  all_early Offered e =
+      some_early Offered
+      (record {
+        given = e.given;
+        rows = e.rows;
+        first = e.first;
+        wrote = wrote_is_prefix taken taken1 (shown e.rows) e.wrote;
+        offered = e.offered;
+        late = e.late;
+        first_late = e.first_late;
+        listed = e.listed;
+      })
+
   some : (end : RunEnd) → EndsSo end → WroteSome left left' taken taken2 course dropped
   some (run.Done hand) e = some_at _ e.0
   some (run.Refused refusal) e = some_at _ e
   some run.Input e = some_at _ e
   some run.Output e = some_early _ e
-  some (run.Tap place) e = some_early _ e
+  some (run.Tap place) e = all_early _ e
   some run.Memory e = some_early _ e
 
   some_answer : (status : Status) → AnswersSome status → WroteSome left left' taken taken2 course dropped → IsAnswerBy plan options left left' taken taken2 course (ending_of status dropped [])
@@ -172,7 +187,7 @@ module _ (shown : List Record → List Record) (are : AreShown shown) (plan : Sh
   run_answer (run.Refused refusal) (Ok x) e = record { given = e.given; written = (e.stopped, due_written _ e); lists = e.listed; tells = refl }
   run_answer run.Input (Ok x) e = record { given = e.given; written = (e.stopped, due_written _ e); lists = e.listed; tells = refl }
   run_answer run.Output (Ok x) e = some_answer Output tt (some_early _ e)
-  run_answer (run.Tap place) (Ok x) e = some_answer (Tap place) tt (some_early _ e)
+  run_answer (run.Tap place) (Ok x) e = some_answer (Tap place) tt (all_early _ e)
   run_answer run.Memory (Ok x) e = some_answer Memory tt (some_early _ e)
 
   -- one worker is told of a failed write before a read fails, or once all that was due there was written
@@ -222,10 +237,11 @@ module _ (plan : Shape) (options : Options) (left left' taken taken1 taken2 : Op
   run_offered run.Input (Ok x) e = record { given = e.given; written = (e.stopped, all_due _ e); offered = (e.stopped, due_offered _ e) }
   run_offered run.Output (Ok x) e = record { given = e.given; written = some_rows _ e; offered = tt }
   run_offered (run.Tap place) (Ok x) e =
+      let wrote = appends_kept taken taken1 taken2 (text_of e.rows) e.wrote keeps in
       record {
         given = e.given;
-        written = some_rows _ e;
-        offered = record { rows = e.rows; first = e.first; wrote = prefix_kept taken taken1 taken2 e.rows e.wrote keeps; stops = e.offered };
+        written = part_of_shown (λ rows. rows) (λ rows more. refl) plan (items_of plan e.given) e.rows taken taken2 e.first (wrote_is_prefix taken taken2 e.rows wrote);
+        offered = record { rows = e.rows; first = e.first; wrote = wrote; stops = e.offered };
       }
   run_offered run.Memory (Ok x) e = record { given = e.given; written = some_rows _ e; offered = tt }
 

@@ -1,5 +1,6 @@
 -- What a run has written and what its taps were offered of the same, and which of them has failed.
 use Rattle.std.specs.Prelude.{◌≡◌, ◌⊎◌, ℕ, List, ◌∷◌, ◌++◌, Option, ⊤}
+use Rattle.std.specs.Io.KnownBytes.{Appends}
 use Rattle.sb_watch.specs.base.records.declared.intake.Stop.{Stop}
 use Rattle.sb_watch.specs.base.records.declared.intake.Stop.TheVariants.{End, Refused, Fault}
 use Rattle.sb_watch.specs.base.records.declared.item.Item.{Item}
@@ -7,7 +8,6 @@ use Rattle.sb_watch.specs.base.records.declared.item.Record.{Record}
 use Rattle.sb_watch.specs.base.records.declared.item.Stream.{Stream}
 use Rattle.sb_watch.specs.base.records.Rows.{text_of}
 use Rattle.sb_watch.specs.outside.Folders.{Files}
-use Rattle.sb_watch.specs.outside.Sinks.{AppendsPrefix}
 use Rattle.sb_watch.specs.outside.Sources.{Rose}
 use Rattle.sb_watch.specs.base.pipeline.Shapes.{Shape}
 use Rattle.sb_watch.specs.emit.Taps.{TapState}
@@ -24,12 +24,12 @@ use Rattle.sb_cli.specs.Courses.{run_course}
 use Rattle.sb_cli.specs.Pipelines.{IsPlanFor}
 use Rattle.sb_cli.specs.RecordFiles.{HaveBytes}
 
--- the first rows were written, or a part of them, and were offered up to the one at which the tap at this place failed
+-- these first rows were written, all of them, and were offered up to the one at which the tap at this place failed
 pub record StoppedAt (plan : Shape) (items : List Item) (taken taken' : Option (List ℕ)) (place : ℕ)
     (taps taps' : List TapState) : Type 0 where
   pub rows : List Record
   pub first : AreFirstRows plan items rows
-  pub wrote : AppendsPrefix taken taken' (text_of rows)
+  pub wrote : Appends taken taken' (text_of rows)
   pub stops : StopsIn rows place taps taps'
 
 -- what the taps were offered, by how the run ended: the rows that are due, each one by one; nothing is said of a run in
