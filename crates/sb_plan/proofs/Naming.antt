@@ -1,5 +1,5 @@
 -- What the words of a table name.
-use Rattle.std.proofs.Common.{◌≡◌, ◌∙◌, ℕ, map, List, [], ◌∷◌, Bool, true, false, cond, Option, Some, None, IfSome, Ok, Bor, refl, rules}
+use Rattle.std.proofs.Common.{◌≡◌, ℕ, map, List, [], ◌∷◌, Bool, true, false, cond, Option, Some, None, IfSome, Ok, Bor, refl, rules}
 use Rattle.std.specs.Prelude.{bytes_eq}
 use Rattle.std.specs.List.{AllByRecursion, find}
 use Rattle.std.specs.Option.{option_map, option_or}

@@ -1,5 +1,5 @@
 -- What a table says of its transform may be in a plan.
-use Rattle.std.proofs.Common.{◌≡◌, ◌≤◌, ◌+◌, ℕ, ℤ, pos, negsuc, Bool, true, false, cond, List, [], ◌∷◌, length, Option, Some, None, IfOk, Result, Ok, Err, refl, sym, subst, arith, rules}
+use Rattle.std.proofs.Common.{◌≡◌, ◌≤◌, ◌+◌, ℕ, ℤ, pos, negsuc, Bool, true, false, cond, List, [], ◌∷◌, length, Option, Some, None, IfOk, Result, Ok, Err, refl, subst, arith, rules}
 use Rattle.std.specs.Prelude.{is_some, ◌&&◌, ◌||◌, ◌==◌, ◌%◌, ◌/◌, not, nat_lt, nat_le}
 use Rattle.std.specs.FinMap.{FinMap, empty, get, insert}
 use Rattle.std.proofs.lemmas.Bool.{and_parts, leb-true}
@@ -55,7 +55,7 @@ use Rattle.sb_plan.specs.Words.{change_by, change_named, combine_named, aggregat
 use Rattle.sb_plan.specs.Kinds.{file_name, as_integers, filter_at, map_at, expand_at, windows_every, windows_at, group_at, top_at, session_at, join_at, lookup_in, lookup_at, transform_at}
 use Rattle.sb_plan.specs.declared.stop.Stop.{Stop}
 use Rattle.sb_plan.specs.Answers.{AnswersTests}
-use Rattle.sb_plan.specs.Soundness.{IsOfKind, names_join}
+use Rattle.sb_plan.specs.Soundness.{IsOfKind}
 use Rattle.sb_plan.proofs.Naming.{gives-one}
 use Rattle.sb_plan.proofs.Passed.{found, of_text, passed, passed_if, passed_text, passed_unless, some-is}
 

@@ -1,4 +1,4 @@
-use Rattle.std.proofs.Common.{IfOk, sym, subst, refl}
+use Rattle.std.proofs.Common.{IfOk, sym, subst}
 use Rattle.toml.specs.View.{table_view}
 use Rattle.sb_plan.specs.Soundness.{IsOfKind}
 use Rattle.sb_plan.specs.Words.{IsNamed}
