@@ -1,5 +1,5 @@
 -- A file that is read no further than shows that it is too long.
-use Rattle.std.proofs.Common.{◌≡◌, ◌≤◌, ◌+◌, ◌∙◌, ℕ, List, [], ◌∷◌, true, length, take, Some, Ok, sym, ap, refl, arith, inl, inr}
+use Rattle.std.proofs.Common.{◌≡◌, ◌≤◌, ◌+◌, ◌∙◌, ℕ, List, [], ◌∷◌, true, length, take, Some, Ok, Err, sym, ap, refl, arith, inl, inr}
 use Rattle.std.specs.Prelude.{nat_lt, ◌⊎◌}
 use Rattle.std.proofs.lemmas.Bool.{cases_Bool, ltb-false, lt-ltb, ltb-true}
 use Rattle.std.proofs.lemmas.List.{length-take-le, take_all}
@@ -9,8 +9,10 @@ use Rattle.sb_outside.specs.Folders.{Files}
 use Rattle.sb_plan.specs.declared.fault.PlanKey.TheVariants as key
 use Rattle.sb_plan.specs.declared.TheConstants.{MAX_TABLE_BYTES}
 use Rattle.sb_plan.specs.Failures.{by_text}
+use Rattle.sb_plan.specs.Failures.Failure.{NoFile}
 use Rattle.sb_plan.specs.Keys.{typed_at, word_at}
 use Rattle.sb_plan.specs.Kinds.{lookup_at, lookup_in}
+use Rattle.sb_plan.specs.Wants.{no_files}
 
 -- as much of a file as shows whether it has more than so many bytes: all of it, unless it has
 pub cut : (most : ℕ) (bytes : List ℕ) → (take (most + 1) bytes ≡ bytes) ⊎ ((nat_lt most (length bytes) ≡ true) × (nat_lt most (length (take (most + 1) bytes)) ≡ true))
@@ -34,3 +36,9 @@ pub lookup-read : (files : Files) (keys : Keys) (table : Members) (name bytes re
 unfolding lookup_at word_at
 lookup-read files keys table [] bytes read typed some found cut_off = absurd (omega arith)
 lookup-read files keys table (c ∷ cs) bytes read typed some found cut_off = rw typed (rw found (ap by_text (sym (ap (lookup_in keys) cut_off ∙ lookup-cut keys bytes))))
+
+-- a look-up whose file has a name wants that file
+pub lookup-unfound : (keys : Keys) (table : Members) (name : List ℕ) → typed_at as_str key.Table table ≡ Ok name → 1 ≤ length name → lookup_at no_files keys table ≡ Err NoFile
+unfolding lookup_at word_at
+lookup-unfound keys table [] typed some = absurd (omega arith)
+lookup-unfound keys table (c ∷ cs) typed some = rw typed refl

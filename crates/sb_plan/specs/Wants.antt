@@ -1,11 +1,20 @@
 -- Which loads of tables a plan wants, and what is listed of those that fail.
-use Rattle.std.specs.Prelude.{◌≡◌, ℕ, ◌+◌, List, [], ◌∷◌, ◌++◌, Option, Some, Result, Ok, Err}
+use Rattle.std.specs.Prelude.{◌≡◌, ◌≢◌, ℕ, ◌+◌, List, [], ◌∷◌, ◌++◌, Option, Some, None, Result, Ok, Err}
 use Rattle.sb_outside.specs.Folders.{Files, Load, without}
 use Rattle.sb_plan.specs.declared.fault.PlanStop.{PlanStop}
 use Rattle.sb_plan.specs.declared.fault.PlanStop.TheVariants as stop
 use Rattle.sb_plan.specs.declared.TheConstants.{MAX_TABLE_BYTES}
+use Rattle.sb_plan.specs.Failures.{Failure}
 use Rattle.sb_plan.specs.Failures.Failure.{NoFile}
 use Rattle.sb_plan.specs.PlanFiles.{plan_of}
+
+-- the files of an empty folder
+abbrev pub no_files : Files
+no_files name = None
+
+-- tests that want no file: over an empty folder they do not find that a file is not there
+abbrev pub WantsNoFile : {A E : Type 0} → (Files → Result A (Failure E)) → Type 0
+WantsNoFile tests = tests no_files ≢ Err NoFile
 
 -- a load of a table that the plan of a text wants: without the file there is no plan, and no test fails before its turn
 abbrev pub IsWantedBy : Option Files → List ℕ → Load → Type 0

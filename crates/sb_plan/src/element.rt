@@ -1,10 +1,10 @@
 //! One element of the array of transforms.
 
-ghost use Rattle.std.specs.Prelude.{◌≡◌, ◌<◌, ◌+◌, Some, OnOk, length};
+ghost use Rattle.std.specs.Prelude.{◌≡◌, ◌≢◌, ◌<◌, ◌+◌, Some, Err, OnOk, length};
 ghost use Rattle.toml.specs.View.{view};
 ghost use Rattle.sb_outside.specs.Folders.{Files};
 ghost use Rattle.sb_plan.specs.Answers.{BlamesInTests, ChangesTo, IsWantedIn, TakesElement};
-ghost use Rattle.sb_plan.specs.Wants.{BlamesLoad};
+ghost use Rattle.sb_plan.specs.Wants.{BlamesLoad, WantsNoFile, no_files};
 ghost use Rattle.sb_plan.specs.PlanFiles as spec;
 ghost use Rattle.sb_plan.specs.Soundness.{IsSound};
 
@@ -30,6 +30,10 @@ pub(crate) fn take_element<F: Folder>(
     requires sound { IsSound wiring.old }
     ensures exact { (files : Files) → F.files folder.old ≡ Some files
         → TakesElement files place wiring.old (view value.now) result wiring.new }
+    ensures alone { WantsNoFile (λ files. spec.with_element files wiring.old (view value.now))
+        → TakesElement no_files place wiring.old (view value.now) result wiring.new }
+    ensures unblamed { WantsNoFile (λ files. spec.with_element files wiring.old (view value.now))
+        → result ≢ Err PlanStop.Folder }
     ensures sound { OnOk result (IsSound wiring.new × (length wiring.new.parts ≡ length wiring.old.parts + 1)) }
     ensures same { F.files folder.new ≡ F.files folder.old }
     ensures blames { BlamesLoad
@@ -56,6 +60,10 @@ fn wire_element<F: Folder>(
     requires sound { IsSound wiring.old }
     ensures exact { (files : Files) → F.files folder.old ≡ Some files
         → ChangesTo result (spec.with_element files wiring.old (view value.now)) wiring.new }
+    ensures alone { WantsNoFile (λ files. spec.with_element files wiring.old (view value.now))
+        → ChangesTo result (spec.with_element no_files wiring.old (view value.now)) wiring.new }
+    ensures unblamed { WantsNoFile (λ files. spec.with_element files wiring.old (view value.now))
+        → result ≢ Err Stop.Folder }
     ensures sound { OnOk result (IsSound wiring.new × (length wiring.new.parts ≡ length wiring.old.parts + 1)) }
     ensures same { F.files folder.new ≡ F.files folder.old }
     ensures blames { BlamesInTests

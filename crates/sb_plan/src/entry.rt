@@ -7,6 +7,7 @@ ghost use Rattle.toml.specs.View.{table_view};
 ghost use Rattle.sb_outside.specs.Folders.{Files};
 ghost use Rattle.sb_plan.specs.Answers.{AnswersTests, BlamesInTests, IsWantedIn};
 ghost use Rattle.sb_plan.specs.Failures.{by_text};
+ghost use Rattle.sb_plan.specs.Wants.{WantsNoFile, no_files};
 ghost use Rattle.sb_plan.specs.Entries as entries;
 ghost use Rattle.sb_plan.specs.Soundness.{IsValidEntry, names_join};
 
@@ -44,6 +45,10 @@ pub(crate) fn entry_at<F: Folder>(
 ) -> Result<Entry, Stop>
     ensures exact { (files : Files) → F.files folder.old ≡ Some files
         → AnswersTests result (entries.entry_at files keys parts.now (table_view table.now)) }
+    ensures alone { WantsNoFile (λ files. entries.entry_at files keys parts.now (table_view table.now))
+        → AnswersTests result (entries.entry_at no_files keys parts.now (table_view table.now)) }
+    ensures unblamed { WantsNoFile (λ files. entries.entry_at files keys parts.now (table_view table.now))
+        → result ≢ Err Stop.Folder }
     ensures valid { IfOk result IsValidEntry }
     ensures same { F.files folder.new ≡ F.files folder.old }
     ensures blames { BlamesInTests

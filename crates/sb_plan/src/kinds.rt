@@ -1,10 +1,11 @@
 //! What a table says of its transform, by the keys of its kind.
 
-ghost use Rattle.std.specs.Prelude.{◌≡◌, ◌≤◌, Some, IfOk};
+ghost use Rattle.std.specs.Prelude.{◌≡◌, ◌≢◌, ◌≤◌, Some, Err, IfOk};
 ghost use Rattle.toml.specs.View.{table_view};
 ghost use Rattle.sb_outside.specs.Folders.{Files};
 ghost use Rattle.sb_plan.specs.Answers.{AnswersTests, BlamesInTests, IsWantedIn};
 ghost use Rattle.sb_plan.specs.Keys.{word_at};
+ghost use Rattle.sb_plan.specs.Wants.{WantsNoFile, no_files};
 ghost use Rattle.sb_plan.specs.Words as word;
 ghost use Rattle.sb_plan.specs.Kinds as kinds;
 ghost use Rattle.sb_plan.specs.Soundness.{IsOfKind};
@@ -159,6 +160,10 @@ pub(crate) fn transform_at<F: Folder>(
     requires named { word.IsNamed kind }
     ensures exact { (files : Files) → F.files folder.old ≡ Some files
         → AnswersTests result (kinds.transform_at files keys kind (table_view table.now)) }
+    ensures alone { WantsNoFile (λ files. kinds.transform_at files keys kind (table_view table.now))
+        → AnswersTests result (kinds.transform_at no_files keys kind (table_view table.now)) }
+    ensures unblamed { WantsNoFile (λ files. kinds.transform_at files keys kind (table_view table.now))
+        → result ≢ Err Stop.Folder }
     ensures valid { IfOk result (IsOfKind kind) }
     ensures same { F.files folder.new ≡ F.files folder.old }
     ensures blames { BlamesInTests

@@ -7,6 +7,11 @@ pub fn texts_that_pass_are_plans()
     ensures { law.TextsThatPassArePlans }
 {}
 
+/// What a text says that wants no file is the same whatever the files of the folder are.
+pub fn files_matter_only_if_wanted()
+    ensures { law.FilesMatterOnlyIfWanted }
+{}
+
 /// The limits of plan files, as numbers of bytes.
 pub fn limits()
     ensures { law.Limits }

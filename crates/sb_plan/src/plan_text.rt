@@ -1,13 +1,13 @@
 //! The text of a plan file.
 
-ghost use Rattle.std.specs.Prelude.{◌≡◌, ◌≤◌, ℕ, [], length, string_bytes, Some, None, Err, IfOk};
+ghost use Rattle.std.specs.Prelude.{◌≡◌, ◌≢◌, ◌≤◌, ℕ, [], length, string_bytes, Some, None, Err, IfOk};
 ghost use Rattle.std.specs.List.{list_all};
 ghost use Rattle.std.specs.BTreeMap.{keys};
 ghost use Rattle.toml.specs.View.{array_view, table_view};
 ghost use Rattle.sb_outside.specs.Folders.{Files};
 ghost use Rattle.sb_plan.specs.PlanFiles.{AnswersPlan};
 ghost use Rattle.sb_plan.specs.Answers.{IsWantedIn};
-ghost use Rattle.sb_plan.specs.Wants.{BlamesLoad, IsWantedBy};
+ghost use Rattle.sb_plan.specs.Wants.{BlamesLoad, IsWantedBy, WantsNoFile, no_files};
 ghost use Rattle.sb_plan.specs.Entries.{all_keys};
 ghost use Rattle.sb_plan.specs.PlanFiles as spec;
 ghost use Rattle.sb_plan.specs.Soundness.{IsSound};
@@ -32,13 +32,19 @@ use toml::value::Array;
 ///
 /// The first test that the text fails, in the order of the definition, and the place of the transform that fails it;
 /// or `Folder` if a table could not be loaded at its turn, before any test that fails: then the folder has listed that
-/// load, of at most [`MAX_TABLE_BYTES`](crate::MAX_TABLE_BYTES)` + 1` bytes, and no other. What is said of the text
-/// holds if the folder tells its files.
+/// load, of at most [`MAX_TABLE_BYTES`](crate::MAX_TABLE_BYTES)` + 1` bytes, and no other. If the folder does not tell
+/// its files, the plan and the fault are said only of a text that wants no table: one without look-ups, or one that
+/// fails a test before the turn of the first one's table.
 #[tactic(auto, unfolding(crate::specs::PlanFiles::plan_of))]
 pub fn plan_of<F: Folder>(alloc: Global, text: &[u8], folder: &mut F) -> Result<Plan, PlanStop>
     // The plan of the text, or the first test that it fails.
     ensures exact { (files : Files) → F.files folder.old ≡ Some files
         → AnswersPlan result (spec.plan_of files text.now) }
+
+    // The same of a text that wants no file, if the folder tells its files or not: and then no failed load is answered.
+    ensures alone { WantsNoFile (λ files. spec.plan_of files text.now)
+        → AnswersPlan result (spec.plan_of no_files text.now) }
+    ensures unblamed { WantsNoFile (λ files. spec.plan_of files text.now) → result ≢ Err PlanStop.Folder }
 
     // `Folder` only if a load failed that the plan wants; no other answer changes the list of those that failed.
     ensures same { F.files folder.new ≡ F.files folder.old }
@@ -122,6 +128,10 @@ fn transforms_of<F: Folder>(
 ) -> Result<Plan, PlanStop>
     ensures exact { (files : Files) → F.files folder.old ≡ Some files
         → AnswersPlan result (spec.transforms_of files late keys (array_view elements.now)) }
+    ensures alone { WantsNoFile (λ files. spec.transforms_of files late keys (array_view elements.now))
+        → AnswersPlan result (spec.transforms_of no_files late keys (array_view elements.now)) }
+    ensures unblamed { WantsNoFile (λ files. spec.transforms_of files late keys (array_view elements.now))
+        → result ≢ Err PlanStop.Folder }
     ensures same { F.files folder.new ≡ F.files folder.old }
     ensures cause { BlamesLoad
         (IsWantedIn (F.files folder.old) (λ files. spec.transforms_of files late keys (array_view elements.now)))
@@ -150,6 +160,13 @@ fn wire_elements<F: Folder>(
     requires { length elements.now.items ≤ MAX_TRANSFORMS }
     ensures exact { (files : Files) → F.files folder.old ≡ Some files
         → AnswersPlan result (spec.with_elements_from files 1 (spec.first_wiring late keys) (array_view elements.now)) }
+    ensures alone { WantsNoFile (λ files.
+        spec.with_elements_from files 1 (spec.first_wiring late keys) (array_view elements.now))
+        → AnswersPlan result
+        (spec.with_elements_from no_files 1 (spec.first_wiring late keys) (array_view elements.now)) }
+    ensures unblamed { WantsNoFile (λ files.
+        spec.with_elements_from files 1 (spec.first_wiring late keys) (array_view elements.now))
+        → result ≢ Err PlanStop.Folder }
     ensures sound { IfOk result (λ wiring. IsSound wiring × (length wiring.parts ≡ length elements.now.items)) }
     ensures same { F.files folder.new ≡ F.files folder.old }
     ensures cause { BlamesLoad

@@ -5,6 +5,7 @@ ghost use Rattle.toml.specs.View.{table_view};
 ghost use Rattle.sb_outside.specs.Folders.{Files};
 ghost use Rattle.sb_plan.specs.Answers.{AnswersTests, BlamesInTests, IsNoFault, IsWantedIn};
 ghost use Rattle.sb_plan.specs.Failures.{by_text};
+ghost use Rattle.sb_plan.specs.Wants.{WantsNoFile, no_files};
 ghost use Rattle.sb_plan.specs.Kinds as kinds;
 ghost use Rattle.sb_plan.specs.Soundness.{IsOfKind};
 
@@ -30,6 +31,10 @@ pub(crate) fn lookup_at<F: Folder>(
 ) -> Result<Kind, Stop>
     ensures exact { (files : Files) → F.files folder.old ≡ Some files
         → AnswersTests result (kinds.lookup_at files keys (table_view table.now)) }
+    ensures alone { WantsNoFile (λ files. kinds.lookup_at files keys (table_view table.now))
+        → AnswersTests result (kinds.lookup_at no_files keys (table_view table.now)) }
+    ensures unblamed { WantsNoFile (λ files. kinds.lookup_at files keys (table_view table.now))
+        → result ≢ Err Stop.Folder }
     ensures valid { IfOk result (IsOfKind KindName.Lookup) }
     ensures same { F.files folder.new ≡ F.files folder.old }
     ensures blames { BlamesInTests

@@ -3,6 +3,7 @@ use Rattle.toml.specs.View.{items_view}
 use Rattle.sb_outside.specs.Folders.{Files, without}
 use Rattle.sb_plan.specs.PlanFiles.{first_wiring, with_elements_from}
 use Rattle.sb_plan.specs.Soundness.{IsSound}
+use Rattle.sb_plan.specs.Wants.{WantsNoFile, no_files}
 use Rattle.sb_plan.proofs.Absent.{SameOrNoFile}
 use Rattle.sb_plan.proofs.plan_text.wire_elements.Given as goal
 
@@ -19,4 +20,6 @@ invariant-loop-value g l = record {
   fewer : (files : Files) (name : List ℕ) → g.F.Folder.files l.fn.folder ≡ Some files
       → SameOrNoFile (with_elements_from (without name files) 1 (first_wiring l.fn.late l.fn.keys) (items_view l.elements.items))
       (with_elements_from (without name files) (l.place + 1) l.wiring (items_view (drop l.value-index l.elements.items)));
+  alone : WantsNoFile (λ files. with_elements_from files 1 (first_wiring l.fn.late l.fn.keys) (items_view l.elements.items))
+      → with_elements_from no_files 1 (first_wiring l.fn.late l.fn.keys) (items_view l.elements.items) ≡ with_elements_from no_files (l.place + 1) l.wiring (items_view (drop l.value-index l.elements.items));
 }
