@@ -1,3 +1,4 @@
+pub mod Crossing
 pub mod Shown
 pub use Rattle.sb_run.proofs.outside
 pub use Rattle.sb_run.proofs.diary

@@ -1,3 +1,5 @@
+use denote.Param.Send.{sendable}
+use Rattle.sb_watch.proofs.Crossing.{LiveRows-send}
 use Rattle.std.proofs.Common.{ap, map, ◌∙◌}
 use Rattle.sb_run.specs.base.records.declared.intake.Stop.TheVariants as stop
 use Rattle.sb_live.specs.Showings.{Showing, ShownRows}
@@ -32,3 +34,6 @@ unreachable-requires g c =
     (ap (λ (s : ShownRows). s.faults) c.new-rows.ensures)
     (ap (map _) c.new-taps.ensures.items)
     c.run-end.ensures.ends c.run-end.ensures.output c.in-Output.is
+
+pub run-end-requires-send-R : goal.run-end-requires-send-R
+run-end-requires-send-R g c κs within = (search (sendable, LiveRows-send, c.type_bounds.sync-W) depth 60)
