@@ -14,7 +14,7 @@ use std::sync::Wait;
 
 impl<K: Keep> Turns<K> {
     // One try. If the word was held, it is given back as it was found.
-    fn attempt<M: Finding<K::View, K::State>>(
+    pub(crate) fn attempt<M: Finding<K::View, K::State>>(
         &self,
         node: u32,
         pass: &mut Pass<K>,
@@ -64,8 +64,8 @@ impl<K: Keep> Turns<K> {
         }
     }
 
-    /// The turn of a node, however long others hold it. Between two tries the thread sleeps on the node's word; each
-    /// leaving wakes one.
+    /// The turn of a node, however long others hold it. Between tries the thread sleeps on the node's word; each
+    /// leaving wakes one that waits.
     pub fn enter<R: Wait>(&self, rt: &R, node: u32, pass: &mut Pass<K>) -> Guard<K>
         requires pass { IsPassOf self.now pass.old × IsFree pass.old }
         requires node { node < node_count self.now }
@@ -76,15 +76,9 @@ impl<K: Keep> Turns<K> {
         ensures lines { K.lines_of result.state ≤ MAX_STATE_LINES }
         ensures finds { K.finds (about self.now) (seat_view pass.old).client node result.state }
     {
-        for _ in rt.forever() {
-            match self.attempt::<Brand>(node, pass) {
-                Ok(guard) => return guard,
-                Err(found) => self
-                    .table
-                    .shared
-                    .park(rt, node as usize + 1, (found % 4294967296) as u32),
-            }
+        match self.attempt::<Brand>(node, pass) {
+            Ok(guard) => guard,
+            Err(_) => self.wait(rt, node, pass),
         }
-        unreachable!()
     }
 }

@@ -55,9 +55,9 @@ impl<K: Keep> Turns<K> {
             .store::<Leave<K, M>>(pass, node as usize + 1, 2 * lines);
     }
 
-    /// Puts the guard's state home, frees the turn and wakes one that waits for it. The caller owes that the rule
-    /// allows the change of this pass and these two states, that it stays, and that an event adds one line to the state
-    /// and any other change none. The call waits for nobody and asks for no memory.
+    /// Puts the guard's state home, frees the turn and wakes one that waits for it, if any does. The caller owes that
+    /// the rule allows the change of this pass and these two states, that it stays, and that an event adds one line to
+    /// the state and any other change none. The call waits for nobody and asks for no memory.
     pub fn leave(&self, guard: Guard<K>, pass: &mut Pass<K>, change: K::Change)
         requires pass { IsPassOf self.now pass.old × (guard.node < node_count self.now) }
         requires turn { Holds guard.node guard.found.value pass.old }
@@ -88,6 +88,6 @@ impl<K: Keep> Turns<K> {
             _ => unreachable!(),
         }
         self.give::<Brand>(pass, node, lines, &found, &after, &change);
-        self.table.shared.wake_one(node as usize + 1);
+        self.wake(node);
     }
 }

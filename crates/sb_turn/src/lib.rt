@@ -6,8 +6,8 @@
 //! most once. A state word, which only rises, says whether the work ends ([`Turns::stop`], [`Turns::reason`]).
 //!
 //! The caller's rule ([`Keep`]) holds between any two steps of any threads. All is done by single steps on atomic
-//! words, one word for each turn and each place, so no lock stands round two nodes. Only `enter` waits, and only `new`
-//! asks for memory.
+//! words, one word for each turn and each place, so no lock stands round two nodes. Other words count who waits for a
+//! turn, and nothing rests on them. Only `enter` waits, and only `new` asks for memory.
 //!
 //! What is not claimed: that a thread gets on, that turns are given in some order, or anything about speed.
 #![tactic(auto)]
@@ -22,6 +22,7 @@ mod plays;
 mod reason;
 mod shelf;
 mod turns;
+mod waiting;
 mod words;
 
 pub use keep::{Keep, Lesson, MAX_STATE_LINES};

@@ -20,6 +20,8 @@ use atomic_table::{Closed, Table};
 use crossbeam_utils::CachePadded;
 use sb_record::NoMemory;
 use std::alloc::{AllocError, Global};
+use std::array::from_fn;
+use std::sync::atomic::AtomicU64;
 
 /// The most nodes: 12 transforms and the sink.
 pub const MAX_NODES: u32 = 13;
@@ -103,7 +105,15 @@ impl<K: Keep> Turns<K> {
             return Err(NoMemory);
         };
         match Table::new(alloc, words.as_slice(), slots, about) {
-            Ok((table, pass)) => Ok((Turns { table, count, room }, pass)),
+            Ok((table, pass)) => Ok((
+                Turns {
+                    table,
+                    count,
+                    room,
+                    waiting: from_fn(|_| AtomicU64::new(0)),
+                },
+                pass,
+            )),
             Err(_) => Err(NoMemory),
         }
     }
@@ -115,7 +125,12 @@ impl<K: Keep> Turns<K> {
         requires shelf { ShowsEmpty pass }
         ensures { Closes K.lines_of K.is_event K.idle (K.rule (passes.about self)) (seat_view pass) result.items }
     {
-        let Turns { table, count, room } = self;
+        let Turns {
+            table,
+            count,
+            room,
+            waiting: _,
+        } = self;
         states_of(table.close_with(pass), count, room)
     }
 }
