@@ -1,41 +1,24 @@
 -- What is gathered in the windows whose rows have some times, and the rows that a closing gives of them.
-use Rattle.std.proofs.Common.{◌≡◌, ℕ, ℤ, ◌+◌, ◌-◌, ◌≤◌, ◌<◌, Bool, true, false, not, cond, List, [], ◌∷◌, ◌++◌, map, Option, Some, None, subst, sym, refl, ap, ◌∙◌, arith, append-nil}
+use Rattle.std.proofs.Common.{◌≡◌, ℕ, ℤ, ◌+◌, ◌-◌, ◌≤◌, ◌<◌, Bool, true, false, not, cond, List, [], ◌∷◌, ◌++◌, subst, sym, refl, ap, ◌∙◌, arith, append-nil}
 use Rattle.std.specs.Prelude.{◌&&◌, nat_lt, sum_by}
-use Rattle.std.specs.List.{filter, flat_map, list_any, AllByRecursion}
-use Rattle.std.specs.BTreeMap.{BTreeMap, IsOrdered, get}
-use Rattle.std.proofs.lemmas.Bool.{lt-ltb, ltb-true, ltb-false, le-ltb, and_parts, false_from_ne_true}
+use Rattle.std.specs.List.{list_any, AllByRecursion}
+use Rattle.std.proofs.lemmas.Bool.{ltb-true, ltb-false, le-ltb, and_parts, false_from_ne_true}
 use Rattle.std.proofs.lemmas.List.Elements.{filter-append}
 use Rattle.std.proofs.lemmas.List.Filters.{sum_by-filter_both}
-use Rattle.std.proofs.lemmas.List.Folds.{flat_map-map}
 use Rattle.std.proofs.lemmas.List.Sums.{sum_by-append}
-use Rattle.sb_record.specs.declared.element.KeptRec.{KeptRec}
 use Rattle.sb_record.specs.declared.item.Record.{Record}
 use Rattle.sb_record.specs.Elements.{all_records}
 use Rattle.sb_record.specs.Orders.{IsAscending}
 use Rattle.sb_record.specs.Records.{record_cmp, sorted_records, before, at_least}
-use Rattle.sb_record.proofs.Elements.{All-any, All-anything, All-passed, every, filter_of_filter}
+use Rattle.sb_record.proofs.Elements.{All-any, All-anything, All-passed, filter_of_filter}
 use Rattle.sb_record.proofs.OnLanes.{All-all_records}
 use Rattle.sb_record.proofs.Sorting.{records_total, in_order-ascending, sorted-unique, IsReordered-in_order, All-in_order}
 use Rattle.sb_window.specs.declared.keyed_window.KeyedWindow.{KeyedWindow}
 use Rattle.sb_window.specs.Spacing.{Spacing}
-use Rattle.sb_window.specs.Windows.{keyed_window_cmp, keyed_windows, is_in, values_in}
+use Rattle.sb_window.specs.Windows.{is_in}
 use Rattle.sb_window.specs.Aggregations.{rows_by}
-use Rattle.sb_window.specs.Gatherings.{gathered_value, rows_of_entries}
-use Rattle.sb_window.specs.Groupings.{IsFrom, Closes}
-use Rattle.sb_window.proofs.Gathering.{entries-passing}
-use Rattle.sb_window.proofs.Rows.{end-of, when, when-rows, rows_by-closed}
-
--- the rows of a map that has what is gathered in the keyed windows whose rows are of some times
-pub rows_of_entries-when : {V : Type 0} (made : List ℤ → V) (values : V → List ℤ) (windows : Spacing) (t : ℕ → Bool) (l : List Record) (m : BTreeMap KeyedWindow V) → IsOrdered keyed_window_cmp m
-    → ((q : KeyedWindow) → get keyed_window_cmp m q ≡ cond (t (q.end - 1)) (gathered_value made windows l q) None) → rows_of_entries values m.entries ≡ when t (rows_by (λ vs. values (made vs)) windows l)
-rows_of_entries-when {V} made values windows t l m ordered at =
-    ap (rows_of_entries values) (entries-passing windows (λ q. t (q.end - 1)) l (λ q. made (values_in windows q l)) m ordered (λ q. at q ∙ both (t (q.end - 1)) (list_any (is_in windows q) l) (made (values_in windows q l))))
-    ∙ flat_map-map (λ (e : KeyedWindow × V). map (λ v. record { time = e.0.end - 1; key = e.0.key; value = v }) (values e.1)) (λ q. (q, made (values_in windows q l))) (filter (λ q. t (q.end - 1)) (keyed_windows windows l))
-    ∙ sym (when-rows t (λ q. values (made (values_in windows q l))) (keyed_windows windows l))
-  where
-    both : (a b : Bool) (v : V) → cond {A = Option V} a (cond b (Some v) None) None ≡ cond (a && b) (Some v) None
-    both true b v = refl
-    both false b v = refl
+use Rattle.sb_window.specs.Groupings.{Closes}
+use Rattle.sb_window.proofs.Rows.{end-of, when, rows_by-closed}
 
 -- the times from one mark on and below another
 abbrev pub is_between : ℕ → ℕ → ℕ → Bool

@@ -3,16 +3,19 @@ use Rattle.std.proofs.Common.{◌≡◌, ℕ, ℤ, ◌-◌, ◌<◌, Bool, true,
 use Rattle.std.specs.Prelude.{◌||◌, ◌&&◌}
 use Rattle.std.specs.List.{filter, flat_map, list_any, AllByRecursion}
 use Rattle.std.specs.Option.{is_some}
-use Rattle.std.specs.Map.{keys_of}
-use Rattle.std.specs.Ordering.{eq_by_cmp}
+use Rattle.std.specs.List.Sorted.{IsStrictlySortedBy}
+use Rattle.std.specs.Map.{keys_of, lookup}
+use Rattle.std.specs.Ordering.{eq_by_cmp, is_eq, ordering_reverse}
 use Rattle.std.specs.BTreeMap.{BTreeMap, IsOrdered, get, is_at}
+use Rattle.std.specs.Cmp.{tied_itself}
+use Rattle.std.specs.declared.cmp.Ordering.TheVariants.{Less}
 use Rattle.std.proofs.lemmas.Bool.{eqb-true, ne_eqb}
 use Rattle.std.proofs.lemmas.List.{map-append}
-use Rattle.std.proofs.lemmas.List.Elements.{filter-append, recursion_from_All, All-from_recursion}
+use Rattle.std.proofs.lemmas.List.Elements.{filter-append, All-from_recursion}
 use Rattle.std.proofs.lemmas.List.Folds.{list_any-append, list_any_none, flat_map-map}
 use Rattle.std.proofs.lemmas.List.Kept.{IsStrictlySortedBy-filter}
 use Rattle.std.proofs.lemmas.Option.{cond_some}
-use Rattle.std.proofs.lemmas.Map.Views.{All-found, tells_apart, any-filter_same}
+use Rattle.std.proofs.lemmas.Map.Views.{tells_apart, any-filter_same}
 use Rattle.std.proofs.lemmas.Map.Made.{is_some-lookup}
 use Rattle.std.proofs.lemmas.Map.Lookups.{btree_set_from_contains}
 use Rattle.sb_record.specs.declared.item.Record.{Record}
@@ -115,13 +118,24 @@ made_at-more {V} join v key e es rising now later step q =
     by_case false false c d = refl
 
 -- ---- the entries of a map
--- a map that has a value just at the keyed windows that pass and have records has an entry for each of these, in order
-pub entries-passing : {V : Type 0} (windows : Spacing) (p : KeyedWindow → Bool) (l : List Record) (f : KeyedWindow → V) (m : BTreeMap KeyedWindow V) → IsOrdered keyed_window_cmp m
-    → ((q : KeyedWindow) → get keyed_window_cmp m q ≡ cond (p q && list_any (is_in windows q) l) (Some (f q)) None)
-    → m.entries ≡ map (λ q. (q, f q)) (filter p (keyed_windows windows l))
-entries-passing {V} windows p l f m ordered at =
-    sym (each m.entries (recursion_from_All (λ (e : KeyedWindow × V). get keyed_window_cmp m e.0 ≡ Some e.1) m.entries (All-found keyed_windows_total m ordered)))
-    ∙ ap (map (λ q. (q, f q))) (sym same_keys)
+-- each entry of a list whose keys rise is found
+found-behind : {V : Type 0} (e : KeyedWindow × V) (es xs : List (KeyedWindow × V)) → AllByRecursion (λ k. keyed_window_cmp e.0 k ≡ Less) (keys_of xs)
+    → AllByRecursion (λ x. lookup (is_at (keyed_window_cmp x.0)) es ≡ Some x.1) xs → AllByRecursion (λ x. lookup (is_at (keyed_window_cmp x.0)) (e ∷ es) ≡ Some x.1) xs
+found-behind e es [] before all = tt
+found-behind e es (x ∷ xs) before all =
+    (ap (λ o. cond (is_eq o) (Some e.1) (lookup (is_at (keyed_window_cmp x.0)) es)) (keyed_windows_total.antisymm x.0 e.0 ∙ ap ordering_reverse before.0) ∙ all.0, found-behind e es xs before.1 all.1)
+
+all-found : {V : Type 0} (es : List (KeyedWindow × V)) → IsStrictlySortedBy keyed_window_cmp (keys_of es) → AllByRecursion (λ x. lookup (is_at (keyed_window_cmp x.0)) es ≡ Some x.1) es
+unfolding IsStrictlySortedBy
+all-found [] run = tt
+all-found (e ∷ es) run =
+    (ap (λ o. cond (is_eq o) (Some e.1) (lookup (is_at (keyed_window_cmp e.0)) es)) (tied_itself keyed_windows_total e.0), found-behind e es es run.0 (all-found es run.1))
+
+-- a list that has a value just at the keyed windows that pass and have records has an entry for each of these, in order
+pub entries-passing : {V : Type 0} (windows : Spacing) (p : KeyedWindow → Bool) (l : List Record) (f : KeyedWindow → V) (es : List (KeyedWindow × V)) → IsStrictlySortedBy keyed_window_cmp (keys_of es)
+    → ((q : KeyedWindow) → lookup (is_at (keyed_window_cmp q)) es ≡ cond (p q && list_any (is_in windows q) l) (Some (f q)) None)
+    → es ≡ map (λ q. (q, f q)) (filter p (keyed_windows windows l))
+entries-passing {V} windows p l f es run at = sym (each es (all-found es run)) ∙ ap (map (λ q. (q, f q))) (sym same_keys)
   where
     is_some-cond : (b : Bool) (v : V) → is_some (cond b (Some v) None) ≡ b
     is_some-cond true v = refl
@@ -132,21 +146,21 @@ entries-passing {V} windows p l f m ordered at =
         any-filter_same (eq_by_cmp keyed_window_cmp q) p (p q) (λ x same. ap p (sym (tells_apart exact_keyed_windows q x same))) (keyed_windows windows l)
         ∙ ap (λ b. p q && b) (any_keyed_windows windows q l)
 
-    same_keys : filter p (keyed_windows windows l) ≡ keys_of m.entries
-    same_keys = btree_set_from_contains keyed_windows_total (record { keys = filter p (keyed_windows windows l) }) (record { keys = keys_of m.entries })
-        (IsStrictlySortedBy-filter keyed_window_cmp p (keyed_windows windows l) (distinct-sorted keyed_windows_total (flat_map (windows_of windows) l))) ordered
-        (λ q. among q ∙ sym (is_some-cond (p q && list_any (is_in windows q) l) (f q)) ∙ ap is_some (sym (at q)) ∙ is_some-lookup (is_at (keyed_window_cmp q)) m.entries)
+    same_keys : filter p (keyed_windows windows l) ≡ keys_of es
+    same_keys = btree_set_from_contains keyed_windows_total (record { keys = filter p (keyed_windows windows l) }) (record { keys = keys_of es })
+        (IsStrictlySortedBy-filter keyed_window_cmp p (keyed_windows windows l) (distinct-sorted keyed_windows_total (flat_map (windows_of windows) l))) run
+        (λ q. among q ∙ sym (is_some-cond (p q && list_any (is_in windows q) l) (f q)) ∙ ap is_some (sym (at q)) ∙ is_some-lookup (is_at (keyed_window_cmp q)) es)
         exact_keyed_windows
 
-    each : (es : List (KeyedWindow × V)) → AllByRecursion (λ (e : KeyedWindow × V). get keyed_window_cmp m e.0 ≡ Some e.1) es → map (λ q. (q, f q)) (keys_of es) ≡ es
+    each : (xs : List (KeyedWindow × V)) → AllByRecursion (λ (x : KeyedWindow × V). lookup (is_at (keyed_window_cmp x.0)) es ≡ Some x.1) xs → map (λ q. (q, f q)) (keys_of xs) ≡ xs
     each [] all = refl
-    each (e ∷ es) all = λ i. (e.0, (cond_some (p e.0 && list_any (is_in windows e.0) l) (f e.0) e.1 (sym (at e.0) ∙ all.0)).1 i) ∷ each es all.1 i
+    each (x ∷ xs) all = λ i. (x.0, (cond_some (p x.0 && list_any (is_in windows x.0) l) (f x.0) x.1 (sym (at x.0) ∙ all.0)).1 i) ∷ each xs all.1 i
 
 -- the same, where all pass
 pub entries-keyed_windows : {V : Type 0} (windows : Spacing) (l : List Record) (f : KeyedWindow → V) (m : BTreeMap KeyedWindow V) → IsOrdered keyed_window_cmp m
     → ((q : KeyedWindow) → get keyed_window_cmp m q ≡ cond (list_any (is_in windows q) l) (Some (f q)) None)
     → m.entries ≡ map (λ q. (q, f q)) (keyed_windows windows l)
-entries-keyed_windows windows l f m ordered at = entries-passing windows (λ _. true) l f m ordered at ∙ ap (map (λ q. (q, f q))) (filter_all (keyed_windows windows l))
+entries-keyed_windows windows l f m ordered at = entries-passing windows (λ _. true) l f m.entries ordered at ∙ ap (map (λ q. (q, f q))) (filter_all (keyed_windows windows l))
 
 -- the rows of a map that gathers the values of records are the rows over the records
 pub rows_of_entries-gathered : {V : Type 0} (made : List ℤ → V) (values : V → List ℤ) (windows : Spacing) (l : List Record) (m : BTreeMap KeyedWindow V) → IsOrdered keyed_window_cmp m

@@ -1,6 +1,5 @@
 pub mod Multiples
 pub mod Rows
 pub mod Gathering
-pub mod Joining
 pub mod Closing
 pub mod Marks
