@@ -6,7 +6,7 @@ pub mod leavings
 pub mod lives
 pub use Rattle.sb_hand.proofs.session
 pub use Rattle.sb_hand.proofs.diary
-pub use Rattle.sb_hand.proofs.emit
+pub use Rattle.sb_hand.proofs.sink
 pub use Rattle.sb_turn.proofs as turn
 pub use Rattle.sb_hand.proofs.base
 pub use Rattle.sb_hand.proofs.work

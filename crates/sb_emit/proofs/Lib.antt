@@ -1,5 +1,3 @@
-pub mod Rowwise
-pub mod SinkLaws
 pub mod Writing
 pub mod Batches
 pub mod Places

@@ -1,5 +1,3 @@
-pub mod Sinks
-pub mod ByTime
 pub mod Outputs
 pub mod Printed
 pub mod TextLaws

@@ -1,10 +1,9 @@
-//! How rows leave the engine: from the sink, which keeps them until a watermark lies above their times, to an output,
-//! which takes all of them, and past taps, which look at them one at a time.
+//! How rows leave the engine: to an output, which takes all of them, and past taps, which look at them one at a time.
 //!
-//! [`SinkKept`] is what the sink keeps. A [`RowOut`] takes rows in the order of their windows: [`Printing`] writes
-//! their text to a sink of bytes, [`Lent`] to one that is lent, and [`Summary`] keeps three numbers of them. A [`Tap`]
-//! says behind each row whether it has enough: [`offer`] offers a row to a list of taps and drops those that have.
-//! [`HeadTap`] writes the first rows, and [`CountTap`] counts all. Only what the sink keeps takes memory.
+//! A [`RowOut`] takes rows in the order of their windows: [`Printing`] writes their text to a sink of bytes, [`Lent`] to
+//! one that is lent, and [`Summary`] keeps three numbers of them. A [`Tap`] says behind each row whether it has enough:
+//! [`offer`] offers a row to a list of taps and drops those that have. [`HeadTap`] writes the first rows, and
+//! [`CountTap`] counts all. None of them takes memory.
 #![tactic(auto)]
 
 mod batch;
@@ -15,7 +14,6 @@ mod offering;
 mod output;
 mod printing;
 mod seen_rows;
-mod sink;
 mod summary;
 mod tap;
 
@@ -25,6 +23,5 @@ pub use lent::Lent;
 pub use offering::{TapStop, offer};
 pub use output::RowOut;
 pub use printing::Printing;
-pub use sink::SinkKept;
 pub use summary::Summary;
 pub use tap::{Tap, TapFault, Wish};

@@ -35,7 +35,7 @@ pub mod Whole
 pub mod Works
 pub use Rattle.sb_node.proofs.session
 pub use Rattle.sb_node.proofs.diary
-pub use Rattle.sb_node.proofs.emit
+pub use Rattle.sb_node.proofs.sink
 pub use Rattle.sb_node.proofs.base
 pub use Rattle.sb_node.proofs.work
 pub use Rattle.sb_tally.proofs.core

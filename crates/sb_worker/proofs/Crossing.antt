@@ -27,7 +27,7 @@ use Rattle.sb_cascade.proofs.base.aggregate.partial.Partial.TheSendSync as parti
 use Rattle.sb_cascade.proofs.base.aggregate.runs.Runs.TheSendSync as runs_crossing
 use Rattle.sb_cascade.proofs.session.session.Session.TheSendSync as session_crossing
 use Rattle.sb_cascade.proofs.base.join.kept.JoinKept.TheSendSync as join_crossing
-use Rattle.sb_cascade.proofs.emit.sink.SinkKept.TheSendSync as sink_crossing
+use Rattle.sb_cascade.proofs.sink.sink.SinkKept.TheSendSync as sink_crossing
 use Rattle.sb_cascade.specs.work.contracts.claim.Claim as claim
 use Rattle.sb_cascade.proofs.work.claim.Claim.TheSendSync as claim_crossing
 use Rattle.sb_cascade.specs.lane.contracts.lane.Lane as lane

@@ -2,7 +2,7 @@
 
 ghost use Rattle.std.specs.Prelude.{◌≤◌};
 
-use sb_emit::SinkKept;
+use sb_sink::SinkKept;
 use sb_record::{Key, NoMemory, Record};
 use sb_window::Grouping;
 use std::alloc::Global;

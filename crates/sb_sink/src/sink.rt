@@ -11,9 +11,9 @@ ghost use Rattle.sb_record.specs.declared.element.KeptRec.{KeptRec as Element};
 ghost use Rattle.sb_record.specs.Records.{sorted_records, before, at_least};
 ghost use Rattle.sb_record.specs.Reorderings.{IsReordered};
 ghost use Rattle.sb_window.specs.Groupings.{IsFrom, Adds, Closes};
-ghost use Rattle.sb_emit.specs.ByTime as entries;
-ghost use Rattle.sb_emit.specs.Sinks as spec;
-ghost use Rattle.sb_emit.specs.Sinks.{gives-orderless};
+ghost use Rattle.sb_sink.specs.ByTime as entries;
+ghost use Rattle.sb_sink.specs.Sinks as spec;
+ghost use Rattle.sb_sink.specs.Sinks.{gives-orderless};
 
 use sb_record::{NoMemory, Record, Sequence};
 use sb_window::Grouping;
@@ -33,8 +33,8 @@ pub struct SinkKept {
 
 impl Model for SinkKept {
     ghost use Rattle.std.specs.Prelude.{◌≡◌, length};
-    ghost use Rattle.sb_emit.specs.ByTime as entries;
-    ghost use Rattle.sb_emit.specs.Sinks as spec;
+    ghost use Rattle.sb_sink.specs.ByTime as entries;
+    ghost use Rattle.sb_sink.specs.Sinks as spec;
 
     ghost Value = { spec.SinkState };
 

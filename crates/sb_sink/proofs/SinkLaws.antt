@@ -17,7 +17,7 @@ use Rattle.sb_record.proofs.OnLanes.{All-all_records}
 use Rattle.sb_record.proofs.Sorting.{records_total, in_order-ascending, sorted-unique, All-in_order, IsReordered-in_order}
 use Rattle.sb_window.specs.Groupings.{IsFrom, Adds, Closes}
 use Rattle.sb_window.proofs.Marks.{All-at_least, length-reordered}
-use Rattle.sb_emit.specs.Sinks.{SinkState, gives, StandsFor}
+use Rattle.sb_sink.specs.Sinks.{SinkState, gives, StandsFor}
 
 pub adds : (s t : SinkState) (part : List Record) → IsReordered t.kept (s.kept ++ part) → (mark : ℕ) (es : List KeptRec) → StandsFor part es → IsFrom mark es → Adds mark (gives s) (gives t) es
 adds s t part grown mark es stands from l late f =

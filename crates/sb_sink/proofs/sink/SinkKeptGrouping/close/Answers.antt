@@ -1,9 +1,9 @@
 use Rattle.std.proofs.Common.{length, subst, ap, ◌∙◌, arith}
 use Rattle.sb_window.specs.Groupings.{Closes}
-use Rattle.sb_emit.specs.ByTime.{records_in}
-use Rattle.sb_emit.specs.Sinks.{SinkState, gives}
-use Rattle.sb_emit.proofs.SinkLaws.{closes, lengths}
-use Rattle.sb_emit.proofs.sink.SinkKeptGrouping.close.Goals as goal
+use Rattle.sb_sink.specs.ByTime.{records_in}
+use Rattle.sb_sink.specs.Sinks.{SinkState, gives}
+use Rattle.sb_sink.proofs.SinkLaws.{closes, lengths}
+use Rattle.sb_sink.proofs.sink.SinkKeptGrouping.close.Goals as goal
 
 pub overflow_sub-self : goal.overflow_sub-self
 overflow_sub-self c =

@@ -1,7 +1,7 @@
 use Rattle.std.proofs.Common.{◌++◌, take}
 use Rattle.sb_record.specs.Reorderings.{IsReordered}
-use Rattle.sb_emit.specs.ByTime.{records_in, AreByTime}
-use Rattle.sb_emit.proofs.sink.add_rows.Given as goal
+use Rattle.sb_sink.specs.ByTime.{records_in, AreByTime}
+use Rattle.sb_sink.proofs.sink.add_rows.Given as goal
 
 abbrev pub invariant-loop-row : goal.invariant-loop-row
 invariant-loop-row l = record {

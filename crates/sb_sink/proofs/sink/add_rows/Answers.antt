@@ -3,9 +3,9 @@ use Rattle.std.specs.List.{sum_by}
 use Rattle.std.proofs.lemmas.List.{take_more}
 use Rattle.std.proofs.lemmas.List.Sums.{sum_by-append}
 use Rattle.sb_record.specs.declared.item.Record.{Record}
-use Rattle.sb_emit.specs.ByTime.{records_in}
-use Rattle.sb_emit.proofs.Rowwise.{adds-row, keeps-row}
-use Rattle.sb_emit.proofs.sink.add_rows.Goals as goal
+use Rattle.sb_sink.specs.ByTime.{records_in}
+use Rattle.sb_sink.proofs.Rowwise.{adds-row, keeps-row}
+use Rattle.sb_sink.proofs.sink.add_rows.Goals as goal
 
 pub loop-row-preserved : goal.loop-row-preserved
 loop-row-preserved c =

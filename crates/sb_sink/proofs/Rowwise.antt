@@ -22,7 +22,7 @@ use Rattle.sb_record.specs.Reorderings.{IsReordered}
 use Rattle.sb_record.proofs.Elements.{every, All-join}
 use Rattle.sb_record.proofs.Sums.{sum_by-flat_map, sum_by-map}
 use Rattle.sb_window.proofs.Marks.{before-all, before-none, at_least-all, at_least-none, All-split}
-use Rattle.sb_emit.specs.ByTime.{records_in, followed_by, AreByTime}
+use Rattle.sb_sink.specs.ByTime.{records_in, followed_by, AreByTime}
 
 -- each entry has records of its time
 abbrev pub AreTimed : List (ℕ × List Record) → Type 0

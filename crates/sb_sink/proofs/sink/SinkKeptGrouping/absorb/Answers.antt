@@ -1,7 +1,7 @@
 use Rattle.std.proofs.Common.{◌+◌, ◌++◌, length, sym, ap, ◌∙◌, length-append}
 use Rattle.sb_window.proofs.Marks.{length-reordered}
-use Rattle.sb_emit.specs.ByTime.{records_in}
-use Rattle.sb_emit.proofs.sink.SinkKeptGrouping.absorb.Goals as goal
+use Rattle.sb_sink.specs.ByTime.{records_in}
+use Rattle.sb_sink.proofs.sink.SinkKeptGrouping.absorb.Goals as goal
 
 pub invariant_of-self : goal.invariant_of-self
 invariant_of-self c =

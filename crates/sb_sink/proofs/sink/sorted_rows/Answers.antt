@@ -2,8 +2,8 @@ use Rattle.std.proofs.Common.{◌≡◌, ◌++◌, sym, ap, ◌∙◌, append-ni
 use Rattle.std.specs.List.{sum_by}
 use Rattle.std.proofs.lemmas.List.Sorted.{sum_by-IsPermutation}
 use Rattle.sb_record.proofs.Sorting.{records_total, ascending-from_sorted, sorted-unique}
-use Rattle.sb_emit.specs.ByTime.{records_in}
-use Rattle.sb_emit.proofs.sink.sorted_rows.Goals as goal
+use Rattle.sb_sink.specs.ByTime.{records_in}
+use Rattle.sb_sink.proofs.sink.sorted_rows.Goals as goal
 
 pub returns : goal.returns
 returns c =

@@ -6,8 +6,8 @@ use Rattle.std.specs.Ordering.{nat_cmp, is_gt}
 use Rattle.std.proofs.lemmas.Result.{IfOk-weaker}
 use Rattle.sb_record.specs.declared.item.Record.{Record}
 use Rattle.sb_record.specs.Records.{sorted_records}
-use Rattle.sb_emit.proofs.Rowwise.{IsSplit, split-before, split-at_least, split-keeps, on_ok}
-use Rattle.sb_emit.proofs.sink.take_below.Goals as goal
+use Rattle.sb_sink.proofs.Rowwise.{IsSplit, split-before, split-at_least, split-keeps, on_ok}
+use Rattle.sb_sink.proofs.sink.take_below.Goals as goal
 
 split : (c : goal.After-sorted_rows) → IsSplit c.args.mark c.args.by_time.now c.replace-below.result c.replace-below.new.dest
 split c =
