@@ -7,8 +7,8 @@ ghost use Rattle.sb_work.specs.base.window.Groupings.{Adds, Closes};
 ghost use Rattle.sb_work.specs.base.pipeline.Operators.{Operator, operator_at};
 ghost use Rattle.sb_kept.specs.Keeping.{IsSpent, IsMadeFor, IsPartFor, ShowsKept, closed_mark, gives};
 
-use sb_sink::SinkKept;
 use sb_session::Session;
+use sb_sink::SinkKept;
 use sb_work::Part;
 use sb_work::sb_base::{Aggregate, Grouping, JoinKept, Kind, NoMemory, Plan, Record};
 use std::alloc::Global;

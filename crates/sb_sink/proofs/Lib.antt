@@ -1,2 +1,2 @@
-pub mod Rowwise
+pub mod Runs
 pub mod SinkLaws

@@ -1,2 +1,2 @@
 pub mod Sinks
-pub mod ByTime
+pub mod Runs

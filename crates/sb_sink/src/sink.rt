@@ -1,31 +1,31 @@
 //! The sink: it keeps rows until a watermark lies above their times, and gives them in order.
 //!
 //! Rows can come before others of an earlier time, so a row may leave only once no earlier one can come. A [`SinkKept`]
-//! keeps rows by time: a row costs one look-up, and a closing splits those below the mark off an ordered map, and looks
-//! at no other.
+//! keeps them in sorted runs. Rows mostly come in order, and go on from the last run then. Others are a run of their
+//! own, and runs of about the same length are joined, so there are few. A closing takes rows off the front of each run,
+//! and looks at no more than one that stays.
 
-ghost use Rattle.std.specs.Prelude.{◌≡◌, ◌+◌, ◌≤◌, ◌++◌, ◌∷◌, [], List, length, OnOk, OnErr, IfOk};
-ghost use Rattle.std.specs.BTreeMap.{get, insert_entry, IsOrdered};
-ghost use Rattle.std.specs.Ordering.{nat_cmp};
+ghost use Rattle.std.specs.Prelude.{◌≡◌, ◌+◌, ◌≤◌, ◌++◌, List, length, OnOk, OnErr, IfOk};
+ghost use Rattle.std.specs.Option.{option_to_list};
 ghost use Rattle.sb_record.specs.declared.element.KeptRec.{KeptRec as Element};
 ghost use Rattle.sb_record.specs.Records.{sorted_records, before, at_least};
 ghost use Rattle.sb_record.specs.Reorderings.{IsReordered};
 ghost use Rattle.sb_window.specs.Groupings.{IsFrom, Adds, Closes};
-ghost use Rattle.sb_sink.specs.ByTime as entries;
+ghost use Rattle.sb_sink.specs.Runs.{records_in};
 ghost use Rattle.sb_sink.specs.Sinks as spec;
 ghost use Rattle.sb_sink.specs.Sinks.{gives-orderless};
 
-use sb_record::{NoMemory, Record, Sequence};
+use crate::run::Run;
+use sb_record::{NoMemory, Record};
 use sb_window::Grouping;
 use std::alloc::Global;
-use std::collections::BTreeMap;
 use std::marker::Model;
 
 /// The rows that the sink keeps. Once no memory was found it keeps none.
 #[derive(Drop)]
 pub struct SinkKept {
     alloc: Global,
-    by_time: BTreeMap<u64, Sequence<Record>>,
+    runs: Vec<Run>,
     held: usize,
     closed: u64,
     is_spent: bool,
@@ -33,19 +33,18 @@ pub struct SinkKept {
 
 impl Model for SinkKept {
     ghost use Rattle.std.specs.Prelude.{◌≡◌, length};
-    ghost use Rattle.sb_sink.specs.ByTime as entries;
+    ghost use Rattle.sb_sink.specs.Runs.{records_in};
     ghost use Rattle.sb_sink.specs.Sinks as spec;
 
     ghost Value = { spec.SinkState };
 
     ghost view = { λ s. record {
-      kept = entries.records_in s.by_time.entries;
+      kept = records_in s.runs.items;
       closed = s.closed;
       is_spent = s.is_spent;
     } };
 
-    ghost invariant = { λ s. (s.held ≡ length (entries.records_in s.by_time.entries))
-        × entries.AreByTime s.by_time };
+    ghost invariant = { λ s. s.held ≡ length (records_in s.runs.items) };
 }
 
 impl SinkKept {
@@ -55,7 +54,7 @@ impl SinkKept {
     {
         SinkKept {
             alloc,
-            by_time: BTreeMap::new(alloc),
+            runs: Vec::new(alloc),
             held: 0,
             closed: 0,
             is_spent: false,
@@ -101,13 +100,13 @@ impl Grouping for SinkKept {
         if self.is_spent {
             return Err(NoMemory);
         }
-        match add_rows(self.alloc, &mut self.by_time, self.held, &part) {
+        match add_rows(&mut self.runs, self.held, part) {
             Ok(held) => {
                 self.held = held;
                 Ok(())
             }
             Err(NoMemory) => {
-                self.by_time.clear();
+                self.runs.clear();
                 self.held = 0;
                 self.is_spent = true;
                 Err(NoMemory)
@@ -128,14 +127,14 @@ impl Grouping for SinkKept {
         if self.is_spent {
             return Err(NoMemory);
         }
-        match take_below(self.alloc, &mut self.by_time, mark) {
+        match take_below(self.alloc, &mut self.runs, mark) {
             Ok(rows) => {
                 self.held -= rows.len();
                 self.closed = mark;
                 Ok(rows)
             }
             Err(NoMemory) => {
-                self.by_time.clear();
+                self.runs.clear();
                 self.held = 0;
                 self.is_spent = true;
                 Err(NoMemory)
@@ -144,74 +143,77 @@ impl Grouping for SinkKept {
     }
 }
 
-/// Adds rows to those of their times, and gives how many there are then, if so many were held before.
-fn add_rows(
-    alloc: Global,
-    by_time: &mut BTreeMap<u64, Sequence<Record>>,
-    held: usize,
-    rows: &[Record],
-) -> Result<usize, NoMemory>
-    ensures held { IfOk result (λ n. n ≡ held + length rows.now) }
-    ensures adds { OnOk result (IsReordered (entries.records_in by_time.new.entries)
-        (entries.records_in by_time.old.entries ++ rows.now)) }
-    ensures keeps { OnOk result (entries.AreByTime by_time.old → entries.AreByTime by_time.new) }
+/// Adds rows, and gives how many there are then, if so many were held before.
+fn add_rows(runs: &mut Vec<Run>, held: usize, rows: Vec<Record>) -> Result<usize, NoMemory>
+    ensures held { IfOk result (λ n. n ≡ held + length rows.items) }
+    ensures adds { OnOk result (IsReordered (records_in runs.new.items) (records_in runs.old.items ++ rows.items)) }
 {
     // There is no memory for more rows than can be counted.
     let Some(held) = held.checked_add(rows.len()) else {
         return Err(NoMemory);
     };
-    for row in rows {
-        add_row(alloc, by_time, row)?;
-    }
+    push(runs, Run::of(rows))?;
     Ok(held)
 }
 
-/// Adds a row to those of its time.
-fn add_row(
-    alloc: Global,
-    by_time: &mut BTreeMap<u64, Sequence<Record>>,
-    row: &Record,
-) -> Result<(), NoMemory>
-    ensures entries { OnOk result (by_time.new.entries ≡ insert_entry nat_cmp by_time.old.entries row.now.time
-        (entries.followed_by row.now (get nat_cmp by_time.old row.now.time))) }
-    ensures ordered { OnOk result (IsOrdered nat_cmp by_time.new) }
-    ensures was_ordered { IsOrdered nat_cmp by_time.old }
+/// Adds a run, joined with the last ones that are near it.
+fn push(runs: &mut Vec<Run>, run: Run) -> Result<(), NoMemory>
+    ensures { OnOk result (IsReordered (records_in runs.new.items) (records_in runs.old.items ++ run)) }
 {
-    let rows = by_time
-        .entry(row.time)?
-        .or_insert(Sequence::new(Vec::new(alloc)));
-    rows.items.push(Record { ..*row })?;
+    let mut top = run;
+    'runs: while let Some(last) = pop_near(runs, &top) {
+        top = last.joined(top)?;
+    }
+    keep(runs, top)
+}
+
+/// Takes off the last run, if one that comes goes on from it, or if it has less than twice as many rows.
+///
+/// So behind each run that stays, there is one of at most half as many rows when it is put there: the runs are few.
+fn pop_near(runs: &mut Vec<Run>, coming: &Run) -> Option<Run>
+    ensures { runs.old.items ≡ runs.new.items ++ option_to_list result }
+{
+    let last = runs.last()?;
+    if coming.len() <= last.len() / 2 && !last.leads_to(coming) {
+        return None;
+    }
+    runs.pop()
+}
+
+/// Adds a run, if it has rows.
+fn keep(runs: &mut Vec<Run>, run: Run) -> Result<(), NoMemory>
+    ensures { OnOk result (records_in runs.new.items ≡ records_in runs.old.items ++ run) }
+{
+    if run.len() != 0 {
+        runs.push(run)?;
+    }
     Ok(())
 }
 
 /// Takes out the rows below the mark, and gives them in order.
-fn take_below(
-    alloc: Global,
-    by_time: &mut BTreeMap<u64, Sequence<Record>>,
-    mark: u64,
-) -> Result<Vec<Record>, NoMemory>
-    ensures rows { IfOk result (λ rows. entries.AreByTime by_time.old
-        → rows.items ≡ sorted_records (before mark (entries.records_in by_time.old.entries))) }
-    ensures kept { OnOk result (entries.AreByTime by_time.old
-        → entries.records_in by_time.new.entries ≡ at_least mark (entries.records_in by_time.old.entries)) }
-    ensures keeps { OnOk result (entries.AreByTime by_time.old → entries.AreByTime by_time.new) }
+fn take_below(alloc: Global, runs: &mut Vec<Run>, mark: u64) -> Result<Vec<Record>, NoMemory>
+    ensures rows { IfOk result (λ rows. rows.items ≡ sorted_records (before mark (records_in runs.old.items))) }
+    ensures kept { OnOk result (records_in runs.new.items ≡ at_least mark (records_in runs.old.items)) }
 {
-    let later = by_time.split_off(&mark)?;
-    let below = std::mem::replace(by_time, later);
-    sorted_rows(alloc, below)
+    let mut closed = Vec::new(alloc);
+    let all = std::mem::replace(runs, Vec::new(alloc));
+    for run in all {
+        let (below, rest) = run.split_at(alloc, mark)?;
+        push(&mut closed, below)?;
+        keep(runs, rest)?;
+    }
+    let rows = into_one(alloc, closed)?;
+    Ok(rows.into_rows())
 }
 
-/// All rows, in order.
-fn sorted_rows(
-    alloc: Global,
-    by_time: BTreeMap<u64, Sequence<Record>>,
-) -> Result<Vec<Record>, NoMemory>
-    ensures { IfOk result (λ rows. rows.items ≡ sorted_records (entries.records_in by_time.entries)) }
+/// All runs as one.
+fn into_one(alloc: Global, runs: Vec<Run>) -> Result<Run, NoMemory>
+    ensures { IfOk result (λ run. IsReordered run (records_in runs.items)) }
 {
-    let mut all = Vec::new(alloc);
-    for (_, mut rows) in by_time {
-        all.append(&mut rows.items)?;
+    let mut rest = runs;
+    let mut all = Run::new(alloc);
+    'runs: while let Some(last) = rest.pop() {
+        all = last.joined(all)?;
     }
-    all.sort_unstable();
     Ok(all)
 }

@@ -2,8 +2,8 @@
 
 ghost use Rattle.std.specs.Prelude.{◌≤◌};
 
-use sb_sink::SinkKept;
 use sb_record::{Key, NoMemory, Record};
+use sb_sink::SinkKept;
 use sb_window::Grouping;
 use std::alloc::Global;
 

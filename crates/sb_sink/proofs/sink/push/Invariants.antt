@@ -1,0 +1,10 @@
+use Rattle.std.proofs.Common.{◌++◌, length}
+use Rattle.sb_record.specs.Reorderings.{IsReordered}
+use Rattle.sb_sink.specs.Runs.{records_in}
+use Rattle.sb_sink.proofs.sink.push.Given as goal
+
+abbrev pub invariant-runs : goal.invariant-runs
+invariant-runs l = IsReordered (records_in l.runs.items ++ l.top) (records_in l.initial.runs.items ++ l.initial.top)
+
+abbrev pub decreases-runs : goal.decreases-runs
+decreases-runs l = length l.runs.items
