@@ -34,10 +34,10 @@ impl<K: Sink> RowOut for Lent<'_, K> {
 
     ghost after_none = { λ o. lent.after_none o.sink.ghost_name (K.taken o.sink.now) };
 
-    ghost after_more = { λ o p q l m. lent.after_more o.sink.ghost_name p.sink.ghost_name q.sink.ghost_name
+    ghost after_more = { λ o p q l m _. lent.after_more o.sink.ghost_name p.sink.ghost_name q.sink.ghost_name
         (K.taken o.sink.now) (K.taken p.sink.now) (K.taken q.sink.now) l m };
 
-    ghost part_later = { λ o p q l m. lent.part_later o.sink.ghost_name p.sink.ghost_name q.sink.ghost_name
+    ghost part_later = { λ o p q l m _. lent.part_later o.sink.ghost_name p.sink.ghost_name q.sink.ghost_name
         (K.taken o.sink.now) (K.taken p.sink.now) (K.taken q.sink.now) l m };
 
     ghost part_of_all = { λ o p l m. lent.part_of_all o.sink.ghost_name p.sink.ghost_name

@@ -3,7 +3,7 @@
 ghost use Rattle.std.specs.Prelude.{◌≡◌, ◌<◌, List, [], ◌++◌, false, All, OnOk};
 ghost use Rattle.sb_record.specs.declared.item.Record.{Record};
 ghost use Rattle.sb_outside.specs.Sinks.{SinkCause, SinkState};
-ghost use Rattle.sb_emit.specs.Outputs.{TakesRows};
+ghost use Rattle.sb_emit.specs.Outputs.{AreApart, TakesRows};
 
 use sb_outside::SinkFault;
 use sb_record::{END_MARK, Record};
@@ -16,7 +16,9 @@ use sb_record::{END_MARK, Record};
 /// after the last rows learns of each fault.
 ///
 /// The members below the calls are the laws by which calls add up: rows and then rows are all of these rows, rows and
-/// then a part of more are a part of all, and a part of some rows is a part of more.
+/// then a part of more are a part of all, and a part of some rows is a part of more. Whoever adds up calls has to know
+/// that each row of a call is later than those of the calls before (`AreApart`): so an output may tell calls apart, and
+/// promise something of those alone whose rows are apart.
 pub trait RowOut: Send {
     ghost row_state: { Self → SinkState };
 
@@ -47,9 +49,11 @@ pub trait RowOut: Send {
 
     ghost after_none: { (o : Self) → after o [] o };
 
-    ghost after_more: { (o p q : Self) (l m : List Record) → after o l p → after p m q → after o (l ++ m) q };
+    ghost after_more: { (o p q : Self) (l m : List Record) → AreApart l m → after o l p → after p m q
+        → after o (l ++ m) q };
 
-    ghost part_later: { (o p q : Self) (l m : List Record) → after o l p → part p m q → part o (l ++ m) q };
+    ghost part_later: { (o p q : Self) (l m : List Record) → AreApart l m → after o l p → part p m q
+        → part o (l ++ m) q };
 
     ghost part_of_all: { (o p : Self) (l m : List Record) → after o l p → part o (l ++ m) p };
 

@@ -60,9 +60,9 @@ impl<K: Sink> RowOut for Printing<K> {
 
     ghost after_none = { λ o. text.after_none (K.taken o.sink) };
 
-    ghost after_more = { λ o p q l m. text.after_more (K.taken o.sink) (K.taken p.sink) (K.taken q.sink) l m };
+    ghost after_more = { λ o p q l m _. text.after_more (K.taken o.sink) (K.taken p.sink) (K.taken q.sink) l m };
 
-    ghost part_later = { λ o p q l m. text.part_later (K.taken o.sink) (K.taken p.sink) (K.taken q.sink) l m };
+    ghost part_later = { λ o p q l m _. text.part_later (K.taken o.sink) (K.taken p.sink) (K.taken q.sink) l m };
 
     ghost part_of_all = { λ o p l m. text.part_of_all (K.taken o.sink) (K.taken p.sink) l m };
 

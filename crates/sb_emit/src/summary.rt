@@ -86,9 +86,9 @@ impl RowOut for Summary {
 
     ghost after_none = { sums.after_none };
 
-    ghost after_more = { sums.after_more };
+    ghost after_more = { λ o p q l m _. sums.after_more o p q l m };
 
-    ghost part_later = { sums.part_later };
+    ghost part_later = { λ o p q l m _. sums.part_later o p q l m };
 
     ghost part_of_all = { sums.part_of_all };
 
