@@ -2,3 +2,4 @@ pub mod Writing
 pub mod Batches
 pub mod Places
 pub mod OfferedTaps
+pub mod Apart

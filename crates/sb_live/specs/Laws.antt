@@ -9,18 +9,18 @@ use Rattle.sb_live.specs.declared.change.Change.{Change}
 use Rattle.sb_live.specs.Changes.{rows_in}
 use Rattle.sb_live.specs.Lasts.{last_if_any, last_named, last_of, last_row}
 use Rattle.sb_live.specs.Naming.{key_named}
-use Rattle.sb_live.specs.Rising.{RiseFrom, latest_in}
+use Rattle.sb_live.specs.Rising.{RiseFrom, next_in}
 use Rattle.sb_live.specs.Showings.{ShownRows, ShowsSome}
 
 -- the last row of a key among changes is the last one among their rows
 abbrev pub RowsAloneCount : Type 0
 RowsAloneCount = (k : Key) (changes : List Change) → last_of k changes ≡ last_row k (rows_in changes)
 
--- an output that was handed rows that rise has counted no fault
+-- an output that was handed rows that rise, from above the last one before, has counted no fault
 abbrev pub RisingRowsAreNeverRefused : Type 0
 RisingRowsAreNeverRefused =
     (old new : ShownRows) (rows : List Record) → ShowsSome old rows new
-    → RiseFrom (latest_in old.out.changes) rows → new.faults ≡ old.faults
+    → RiseFrom (next_in old.out.changes) rows → new.faults ≡ old.faults
 
 -- the first of sorted records rise
 abbrev pub FirstSortedRowsRise : Type 0

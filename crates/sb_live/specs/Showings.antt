@@ -4,14 +4,15 @@ use Rattle.sb_record.specs.declared.item.Record.{Record}
 use Rattle.sb_outside.specs.Sinks.{SinkState}
 use Rattle.sb_live.specs.declared.change.Change.{Change}
 use Rattle.sb_live.specs.Changes.{rows_in}
-use Rattle.sb_live.specs.Rising.{RiseFrom, latest_in}
+use Rattle.sb_live.specs.Rising.{RiseFrom, next_in}
 
 -- what a writer has shown, and whether it has run out of memory and shows nothing more
 pub record Showing : Type 0 where
   pub changes : List Change
   pub is_spent : Bool
 
--- an output over a writer: how often its rows fell, and how often it was out of memory
+-- an output over a writer: how often the rows of a call fell or were not above those shown before, and how often it was
+-- out of memory
 pub record ShownRows : Type 0 where
   pub out : Showing
   pub faults : ℕ
@@ -39,7 +40,8 @@ pub record ShowsAll (old : ShownRows) (rows : List Record) (new : ShownRows) : T
   pub shows : Shows old.out.changes rows new.out.changes
   pub faultless : new.faults ≡ old.faults
 
--- an output has shown the first of the rows, and counted a fault only if the rows do not rise from the last one before
+-- an output has shown the first of the rows, and counted a fault only if the rows do not rise from above the last one
+-- before
 pub record ShowsSome (old : ShownRows) (rows : List Record) (new : ShownRows) : Type 0 where
   pub shows : ShowsPrefix old.out.changes rows new.out.changes
-  pub falls : (new.faults ≡ old.faults) ⊎ (RiseFrom (latest_in old.out.changes) rows → ⊥)
+  pub falls : (new.faults ≡ old.faults) ⊎ (RiseFrom (next_in old.out.changes) rows → ⊥)

@@ -14,7 +14,8 @@ pub fn rows_alone_count()
     ensures { law.RowsAloneCount }
 {}
 
-/// An output that was handed rows that rise has counted no fault.
+/// An output that was handed rows that rise, from above those shown before and in calls that are apart, has counted no
+/// fault.
 pub fn rising_rows_are_never_refused()
     ensures { law.RisingRowsAreNeverRefused }
 {}

@@ -3,7 +3,7 @@
 ghost use Rattle.std.specs.Prelude.{◌≡◌, IfOk, OnErr, OnOk};
 ghost use Rattle.left_right.specs.Sides.{view as known_by};
 ghost use Rattle.sb_record.specs.declared.key.Key.{Key};
-ghost use Rattle.sb_live.specs.Changes.{IsPrefix, IsWhole};
+ghost use Rattle.sb_live.specs.Changes.{AreCallsApart, IsPrefix, IsWhole};
 ghost use Rattle.sb_live.specs.Following.{Sees};
 ghost use Rattle.sb_live.specs.Lasts.{last_of};
 ghost use Rattle.sb_live.specs.Rising.{IsNoEarlier};
@@ -85,6 +85,7 @@ impl LiveReader {
     pub fn get(&mut self, key: &Key) -> Result<Option<Record>, TableEnded>
         ensures grows { OnOk result (IsPrefix self.old self.new) }
         ensures whole { OnOk result (IsWhole self.new) }
+        ensures apart { OnOk result (AreCallsApart self.new) }
         ensures exact { IfOk result (λ found. found ≡ last_of key.now self.new) }
         ensures forward { OnOk result ((k : Key) → IsNoEarlier (last_of k self.old) (last_of k self.new)) }
         ensures ended { OnErr result (self.new ≡ self.old) }

@@ -1,15 +1,15 @@
 //! Whether rows rise.
 
 ghost use Rattle.std.specs.Prelude.{IsTrue, ◌↔◌};
-ghost use Rattle.sb_live.specs.Rising.{RiseFrom};
+ghost use Rattle.sb_live.specs.Rising.{BeginAbove, RiseFrom, next_after};
 
 use sb_record::Record;
 
-/// Whether no time is below the one before it, nor the first below the floor.
-pub fn rise_from(floor: u64, rows: &[Record]) -> bool
-    ensures { IsTrue result ↔ RiseFrom floor rows.now }
+// Whether no time is below the one before it.
+fn rise(rows: &[Record]) -> bool
+    ensures { IsTrue result ↔ RiseFrom 0 rows.now }
 {
-    let mut last = floor;
+    let mut last = 0;
     for row in rows {
         if row.time < last {
             return false;
@@ -17,4 +17,22 @@ pub fn rise_from(floor: u64, rows: &[Record]) -> bool
         last = row.time;
     }
     true
+}
+
+// Whether the first of the rows is above this time, where there are both.
+fn begin_above(latest: Option<u64>, rows: &[Record]) -> bool
+    ensures { IsTrue result ↔ BeginAbove latest rows.now }
+{
+    match (latest, rows.first()) {
+        (Some(time), Some(first)) => time < first.time,
+        _ => true,
+    }
+}
+
+/// Whether no time is below the one before it, and the first is above this one, if there is one.
+#[tactic(auto, using(crate::proofs::Earlier::rise_above, crate::proofs::Earlier::rises_above))]
+pub fn rise_above(latest: Option<u64>, rows: &[Record]) -> bool
+    ensures { IsTrue result ↔ RiseFrom (next_after latest) rows.now }
+{
+    begin_above(latest, rows) && rise(rows)
 }

@@ -4,7 +4,7 @@ ghost use Rattle.std.specs.Prelude.{◌≡◌, ◌<◌, All, IsErrOf, OnErr};
 ghost use Rattle.sb_outside.specs.Sinks.{SinkCause};
 ghost use Rattle.sb_outside.specs.declared.sink.SinkFault.TheVariants as fault;
 ghost use Rattle.sb_emit.specs.Outputs.{TakesRows};
-ghost use Rattle.sb_live.specs.Rising.{RiseFrom, latest_in};
+ghost use Rattle.sb_live.specs.Rising.{RiseFrom, next_in};
 ghost use Rattle.sb_live.specs.Showings.{ShowsAll, ShowsSome, counts_of};
 
 use crate::writer::LiveOut;
@@ -16,8 +16,9 @@ use std::sync::Wait;
 
 /// An output whose rows are shown in a live table, those of each call all at once.
 ///
-/// Nothing promises an output that the times of its rows never fall, so it looks: a call in which one falls is refused
-/// as failed, and shows nothing. Whoever knows that the rows rise knows that no fault was counted
+/// Nothing promises an output that the times of its rows do not fall, and that those of a call are above those of the
+/// calls before. So it looks: a call that is not so is refused as failed, and shows nothing. So no window has rows in two
+/// calls. Whoever knows that the calls are apart and that the rows rise knows that no fault was counted
 /// ([`laws`](crate::laws)).
 pub struct LiveRows<R: Wait + Drop> {
     out: LiveOut<R>,
@@ -70,7 +71,7 @@ impl<R: Wait + Drop + Send> RowOut for LiveRows<R> {
 
     ghost after_none = { shows.after_none };
 
-    ghost after_more = { shows.after_more };
+    ghost after_more = { λ o p q l m _. shows.after_more o p q l m };
 
     ghost part_later = { shows.part_later };
 
@@ -82,13 +83,14 @@ impl<R: Wait + Drop + Send> RowOut for LiveRows<R> {
     ///
     /// # Errors
     ///
-    /// `Failed` only if a time falls, and `Memory` if there was not enough memory. Then none of the rows is shown.
+    /// `Failed` only if a time falls or the first is not above those shown before, and `Memory` if there was not enough
+    /// memory. Then none of the rows is shown.
     fn rows(&mut self, rows: &[Record]) -> Result<(), SinkFault>
         requires { All (λ r. r.time < END_MARK) rows.now }
         ensures rows { TakesRows ShowsAll ShowsSome self.old rows.now self.new result }
         ensures cause { SinkCause (counts_of self.old) (counts_of self.new) result }
         ensures none { OnErr result (self.new.out.changes ≡ self.old.out.changes) }
-        ensures falls { IsErrOf result fault.Failed → RiseFrom (latest_in self.old.out.changes) rows.now → ⊥ }
+        ensures falls { IsErrOf result fault.Failed → RiseFrom (next_in self.old.out.changes) rows.now → ⊥ }
     {
         if !self.out.may_show(rows) {
             self.faults = self.faults.saturating_add(1);

@@ -1,15 +1,16 @@
 //! The writer's end.
 
+ghost use Rattle.std.proofs.Props.{props};
 ghost use Rattle.std.specs.Prelude.{◌≡◌, ◌≤◌, [], ◌++◌, All, IfOk, IsTrue, OnErr, OnOk, drop, false, length, true, ◌↔◌};
 ghost use Rattle.left_right.specs.Sides.{view as known_by};
-ghost use Rattle.sb_live.specs.Changes.{IsWhole, call_of, rows_in};
+ghost use Rattle.sb_live.specs.Changes.{AreCallsApart, call_of};
 ghost use Rattle.sb_live.specs.Lasts.{last_of};
 ghost use Rattle.sb_live.specs.declared.writer.TheConstants.{MAX_READERS};
-ghost use Rattle.sb_live.specs.Rising.{RiseFrom, last_time, latest_in};
+ghost use Rattle.sb_live.specs.Rising.{RiseFrom, next_after, next_in, next_time};
 
 use crate::change::Change;
 use crate::reader::LiveReader;
-use crate::rising::rise_from;
+use crate::rising::rise_above;
 use crate::rule::{Follow, Known, See, Taken, Told};
 use crate::table::Table;
 use core::mem::replace_with;
@@ -32,11 +33,12 @@ pub struct LiveOut<R: Wait + Drop> {
     rt: R,
     writer: TableWriter,
     spent: bool,
-    /// The time of the last row that was shown, or 0 before the first.
-    latest: u64,
+    /// The time of the last row that was shown.
+    latest: Option<u64>,
     ghost follows: { known_by writer.desk.place ≡ writer.desk.shown.value.changes },
     ghost settled: { spent ≡ false → drop writer.behind writer.log.items ≡ [] },
-    ghost latest_is: { latest ≡ latest_in (known_by writer.desk.place) },
+    ghost latest_is: { next_after latest ≡ next_in (known_by writer.desk.place) },
+    ghost apart: { AreCallsApart (known_by writer.desk.place) } by { Prim.hlevel props },
 }
 
 impl<R: Wait + Drop> Model for LiveOut<R> {
@@ -66,7 +68,7 @@ fn log_call(writer: &mut TableWriter, rows: &[Record]) -> Result<(), NoMemory>
 }
 
 // Logs the changes of a call and publishes them.
-#[tactic(auto, using(crate::proofs::Ends::fold_snoc, crate::proofs::Earlier::latest_after_call))]
+#[tactic(auto, using(crate::proofs::Ends::fold_snoc, crate::proofs::Earlier::next_after_call))]
 fn show_call<R: Wait>(
     rt: &R,
     mut writer: TableWriter,
@@ -74,13 +76,15 @@ fn show_call<R: Wait>(
 ) -> (TableWriter, Result<(), NoMemory>)
     requires follows { known_by writer.desk.place ≡ writer.desk.shown.value.changes }
     requires settled { drop writer.behind writer.log.items ≡ [] }
-    requires rising { RiseFrom (latest_in (known_by writer.desk.place)) rows.now }
+    requires rising { RiseFrom (next_in (known_by writer.desk.place)) rows.now }
+    requires apart { AreCallsApart (known_by writer.desk.place) }
     ensures follows { known_by result.0.desk.place ≡ result.0.desk.shown.value.changes }
     ensures settled { OnOk result.1 (drop result.0.behind result.0.log.items ≡ []) }
     ensures shown { OnOk result.1 (known_by result.0.desk.place ≡ known_by writer.desk.place ++ call_of rows.now) }
     ensures kept { OnErr result.1 (known_by result.0.desk.place ≡ known_by writer.desk.place) }
-    ensures latest { OnOk result.1 (latest_in (known_by result.0.desk.place)
-        ≡ last_time (latest_in (known_by writer.desk.place)) rows.now) }
+    ensures next { OnOk result.1 (next_in (known_by result.0.desk.place)
+        ≡ next_time (next_in (known_by writer.desk.place)) rows.now) }
+    ensures apart { AreCallsApart (known_by result.0.desk.place) }
 {
     let Ok(()) = log_call(&mut writer, rows) else {
         return (writer, Err(NoMemory));
@@ -92,26 +96,26 @@ fn show_call<R: Wait>(
     }
 }
 
-// The time of the last row, or the floor if there is none.
-fn last_time_of(floor: u64, rows: &[Record]) -> u64
-    ensures { result ≡ last_time floor rows.now }
+// The time of the last row, or the last before where there is none.
+fn latest_after(latest: Option<u64>, rows: &[Record]) -> Option<u64>
+    ensures { next_after result ≡ next_time (next_after latest) rows.now }
 {
     match rows.last() {
-        Some(row) => row.time,
-        None => floor,
+        Some(row) => Some(row.time),
+        None => latest,
     }
 }
 
 impl<R: Wait + Drop> LiveOut<R> {
-    /// Shows the rows of a call, all at once. Their times do not fall, and the first is not below that of the last row
-    /// that was shown.
+    /// Shows the rows of a call, all at once. Their times do not fall, and the first is above that of the last row that
+    /// was shown.
     ///
     /// # Errors
     ///
     /// If there was not enough memory. Then readers see the rows of the calls before, and so they do from then on: each
     /// later call answers the same.
     pub fn show(&mut self, rows: &[Record]) -> Result<(), NoMemory>
-        requires rising { RiseFrom (latest_in self.old.changes) rows.now }
+        requires rising { RiseFrom (next_in self.old.changes) rows.now }
         ensures shown { OnOk result (self.new.changes ≡ self.old.changes ++ call_of rows.now) }
         ensures kept { OnErr result (self.new.changes ≡ self.old.changes) }
         ensures spent { OnErr result (self.new.is_spent ≡ true) }
@@ -127,16 +131,23 @@ impl<R: Wait + Drop> LiveOut<R> {
             with,
             |writer, (rt, rows)| show_call(rt, writer, rows),
         )?;
-        self.latest = last_time_of(self.latest, rows);
+        self.latest = latest_after(self.latest, rows);
         self.spent = false;
         Ok(())
     }
 
     /// Whether `show` may be called with these rows.
     pub fn may_show(&self, rows: &[Record]) -> bool
-        ensures { IsTrue result ↔ RiseFrom (latest_in self.now.changes) rows.now }
+        ensures { IsTrue result ↔ RiseFrom (next_in self.now.changes) rows.now }
     {
-        rise_from(self.latest, rows)
+        rise_above(self.latest, rows)
+    }
+
+    /// A law: the rows of each call are later than those of the calls before. So no window has rows in two calls.
+    pub fn calls_are_apart(&self)
+        ensures { AreCallsApart self.now.changes }
+    {
+        let _spent = self.spent;
     }
 
     /// The last row of the key that was shown, if there is one.
@@ -218,7 +229,7 @@ pub fn live<R: Wait + Drop>(
         rt,
         writer,
         spent: false,
-        latest: 0,
+        latest: None,
     };
     let mut made = Vec::new(alloc);
     match add_readers(&mut out, &mut made, readers) {

@@ -22,7 +22,7 @@ use Rattle.sb_live.specs.declared.change.Change.{Change}
 use Rattle.sb_live.specs.Changes.{rows_in}
 use Rattle.sb_live.specs.Lasts.{last_if_any, last_of}
 use Rattle.sb_live.specs.Naming.{key_named}
-use Rattle.sb_live.specs.Rising.{RiseFrom, latest_in}
+use Rattle.sb_live.specs.Rising.{RiseFrom, next_in}
 use Rattle.sb_live.specs.Showings.{Showing, ShowsAll, ShowsSome, ShownRows, counts_of}
 use Rattle.sb_live.proofs.Earlier.{never_refused, rows_fold}
 use Rattle.sb_live.proofs.Rises.{first_sorted_rise}
@@ -77,7 +77,7 @@ module _ (plan : Shape) (left left' : Option (List ℕ)) (o p : ShownRows) (taps
       → OutputCause (counts_of o) (counts_of p) run.Output → ⊥
   output_works Offered fresh faultless e cause =
       let rise = first_sorted_rise (before END_MARK (output_of plan (streams_in (items_of plan e.given)))) e.rows e.first.rest e.first.are in
-      risen o.faults p.faults (never_refused o p e.rows e.wrote (subst (λ c. RiseFrom (latest_in c) e.rows) (sym fresh) rise)) faultless (cause.failed refl)
+      risen o.faults p.faults (never_refused o p e.rows e.wrote (subst (λ c. RiseFrom (next_in c) e.rows) (sym fresh) rise)) faultless (cause.failed refl)
     where
       risen : (m n : ℕ) → n ≡ m → m ≡ 0 → Rose m n → ⊥
       risen m n same none rose = omega (arith, same, none, rose)

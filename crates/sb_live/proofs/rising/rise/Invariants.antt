@@ -1,7 +1,7 @@
 use Rattle.std.proofs.Common.{drop}
 use Rattle.std.specs.Prelude.{◌↔◌}
 use Rattle.sb_live.specs.Rising.{RiseFrom}
-use Rattle.sb_live.proofs.rising.rise_from.Given as goal
+use Rattle.sb_live.proofs.rising.rise.Given as goal
 
 abbrev pub invariant-loop-row : goal.invariant-loop-row
-invariant-loop-row l = RiseFrom l.last (drop l.row-index l.rows) ↔ RiseFrom l.floor l.rows
+invariant-loop-row l = RiseFrom l.last (drop l.row-index l.rows) ↔ RiseFrom 0 l.rows
