@@ -19,6 +19,7 @@ use Rattle.sb_outside.specs.declared.lines.Halt.{Halt}
 use Rattle.sb_outside.specs.declared.lines.Halt.TheVariants as halt
 use Rattle.sb_outside.specs.Readings.{Held, reading, rest_of_lines}
 use Rattle.sb_base.specs.pipeline.Shapes.{Shape, streams_of}
+use Rattle.sb_emit.specs.Outputs.{AreApart}
 use Rattle.sb_emit.specs.Taps.{TapState}
 use Rattle.sb_feed.specs.declared.cutters.Cutters.{Cutters}
 use Rattle.sb_feed.specs.declared.give.GiveStop.{GiveStop}
@@ -30,12 +31,13 @@ use Rattle.sb_feed.specs.InputFeeds.{FeedsAll, FeedsSome}
 use Rattle.sb_feed.specs.Reads.{IsGoing, TakesItem, StopsReading}
 use Rattle.sb_feed.specs.TapLists.{LeavesThoseThatStay}
 use Rattle.sb_feed.specs.Takes.{MayEnd, MayTake, Takes, Fails}
-use Rattle.sb_feed.proofs.FirstRows.{rows_are_first, rows_same}
+use Rattle.sb_feed.proofs.FirstRows.{fed_covers, rows_are_first, rows_same}
 use Rattle.sb_feed.proofs.GivesInTurn.{AddsUp, taps_behind, wrote_behind}
-use Rattle.sb_feed.proofs.InputEnds.{same_records}
+use Rattle.sb_feed.proofs.InputEnds.{no_end_records, same_records}
 use Rattle.sb_feed.proofs.ItemSteps.{fed_nothing}
-use Rattle.sb_feed.proofs.LaterItems.{GoesOnTo, accepted_goes_on, following, mark_within, no_more, said_by, starting, tested_is_timely}
+use Rattle.sb_feed.proofs.LaterItems.{GoesOnTo, accepted_goes_on, following, goes_on_behind, goes_on_without, mark_within, no_more, said_by, starting, tested_is_timely}
 use Rattle.sb_feed.proofs.OfferedRows.{both_offered, none_offered}
+use Rattle.sb_feed.proofs.RowsApart.{apart_later}
 use Rattle.sb_feed.proofs.ReadSoFar.{ReadSoFar, read_more, read_nothing, reading_stops}
 use Rattle.sb_feed.proofs.ReadSteps.{ended_by, may_end as nothing_may_come}
 
@@ -135,23 +137,34 @@ module _ {S O : Type 0} (left_of : S → Option (List ℕ)) (faults_of : S → �
         let many = ap (λ (q : Progress). q.lines) h.read.progress in
         record { stand = h.stand; fed = subst (λ n. IsFedBy n h.items h.f c) (sym same_size) h.fed; few = omega (arith, room, many); marks = h.marks; some = subst (λ n. 1 ≤ n) (sym same_size) some }
 
-    module _ (next : Around S O) (held' : Held) (p' : Progress) where
+    module _ (so_far : (f : Fed) (rows : List Record) → stands f rows → AreRowsSoFar plan f rows) (next : Around S O) (held' : Held) (p' : Progress) where
+      -- what comes out later is later than what came out so far
+      apart_from_more : (all : List Item) (g : Fed) (rows : List Record) → GoesOnTo h.items all → Covers all g → AreRowsSoFar plan g (h.rows ++ rows) → AreApart h.rows rows
+      apart_from_more all g rows on covers both = apart_later plan h.items all h.f g [] h.rows rows (fed_covers size h.items h.f c h.fed) on (so_far h.f h.rows h.stand) covers both
+
+      goes_on_to : (i : Item) → TakesItem left_of (reading now.source held) (reading next.source held') p p' i → GoesOnTo h.items (h.items ++ i ∷ [])
+      goes_on_to i takes = goes_on_behind plan h.items i (h.items ++ i ∷ []) (timely_next next.source held' p' i takes) (no_more (h.items ++ i ∷ []))
+
       -- the item was taken
-      pub fed_more : (later : Fed → List Record → Type 0) (d : Cutters) (i : Item) → TakesItem left_of (reading now.source held) (reading next.source held') p p' i → faults_of next.source ≡ faults_of now.source → p.lines < MAX_LINES
+      pub fed_more : (later : Fed → List Record → Type 0) → ((f : Fed) (rows : List Record) → later f rows → AreRowsSoFar plan f rows) → (d : Cutters) (i : Item) → TakesItem left_of (reading now.source held) (reading next.source held') p p' i → faults_of next.source ≡ faults_of now.source → p.lines < MAX_LINES
           → Takes later after now.out next.out now.taps next.taps size2 (h.items ++ i ∷ []) d h.rows → next.dropped ≡ now.dropped ++ dropped_in i
           → FedSoFar left_of faults_of after plan size later start next held' p' d
-      fed_more later d i takes same room done kept = record {
-        items = h.items ++ i ∷ [];
-        f = done.f;
-        rows = h.rows ++ done.gives.rows;
-        read = read_more left_of plan (left_of start.source) now.source next.source held held' p p' h.items i (faults_of start.source) (faults_of now.source) (faults_of next.source) h.read takes same room;
-        fed = subst (λ n. IsFedBy n (h.items ++ i ∷ []) done.f d) same_size done.fed;
-        stand = done.gives.stand;
-        wrote = laws.after_more start.out now.out next.out h.rows done.gives.rows h.wrote done.gives.wrote;
-        offered = both_offered h.rows done.gives.rows start.taps now.taps next.taps h.offered done.gives.offered;
-        listed = dropped_more h.items i start.dropped now.dropped next.dropped h.listed kept;
-        marks = mark_within plan h.items i (timely_next next.source held' p' i takes) h.marks;
-      }
+      fed_more later so_far_later d i takes same room done kept =
+          let all = h.items ++ i ∷ [] in
+          let fed : IsFedBy size all done.f d = subst (λ n. IsFedBy n all done.f d) same_size done.fed in
+          let apart = apart_from_more all done.f done.gives.rows (goes_on_to i takes) (fed_covers size all done.f d fed) (so_far_later done.f _ done.gives.stand) in
+          record {
+            items = all;
+            f = done.f;
+            rows = h.rows ++ done.gives.rows;
+            read = read_more left_of plan (left_of start.source) now.source next.source held held' p p' h.items i (faults_of start.source) (faults_of now.source) (faults_of next.source) h.read takes same room;
+            fed = fed;
+            stand = done.gives.stand;
+            wrote = laws.after_more start.out now.out next.out h.rows done.gives.rows apart h.wrote done.gives.wrote;
+            offered = both_offered h.rows done.gives.rows start.taps now.taps next.taps h.offered done.gives.offered;
+            listed = dropped_more h.items i start.dropped now.dropped next.dropped h.listed kept;
+            marks = mark_within plan h.items i (timely_next next.source held' p' i takes) h.marks;
+          }
 
       -- it could not be taken
       pub item_fails : (i : Item) (why : GiveStop) → TakesItem left_of (reading now.source held) (reading next.source held') p p' i → faults_of next.source ≡ faults_of now.source → p.lines < MAX_LINES
@@ -160,11 +173,13 @@ module _ {S O : Type 0} (left_of : S → Option (List ℕ)) (faults_of : S → �
       item_fails i why takes same room fails kept =
           let read = read_more left_of plan (left_of start.source) now.source next.source held held' p p' h.items i (faults_of start.source) (faults_of now.source) (faults_of next.source) h.read takes same room in
           let (given, goes_on) = given_so_far plan (left_of start.source) (left_of next.source) held' p' (h.items ++ i ∷ []) (faults_of start.source) (faults_of next.source) read in
+          let now_so_far = so_far_of fails.f (h.rows ++ fails.stops.rows) fails.stops.so_far in
+          let apart = apart_from_more (h.items ++ i ∷ []) fails.f fails.stops.rows (goes_on_to i takes) fails.covers now_so_far in
           record {
             given = given;
             rows = h.rows ++ fails.stops.rows;
-            first = rows_are_first plan (h.items ++ i ∷ []) (items_of plan given) fails.f (h.rows ++ fails.stops.rows) fails.covers goes_on (so_far_of fails.f (h.rows ++ fails.stops.rows) fails.stops.so_far);
-            wrote = wrote_behind after part laws why start.out now.out next.out h.rows fails.stops.rows h.wrote fails.stops.wrote;
+            first = rows_are_first plan (h.items ++ i ∷ []) (items_of plan given) fails.f (h.rows ++ fails.stops.rows) fails.covers goes_on now_so_far;
+            wrote = wrote_behind after part laws why start.out now.out next.out h.rows fails.stops.rows apart h.wrote fails.stops.wrote;
             at = taps_behind why h.rows fails.stops.rows start.taps now.taps next.taps h.offered fails.stops.at;
             late = dropped_of h.items;
             first_late = first_dropped h.items (i ∷ goes_on.later) (items_of plan given) (goes_on.are ∙ append_assoc h.items (i ∷ []) goes_on.later);
@@ -172,21 +187,24 @@ module _ {S O : Type 0} (left_of : S → Option (List ℕ)) (faults_of : S → �
           }
 
       -- reading stopped, and the end was taken
-      pub all_fed : (later : Fed → List Record → Type 0) (d : Cutters) (stop : Stop) → StopsReading left_of (reading now.source held) (reading next.source held') p p' stop
+      pub all_fed : (later : Fed → List Record → Type 0) → ((f : Fed) (rows : List Record) → later f rows → AreRowsSoFar plan f rows) → (d : Cutters) (stop : Stop) → StopsReading left_of (reading now.source held) (reading next.source held') p p' stop
           → Takes later after now.out next.out now.taps next.taps size2 (h.items ++ end_items (streams_of plan2) stop) d h.rows → next.dropped ≡ now.dropped
           → FeedsAll plan size (left_of start.source) (left_of next.source) later after start.out next.out start.taps next.taps start.dropped next.dropped stop
-      all_fed later d stop stops done kept =
+      all_fed later so_far_later d stop stops done kept =
+          let all = h.items ++ end_items (streams_of plan) stop in
+          let fed : IsFedBy size all done.f d = subst (λ u. IsFedBy size (h.items ++ end_items (streams_of u) stop) done.f d) same_plan (subst (λ n. IsFedBy n (h.items ++ end_items (streams_of plan2) stop) done.f d) same_size done.fed) in
+          let apart = apart_from_more all done.f done.gives.rows (goes_on_without h.items (end_items (streams_of plan) stop) (no_end_records (streams_of plan) stop)) (fed_covers size all done.f d fed) (so_far_later done.f _ done.gives.stand) in
           let (given, are, stopped) = reading_stops left_of plan (left_of start.source) now.source next.source held held' p p' h.items stop (faults_of start.source) (faults_of now.source) h.read stops in
           record {
             given = given;
             stopped = stopped;
             cutters = d;
             f = done.f;
-            fed = subst (λ l. IsFedBy size (l ++ end_items (streams_of plan) stop) done.f d) are (subst (λ u. IsFedBy size (h.items ++ end_items (streams_of u) stop) done.f d) same_plan (subst (λ n. IsFedBy n (h.items ++ end_items (streams_of plan2) stop) done.f d) same_size done.fed));
+            fed = subst (λ l. IsFedBy size (l ++ end_items (streams_of plan) stop) done.f d) are fed;
             gives = record {
               rows = h.rows ++ done.gives.rows;
               stand = done.gives.stand;
-              wrote = laws.after_more start.out now.out next.out h.rows done.gives.rows h.wrote done.gives.wrote;
+              wrote = laws.after_more start.out now.out next.out h.rows done.gives.rows apart h.wrote done.gives.wrote;
               offered = both_offered h.rows done.gives.rows start.taps now.taps next.taps h.offered done.gives.offered;
             };
             listed = kept ∙ h.listed ∙ ap (λ l. start.dropped ++ dropped_of l) are;
@@ -200,7 +218,9 @@ module _ {S O : Type 0} (left_of : S → Option (List ℕ)) (faults_of : S → �
           let (given, are, stopped) = reading_stops left_of plan (left_of start.source) now.source next.source held held' p p' h.items stop (faults_of start.source) (faults_of now.source) h.read stops in
           let all = h.items ++ end_items (streams_of plan) stop in
           let covers : Covers all fails.f = subst (λ u. Covers (h.items ++ end_items (streams_of u) stop) fails.f) same_plan fails.covers in
-          let first = rows_are_first plan all all fails.f (h.rows ++ fails.stops.rows) covers (no_more all) (so_far_of fails.f (h.rows ++ fails.stops.rows) fails.stops.so_far) in
+          let now_so_far = so_far_of fails.f (h.rows ++ fails.stops.rows) fails.stops.so_far in
+          let apart = apart_from_more all fails.f fails.stops.rows (goes_on_without h.items (end_items (streams_of plan) stop) (no_end_records (streams_of plan) stop)) covers now_so_far in
+          let first = rows_are_first plan all all fails.f (h.rows ++ fails.stops.rows) covers (no_more all) now_so_far in
           record {
             given = given;
             rows = h.rows ++ fails.stops.rows;
@@ -208,7 +228,7 @@ module _ {S O : Type 0} (left_of : S → Option (List ℕ)) (faults_of : S → �
               rest = first.rest;
               are = rows_same END_MARK plan (streams_in (items_of plan given)) (streams_in all) (λ s. ap (records_of s) (sym are) ∙ sym (same_records (streams_of plan) stop h.items s)) ∙ first.are;
             };
-            wrote = wrote_behind after part laws why start.out now.out next.out h.rows fails.stops.rows h.wrote fails.stops.wrote;
+            wrote = wrote_behind after part laws why start.out now.out next.out h.rows fails.stops.rows apart h.wrote fails.stops.wrote;
             at = taps_behind why h.rows fails.stops.rows start.taps now.taps next.taps h.offered fails.stops.at;
             late = dropped_of h.items;
             first_late = record { rest = []; are = ap dropped_of (sym are) ∙ sym (append-nil (dropped_of h.items)) };

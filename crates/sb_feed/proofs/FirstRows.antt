@@ -40,11 +40,16 @@ covers_later items all f c g = (
   λ s. All-join (IsFrom (floor_in f s)) (c.rest s) (records_of s g.later) (c.coming s) (from_later (floor_in f s) (last_watermark s items) (records_of s g.later) (c.floors s) (g.timely s)),
 )
 
+-- the rows are those of all items below a mark
+pub rows_covered : (plan : Shape) (items all : List Item) (f : Fed) (rows : List Record) → Covers items f → GoesOnTo items all → (so_far : AreRowsSoFar plan f rows) → rows ≡ rows_below so_far.mark plan (streams_in all)
+rows_covered plan items all f rows c g so_far =
+    let (rest, are, coming) = covers_later items all f c g in
+    so_far.are rest coming ∙ rows_same so_far.mark plan (λ s. records_of_feed f s ++ rest s) (streams_in all) are
+
 -- the rows are the first of all rows
 pub rows_are_first : (plan : Shape) (items all : List Item) (f : Fed) (rows : List Record) → Covers items f → GoesOnTo items all → AreRowsSoFar plan f rows → AreFirstRows plan all rows
 rows_are_first plan items all f rows c g so_far =
-    let (rest, are, coming) = covers_later items all f c g in
-    let these : rows ≡ rows_below so_far.mark plan (streams_in all) = so_far.are rest coming ∙ rows_same so_far.mark plan (λ s. records_of_feed f s ++ rest s) (streams_in all) are in
+    let these = rows_covered plan items all f rows c g so_far in
     let more = sorted_records (at_least so_far.mark (before END_MARK (output_of plan (streams_in all)))) in
     record { rest = more; are = sorted_before-front so_far.mark END_MARK (output_of plan (streams_in all)) so_far.bound ∙ ap (λ l. l ++ more) (sym these) }
 

@@ -14,14 +14,17 @@ use Rattle.sb_base.specs.records.declared.intake.Stop.TheVariants.{End, Refused,
 use Rattle.sb_base.specs.records.declared.intake.TheConstants.{MAX_LINES}
 use Rattle.sb_base.specs.records.Streams.{last_watermark, records_of, record_in, uses}
 use Rattle.sb_base.specs.pipeline.Shapes.{Shape, streams_of}
+use Rattle.sb_emit.specs.Outputs.{AreApart}
 use Rattle.sb_emit.specs.Taps.{TapState}
 use Rattle.sb_feed.specs.declared.cutters.Cutters.{Cutters}
 use Rattle.sb_feed.specs.declared.give.GiveStop.{GiveStop}
 use Rattle.sb_feed.specs.FedByItems.{Covers, IsFedBy, end_item, end_items}
-use Rattle.sb_feed.specs.Feeds.{Fed}
+use Rattle.sb_feed.specs.Feeds.{AreRowsSoFar, Fed}
 use Rattle.sb_feed.specs.Takes.{MayEnd, MayTake, Takes, Fails, TakesOrFails}
+use Rattle.sb_feed.proofs.FirstRows.{fed_covers}
 use Rattle.sb_feed.proofs.GivesInTurn.{AddsUp, gives_both, gives_none, stops_then}
-use Rattle.sb_feed.proofs.LaterItems.{mark_rises, mark_within}
+use Rattle.sb_feed.proofs.LaterItems.{goes_on_without, mark_rises, mark_within}
+use Rattle.sb_feed.proofs.RowsApart.{apart_later}
 
 -- ---- the item of an end
 abbrev ending : Bool → Stream → List Item
@@ -39,8 +42,9 @@ no_records streams t s = by_use (uses streams t) t s
     by_use false t A = refl
     by_use false t B = refl
 
-pub same_records : (streams : Streams) (stop : Stop) (items : List Item) (s : Stream) → records_of s (items ++ end_items streams stop) ≡ records_of s items
-same_records streams stop items s = flat_map-append (record_in s) items (end_items streams stop) ∙ ap (λ l. records_of s items ++ l) (none stop) ∙ append-nil (records_of s items)
+-- nor are those of the end of the input
+pub no_end_records : (streams : Streams) (stop : Stop) (s : Stream) → records_of s (end_items streams stop) ≡ []
+no_end_records streams stop s = none stop
   where
     nothing : (s : Stream) → records_of s [] ≡ []
     nothing A = refl
@@ -50,6 +54,9 @@ same_records streams stop items s = flat_map-append (record_in s) items (end_ite
     none End = flat_map-append (record_in s) (end_item streams A) (end_item streams B) ∙ ap (λ l. l ++ records_of s (end_item streams B)) (no_records streams A s) ∙ no_records streams B s
     none (Refused r) = nothing s
     none Fault = nothing s
+
+pub same_records : (streams : Streams) (stop : Stop) (items : List Item) (s : Stream) → records_of s (items ++ end_items streams stop) ≡ records_of s items
+same_records streams stop items s = flat_map-append (record_in s) items (end_items streams stop) ∙ ap (λ l. records_of s items ++ l) (no_end_records streams stop s) ∙ append-nil (records_of s items)
 
 module _ (plan : Shape) (items : List Item) (s : Stream) (marks : (s : Stream) → last_watermark s items ≤ END_MARK) where
   end_within : (u : Stream) → last_watermark u (items ++ end_item (streams_of plan) s) ≤ END_MARK
@@ -121,9 +128,10 @@ module _ {O : Type 0} (after part : O → List Record → O → Type 0) (laws : 
   pub both_end : {T : Type 0} (between later : Fed → List Record → Type 0) (plan2 : Shape) (size2 : ℕ) (d e : Cutters) (o p q : O) (x y z : List TapState) (result : Result T GiveStop) → plan2 ≡ plan → size2 ≡ size
       → ((items : List Item) (f : Fed) (rows : List Record) → MayEnd stands size c (MAX_LINES + 2) items f rows → Takes between after o p x y size (items ++ end_item (streams_of plan) A) d rows)
       → ((items : List Item) (f : Fed) (rows : List Record) → MayEnd between size2 d (MAX_LINES + 2) items f rows → TakesOrFails plan2 size2 later after part p q y z (items ++ end_item (streams_of plan2) B) e rows result)
+      → ((f : Fed) (rows : List Record) → between f rows → AreRowsSoFar plan f rows) → ((f : Fed) (rows : List Record) → later f rows → AreRowsSoFar plan f rows)
       → (items : List Item) (f : Fed) (rows : List Record) → MayEnd stands size c (MAX_LINES + 1) items f rows
       → TakesOrFails plan size later after part o q x z (items ++ end_items (streams_of plan) End) e rows result
-  both_end between later plan2 size2 d e o p q x y z result same_plan same_size first second items f rows may =
+  both_end between later plan2 size2 d e o p q x y z result same_plan same_size first second so_far so_far_later items f rows may =
       by_result result (subst (λ u. TakesOrFails u size later after part p q y z ((items ++ end_item (streams_of plan) A) ++ end_item (streams_of u) B) e (rows ++ t.gives.rows) result) same_plan
       (subst (λ n. TakesOrFails plan2 n later after part p q y z ((items ++ end_item (streams_of plan) A) ++ end_item (streams_of plan2) B) e (rows ++ t.gives.rows) result) same_size
       (second (items ++ end_item (streams_of plan) A) t.f (rows ++ t.gives.rows) (may_end_then between size2 d o p x y items f rows same_size may t))))
@@ -134,10 +142,15 @@ module _ {O : Type 0} (after part : O → List Record → O → Type 0) (laws : 
       whole : (items ++ end_item (streams_of plan) A) ++ end_item (streams_of plan) B ≡ items ++ end_items (streams_of plan) End
       whole = append_assoc items (end_item (streams_of plan) A) (end_item (streams_of plan) B)
 
+      apart : (g : Fed) (m : List Record) → Covers ((items ++ end_item (streams_of plan) A) ++ end_item (streams_of plan) B) g → AreRowsSoFar plan g ((rows ++ t.gives.rows) ++ m) → AreApart t.gives.rows m
+      apart g m covers both =
+          apart_later plan (items ++ end_item (streams_of plan) A) ((items ++ end_item (streams_of plan) A) ++ end_item (streams_of plan) B) t.f g rows t.gives.rows m
+          (fed_covers size (items ++ end_item (streams_of plan) A) t.f d t.fed) (goes_on_without (items ++ end_item (streams_of plan) A) (end_item (streams_of plan) B) (no_records (streams_of plan) B)) (so_far t.f (rows ++ t.gives.rows) t.gives.stand) covers both
+
       by_result : {U : Type 0} (result : Result U GiveStop) → TakesOrFails plan size later after part p q y z ((items ++ end_item (streams_of plan) A) ++ end_item (streams_of plan) B) e (rows ++ t.gives.rows) result
           → TakesOrFails plan size later after part o q x z (items ++ end_items (streams_of plan) End) e rows result
-      by_result (Ok u) n = record { f = n.f; fed = subst (λ l. IsFedBy size l n.f e) whole n.fed; gives = gives_both after part laws (between t.f) (later n.f) o p q x y z rows t.gives n.gives }
-      by_result (Err why) n = record { f = n.f; covers = subst (λ l. Covers l n.f) whole n.covers; stops = stops_then after part laws plan (between t.f) o p q x y z n.f rows why t.gives n.stops }
+      by_result (Ok u) n = record { f = n.f; fed = subst (λ l. IsFedBy size l n.f e) whole n.fed; gives = gives_both after part laws (between t.f) (later n.f) o p q x y z rows t.gives n.gives (apart n.f n.gives.rows (fed_covers size _ n.f e n.fed) (so_far_later n.f _ n.gives.stand)) }
+      by_result (Err why) n = record { f = n.f; covers = subst (λ l. Covers l n.f) whole n.covers; stops = stops_then after part laws plan (between t.f) o p q x y z n.f rows why t.gives n.stops (apart n.f n.stops.rows n.covers n.stops.so_far) }
 
   pub first_fails : (o p : O) (x y : List TapState) (why : GiveStop)
       → ((items : List Item) (f : Fed) (rows : List Record) → MayEnd stands size c (MAX_LINES + 2) items f rows → Fails plan after part o p x y (items ++ end_item (streams_of plan) A) rows why)

@@ -102,9 +102,10 @@ module _ {O : Type 0} (after part : O → List Record → O → Type 0) (laws : 
       → plan2 ≡ plan → g ≡ Some b → g ≡ given_at_mark (cutter_of c s) → d ≡ with_cutter s (after_mark t (cutter_of c s)) c → IfSome g (IsBundleOf (cutter_of c s))
       → ((f : Fed) (rows : List Record) → stands f rows → MayArrive plan size f s b → GivesOut (between (with_bundle s b f)) after o p x y rows)
       → ((f : Fed) (rows : List Record) → between f rows → MaySeal plan2 f s t → Gives plan2 (later (with_mark s t f)) after part p q y z (with_mark s t f) rows result)
+      → ((f : Fed) (rows : List Record) → between f rows → AreRowsSoFar plan f rows) → ((f : Fed) (rows : List Record) → later f rows → AreRowsSoFar plan f rows)
       → (items : List Item) (f : Fed) (rows : List Record) → MayTake stands plan size c (item.Mark s t) items f rows
       → TakesOrFails plan size later after part o q x z (items ++ item.Mark s t ∷ []) d rows result
-  mark_after_bundle between later plan2 d s t g b o p q x y z result same some given cut sound arrives seals items f rows may =
+  mark_after_bundle between later plan2 d s t g b o p q x y z result same some given cut sound arrives seals so_far so_far_later items f rows may =
       let last = sym given ∙ some in
       let f1 = with_bundle s b f in
       let f2 = with_mark s t f1 in
@@ -112,7 +113,7 @@ module _ {O : Type 0} (after part : O → List Record → O → Type 0) (laws : 
       let seal = may_seal_then plan size items s t b f c may.fed may.timely.0 may.timely.1 may.timely.2 in
       takes_by plan size later after part o q x z (items ++ item.Mark s t ∷ []) d f2 rows result
       (subst (IsFedBy size (items ++ item.Mark s t ∷ []) f2) (sym cut) (fed_last size items s t b f c may.fed last))
-      (gives_then after part laws plan (between f1) (later f2) o p q x y z f2 rows result first
+      (gives_then after part laws plan (between f1) (later f2) o p q x y z f2 rows result first (so_far_mark plan s t f1 (rows ++ first.rows) seal.rises (so_far f1 (rows ++ first.rows) first.stand)) (so_far_later f2)
       (subst (λ u. Gives u (later f2) after part p q y z f2 (rows ++ first.rows) result) same (seals f1 (rows ++ first.rows) first.stand (subst (λ u. MaySeal u f1 s t) (sym same) seal))))
 
   -- the last bundle of an epoch does not arrive, or its rows are not given out

@@ -154,7 +154,7 @@ one_from plan items (Late n t m) A h = tt
 one_from plan items (Late n t m) B h = tt
 
 -- one item more before the others
-goes_on_behind : (plan : Shape) (items : List Item) (i : Item) (all : List Item) → IsTimely (streams_of plan) items i → GoesOnTo (items ++ i ∷ []) all → GoesOnTo items all
+pub goes_on_behind : (plan : Shape) (items : List Item) (i : Item) (all : List Item) → IsTimely (streams_of plan) items i → GoesOnTo (items ++ i ∷ []) all → GoesOnTo items all
 goes_on_behind plan items i all h g = record {
   later = i ∷ g.later;
   are = g.are ∙ append_assoc items (i ∷ []) g.later;
@@ -167,6 +167,10 @@ no_more items = record { later = []; are = sym (append-nil items); timely = no_r
     no_records : (s : Stream) → AllByRecursion (IsFrom (last_watermark s items)) (records_of s [])
     no_records A = tt
     no_records B = tt
+
+-- what has no record may follow
+pub goes_on_without : (items more : List Item) → ((s : Stream) → records_of s more ≡ []) → GoesOnTo items (items ++ more)
+goes_on_without items more none = record { later = more; are = refl; timely = λ s. subst (AllByRecursion (IsFrom (last_watermark s items))) (sym (none s)) tt }
 
 pub accepted_goes_on : (plan : Shape) (lines : List (List ℕ)) (items : List Item) → GoesOnTo items (following plan items lines).items
 accepted_goes_on plan [] items = no_more items

@@ -6,6 +6,7 @@ pub mod LaterItems
 pub mod ReadSoFar
 pub mod ItemSteps
 pub mod FirstRows
+pub mod RowsApart
 pub mod GivesInTurn
 pub mod ItemTakes
 pub mod RowsSoFar

@@ -53,6 +53,11 @@ so_far_bundle plan size s b f rows may h = record {
     fed_more A B = append-nil (records_of_feed f B)
     fed_more B A = append-nil (records_of_feed f A)
 
+-- an engine of the same plan has given them
+pub so_far_by : (plan2 plan : Shape) (stands : Fed → List Record → Type 0) → plan2 ≡ plan → ((f : Fed) (rows : List Record) → stands f rows → AreRowsSoFar plan2 f rows)
+    → (f : Fed) (rows : List Record) → stands f rows → AreRowsSoFar plan f rows
+so_far_by plan2 plan stands same so_far f rows h = subst (λ u. AreRowsSoFar u f rows) same (so_far f rows h)
+
 last_mark : (n t : ℕ) (xs : List ℕ) → last_or n (xs ++ t ∷ []) ≡ t
 last_mark n t [] = refl
 last_mark n t (x ∷ xs) = last_mark x t xs

@@ -1,6 +1,7 @@
-use Rattle.std.proofs.Common.{refl}
+use Rattle.std.proofs.Common.{refl, ◌∙◌}
 use Rattle.sb_feed.proofs.GivesInTurn.{AddsUp}
 use Rattle.sb_feed.proofs.InputEnds.{both_end, first_fails, may_end_first, may_end_then, none_ends}
+use Rattle.sb_feed.proofs.RowsSoFar.{so_far_by}
 use Rattle.sb_feed.proofs.ending.end_input.Goals as goal
 
 pub end_stream-requires-in-Ok-clause-may : goal.end_stream-requires-in-Ok-clause-may
@@ -17,7 +18,9 @@ returns-in-Ok-clause-takes g c =
     let adds_up : AddsUp g.R.RowOut.after g.R.RowOut.part = record { after_none = laws.after_none; after_more = laws.after_more; part_later = laws.part_later; part_of_all = laws.part_of_all } in
     rw c.in-End.is (both_end g.R.RowOut.after g.R.RowOut.part adds_up (g.E.Engine.stands c.args.engine.now) (g.E.Engine.plan c.args.engine.now) (g.E.Engine.size c.args.engine.now) c.args.cutters.now
     (g.E.Engine.stands c.end_stream.new.engine) (g.E.Engine.stands c.end_stream-in-Ok.new.engine) (g.E.Engine.plan c.end_stream.new.engine) (g.E.Engine.size c.end_stream.new.engine) c.end_stream.new.cutters c.end_stream-in-Ok.new.cutters c.args.out.now c.end_stream.new.out c.end_stream-in-Ok.new.out _ _ _ c.end_stream-in-Ok.result
-    (g.met.E.Engine.same_plan _ _ c.in-Ok.ensures.same) (g.met.E.Engine.same_size _ _ c.in-Ok.ensures.same) c.in-Ok.ensures.takes c.end_stream-in-Ok.ensures.takes)
+    (g.met.E.Engine.same_plan _ _ c.in-Ok.ensures.same) (g.met.E.Engine.same_size _ _ c.in-Ok.ensures.same) c.in-Ok.ensures.takes c.end_stream-in-Ok.ensures.takes
+    (so_far_by _ _ (g.E.Engine.stands c.end_stream.new.engine) (g.met.E.Engine.same_plan _ _ c.in-Ok.ensures.same) (g.met.E.Engine.so_far c.end_stream.new.engine))
+    (so_far_by _ _ (g.E.Engine.stands c.end_stream-in-Ok.new.engine) (g.met.E.Engine.same_plan _ _ c.end_stream-in-Ok.ensures.same ∙ g.met.E.Engine.same_plan _ _ c.in-Ok.ensures.same) (g.met.E.Engine.so_far c.end_stream-in-Ok.new.engine)))
 
 pub returns-in-Err-clause-takes : goal.returns-in-Err-clause-takes
 returns-in-Err-clause-takes g c =

@@ -6,6 +6,7 @@ use Rattle.sb_feed.specs.Feeds.{nothing_fed}
 use Rattle.sb_feed.proofs.FedSoFar.{all_fed, end_fails, fed_more, item_fails, may_end, may_take, nothing_fed_yet}
 use Rattle.sb_feed.proofs.GiveLaws.{cause_of_none, cause_then}
 use Rattle.sb_feed.proofs.GivesInTurn.{AddsUp}
+use Rattle.sb_feed.proofs.RowsSoFar.{so_far_by}
 use Rattle.sb_feed.proofs.feeding.feed.Goals as goal
 
 pub items-init : goal.items-init
@@ -62,8 +63,9 @@ items-preserved g c =
     (record { source = c.args.input.now; out = c.args.out.now; taps = _; dropped = c.args.dropped.now.items })
     (record { source = c.items.input; out = c.items.out; taps = _; dropped = c.items.dropped.items })
     c.items.lines c.items.intake c.items.cutters before.fed
+    (so_far_by _ _ (g.E.Engine.stands c.items.engine) (g.met.E.Engine.same_plan _ _ before.same) (g.met.E.Engine.so_far c.items.engine))
     (record { source = c.next_item.new.source; out = c.take_item.new.out; taps = _; dropped = c.take_item.new.dropped.items }) c.next_item.new.lines c.next_item.new.intake
-    (g.E.Engine.stands c.take_item.new.engine) c.take_item.new.cutters c.in-Ok.item c.in-Ok.ensures.takes c.in-Ok.ensures.same c.in-Ok.ensures.room
+    (g.E.Engine.stands c.take_item.new.engine) (so_far_by _ _ (g.E.Engine.stands c.take_item.new.engine) (g.met.E.Engine.same_plan _ _ c.in-Ok-take_item.ensures.same ∙ g.met.E.Engine.same_plan _ _ before.same) (g.met.E.Engine.so_far c.take_item.new.engine)) c.take_item.new.cutters c.in-Ok.item c.in-Ok.ensures.takes c.in-Ok.ensures.same c.in-Ok.ensures.room
     (c.in-Ok-take_item.ensures.takes before.fed.items before.fed.f before.fed.rows may) c.in-Ok-take_item.ensures.kept in
     record {
       fed = more;
@@ -92,6 +94,7 @@ returns-in-Err-take_item-clause-feeds g c =
     (record { source = c.args.input.now; out = c.args.out.now; taps = _; dropped = c.args.dropped.now.items })
     (record { source = c.items.input; out = c.items.out; taps = _; dropped = c.items.dropped.items })
     c.items.lines c.items.intake c.items.cutters before.fed
+    (so_far_by _ _ (g.E.Engine.stands c.items.engine) (g.met.E.Engine.same_plan _ _ before.same) (g.met.E.Engine.so_far c.items.engine))
     (record { source = c.next_item.new.source; out = c.take_item.new.out; taps = _; dropped = c.take_item.new.dropped.items }) c.next_item.new.lines c.next_item.new.intake
     c.in-Ok.item c.in-Err-take_item.why c.in-Ok.ensures.takes c.in-Ok.ensures.same c.in-Ok.ensures.room
     (c.in-Err-take_item.ensures.takes before.fed.items before.fed.f before.fed.rows may) c.in-Err-take_item.ensures.same_list
@@ -126,8 +129,9 @@ returns-in-Ok-end_input-clause-feeds g c =
     (record { source = c.args.input.now; out = c.args.out.now; taps = _; dropped = c.args.dropped.now.items })
     (record { source = c.items.input; out = c.items.out; taps = _; dropped = c.items.dropped.items })
     c.items.lines c.items.intake c.items.cutters before.fed
+    (so_far_by _ _ (g.E.Engine.stands c.items.engine) (g.met.E.Engine.same_plan _ _ before.same) (g.met.E.Engine.so_far c.items.engine))
     (record { source = c.next_item.new.source; out = c.end_input.new.out; taps = _; dropped = c.items.dropped.items }) c.next_item.new.lines c.next_item.new.intake
-    (g.E.Engine.stands c.end_input.new.engine) c.end_input.new.cutters c.in-Err.stop c.in-Err.ensures.takes
+    (g.E.Engine.stands c.end_input.new.engine) (so_far_by _ _ (g.E.Engine.stands c.end_input.new.engine) (g.met.E.Engine.same_plan _ _ c.in-Ok-end_input.ensures.same ∙ g.met.E.Engine.same_plan _ _ before.same) (g.met.E.Engine.so_far c.end_input.new.engine)) c.end_input.new.cutters c.in-Err.stop c.in-Err.ensures.takes
     (c.in-Ok-end_input.ensures.takes before.fed.items before.fed.f before.fed.rows may) refl
 
 pub returns-in-Err-end_input-clause-feeds : goal.returns-in-Err-end_input-clause-feeds
@@ -145,6 +149,7 @@ returns-in-Err-end_input-clause-feeds g c =
     (record { source = c.args.input.now; out = c.args.out.now; taps = _; dropped = c.args.dropped.now.items })
     (record { source = c.items.input; out = c.items.out; taps = _; dropped = c.items.dropped.items })
     c.items.lines c.items.intake c.items.cutters before.fed
+    (so_far_by _ _ (g.E.Engine.stands c.items.engine) (g.met.E.Engine.same_plan _ _ before.same) (g.met.E.Engine.so_far c.items.engine))
     (record { source = c.next_item.new.source; out = c.end_input.new.out; taps = _; dropped = c.items.dropped.items }) c.next_item.new.lines c.next_item.new.intake
     c.in-Err.stop c.in-Err-end_input.why c.in-Err.ensures.takes
     (c.in-Err-end_input.ensures.takes before.fed.items before.fed.f before.fed.rows may) refl

@@ -1,4 +1,4 @@
-use Rattle.std.proofs.Common.{◌≡◌, ◌<◌, List, ℕ, length, take, Ok, refl, sym, ap, subst}
+use Rattle.std.proofs.Common.{◌≡◌, ◌<◌, List, ℕ, take, Ok, refl, sym, ap, subst}
 use Rattle.std.specs.Prelude.{OnOk}
 use Rattle.sb_base.specs.records.declared.intake.TheConstants.{MAX_LINES}
 use Rattle.sb_base.specs.records.Intake.{answer_to}

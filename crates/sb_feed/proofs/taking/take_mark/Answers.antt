@@ -3,6 +3,7 @@ use Rattle.sb_feed.proofs.GivesInTurn.{AddsUp}
 use Rattle.sb_feed.proofs.ItemTakes.{bundle_stops, lone_mark, mark_after_bundle}
 use Rattle.sb_feed.specs.Feeds.{MaySeal, with_bundle}
 use Rattle.sb_feed.proofs.ItemSteps.{last_arrives, may_seal_then}
+use Rattle.sb_feed.proofs.RowsSoFar.{so_far_by}
 use Rattle.sb_feed.proofs.taking.take_mark.Goals as goal
 
 pub returns-in-Ok-clause-takes : goal.returns-in-Ok-clause-takes
@@ -12,6 +13,8 @@ returns-in-Ok-clause-takes g c =
     mark_after_bundle g.R.RowOut.after g.R.RowOut.part adds_up (g.E.Engine.stands c.args.engine.now) (g.E.Engine.plan c.args.engine.now) (g.E.Engine.size c.args.engine.now) c.args.cutters.now
     (g.E.Engine.stands c.arrive.new.engine) (g.E.Engine.stands c.seal.new.engine) (g.E.Engine.plan c.arrive.new.engine) c.mark.new.self c.args.stream c.args.mark c.mark.result c.in-Some.bundle c.args.out.now c.arrive.new.out c.seal.new.out _ _ _ c.seal.result
     (g.met.E.Engine.same_plan _ _ c.in-Ok.ensures.same) c.in-Some.is c.mark.ensures.given c.mark.ensures.after (rw c.in-Some.is c.in-Some.ensures.sound) c.in-Ok.ensures.gives c.seal.ensures.gives
+    (so_far_by _ _ (g.E.Engine.stands c.arrive.new.engine) (g.met.E.Engine.same_plan _ _ c.in-Ok.ensures.same) (g.met.E.Engine.so_far c.arrive.new.engine))
+    (so_far_by _ _ (g.E.Engine.stands c.seal.new.engine) (g.met.E.Engine.same_plan _ _ c.seal.ensures.same ∙ g.met.E.Engine.same_plan _ _ c.in-Ok.ensures.same) (g.met.E.Engine.so_far c.seal.new.engine))
 
 pub returns-in-Err-clause-takes : goal.returns-in-Err-clause-takes
 returns-in-Err-clause-takes g c =
