@@ -1,5 +1,5 @@
 -- An output that is handed the rows from a time on.
-use Rattle.std.specs.Prelude.{◌≡◌, ℕ, List}
+use Rattle.std.specs.Prelude.{◌≡◌, ℕ, List, [], ◌∷◌, nat_lt, if◌then◌else◌}
 use Rattle.sb_record.specs.declared.item.Record.{Record}
 use Rattle.sb_record.specs.Records.{at_least}
 
@@ -7,6 +7,17 @@ use Rattle.sb_record.specs.Records.{at_least}
 pub record HandedOn (R : Type 0) : Type 0 where
   pub low : ℕ
   pub out : R
+
+-- the rows from the first one on that has a time at least low: where rows rise, those with such a time
+abbrev pub from_first : ℕ → List Record → List Record
+from_first low [] = []
+from_first low (r ∷ rows) = if nat_lt r.time low then from_first low rows else r ∷ rows
+
+-- the output is as it is after these rows, and low stays
+pub record HandsFromFirst {R : Type 0} (after : R → List Record → R → Type 0)
+    (old : HandedOn R) (rows : List Record) (new : HandedOn R) : Type 0 where
+  pub low : new.low ≡ old.low
+  pub out : after old.out (from_first old.low rows) new.out
 
 -- the output is as it is after those of the rows that have a time at least low, and low stays
 pub record Hands {R : Type 0} (after : R → List Record → R → Type 0)

@@ -1,15 +1,15 @@
 //! An output that hands on the rows from a time on.
 
-ghost use Rattle.std.specs.Prelude.{◌≡◌, ◌≤◌, ◌<◌, All, Some, length, slice_get, take};
-ghost use Rattle.sb_record.specs.declared.item.Record.{Record as ARecord};
+ghost use Rattle.std.specs.Prelude.{◌≡◌, ◌≤◌, drop, length};
+ghost use Rattle.sb_checkpoint.specs.LaterRows.{from_first};
 
 use sb_emit::RowOut;
 use sb_outside::SinkFault;
 use sb_record::Record;
 use std::marker::Model;
 
-/// Hands on the rows with a time at least `low`, in their order, and leaves out the others. Rows that stand together
-/// are handed on in one call.
+/// Hands on the rows of a call from the first one on that has a time at least `low`, in one call, and leaves out those
+/// before it. Where rows rise, as those of a run do, these are the rows with such a time.
 #[derive(Drop)]
 pub struct RowsFrom<R> {
     low: u64,
@@ -39,30 +39,28 @@ impl<R: RowOut> RowsFrom<R> {
     }
 }
 
-/// How many rows at the front have a time at least `low`.
-fn later_front(low: u64, rows: &[Record]) -> usize
+/// How many rows at the front have a time below `low`.
+fn earlier_front(low: u64, rows: &[Record]) -> usize
     ensures within { result ≤ length rows.now }
-    ensures later { All (λ r. low ≤ r.time) (take result rows.now) }
-    ensures stops { (r : ARecord) → slice_get rows.now result ≡ Some r → r.time < low }
+    ensures left { drop result rows.now ≡ from_first low rows.now }
 {
     let mut count = 0usize;
-    'rows: while count < rows.len() && rows[count].time >= low {
+    'rows: while count < rows.len() && rows[count].time < low {
         count += 1;
     }
     count
 }
 
 impl<R: RowOut> RowOut for RowsFrom<R> {
-    ghost use Rattle.std.specs.Prelude.{◌≡◌, List, [], ◌++◌};
-    ghost use Rattle.sb_record.specs.Records.{at_least};
-    ghost use Rattle.sb_checkpoint.specs.LaterRows.{Hands};
+    ghost use Rattle.std.specs.Prelude.{List, [], ◌++◌};
+    ghost use Rattle.sb_checkpoint.specs.LaterRows.{HandsFromFirst};
     ghost use Rattle.sb_checkpoint.specs.LaterRowLaws as law;
 
     ghost row_state = { λ o. R.row_state o.out };
 
-    ghost after = { Hands R.after };
+    ghost after = { HandsFromFirst R.after };
 
-    ghost part = { Hands R.part };
+    ghost part = { HandsFromFirst R.part };
 
     ghost after_none = { law.after_none R.after R.after_none };
 
@@ -75,19 +73,8 @@ impl<R: RowOut> RowOut for RowsFrom<R> {
     ghost part_of_more = { law.part_of_more R.part R.part_of_more };
 
     fn rows(&mut self, rows: &[Record]) -> Result<(), SinkFault> {
-        let mut done = 0usize;
-        'rows: while done < rows.len() {
-            let count = later_front(self.low, &rows[done..]);
-            if count == 0 {
-                done += 1;
-            } else {
-                match self.out.rows(&rows[done..done + count]) {
-                    Ok(()) => done += count,
-                    Err(fault) => return Err(fault),
-                }
-            }
-        }
-        Ok(())
+        let front = earlier_front(self.low, rows);
+        self.out.rows(&rows[front..])
     }
 
     fn finish(&mut self) -> Result<(), SinkFault> {

@@ -17,7 +17,7 @@ use std::sync::Wait;
 /// An output whose rows are shown in a live table, those of each call all at once.
 ///
 /// Nothing promises an output that the times of its rows do not fall, and that those of a call are above those of the
-/// calls before. So it looks: a call that is not so is refused as failed, and shows nothing. So no window has rows in two
+/// calls before. So it looks: a call that is not so is refused as failed, and shows nothing. No window has rows in two
 /// calls. Whoever knows that the calls are apart and that the rows rise knows that no fault was counted
 /// ([`laws`](crate::laws)).
 pub struct LiveRows<R: Wait + Drop> {

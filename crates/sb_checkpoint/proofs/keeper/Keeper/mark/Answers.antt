@@ -1,4 +1,4 @@
-use Rattle.std.proofs.Common.{◌≡◌, sym, map}
+use Rattle.std.proofs.Common.{sym, map}
 use Rattle.sb_record.specs.Streams.{least_of}
 use Rattle.sb_checkpoint.specs.Saved.{record_item}
 use Rattle.sb_checkpoint.proofs.Keepings.{kept_again}
