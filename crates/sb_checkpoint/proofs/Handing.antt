@@ -7,7 +7,7 @@ use Rattle.sb_record.specs.declared.item.Record.{Record}
 use Rattle.sb_record.specs.Records.{at_least, before, record_cmp, sorted_records}
 use Rattle.sb_record.proofs.Earlier.{at_least-high, before-low, sorted-split}
 use Rattle.sb_record.proofs.Sorting.{All-in_order}
-use Rattle.sb_checkpoint.specs.LaterRows.{from_first}
+use Rattle.sb_checkpoint.specs.LaterRows.{HandedOn, Hands, HandsFromFirst, from_first}
 
 all-later : (low : ℕ) (rows : List Record) → AllByRecursion (λ r. low ≤ r.time) rows → at_least low rows ≡ rows
 all-later low [] all = refl
@@ -34,3 +34,7 @@ sorted_from_first low records rows rest are =
     earlier_first low rows rest (sorted_records (before low records)) (sorted_records (at_least low records)) (sym are ∙ sorted-split low records)
     (All-in_order (λ r. r.time < low) record_cmp (before low records) (before-low low records))
     (All-in_order (λ r. low ≤ r.time) record_cmp (at_least low records) (at_least-high low records))
+
+-- so what is handed on of them from the first one on is what is handed on from low on
+pub hands_sorted : {R : Type 0} (after : R → List Record → R → Type 0) (o p : HandedOn R) (records rows rest : List Record) → sorted_records records ≡ rows ++ rest → HandsFromFirst after o rows p → Hands after o rows p
+hands_sorted after o p records rows rest are h = record { low = h.low; out = subst (λ l. after o.out l p.out) (sorted_from_first o.low records rows rest are) h.out }

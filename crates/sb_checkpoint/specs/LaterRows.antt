@@ -13,7 +13,7 @@ abbrev pub from_first : ℕ → List Record → List Record
 from_first low [] = []
 from_first low (r ∷ rows) = if nat_lt r.time low then from_first low rows else r ∷ rows
 
--- the output is as it is after these rows, and low stays
+-- the output is as it is after the rows from the first one on that has a time at least low, and low stays
 pub record HandsFromFirst {R : Type 0} (after : R → List Record → R → Type 0)
     (old : HandedOn R) (rows : List Record) (new : HandedOn R) : Type 0 where
   pub low : new.low ≡ old.low

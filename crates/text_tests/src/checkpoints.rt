@@ -195,7 +195,7 @@ fn gives_later(alloc: Global, low: u64, rows: &[Record], want: &[u8]) -> bool {
 
 /// A low watermark, and the text of the rows that are not below it.
 const LATER: [(u64, &[u8]); 4] = [
-    (0, b"10,1,5\n11,1,1\n10,1,2\n20,1,4\n21,1,8\n4,1,1\n"),
+    (0, b"4,1,1\n10,1,5\n10,1,2\n11,1,1\n20,1,4\n21,1,8\n"),
     (10, b"11,1,1\n20,1,4\n21,1,8\n"),
     (20, b"21,1,8\n"),
     (21, b""),
@@ -204,12 +204,12 @@ const LATER: [(u64, &[u8]); 4] = [
 #[test]
 fn rows_below_low_are_left_out(rt: HostRuntime) {
     let rows = [
+        row(3, 1),
         row(9, 5),
-        row(10, 1),
         row(9, 2),
+        row(10, 1),
         row(19, 4),
         row(20, 8),
-        row(3, 1),
     ];
     for (low, want) in &LATER {
         assert!(rt; gives_later(rt.alloc(), *low, &rows, want), "{low}");

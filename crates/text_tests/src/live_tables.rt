@@ -26,7 +26,7 @@ fn row_of(number: u64, last: Last) -> Option<Record> {
     }
 }
 
-/// Shows rows, if their times do not fall.
+/// Shows rows, if they may be shown.
 fn show<R: Wait + Drop>(out: &mut LiveOut<R>, rows: &[Record]) -> Result<(), NoMemory> {
     if out.may_show(rows) {
         return out.show(rows);
@@ -55,14 +55,14 @@ fn the_last_row_of_a_key_is_found(rt: HostRuntime) -> Result<(), Fail> {
     let (mut out, mut readers) = live(rt.alloc(), rt, 2)?;
     for (rows, one, two) in [
         ([record(9, 1, 7)].as_slice(), Some((9, 7)), None),
-        // Of the rows of one call the last counts. A row of the time of the one before does not fall.
+        // Of the rows of one call the last counts. They may be of one time.
         (
             &[record(19, 1, 4), record(19, 2, 5), record(19, 1, -4)],
             Some((19, -4)),
             Some((19, 5)),
         ),
-        // Its time falls.
-        (&[record(9, 1, 8)], Some((19, -4)), Some((19, 5))),
+        // A row of this time was shown by the call before.
+        (&[record(19, 1, 8)], Some((19, -4)), Some((19, 5))),
     ] {
         if show(&mut out, rows).is_err() {
             out.end();
@@ -106,7 +106,12 @@ fn an_output_shows_rows_and_refuses_those_that_fall(rt: HostRuntime) -> Result<(
         ),
         (&[record(19, 1, 4)], Ok(()), (19, 4)),
         (&[record(9, 1, 7)], Err(SinkFault::Failed), (19, 4)),
-        (&[record(19, 1, 3), record(29, 1, 5)], Ok(()), (29, 5)),
+        (
+            &[record(19, 1, 3), record(29, 1, 5)],
+            Err(SinkFault::Failed),
+            (19, 4),
+        ),
+        (&[record(29, 1, 3), record(29, 1, 5)], Ok(()), (29, 5)),
     ] {
         let given = give(&mut shown, rows);
         if given == Err(SinkFault::Memory) {
