@@ -21,7 +21,7 @@ use Rattle.sb_worker.specs.cascade.declared.pass.CascadePass.{CascadePass}
 use Rattle.sb_worker.specs.cascade.declared.telling.Hands.{Hands}
 use Rattle.sb_worker.specs.cascade.Bringing as bring
 use Rattle.sb_worker.specs.cascade.Bringing.{sealed_lane}
-use Rattle.sb_worker.specs.cascade.Calls.{IsEmptyHanded, IsFeeder, IsReady, IsSame, hands, passes_out, plan_of, setting_of, view_of}
+use Rattle.sb_worker.specs.cascade.Calls.{IsEmptyHanded, IsFeeder, IsReady, IsSame, hands, plan_of, setting_of, view_of}
 use Rattle.sb_worker.specs.cascade.Found.{IsDrained}
 use Rattle.sb_worker.specs.cascade.Views as view
 use Rattle.sb_worker.specs.turn.Turning.{raised_view}

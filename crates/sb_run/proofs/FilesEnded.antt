@@ -41,6 +41,7 @@ use Rattle.sb_feeds.specs.one_feed.Gives.{GivesOut}
 use Rattle.sb_feeds.specs.one_feed.TapLists.{LeavesThoseThatStay, StopsIn}
 use Rattle.sb_feeds.proofs.one_feed.FirstRows.{rows_same}
 use Rattle.sb_feeds.proofs.one_feed.GivesInTurn.{AddsUp, gives_both, wrote_part}
+use Rattle.sb_feeds.proofs.one_feed.RowsApart.{apart_so_far}
 use Rattle.sb_feeds.proofs.one_feed.LaterItems.{from_later}
 use Rattle.sb_feeds.specs.declared.fed.Fed.{Fed as AValue}
 use Rattle.sb_feeds.specs.Fed.{values_of_accepted, has_stop, stop_from}
@@ -61,6 +62,7 @@ use Rattle.sb_run.proofs.AtTheEnd.{IsQuiet}
 use Rattle.sb_run.proofs.Ended.{done_hand, due_all, due_low}
 use Rattle.sb_run.proofs.FileItems.{IsTakenOf, file_quiet, no_records, taken_of_file, told_mark, told_says}
 use Rattle.sb_run.proofs.FilesSoFar.{both_stopped, files_stopped, files_without}
+use Rattle.sb_run.proofs.SoFar.{rested_so_far}
 use Rattle.sb_run.proofs.TakenItems.{SaysNothing}
 
 -- ---- a comment says nothing
@@ -206,9 +208,10 @@ module _ (plan : Shape) (files : Stream → List ℕ) where
 module _ {O : Type 0} (h : HandView) (files : Stream → List ℕ) (short : (s : Stream) → length (files s) ≤ MAX_FILE_LENGTH) (values : Stream → List AValue)
     (fed : (s : Stream) → IsPrefix (values s) (values_of_accepted (accepted_of_file h.plan s (files s)))) (sizes : Sizes) (size : ℕ) (stands : Fed → List Record → Type 0)
     (after part : O → List Record → O → Type 0) (laws : AddsUp after part) (o p q : O) (taps taps1 taps2 : List TapState) (dropped dropped' : Stream → List Dropped) (stop : FilesStop)
-    (e : FeedsFiles h.plan size values stands after o p taps taps1 dropped dropped' stop) (back : GivesOut (IsRested h e.f) after p q taps1 taps2 e.gives.rows) where
+    (e : FeedsFiles h.plan size values stands after o p taps taps1 dropped dropped' stop) (back : GivesOut (IsRested h e.f) after p q taps1 taps2 e.gives.rows)
+    (so : (f : Fed) (rows : List Record) → stands f rows → AreRowsSoFar h.plan f rows) where
   abbrev out : GivesOut (IsRested h e.f) after o q taps taps2 []
-  out = gives_both after part laws (stands e.f) (IsRested h e.f) o p q taps taps1 taps2 [] e.gives back
+  out = gives_both after part laws (stands e.f) (IsRested h e.f) o p q taps taps1 taps2 [] e.gives back (apart_so_far h.plan e.f [] e.gives.rows back.rows (so e.f e.gives.rows e.gives.stand) (rested_so_far h e.f _ back.stand))
 
   abbrev both : List Item
   both = items_of_files h.plan files
@@ -295,19 +298,19 @@ module _ {O : Type 0} (after part : O → List Record → O → Type 0) (laws : 
         subst (λ u. TwoEnds u sizes files after part o q taps taps2 dropped dropped' (end_by h stop)) shared.plan_is
         (subst (λ u. ((s : Stream) → IsPrefix (values s) (values_of_accepted (accepted_of_file u s (files s)))) → settings_of h.nodes ≡ settings_at sizes.keeps_diaries sizes.pending u
         → (x : FeedsFiles u (setting_of c).bundle values (HasFed c pass) after o p taps taps1 dropped dropped' stop) → GivesOut (IsRested h x.f) after p q taps1 taps2 x.gives.rows
-        → TwoEnds u sizes files after part o q taps taps2 dropped dropped' (end_by h stop)) back.plan
-        (λ read settings x came. files_here h files short values read sizes (setting_of c).bundle (HasFed c pass) after part laws o p q taps taps1 taps2 dropped dropped' stop x came
+        → ((f : Fed) (rows : List Record) → HasFed c pass f rows → AreRowsSoFar u f rows) → TwoEnds u sizes files after part o q taps taps2 dropped dropped' (end_by h stop)) back.plan
+        (λ read settings x came so. files_here h files short values read sizes (setting_of c).bundle (HasFed c pass) after part laws o p q taps taps1 taps2 dropped dropped' stop x came so
         (back.bundle ∙ shared.bundle_is) (sym shared.bundle_is) settings)
         (λ s. subst (λ u. IsPrefix (values s) (values_of_accepted (accepted_of_file u s (files s)))) (sym shared.plan_is) (fed s))
         (back.settings ∙ (λ i. settings_at (shared.keeps_is i) (shared.pending_is i) (plan_of c)))
-        e gives)
+        e gives (λ f rows x. x.so_far))
 
     -- not all rows came out
     pub two_stopped : (why : GiveStop) → ((f : Fed) (rows : List Record) → HasFed c pass f rows → ComesBack c after part p q taps1 taps2 f rows (Err why)) → TwoEnds plan sizes files after part o q taps taps2 dropped dropped' (early_by why)
     two_stopped why comes =
         files_early plan files short values fed after part sizes o q taps taps2 dropped dropped' why
         (subst (λ u. FeedsPart u values after part o q taps taps2 dropped dropped' why) shared.plan_is
-        (files_stopped after part laws (plan_of c) (setting_of c).bundle values (HasFed c pass) o p taps taps1 dropped dropped' stop e q taps2 why (comes e.f e.gives.rows e.gives.stand)))
+        (files_stopped after part laws (plan_of c) (setting_of c).bundle values (HasFed c pass) o p taps taps1 dropped dropped' stop e (λ f rows x. x.so_far) q taps2 why (comes e.f e.gives.rows e.gives.stand)))
 
 -- something was fed
 pub something_fed : {O : Type 0} (after : O → List Record → O → Type 0) (plan : Shape) (size : ℕ) (values : Stream → List AValue) (stands : Fed → List Record → Type 0)

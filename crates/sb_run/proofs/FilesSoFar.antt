@@ -11,6 +11,7 @@ use Rattle.sb_feeds.specs.base.records.declared.item.Stream.TheVariants.{A, B}
 use Rattle.sb_feeds.specs.base.records.declared.item.TheConstants.{END_MARK}
 use Rattle.sb_feeds.specs.base.records.Streams.{dropped_in, dropped_of, last_or, last_watermark, uses}
 use Rattle.sb_feeds.specs.base.pipeline.Shapes.{Shape, streams_of}
+use Rattle.sb_feeds.specs.emit.Outputs.{AreApart}
 use Rattle.sb_feeds.specs.emit.Taps.{TapState}
 use Rattle.sb_feeds.specs.one_feed.declared.cutters.Cutters.{Cutters}
 use Rattle.sb_feeds.specs.one_feed.declared.give.GiveStop.{GiveStop}
@@ -22,10 +23,11 @@ use Rattle.sb_feeds.specs.one_feed.TapLists.{LeavesThoseThatStay}
 use Rattle.sb_feeds.specs.one_feed.Takes.{Fails, MayEnd, MayTake, Takes, TakesOrFails}
 use Rattle.sb_feeds.proofs.one_feed.FirstRows.{fed_covers}
 use Rattle.sb_feeds.proofs.one_feed.GivesInTurn.{AddsUp, stops_none, stops_then, taps_behind, wrote_behind}
-use Rattle.sb_feeds.proofs.one_feed.InputEnds.{same_records}
+use Rattle.sb_feeds.proofs.one_feed.InputEnds.{no_end_records, same_records}
 use Rattle.sb_feeds.proofs.one_feed.ItemSteps.{fed_nothing}
-use Rattle.sb_feeds.proofs.one_feed.LaterItems.{mark_within}
+use Rattle.sb_feeds.proofs.one_feed.LaterItems.{GoesOnTo, goes_on_behind, goes_on_without, mark_within, no_more}
 use Rattle.sb_feeds.proofs.one_feed.OfferedRows.{both_offered, none_offered}
+use Rattle.sb_feeds.proofs.one_feed.RowsApart.{apart_later, apart_so_far}
 use Rattle.sb_feeds.specs.declared.fed.Fed.{Fed as AValue}
 use Rattle.sb_feeds.specs.declared.fed.FeedStop.{FeedStop}
 use Rattle.sb_feeds.specs.Fed.{has_stop}
@@ -125,6 +127,10 @@ module _ {O : Type 0} (after part : O → List Record → O → Type 0) (laws : 
     few_items : length h.items < MAX_LINES + 1
     few_items = let m = h.merged.many in let a = few_of A in let b = few_of B in omega (arith, m, a, b)
 
+    -- what comes out later is later than what came out so far
+    apart_since : ((f : Fed) (rows : List Record) → stands f rows → AreRowsSoFar plan f rows) → (all : List Item) (g : Fed) (rows : List Record) → GoesOnTo h.items all → Covers all g → AreRowsSoFar plan g (h.rows ++ rows) → AreApart h.rows rows
+    apart_since so all g rows on covers both = apart_later plan h.items all h.f g [] h.rows rows (fed_covers size h.items h.f c h.fed) on (so h.f h.rows h.stand) covers both
+
     -- the end may be taken
     pub files_may_end : MayEnd stands size c (MAX_LINES + 1) h.items h.f h.rows
     files_may_end = record { stand = h.stand; fed = h.fed; few = few_items; marks = h.marks; some = some }
@@ -179,26 +185,30 @@ module _ {O : Type 0} (after part : O → List Record → O → Type 0) (laws : 
       pub files_may_take : MayTake stands plan size c i h.items h.f h.rows
       files_may_take = record { stand = h.stand; fed = h.fed; timely = timely; few = (let n = few_items in omega (arith, n)); some = some }
 
+      goes_on_to : GoesOnTo h.items (h.items ++ i ∷ [])
+      goes_on_to = goes_on_behind plan h.items i (h.items ++ i ∷ []) timely (no_more (h.items ++ i ∷ []))
+
       -- it was taken
-      pub files_more : (later : Fed → List Record → Type 0) (next : AroundFiles O) (d : Cutters) → Takes later after now.out next.out now.taps next.taps size (h.items ++ i ∷ []) d h.rows
+      pub files_more : (later : Fed → List Record → Type 0) → ((f : Fed) (rows : List Record) → stands f rows → AreRowsSoFar plan f rows) → ((f : Fed) (rows : List Record) → later f rows → AreRowsSoFar plan f rows)
+          → (next : AroundFiles O) (d : Cutters) → Takes later after now.out next.out now.taps next.taps size (h.items ++ i ∷ []) d h.rows
           → ((t : Stream) → next.dropped t ≡ now.dropped t ++ dropped_of (item_for s i t)) → FilesSoFar after plan size later start next values' d
-      files_more later next d done kept = record {
+      files_more later so so_later next d done kept = record {
         items = h.items ++ i ∷ [];
         f = done.f;
         rows = h.rows ++ done.gives.rows;
         merged = merged_then;
         fed = done.fed;
         stand = done.gives.stand;
-        wrote = laws.after_more start.out now.out next.out h.rows done.gives.rows h.wrote done.gives.wrote;
+        wrote = laws.after_more start.out now.out next.out h.rows done.gives.rows (apart_since so (h.items ++ i ∷ []) done.f done.gives.rows goes_on_to (fed_covers size (h.items ++ i ∷ []) done.f d done.fed) (so_later done.f _ done.gives.stand)) h.wrote done.gives.wrote;
         offered = both_offered h.rows done.gives.rows start.taps now.taps next.taps h.offered done.gives.offered;
         listed = λ t. dropped_given s t i (items_taken (streams_of plan) t (values t)) (items_taken (streams_of plan) t (values' t)) (start.dropped t) (now.dropped t) (next.dropped t) (more t) (h.listed t) (kept t);
         marks = mark_within plan h.items i timely h.marks;
       }
 
       -- it could not be taken
-      pub files_fail : (next : AroundFiles O) (why : GiveStop) → Fails plan after part now.out next.out now.taps next.taps (h.items ++ i ∷ []) h.rows why → ((t : Stream) → next.dropped t ≡ now.dropped t)
+      pub files_fail : ((f : Fed) (rows : List Record) → stands f rows → AreRowsSoFar plan f rows) → (next : AroundFiles O) (why : GiveStop) → Fails plan after part now.out next.out now.taps next.taps (h.items ++ i ∷ []) h.rows why → ((t : Stream) → next.dropped t ≡ now.dropped t)
           → FeedsPart plan values' after part start.out next.out start.taps next.taps start.dropped next.dropped why
-      files_fail next why fails kept = record {
+      files_fail so next why fails kept = record {
         popped = values';
         later = λ t. [];
         are = λ t. sym (append-nil (values' t));
@@ -206,7 +216,7 @@ module _ {O : Type 0} (after part : O → List Record → O → Type 0) (laws : 
         covers = covers_own plan values' (h.items ++ i ∷ []) merged_then fails.f fails.covers;
         rows = h.rows ++ fails.stops.rows;
         so_far = fails.stops.so_far;
-        wrote = wrote_behind after part laws why start.out now.out next.out h.rows fails.stops.rows h.wrote fails.stops.wrote;
+        wrote = wrote_behind after part laws why start.out now.out next.out h.rows fails.stops.rows (apart_since so (h.items ++ i ∷ []) fails.f fails.stops.rows goes_on_to fails.covers fails.stops.so_far) h.wrote fails.stops.wrote;
         at = taps_behind why h.rows fails.stops.rows start.taps now.taps next.taps h.offered fails.stops.at;
         late = λ t. dropped_of (items_taken (streams_of plan) t (values t));
         first_late = λ t. record { rest = dropped_of (item_for s i t); are = ap dropped_of (more t) ∙ flat_map-append dropped_in (items_taken (streams_of plan) t (values t)) (item_for s i t) };
@@ -215,11 +225,17 @@ module _ {O : Type 0} (after part : O → List Record → O → Type 0) (laws : 
 
     -- the end, behind the stop of each ring
     module _ (stop : FilesStop) (stopped : files_stop_if (stop_among (values A)) (stop_among (values B)) ≡ Some stop) where
+      abbrev ends_at : List Item
+      ends_at = h.items ++ end_items (streams_of plan) (as_stop stop)
+
+      goes_on_to_end : GoesOnTo h.items ends_at
+      goes_on_to_end = goes_on_without h.items (end_items (streams_of plan) (as_stop stop)) (no_end_records (streams_of plan) (as_stop stop))
+
       -- it was taken
-      pub files_fed : (later : Fed → List Record → Type 0) (next : AroundFiles O) (d : Cutters)
+      pub files_fed : (later : Fed → List Record → Type 0) → ((f : Fed) (rows : List Record) → stands f rows → AreRowsSoFar plan f rows) → ((f : Fed) (rows : List Record) → later f rows → AreRowsSoFar plan f rows) → (next : AroundFiles O) (d : Cutters)
           → Takes later after now.out next.out now.taps next.taps size (h.items ++ end_items (streams_of plan) (as_stop stop)) d h.rows → ((t : Stream) → next.dropped t ≡ now.dropped t)
           → FeedsFiles plan size values later after start.out next.out start.taps next.taps start.dropped next.dropped stop
-      files_fed later next d done kept = record {
+      files_fed later so so_later next d done kept = record {
         stopped = stopped;
         items = h.items;
         merged = h.merged;
@@ -229,16 +245,16 @@ module _ {O : Type 0} (after part : O → List Record → O → Type 0) (laws : 
         gives = record {
           rows = h.rows ++ done.gives.rows;
           stand = done.gives.stand;
-          wrote = laws.after_more start.out now.out next.out h.rows done.gives.rows h.wrote done.gives.wrote;
+          wrote = laws.after_more start.out now.out next.out h.rows done.gives.rows (apart_since so ends_at done.f done.gives.rows goes_on_to_end (fed_covers size ends_at done.f d done.fed) (so_later done.f _ done.gives.stand)) h.wrote done.gives.wrote;
           offered = both_offered h.rows done.gives.rows start.taps now.taps next.taps h.offered done.gives.offered;
         };
         listed = λ t. kept t ∙ h.listed t;
       }
 
       -- it could not be taken
-      pub files_end_fails : (next : AroundFiles O) (why : GiveStop) → Fails plan after part now.out next.out now.taps next.taps (h.items ++ end_items (streams_of plan) (as_stop stop)) h.rows why
+      pub files_end_fails : ((f : Fed) (rows : List Record) → stands f rows → AreRowsSoFar plan f rows) → (next : AroundFiles O) (why : GiveStop) → Fails plan after part now.out next.out now.taps next.taps (h.items ++ end_items (streams_of plan) (as_stop stop)) h.rows why
           → ((t : Stream) → next.dropped t ≡ now.dropped t) → FeedsPart plan values after part start.out next.out start.taps next.taps start.dropped next.dropped why
-      files_end_fails next why fails kept = record {
+      files_end_fails so next why fails kept = record {
         popped = values;
         later = λ t. [];
         are = λ t. sym (append-nil (values t));
@@ -246,7 +262,7 @@ module _ {O : Type 0} (after part : O → List Record → O → Type 0) (laws : 
         covers = covers_end plan values h.items h.merged fails.f stop stopped fails.covers;
         rows = h.rows ++ fails.stops.rows;
         so_far = fails.stops.so_far;
-        wrote = wrote_behind after part laws why start.out now.out next.out h.rows fails.stops.rows h.wrote fails.stops.wrote;
+        wrote = wrote_behind after part laws why start.out now.out next.out h.rows fails.stops.rows (apart_since so ends_at fails.f fails.stops.rows goes_on_to_end fails.covers fails.stops.so_far) h.wrote fails.stops.wrote;
         at = taps_behind why h.rows fails.stops.rows start.taps now.taps next.taps h.offered fails.stops.at;
         late = λ t. dropped_of (items_taken (streams_of plan) t (values t));
         first_late = λ t. record { rest = []; are = sym (append-nil (dropped_of (items_taken (streams_of plan) t (values t)))) };
@@ -254,12 +270,13 @@ module _ {O : Type 0} (after part : O → List Record → O → Type 0) (laws : 
       }
 
       -- or whichever
-      pub files_ended : (later : Fed → List Record → Type 0) (next : AroundFiles O) (d : Cutters) (ended : Result FilesStop GiveStop) → IfOk ended (λ given. given ≡ stop)
+      pub files_ended : (later : Fed → List Record → Type 0) → ((f : Fed) (rows : List Record) → stands f rows → AreRowsSoFar plan f rows) → ((f : Fed) (rows : List Record) → later f rows → AreRowsSoFar plan f rows)
+          → (next : AroundFiles O) (d : Cutters) (ended : Result FilesStop GiveStop) → IfOk ended (λ given. given ≡ stop)
           → TakesOrFails plan size later after part now.out next.out now.taps next.taps (h.items ++ end_items (streams_of plan) (as_stop stop)) d h.rows ended → ((t : Stream) → next.dropped t ≡ now.dropped t)
           → FeedsValues plan size values later after part start.out next.out start.taps next.taps start.dropped next.dropped ended
-      files_ended later next d (Ok given) same done kept =
-          subst (λ x. FeedsFiles plan size values later after start.out next.out start.taps next.taps start.dropped next.dropped x) (sym same) (files_fed later next d done kept)
-      files_ended later next d (Err why) same fails kept = files_end_fails next why fails kept
+      files_ended later so so_later next d (Ok given) same done kept =
+          subst (λ x. FeedsFiles plan size values later after start.out next.out start.taps next.taps start.dropped next.dropped x) (sym same) (files_fed later so so_later next d done kept)
+      files_ended later so so_later next d (Err why) same fails kept = files_end_fails so next why fails kept
 
 -- ---- behind the loop
 -- more values came, and were dropped
@@ -296,9 +313,9 @@ module _ {O : Type 0} (after part : O → List Record → O → Type 0) (laws : 
   }
 
   -- not all rows came out
-  pub files_stopped : (q : O) (taps2 : List TapState) (why : GiveStop) → StopsOut plan after part p q taps1 taps2 e.f e.gives.rows why → FeedsPart plan values after part o q taps taps2 dropped dropped' why
-  files_stopped q taps2 why stops =
-      let n = stops_then after part laws plan (stands e.f) o p q taps taps1 taps2 e.f [] why e.gives stops in
+  pub files_stopped : ((f : Fed) (rows : List Record) → stands f rows → AreRowsSoFar plan f rows) → (q : O) (taps2 : List TapState) (why : GiveStop) → StopsOut plan after part p q taps1 taps2 e.f e.gives.rows why → FeedsPart plan values after part o q taps taps2 dropped dropped' why
+  files_stopped so q taps2 why stops =
+      let n = stops_then after part laws plan (stands e.f) o p q taps taps1 taps2 e.f [] why e.gives stops (apart_so_far plan e.f [] e.gives.rows stops.rows (so e.f e.gives.rows e.gives.stand) stops.so_far) in
       record {
         popped = values;
         later = λ s. [];
@@ -316,4 +333,4 @@ module _ {O : Type 0} (after part : O → List Record → O → Type 0) (laws : 
 
   -- there was no memory
   pub files_without : ((f : Fed) (rows : List Record) → stands f rows → AreRowsSoFar plan f rows) → FeedsPart plan values after part o p taps taps1 dropped dropped' give.Memory
-  files_without so = files_stopped p taps1 give.Memory (stops_none after part laws plan p taps1 e.f e.gives.rows (so e.f e.gives.rows e.gives.stand))
+  files_without so = files_stopped so p taps1 give.Memory (stops_none after part laws plan p taps1 e.f e.gives.rows (so e.f e.gives.rows e.gives.stand))

@@ -40,6 +40,8 @@ use Rattle.sb_feeds.proofs.one_feed.FirstRows.{fed_covers, rows_are_first, rows_
 use Rattle.sb_feeds.proofs.one_feed.GivesInTurn.{AddsUp, gives_both, stops_none, stops_then, wrote_part}
 use Rattle.sb_feeds.proofs.one_feed.InputEnds.{same_records}
 use Rattle.sb_feeds.proofs.one_feed.LaterItems.{no_more}
+use Rattle.sb_feeds.proofs.one_feed.RowsApart.{apart_so_far}
+use Rattle.sb_feeds.proofs.one_feed.RowsSoFar.{so_far_by}
 use Rattle.sb_run.specs.declared.run_end.RunEnd.TheVariants as run
 use Rattle.sb_run.specs.declared.sizes.Sizes.{Sizes}
 use Rattle.sb_run.specs.Ending.{early_by, end_by}
@@ -135,12 +137,12 @@ told stop (Err why) = Err why
 
 module _ {O : Type 0} (after part : O → List Record → O → Type 0) (laws : AddsUp after part) (plan : Shape) (size : ℕ) (left left' : Option (List ℕ)) (stands : Fed → List Record → Type 0)
     (o p : O) (taps taps1 : List TapState) (dropped dropped' : List Dropped) (stop : Stop)
-    (e : FeedsAll plan size left left' stands after o p taps taps1 dropped dropped' stop) where
+    (e : FeedsAll plan size left left' stands after o p taps taps1 dropped dropped' stop) (so : (f : Fed) (rows : List Record) → stands f rows → AreRowsSoFar plan f rows) where
   -- behind all that was fed not all rows came out
   pub feeds-stopped : (q : O) (taps2 : List TapState) (why : GiveStop) → StopsOut plan after part p q taps1 taps2 e.f e.gives.rows why
       → FeedsSome plan left left' after part o q taps taps2 dropped dropped' why
   feeds-stopped q taps2 why stops =
-      let n = stops_then after part laws plan (stands e.f) o p q taps taps1 taps2 e.f [] why e.gives stops in
+      let n = stops_then after part laws plan (stands e.f) o p q taps taps1 taps2 e.f [] why e.gives stops (apart_so_far plan e.f [] e.gives.rows stops.rows (so e.f e.gives.rows e.gives.stand) stops.so_far) in
       record {
         given = e.given;
         rows = n.rows;
@@ -153,23 +155,23 @@ module _ {O : Type 0} (after part : O → List Record → O → Type 0) (laws : 
       }
 
   -- there was no memory
-  pub feeds-wanting : ((f : Fed) (rows : List Record) → stands f rows → AreRowsSoFar plan f rows) → FeedsSome plan left left' after part o p taps taps1 dropped dropped' give.Memory
-  feeds-wanting so = feeds-stopped p taps1 give.Memory (stops_none after part laws plan p taps1 e.f e.gives.rows (so e.f e.gives.rows e.gives.stand))
+  pub feeds-wanting : FeedsSome plan left left' after part o p taps taps1 dropped dropped' give.Memory
+  feeds-wanting = feeds-stopped p taps1 give.Memory (stops_none after part laws plan p taps1 e.f e.gives.rows (so e.f e.gives.rows e.gives.stand))
 
   -- others came out
-  pub feeds-back : {T : Type 0} (later : Fed → List Record → Type 0) (q : O) (taps2 : List TapState) (result : Result T GiveStop)
+  pub feeds-back : {T : Type 0} (later : Fed → List Record → Type 0) → ((f : Fed) (rows : List Record) → later f rows → AreRowsSoFar plan f rows) → (q : O) (taps2 : List TapState) (result : Result T GiveStop)
       → Gives plan (later e.f) after part p q taps1 taps2 e.f e.gives.rows result
       → Feeds plan size left left' later after part o q taps taps2 dropped dropped' (told stop result)
-  feeds-back later q taps2 (Ok x) gives = record {
+  feeds-back later so_later q taps2 (Ok x) gives = record {
     given = e.given;
     stopped = e.stopped;
     cutters = e.cutters;
     f = e.f;
     fed = e.fed;
-    gives = gives_both after part laws (stands e.f) (later e.f) o p q taps taps1 taps2 [] e.gives gives;
+    gives = gives_both after part laws (stands e.f) (later e.f) o p q taps taps1 taps2 [] e.gives gives (apart_so_far plan e.f [] e.gives.rows gives.rows (so e.f e.gives.rows e.gives.stand) (so_later e.f _ gives.stand));
     listed = e.listed;
   }
-  feeds-back later q taps2 (Err why) gives = feeds-stopped q taps2 why gives
+  feeds-back later so_later q taps2 (Err why) gives = feeds-stopped q taps2 why gives
 
 -- the same, of an engine that stands otherwise
 pub feeds-as : {O : Type 0} (after : O → List Record → O → Type 0) (plan : Shape) (size : ℕ) (left left' : Option (List ℕ)) (stands later : Fed → List Record → Type 0)
@@ -282,7 +284,7 @@ module _ {O : Type 0} (after part : O → List Record → O → Type 0) (laws : 
   shared-done h q taps2 stop e comes =
       let (back, gives) = comes e.f e.gives.rows e.gives.stand in
       ends-back plan sizes c h h left left' after part o q taps taps2 dropped dropped' (Ok stop) shared back (same-hand h)
-      (feeds-back after part laws (plan_of c) sizes.bundle left left' (HasFed c pass) o p taps taps1 dropped dropped' stop e (IsRested h) q taps2 (Ok (tt {0})) gives)
+      (feeds-back after part laws (plan_of c) sizes.bundle left left' (HasFed c pass) o p taps taps1 dropped dropped' stop e (λ f rows x. x.so_far) (IsRested h) (so_far_by h.plan (plan_of c) (IsRested h) back.plan (rested_so_far h)) q taps2 (Ok (tt {0})) gives)
 
   -- or not all rows came out
   pub shared-stopped : (h : HandView) (q : O) (taps2 : List TapState) (stop : Stop) (why : GiveStop) (e : FeedsAll (plan_of c) sizes.bundle left left' (HasFed c pass) after o p taps taps1 dropped dropped' stop)
@@ -290,7 +292,7 @@ module _ {O : Type 0} (after part : O → List Record → O → Type 0) (laws : 
   shared-stopped h q taps2 stop why e comes =
       subst (λ u. Ends u sizes left left' after part o q taps taps2 dropped dropped' (early_by why)) shared.plan_is
       (ends-early (plan_of c) sizes left left' after part o q taps taps2 dropped dropped' h why
-      (feeds-stopped after part laws (plan_of c) sizes.bundle left left' (HasFed c pass) o p taps taps1 dropped dropped' stop e q taps2 why (comes e.f e.gives.rows e.gives.stand)))
+      (feeds-stopped after part laws (plan_of c) sizes.bundle left left' (HasFed c pass) o p taps taps1 dropped dropped' stop e (λ f rows x. x.so_far) q taps2 why (comes e.f e.gives.rows e.gives.stand)))
 
 -- ---- the causes
 pub shared-cause : (before now : ℕ) (fed : Result Stop GiveStop) → SharedFeedCause before now fed → MayHaveFailed before now

@@ -60,7 +60,7 @@ loop-preserved-in-Ok g c =
           (record { out = c.args.out.now; taps = _; dropped = by_stream c.args.dropped_a.now.items c.args.dropped_b.now.items })
           (record { out = c.loop.out; taps = _; dropped = by_stream c.loop.dropped_a.items c.loop.dropped_b.items })
           (values_of c.loop.inlets) c.loop.cutters h c.in-Some-pop.stream c.in-Some-pop.item (values_of c.pop.new.self) pops.1 pops.2
-          (HasFed c.args.cascade.now c.take_of.new.pass) (record { out = c.take_of.new.out; taps = _; dropped = by_stream c.take_of.new.dropped_a.items c.take_of.new.dropped_b.items }) c.take_of.new.cutters
+          (HasFed c.args.cascade.now c.take_of.new.pass) (λ f rows x. x.so_far) (λ f rows x. x.so_far) (record { out = c.take_of.new.out; taps = _; dropped = by_stream c.take_of.new.dropped_a.items c.take_of.new.dropped_b.items }) c.take_of.new.cutters
           (c.in-Ok.ensures.takes h.items h.f h.rows may) c.in-Ok.ensures.kept;
       inlets_are = pops.0;
       ring_a = c.in-Some-pop.ensures.ring_a ∙ before.ring_a;
@@ -86,7 +86,7 @@ returns-in-Err-clause-feeds g c =
     (record { out = c.args.out.now; taps = _; dropped = by_stream c.args.dropped_a.now.items c.args.dropped_b.now.items })
     (record { out = c.loop.out; taps = _; dropped = by_stream c.loop.dropped_a.items c.loop.dropped_b.items })
     (values_of c.loop.inlets) c.loop.cutters h c.in-Some-pop.stream c.in-Some-pop.item (values_of c.pop.new.self) pops.1 pops.2
-    (record { out = c.take_of.new.out; taps = _; dropped = by_stream c.take_of.new.dropped_a.items c.take_of.new.dropped_b.items }) c.in-Err.why (c.in-Err.ensures.takes h.items h.f h.rows may) c.in-Err.ensures.same_lists
+    (λ f rows x. x.so_far) (record { out = c.take_of.new.out; taps = _; dropped = by_stream c.take_of.new.dropped_a.items c.take_of.new.dropped_b.items }) c.in-Err.why (c.in-Err.ensures.takes h.items h.f h.rows may) c.in-Err.ensures.same_lists
 
 pub end_both-requires-clause-may : goal.end_both-requires-clause-may
 end_both-requires-clause-may g c κs within =
@@ -126,7 +126,7 @@ returns-in-Some-stop-clause-feeds g c =
     (record { out = c.loop.out; taps = _; dropped = by_stream c.loop.dropped_a.items c.loop.dropped_b.items })
     (values_of c.pop.new.self) c.loop.cutters now c.in-Some-stop.stop
     ((λ j. files_stop_if (sym pops.0.of_a.stop j) (sym pops.0.of_b.stop j)) ∙ sym c.stop.ensures ∙ c.in-Some-stop.is)
-    (HasFed c.args.cascade.now c.end_both.new.pass)
+    (HasFed c.args.cascade.now c.end_both.new.pass) (λ f rows x. x.so_far) (λ f rows x. x.so_far)
     (record { out = c.end_both.new.out; taps = _; dropped = by_stream c.loop.dropped_a.items c.loop.dropped_b.items }) c.end_both.new.cutters c.end_both.result c.end_both.ensures.stop
     (c.end_both.ensures.takes now.items now.f now.rows may) (λ t. refl)
 

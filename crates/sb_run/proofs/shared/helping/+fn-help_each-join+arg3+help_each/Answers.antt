@@ -1,4 +1,4 @@
-use denote.Param.Send.{arg_send, arg_sync, param_send, param_sync, sendable}
+use denote.Param.Send.{arg_send, param_send, sendable}
 use Rattle.std.proofs.Common.{rules, subst}
 use Rattle.std.proofs.Crossing.{crosses}
 use Rattle.std.specs.List.{AllByRecursion}
