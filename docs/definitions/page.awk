@@ -87,20 +87,26 @@ function print_definitions(path,    line, comment, was_comment) {
 }
 
 # What a crate defines, in the order of its list of modules.
-function print_crate(line,    crate, list, module, modules) {
+function print_crate(line,    crate, list, module, modules, shown) {
   crate = line
   sub(/ .*/, "", crate)
+  list = "crates/" crate "/specs/Lib.antt"
+  while ((getline module < list) > 0) if (sub(/^pub mod /, "", module)) {
+    modules++
+    if (!(path_of(crate "/" module) in is_private)) shown++
+  }
+  close(list)
+  if (!modules) fail("groups.txt: " crate " has no definitions")
+  # A crate whose files are all private is named at the end alone.
+  if (!shown) return
   printf "\n### %s (`%s`)\n", substr(line, length(crate) + 2), crate
   print_file("docs/definitions/" crate ".md", "\n")
-  list = "crates/" crate "/specs/Lib.antt"
   while ((getline module < list) > 0) {
     if (!sub(/^pub mod /, "", module)) continue
-    modules++
     module = path_of(crate "/" module)
     if (!(module in is_private)) print_definitions(module)
   }
   close(list)
-  if (!modules) fail("groups.txt: " crate " has no definitions")
 }
 
 BEGIN {

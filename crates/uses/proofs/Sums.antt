@@ -12,12 +12,12 @@ use Rattle.sb_cli.specs.diary.Texts.{NodeDiary}
 use Rattle.sb_cli.specs.one_feed.Due.{due_rows}
 use Rattle.sb_cli.specs.one_feed.Given.{items_of}
 use Rattle.sb_cli.specs.words.declared.options.Options.{Options}
-use Rattle.sb_cli.specs.Answers.{IsAnswer, IsAnswerOf, ending_with}
-use Rattle.sb_cli.specs.declared.late.LateRecords.{LateRecords}
-use Rattle.sb_cli.specs.Pipelines.{all_rows}
+use Rattle.sb_cli.specs.answers.Answers.{IsAnswer, IsAnswerOf, ending_with}
+use Rattle.sb_cli.specs.told.declared.late.LateRecords.{LateRecords}
+use Rattle.sb_cli.specs.answers.Pipelines.{all_rows}
 use Rattle.sb_cli.specs.words.Words.Asked.{Sum}
-use Rattle.sb_cli.specs.declared.status.Status.{Status}
-use Rattle.sb_cli.specs.declared.status.Status.TheVariants.{Done}
+use Rattle.sb_cli.specs.told.declared.status.Status.{Status}
+use Rattle.sb_cli.specs.told.declared.status.Status.TheVariants.{Done}
 use Rattle.uses.specs.Sums.{accepted_by, sums_of}
 
 -- reading stops as at the end only where the input has ended

@@ -5,8 +5,8 @@ use Rattle.sb_cli.specs.base.records.Inputs.{Accepted, accepted}
 use Rattle.sb_cli.specs.base.records.Rows.{text_of}
 use Rattle.sb_cli.specs.outside.Lines.{lines}
 use Rattle.sb_cli.specs.base.pipeline.Shapes.{Shape, streams_of, sum_shape}
-use Rattle.sb_cli.specs.Pipelines.{all_rows}
-use Rattle.sb_cli.specs.declared.status.Status.TheVariants.{Done}
+use Rattle.sb_cli.specs.answers.Pipelines.{all_rows}
+use Rattle.sb_cli.specs.told.declared.status.Status.TheVariants.{Done}
 use Rattle.uses.specs.declared.in_memory.Answer.{Answer}
 
 -- what a plan accepts of lines

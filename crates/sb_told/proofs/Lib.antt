@@ -1,0 +1,4 @@
+pub mod KeptItems
+pub mod Printing
+pub mod PlanNotes
+pub mod DiaryReading
