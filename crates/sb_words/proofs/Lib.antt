@@ -4,8 +4,3 @@ pub mod Naming
 pub mod Given
 pub mod Sizes
 pub mod Commands
-pub mod Rows
-pub mod Taking
-pub mod Completing
-pub mod Entering
-pub mod Building

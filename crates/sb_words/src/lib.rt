@@ -31,9 +31,7 @@
 //! abbreviation, no `--`, no `--help`.
 #![tactic(auto)]
 
-mod clapped;
 pub mod laws;
-mod matched;
 mod options;
 mod planned;
 mod request;
@@ -42,5 +40,5 @@ mod setting;
 pub use options::{
     DEFAULT_BUNDLE, DEFAULT_PENDING, DEFAULT_WORKERS, MAX_PENDING, MAX_WORKERS, Options,
 };
-pub use request::{Request, read_words};
-pub use setting::Setting;
+pub use request::{Request, command_of, read_amount};
+pub use setting::{Setting, read_count};

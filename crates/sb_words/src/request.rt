@@ -1,17 +1,15 @@
 //! The words of a command line, and what they ask for.
 
-ghost use Rattle.std.specs.Prelude.{◌≡◌, ◌≤◌, ◌<◌, ◌^◌, ◌↔◌, ◌∷◌, [], ℕ, Some, None, IfOk, IfSome, codes, decimal};
+ghost use Rattle.std.specs.Prelude.{◌≡◌, ◌≤◌, ◌<◌, ◌^◌, ◌↔◌, ◌∷◌, [], ℕ, Some, None, IfSome, codes, decimal};
 ghost use Rattle.std.specs.Option.{option_map};
 ghost use Rattle.sb_words.specs.Texts.{texts};
-ghost use Rattle.sb_words.specs.Words.{Asked, IsCommand, IsNoCommand, IsValid, asked_of};
+ghost use Rattle.sb_words.specs.Words.{Asked, IsCommand, IsValid, asked_of};
 
-use crate::clapped::read_by_clap;
 use crate::options::{Options, read_options, read_sizes};
 use crate::planned::read_planned;
 use sb_generator::MAX_RECORDS;
-use sb_record::{NoMemory, read_number};
+use sb_record::read_number;
 use sb_window::MAX_SIZE;
-use std::alloc::Global;
 
 /// What words ask for.
 #[derive(Clone, Copy, Debug, PartialEq, Eq)]
@@ -43,30 +41,8 @@ pub enum Request<'a> {
     Resume(&'a str, &'a str, Options),
 }
 
-/// What the words ask for: none if they are no command. They are read with `clap`, and compared with the commands,
-/// since `clap` reads more than these.
-///
-/// # Errors
-///
-/// [`NoMemory`] if `clap` runs out of memory, which it is asked for only where the words are a command.
-pub fn read_words(alloc: Global, words: &[String]) -> Result<Option<Request<'_>>, NoMemory>
-    ensures exact { IfOk result (λ answer. (wanted : Asked)
-        → (option_map asked_of answer ≡ Some wanted) ↔ IsCommand wanted (texts words.now)) }
-    ensures refused { IfOk result (λ answer. (answer ≡ None) ↔ IsNoCommand (texts words.now)) }
-    ensures valid { IfOk result (λ answer. IfSome answer (λ request. IsValid (asked_of request))) }
-    ensures outside { IsNoCommand (texts words.now) → result ≡ Ok None }
-{
-    match command_of(words) {
-        Some(_) => {
-            let read = read_by_clap(alloc, words)?;
-            Ok(read)
-        }
-        None => Ok(None),
-    }
-}
-
 /// The command that the words are, if they are one.
-fn command_of(words: &[String]) -> Option<Request<'_>>
+pub fn command_of(words: &[String]) -> Option<Request<'_>>
     ensures exact { (wanted : Asked) → (option_map asked_of result ≡ Some wanted) ↔ IsCommand wanted (texts words.now) }
     ensures valid { IfSome result (λ request. IsValid (asked_of request)) }
 {
@@ -128,7 +104,7 @@ fn read_work<'a>(argument: &str, rest: &[String]) -> Option<Request<'a>>
 }
 
 /// The number, from 1 to `most`, that a text spells. The bound itself is below 10^19.
-pub(crate) fn read_amount(most: u64, text: &[u8]) -> Option<u64>
+pub fn read_amount(most: u64, text: &[u8]) -> Option<u64>
     requires { most < 10 ^ 19 }
     ensures { (n : ℕ) → (result ≡ Some n) ↔ ((1 ≤ n) × (n ≤ most) × (text.now ≡ decimal n)) }
 {

@@ -39,7 +39,7 @@ impl Setting {
 }
 
 /// The number, from 1 to `most`, that a word spells.
-pub(crate) fn read_count(most: u32, word: &str) -> Option<u32>
+pub fn read_count(most: u32, word: &str) -> Option<u32>
     ensures { (n : ℕ) → (result ≡ Some n) ↔ ((1 ≤ n) × (n ≤ most) × (word.now ≡ decimal n)) }
 {
     let number = read_number(u64::from(most), word.as_bytes())?;

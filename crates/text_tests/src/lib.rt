@@ -1,6 +1,6 @@
-//! Tests of the crates that read and write texts: `sb_words`, `sb_plan`, `sb_checkpoint`, `sb_live`, `sb_diary`,
-//! `sb_emit` and `sb_generator`. They stand apart because the gate proves a crate with tests twice. Nothing stands on
-//! this crate.
+//! Tests of the crates that read and write texts: `sb_words`, `sb_arguments`, `sb_plan`, `sb_checkpoint`, `sb_live`,
+//! `sb_diary`, `sb_emit` and `sb_generator`. They stand apart because the gate proves a crate with tests twice. Nothing
+//! stands on this crate.
 #![tactic(auto)]
 
 #[cfg(test)]

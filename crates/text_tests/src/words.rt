@@ -1,6 +1,7 @@
 //! Lists of words, and what they ask for.
 
-use sb_words::{Options, Request, read_words};
+use sb_arguments::read_words;
+use sb_words::{Options, Request};
 use std::alloc::{AllocError, Global};
 
 /// The words of a text, without those that are empty.

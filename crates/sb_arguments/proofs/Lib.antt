@@ -1,0 +1,5 @@
+pub mod Rows
+pub mod Taking
+pub mod Completing
+pub mod Entering
+pub mod Building

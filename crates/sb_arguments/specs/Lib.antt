@@ -1,0 +1,2 @@
+pub mod Clapped
+pub mod Readings
