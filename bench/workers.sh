@@ -49,17 +49,22 @@ from = "eight"
 size = 6400
 every = 100
 PLAN
-bench/gen.sh "${1:?how many lines for the heavy plan}" > "$lines"
-echo "an expansion by 8, then distinct over windows of 64 parts, $1 lines"
-for workers in 1 2 4; do
-  measure "$workers" run "$plan"
-  if [ "$workers" = 1 ]; then cp "$rows" "$alone"; else cmp "$rows" "$alone"; fi
+
+# compare TITLE LINES EVERY WORD..: runs by these words with 1, 2 and 4 workers, which have to write the same rows
+compare() {
+  local title=$1 workers
+  bench/gen.sh "$2" "$3" > "$lines"
+  echo "$title, $2 lines, a watermark at each ${3}th"
+  shift 3
+  for workers in 1 2 4; do
+    measure "$workers" "$@"
+    if [ "$workers" = 1 ]; then cp "$rows" "$alone"; else cmp "$rows" "$alone"; fi
+  done
+  at_once 4 "$@"
+}
+
+heavy=${1:?how many lines for the heavy plan} light=${2:?how many lines for the sums}
+for every in 1000 100; do
+  compare 'an expansion by 8, then distinct over windows of 64 parts' "$heavy" "$every" run "$plan"
 done
-at_once 4 run "$plan"
-bench/gen.sh "${2:?how many lines for the sums}" > "$lines"
-echo "sum 10, $2 lines"
-for workers in 1 2 4; do
-  measure "$workers" sum 10
-  if [ "$workers" = 1 ]; then cp "$rows" "$alone"; else cmp "$rows" "$alone"; fi
-done
-at_once 4 sum 10
+for every in 1000 8; do compare 'sum 10' "$light" "$every" sum 10; done
