@@ -9,6 +9,7 @@ use Rattle.std.specs.declared.cmp.Ordering.{Ordering}
 use Rattle.std.specs.declared.cmp.Ordering.TheVariants.{Less, Equal, Greater}
 use Rattle.std.proofs.lemmas.Bool.{ltb-true, ltb-false}
 use Rattle.std.proofs.lemmas.Cmp.{ranked}
+use Rattle.std.proofs.lemmas.List.{nil_from_length, length-append}
 use Rattle.std.proofs.lemmas.List.Concat.{flat_map-append}
 use Rattle.std.proofs.lemmas.List.Elements.{filter-append}
 use Rattle.std.proofs.lemmas.List.Sorted.{ranks_by}
@@ -16,10 +17,10 @@ use Rattle.std.proofs.lemmas.List.Sums.{sum_by-append}
 use Rattle.sb_record.specs.Keys.{key_cmp}
 use Rattle.sb_record.specs.declared.item.Record.{Record}
 use Rattle.sb_record.specs.Orders.{IsAscending}
-use Rattle.sb_record.specs.Records.{record_cmp, before, at_least}
+use Rattle.sb_record.specs.Records.{record_cmp, sorted_records, before, at_least}
 use Rattle.sb_record.specs.Reorderings.{IsReordered}
 use Rattle.sb_record.proofs.Elements.{every}
-use Rattle.sb_record.proofs.Sorting.{records_total, ascending-from_sorted}
+use Rattle.sb_record.proofs.Sorting.{records_total, ascending-from_sorted, sorted-unique}
 use Rattle.sb_window.proofs.Marks.{before-all, before-none, at_least-all, at_least-none, All-split}
 use Rattle.sb_sink.specs.Runs.{records_in, begins_before}
 
@@ -139,3 +140,15 @@ module _ (mark : ℕ) (whole moved left : List Record) (h : begins_before mark l
       sym
       (ap (at_least mark) (sym c.parts) ∙ filter-append (λ r. not (nat_lt r.time mark)) moved left
       ∙ (λ i. at_least-none mark moved c.low i ++ at_least-all mark left high i))
+
+-- ---- a run that stands alone
+-- it leaves, and nothing else was there
+module _ (mark : ℕ) (runs left : List (List Record)) (only : List Record) (alone : length runs ≡ 1) (parts : runs ≡ left ++ only ∷ []) where
+  nothing : left ≡ []
+  nothing = nil_from_length left (let k = ap length parts ∙ length-append left (only ∷ []) in omega (arith, alone, k))
+
+  all : only ≡ records_in runs
+  all = sym (append-nil only) ∙ ap (λ l. records_in (l ++ only ∷ [])) (sym nothing) ∙ ap records_in (sym parts)
+
+  pub only-rows : only ≡ before mark only → IsUp only → only ≡ sorted_records (before mark (records_in runs))
+  only-rows low up = sorted-unique only (before mark (records_in runs)) up (λ f. ap (sum_by f) (low ∙ ap (before mark) all))

@@ -114,8 +114,8 @@ impl Run {
         Ok((Run { rows: below }, Run { rows: rest }))
     }
 
-    // Whether there are rows, and all of them are below the mark.
-    fn ends_before(&self, mark: u64) -> bool
+    /// Whether there are rows, and all of them are below the mark.
+    pub(crate) fn ends_before(&self, mark: u64) -> bool
         ensures all { result ≡ true → self.now ≡ before mark self.now }
         ensures none { result ≡ true → [] ≡ at_least mark self.now }
     {

@@ -5,7 +5,7 @@
 //! own, and runs of about the same length are joined, so there are few. A closing takes rows off the front of each run,
 //! and looks at no more than one that stays.
 
-ghost use Rattle.std.specs.Prelude.{◌≡◌, ◌+◌, ◌≤◌, ◌++◌, List, length, OnOk, OnErr, IfOk};
+ghost use Rattle.std.specs.Prelude.{◌≡◌, ◌+◌, ◌≤◌, ◌++◌, List, length, OnOk, OnErr, OnSome, IfOk, IfSome, IfNone};
 ghost use Rattle.std.specs.Option.{option_to_list};
 ghost use Rattle.sb_record.specs.declared.element.KeptRec.{KeptRec as Element};
 ghost use Rattle.sb_record.specs.Records.{sorted_records, before, at_least};
@@ -195,6 +195,9 @@ fn take_below(alloc: Global, runs: &mut Vec<Run>, mark: u64) -> Result<Vec<Recor
     ensures rows { IfOk result (λ rows. rows.items ≡ sorted_records (before mark (records_in runs.old.items))) }
     ensures kept { OnOk result (records_in runs.new.items ≡ at_least mark (records_in runs.old.items)) }
 {
+    if let Some(rows) = take_only(runs, mark) {
+        return Ok(rows);
+    }
     let mut closed = Vec::new(alloc);
     let all = std::mem::replace(runs, Vec::new(alloc));
     for run in all {
@@ -204,6 +207,19 @@ fn take_below(alloc: Global, runs: &mut Vec<Run>, mark: u64) -> Result<Vec<Recor
     }
     let rows = into_one(alloc, closed)?;
     Ok(rows.into_rows())
+}
+
+/// Takes out the only run, and gives its rows, if it stands alone and all of it is below the mark. It takes no memory.
+fn take_only(runs: &mut Vec<Run>, mark: u64) -> Option<Vec<Record>>
+    ensures rows { IfSome result (λ rows. rows.items ≡ sorted_records (before mark (records_in runs.old.items))) }
+    ensures kept { OnSome result (records_in runs.new.items ≡ at_least mark (records_in runs.old.items)) }
+    ensures none { IfNone result (runs.new.items ≡ runs.old.items) }
+{
+    match runs.as_slice() {
+        [only] if only.ends_before(mark) => (),
+        _ => return None,
+    }
+    Some(runs.pop()?.into_rows())
 }
 
 /// All runs as one.
