@@ -37,6 +37,16 @@ impl Cascade {
         &self.setting.plan
     }
 
+    /// Says whether the feeder wants help. At first it does. No promise rests on it.
+    pub fn want_help(&self, is_wanted: bool) {
+        self.turns.want_help(is_wanted);
+    }
+
+    /// Whether the feeder wants help, as it said last.
+    pub fn is_help_wanted(&self) -> bool {
+        self.turns.is_help_wanted()
+    }
+
     /// Leaves a turn: the state goes home, and the change is what was done.
     pub(crate) fn leave(&self, guard: Guard<Keeping>, pass: &mut Pass<Keeping>, change: Change)
         requires pass { IsPassOf self.now.turns pass.old × (guard.node ≤ length self.now.setting.plan.steps) }

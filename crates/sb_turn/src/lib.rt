@@ -7,12 +7,13 @@
 //!
 //! The caller's rule ([`Keep`]) holds between any two steps of any threads. All is done by single steps on atomic
 //! words, one word for each turn and each place, so no lock stands round two nodes. Other words count who waits for a
-//! turn, and nothing rests on them. Only `enter` waits, and only `new` asks for memory.
+//! turn and say whether help is wanted, and nothing rests on them. Only `enter` waits, and only `new` asks for memory.
 //!
 //! What is not claimed: that a thread gets on, that turns are given in some order, or anything about speed.
 #![tactic(auto)]
 
 mod enter;
+mod hints;
 mod keep;
 pub mod laws;
 mod leave;

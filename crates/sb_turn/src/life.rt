@@ -13,6 +13,7 @@ ghost use Rattle.sb_turn.specs.Owed.{Closes};
 ghost use Rattle.sb_turn.specs.Passes as passes;
 ghost use Rattle.sb_turn.specs.Passes.{IsPassOf, IsFree, IsFirst, ShowsEmpty, node_count, seat_view, AllShort};
 
+use crate::hints::Hints;
 use crate::keep::Keep;
 use crate::shelf::PLACES;
 use crate::turns::{Pass, Slot, Turns};
@@ -20,8 +21,6 @@ use atomic_table::{Closed, Table};
 use crossbeam_utils::CachePadded;
 use sb_record::NoMemory;
 use std::alloc::{AllocError, Global};
-use std::array::from_fn;
-use std::sync::atomic::AtomicU64;
 
 /// The most nodes: 12 transforms and the sink.
 pub const MAX_NODES: u32 = 13;
@@ -110,7 +109,7 @@ impl<K: Keep> Turns<K> {
                     table,
                     count,
                     room,
-                    waiting: from_fn(|_| AtomicU64::new(0)),
+                    hints: Hints::new(),
                 },
                 pass,
             )),
@@ -129,7 +128,7 @@ impl<K: Keep> Turns<K> {
             table,
             count,
             room,
-            waiting: _,
+            hints: _,
         } = self;
         states_of(table.close_with(pass), count, room)
     }

@@ -2,15 +2,14 @@
 ghost use Rattle.std.specs.Prelude.{◌≡◌, ℕ, ◌+◌, ◌≤◌, []};
 ghost use Rattle.std.specs.Vec.{vec_capacity};
 
+use crate::hints::Hints;
 use crate::keep::Keep;
-use crate::life::MAX_NODES;
 use atomic_table::{Seat, Table, TableRule};
 use crossbeam_utils::CachePadded;
 use std::alloc::Global;
 use std::collections::LinkedList;
 use std::marker::PhantomData;
 use std::snapshot::Snapshot;
-use std::sync::atomic::AtomicU64;
 
 /// What a pass did or saw. No value of it is made: it stands in traces, of which contracts alone speak.
 pub enum Entry<C> {
@@ -113,8 +112,7 @@ pub struct Turns<K: Keep> {
     >,
     pub(crate) count: u32,
     pub(crate) room: Vec<K::State>,
-    // How many wait for the turn of each node. No promise rests on it.
-    pub(crate) waiting: [AtomicU64; MAX_NODES as usize],
+    pub(crate) hints: Hints,
     ghost roomy: { (room.items ≡ []) × (count ≤ vec_capacity room) },
     ghost sized: { (table.shared.table_id.words ≡ count + 65) × (table.shared.table_id.slots ≡ count + 64) },
     ghost few: { count ≤ 13 },

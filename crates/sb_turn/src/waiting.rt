@@ -28,7 +28,7 @@ impl<K: Keep> Turns<K> {
         ensures lines { K.lines_of result.state ≤ MAX_STATE_LINES }
         ensures finds { K.finds (about self.now) (seat_view pass.old).client node result.state }
     {
-        let waiting = &self.waiting[node as usize];
+        let waiting = &self.hints.waiting[node as usize];
         waiting.fetch_add(1, SeqCst);
         for _ in rt.forever() {
             match self.attempt::<Brand>(node, pass) {
@@ -49,7 +49,7 @@ impl<K: Keep> Turns<K> {
     pub(crate) fn wake(&self, node: u32)
         requires node { node < node_count self.now }
     {
-        if self.waiting[node as usize].load(SeqCst) != 0 {
+        if self.hints.waiting[node as usize].load(SeqCst) != 0 {
             self.table.shared.wake_one(node as usize + 1);
         }
     }

@@ -1,5 +1,5 @@
 -- What a worker's step did, by the entries that the trace of its pass has more.
-use Rattle.std.specs.Prelude.{◌≤◌, ◌⊎◌, ℕ, List}
+use Rattle.std.specs.Prelude.{◌≡◌, ◌≤◌, ◌⊎◌, ◌++◌, ℕ, List}
 use Rattle.sb_cascade.specs.turn.declared.turns.Entry.{Entry}
 use Rattle.sb_cascade.specs.hand.declared.did.Did.{Did}
 use Rattle.sb_cascade.specs.hand.declared.did.Did.TheVariants.{Bundle, Closing, Nothing}
@@ -36,6 +36,12 @@ IsNotYetAt node entries = Does 0 0 entries × Has (is_not_yet_of node) entries
 -- at no node up to this one
 abbrev pub IsNotYet : ℕ → List (Entry Change) → Type 0
 IsNotYet sink entries = Does 0 0 entries × ((node : ℕ) → node ≤ sink → Has (is_not_yet_of node) entries)
+
+-- the node was found without a bundle that waits, and then with no closing that could begin
+abbrev pub IsSettledAt : ℕ → List (Entry Change) → Type 0
+IsSettledAt node entries =
+    (before : List (Entry Change)) × (after : List (Entry Change)) × (entries ≡ before ++ after)
+    × Has (is_idle_of node) before × Has (is_not_yet_of node) after
 
 -- what a step did, where the nodes are those up to the sink
 abbrev pub IsDone : ℕ → Did → List (Entry Change) → Type 0

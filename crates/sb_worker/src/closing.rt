@@ -75,7 +75,7 @@ fn finish_closing<R: Wait>(
 }
 
 /// Makes a whole closing of a node, if one can begin.
-fn close_node<R: Wait>(
+pub(crate) fn close_node<R: Wait>(
     rt: &R,
     cascade: &Cascade,
     pass: &mut CascadePass,

@@ -1,12 +1,17 @@
 //! The loop of a worker that helps.
 
-ghost use Rattle.std.specs.Prelude.{IfSome};
-ghost use Rattle.sb_worker.specs.Entries.{Gains, Has, is_end_seen};
+ghost use Rattle.std.specs.Prelude.{◌≢◌, Err, IfErr, IfSome, OnOk};
+ghost use Rattle.sb_cascade.specs.Calls.{IsEmptyHanded, IsReady, IsSame};
+ghost use Rattle.sb_worker.specs.Entries.{Gains, Grows, Has, is_end_seen};
 ghost use Rattle.sb_worker.specs.Helping.{IsHelper};
+ghost use Rattle.sb_worker.specs.Steps.{IsWhy};
+ghost use Rattle.sb_worker.specs.declared.step.OneStop.TheVariants as stop;
 
-use crate::step::{First, OneStop, one_step};
+use crate::step::{First, OneStop, one_step, work_shelved};
 use crossbeam_utils::Backoff;
+use sb_cascade::sb_base::NoMemory;
 use sb_cascade::sb_hand::Did;
+use sb_cascade::sb_turn::Reason;
 use sb_cascade::sb_work::Gate;
 use sb_cascade::{Cascade, CascadePass};
 use std::alloc::Global;
@@ -48,10 +53,63 @@ fn rest(clock: &impl Clock, backoff: &Backoff) {
     }
 }
 
+/// One step of a worker that is not wanted: it works off a bundle of the shelf, if there is one, and else does nothing.
+///
+/// # Errors
+///
+/// Those of [`one_step`].
+fn shelf_step<R: Wait, G: Gate>(
+    rt: &R,
+    alloc: Global,
+    cascade: &Cascade,
+    pass: &mut CascadePass,
+    gate: &G,
+) -> Result<Did, OneStop>
+    requires pass { IsReady cascade.now pass.old × IsEmptyHanded pass.old }
+    ensures pass { IsReady cascade.now pass.new × IsSame pass.old pass.new }
+    ensures empty { result ≢ Err stop.Memory → IsEmptyHanded pass.new }
+    ensures trace { OnOk result (Grows pass.old pass.new) }
+    ensures why { IfErr result (λ stop. Gains (IsWhy stop) pass.old pass.new) }
+{
+    if cascade.reason(pass) != Reason::Running {
+        return Err(OneStop::Stopped);
+    }
+    match work_shelved(rt, alloc, cascade, pass, gate) {
+        Ok(true) => Ok(Did::Bundle),
+        Ok(false) => Ok(Did::Nothing),
+        Err(NoMemory) => {
+            cascade.stop(pass, Reason::Memory);
+            Err(OneStop::Memory)
+        }
+    }
+}
+
+/// A step of a helper. While no help is wanted it works off what lies on the shelf, where others may have left something
+/// that they looked for, and enters no turn beside that: so it stands in nobody's way.
+fn help_step<R: Wait, G: Gate>(
+    rt: &R,
+    alloc: Global,
+    cascade: &Cascade,
+    pass: &mut CascadePass,
+    gate: &G,
+    first: First,
+) -> Result<Did, OneStop>
+    requires pass { IsReady cascade.now pass.old × IsEmptyHanded pass.old }
+    ensures pass { IsReady cascade.now pass.new × IsSame pass.old pass.new }
+    ensures empty { result ≢ Err stop.Memory → IsEmptyHanded pass.new }
+    ensures trace { OnOk result (Grows pass.old pass.new) }
+    ensures why { IfErr result (λ stop. Gains (IsWhy stop) pass.old pass.new) }
+{
+    if cascade.is_help_wanted() {
+        return one_step(rt, alloc, cascade, pass, gate, first);
+    }
+    shelf_step(rt, alloc, cascade, pass, gate)
+}
+
 /// Steps until the state word says that the work ends, and gives the pass back: it comes back only if a load of the
 /// state word said so. Behind a closing it looks for the next one, else only after some bundles. None if no memory was
 /// found: then the state word says so, and the pass is dropped with what it has in hand. Between steps that find
-/// nothing to do it rests. It may wait for turns, and whether it ends is not said.
+/// nothing to do it rests, and so while the feeder wants no help. It may wait for turns, and whether it ends is not said.
 pub fn help<R: Wait + Clock, G: Gate>(
     rt: &R,
     alloc: Global,
@@ -66,7 +124,7 @@ pub fn help<R: Wait + Clock, G: Gate>(
     let backoff = Backoff::new();
     let mut bundles = 0_u32;
     for _ in rt.forever() {
-        match one_step(rt, alloc, cascade, &mut pass, gate, first_of(bundles)) {
+        match help_step(rt, alloc, cascade, &mut pass, gate, first_of(bundles)) {
             Ok(did) => {
                 bundles = till_look(bundles, did);
                 if did == Did::Nothing {

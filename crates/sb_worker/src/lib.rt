@@ -4,10 +4,12 @@
 mod claiming;
 mod closing;
 mod helping;
+mod settling;
 mod step;
 mod working;
 
 pub use helping::help;
+pub use settling::settle_node;
 pub use step::{First, OneStop, one_step};
 pub use working::work_off;
 

@@ -36,7 +36,7 @@ pub enum First {
 }
 
 /// A bundle of the shelf is worked off, if there is one.
-fn work_shelved<R: Wait, G: Gate>(
+pub(crate) fn work_shelved<R: Wait, G: Gate>(
     rt: &R,
     alloc: Global,
     cascade: &Cascade,
