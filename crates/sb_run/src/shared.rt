@@ -4,4 +4,5 @@ pub(crate) mod feeder;
 pub(crate) mod feeding;
 pub(crate) mod handing;
 pub(crate) mod helping;
+pub(crate) mod pace;
 pub(crate) mod working;

@@ -20,6 +20,7 @@ ghost use Rattle.sb_run.specs.Pops.{AreInlets, as_stop as spec_as_stop, item_for
 use crate::files::inlets::{FilesStop, Inlets, as_stop};
 use crate::shared::feeder::Feeder;
 use crate::shared::feeding::{end_work, reason_of};
+use crate::shared::pace::Pace;
 use crate::shared::working::step_or_yield;
 use sb_feeds::sb_base::{Dropped, Item, MAX_BUNDLE, MAX_LINES, NoMemory, Stream};
 use sb_feeds::sb_emit::{RowOut, Tap};
@@ -28,9 +29,11 @@ use sb_worker::sb_cascade::{Cascade, CascadePass};
 use sb_worker::sb_work::Gate;
 use std::alloc::Global;
 use std::sync::Wait;
+use std::time::Clock;
 
-// Takes an item of the file of a stream: a late record that is dropped is listed with those of this file.
-fn take_of<W: Wait, G: Gate, R: RowOut>(
+// Takes an item of the file of a stream: a late record that is dropped is listed with those of this file. Whatever came,
+// it is left to all workers, of which the feeder is one while the files give nothing.
+fn take_of<W: Wait + Clock, G: Gate, R: RowOut>(
     rt: &W,
     alloc: Global,
     cascade: &Cascade,
@@ -69,6 +72,7 @@ fn take_of<W: Wait, G: Gate, R: RowOut>(
         cascade,
         pass,
         gate,
+        pace: Pace::leaving(),
     };
     match stream {
         Stream::A => take_item(&mut engine, cutters, item, out, taps, dropped_a),
@@ -77,7 +81,7 @@ fn take_of<W: Wait, G: Gate, R: RowOut>(
 }
 
 // Takes the end of both files, if both have ended and no line is refused.
-fn end_both<W: Wait, G: Gate, R: RowOut>(
+fn end_both<W: Wait + Clock, G: Gate, R: RowOut>(
     rt: &W,
     alloc: Global,
     cascade: &Cascade,
@@ -110,6 +114,7 @@ fn end_both<W: Wait, G: Gate, R: RowOut>(
         cascade,
         pass,
         gate,
+        pace: Pace::leaving(),
     };
     match end_input(&mut engine, cutters, at, out, taps) {
         Ok(()) => Ok(stop),
@@ -119,7 +124,7 @@ fn end_both<W: Wait, G: Gate, R: RowOut>(
 
 // Feeds what comes out of the rings up to the stop of each, and answers why the reading of the files stopped. While
 // neither ring gives an item, the feeder works.
-fn feed_values<W: Wait, G: Gate, R: RowOut>(
+fn feed_values<W: Wait + Clock, G: Gate, R: RowOut>(
     rt: &W,
     alloc: Global,
     cascade: &Cascade,
@@ -204,7 +209,7 @@ fn feed_values<W: Wait, G: Gate, R: RowOut>(
 ///
 /// The first failure to write or to offer rows, or want of memory, of this worker or another. Nothing more is then
 /// written or offered, but both rings are emptied up to their stops.
-pub(crate) fn feed_files<W: Wait, G: Gate, R: RowOut>(
+pub(crate) fn feed_files<W: Wait + Clock, G: Gate, R: RowOut>(
     rt: &W,
     alloc: Global,
     cascade: &Cascade,

@@ -6,13 +6,15 @@ ghost use Rattle.sb_feeds.specs.one_feed.Feeds.{Fed, MayArrive, MaySeal, with_bu
 ghost use Rattle.sb_worker.specs.cascade.Calls.{plan_of, setting_of};
 ghost use Rattle.sb_run.specs.Feeders.{HasFed, IsStill};
 
-use crate::shared::working::{bring, take_out};
+use crate::shared::pace::Pace;
+use crate::shared::working::{bring, keep_up, take_out};
 use sb_feeds::sb_base::{Bundle, END_MARK, NoMemory, Plan, Record, Stream};
 use sb_feeds::sb_feed::Engine;
 use sb_worker::sb_cascade::{Cascade, CascadePass};
 use sb_worker::sb_work::Gate;
 use std::alloc::Global;
 use std::sync::Wait;
+use std::time::Clock;
 
 /// The engine of several workers, as its feeder has it.
 #[derive(Drop)]
@@ -22,11 +24,13 @@ pub(crate) struct Feeder<'a, W, G> {
     pub(crate) cascade: &'a Cascade,
     pub(crate) pass: &'a mut CascadePass,
     pub(crate) gate: &'a G,
+    pub(crate) pace: Pace,
 }
 
 // Rows lie ready once a watermark has come down to the sink. So they are taken out at each watermark, and where the
-// feeder had to wait for room.
-impl<'a, W: Wait, G: Gate> Engine for Feeder<'a, W, G> {
+// feeder had to wait for room. Behind a few records the feeder first works off what there is to do, as one worker does:
+// so the rows of this watermark are among them.
+impl<'a, W: Wait + Clock, G: Gate> Engine for Feeder<'a, W, G> {
     ghost use Rattle.std.specs.Prelude.{◌≡◌};
     ghost use Rattle.std.proofs.Common.{◌∙◌, refl};
     ghost use Rattle.sb_worker.specs.cascade.Calls.{plan_of, setting_of};
@@ -47,6 +51,7 @@ impl<'a, W: Wait, G: Gate> Engine for Feeder<'a, W, G> {
     }
 
     fn arrive(&mut self, stream: Stream, bundle: Bundle) -> Result<Vec<Record>, NoMemory> {
+        self.pace.came(self.cascade, bundle.records.items.len());
         match bring(
             self.rt,
             self.alloc,
@@ -63,10 +68,16 @@ impl<'a, W: Wait, G: Gate> Engine for Feeder<'a, W, G> {
     }
 
     fn seal(&mut self, stream: Stream, mark: u64) -> Result<Vec<Record>, NoMemory> {
-        match self.cascade.seal(self.rt, self.pass, stream, mark) {
-            Ok(()) => Ok(take_out(self.rt, self.cascade, self.pass)),
-            Err(NoMemory) => Err(NoMemory),
-        }
+        self.cascade.seal(self.rt, self.pass, stream, mark)?;
+        keep_up(
+            self.rt,
+            self.alloc,
+            self.cascade,
+            self.pass,
+            self.gate,
+            &mut self.pace,
+        )?;
+        Ok(take_out(self.rt, self.cascade, self.pass))
     }
 
     ghost so_far = { λ e f rows h. h.so_far };

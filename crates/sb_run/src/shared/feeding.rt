@@ -10,6 +10,7 @@ ghost use Rattle.sb_run.specs.Feeders.{HasFed, IsStill};
 ghost use Rattle.sb_run.specs.RunEnds.{SharedFeedCause};
 
 use crate::shared::feeder::Feeder;
+use crate::shared::pace::Pace;
 use crate::shared::working::settle;
 use sb_feeds::sb_base::{Dropped, MAX_BUNDLE, NoMemory, Stop};
 use sb_feeds::sb_emit::{RowOut, Tap};
@@ -20,9 +21,10 @@ use sb_worker::sb_turn::Reason;
 use sb_worker::sb_work::Gate;
 use std::alloc::Global;
 use std::sync::Wait;
+use std::time::Clock;
 
 // Feeds the lines of an input, and answers where reading stopped.
-fn feed_lines<W: Wait, G: Gate, S: Source, R: RowOut>(
+fn feed_lines<W: Wait + Clock, G: Gate, S: Source, R: RowOut>(
     rt: &W,
     alloc: Global,
     cascade: &Cascade,
@@ -56,6 +58,7 @@ fn feed_lines<W: Wait, G: Gate, S: Source, R: RowOut>(
         cascade,
         pass,
         gate,
+        pace: Pace::new(),
     };
     sb_feed::feed(alloc, &mut engine, size, input, out, taps, dropped)
 }
@@ -106,7 +109,7 @@ pub(crate) fn end_work<W: Wait, G: Gate>(
 ///
 /// The first failure to write or to offer rows, or want of memory, of this worker or another. Nothing more is then
 /// read, written or offered.
-pub(crate) fn feed<W: Wait, G: Gate, S: Source, R: RowOut>(
+pub(crate) fn feed<W: Wait + Clock, G: Gate, S: Source, R: RowOut>(
     rt: &W,
     alloc: Global,
     cascade: &Cascade,

@@ -7,15 +7,18 @@ ghost use Rattle.sb_worker.specs.cascade.Found.{IsClaim};
 ghost use Rattle.sb_feeds.specs.one_feed.Feeds.{Fed, MayArrive, with_bundle};
 ghost use Rattle.sb_run.specs.Feeders.{HasFed, IsStill};
 
+use crate::shared::pace::Pace;
 use sb_feeds::sb_base::{Bundle, END_MARK, NoMemory, Record, Stream};
 use sb_worker::sb_cascade::{Cascade, CascadePass, TryTake};
 use sb_worker::sb_hand::Did;
 use sb_worker::sb_lane::ArriveStop;
+use sb_worker::sb_turn::Reason;
 use sb_worker::sb_work::{Claim, Gate};
-use sb_worker::{First, OneStop, one_step, work_off};
+use sb_worker::{First, OneStop, one_step, settle_node, work_off};
 use std::alloc::Global;
 use std::sync::Wait;
 use std::thread;
+use std::time::{Clock, Instant};
 
 /// Takes the rows out that lie ready.
 pub(crate) fn take_out<W: Wait>(rt: &W, cascade: &Cascade, pass: &mut CascadePass) -> Vec<Record>
@@ -170,6 +173,76 @@ pub(crate) fn bring<W: Wait, G: Gate>(
         }
     }
     unreachable!()
+}
+
+// Works off what waits in each node, and makes the closings that can begin there, in the order of the nodes: so what
+// came leaves the engine, but for what others have in hand.
+fn settle_each<W: Wait, G: Gate>(
+    rt: &W,
+    alloc: Global,
+    cascade: &Cascade,
+    pass: &mut CascadePass,
+    gate: &G,
+) -> Result<(), NoMemory>
+    requires pass { IsReady cascade.now pass.old × IsEmptyHanded pass.old }
+    ensures same { IsStill cascade.now pass.old pass.new }
+    ensures feeder { OnOk result ((f : Fed) (rows : List ARecord) → HasFed cascade.now pass.old f rows
+        → HasFed cascade.now pass.new f rows) }
+{
+    let sink = cascade.plan().transforms();
+    'nodes: for node in 0..=sink {
+        match settle_node(rt, alloc, cascade, pass, gate, node) {
+            Ok(()) => {}
+            Err(NoMemory) => return Err(NoMemory),
+        }
+    }
+    Ok(())
+}
+
+// The feeder works off by itself what came, if the work goes on.
+fn settle_alone<W: Wait, G: Gate>(
+    rt: &W,
+    alloc: Global,
+    cascade: &Cascade,
+    pass: &mut CascadePass,
+    gate: &G,
+) -> Result<(), NoMemory>
+    requires pass { IsReady cascade.now pass.old × IsEmptyHanded pass.old }
+    ensures same { IsStill cascade.now pass.old pass.new }
+    ensures feeder { OnOk result ((f : Fed) (rows : List ARecord) → HasFed cascade.now pass.old f rows
+        → HasFed cascade.now pass.new f rows) }
+{
+    match cascade.reason(pass) {
+        Reason::Running => settle_each(rt, alloc, cascade, pass, gate),
+        Reason::Ended | Reason::Fault | Reason::Memory => Err(NoMemory),
+    }
+}
+
+/// An epoch ends: the feeder works off by itself what came, if the pace says so, and else leaves it to all workers.
+///
+/// # Errors
+///
+/// This worker or another found no memory.
+pub(crate) fn keep_up<W: Wait + Clock, G: Gate>(
+    rt: &W,
+    alloc: Global,
+    cascade: &Cascade,
+    pass: &mut CascadePass,
+    gate: &G,
+    pace: &mut Pace,
+) -> Result<(), NoMemory>
+    requires pass { IsReady cascade.now pass.old × IsEmptyHanded pass.old }
+    ensures same { IsStill cascade.now pass.old pass.new }
+    ensures feeder { OnOk result ((f : Fed) (rows : List ARecord) → HasFed cascade.now pass.old f rows
+        → HasFed cascade.now pass.new f rows) }
+{
+    if !pace.is_own() {
+        return Ok(());
+    }
+    let begun = Instant::now(rt);
+    settle_alone(rt, alloc, cascade, pass, gate)?;
+    pace.worked(rt, cascade, begun);
+    Ok(())
 }
 
 /// Steps until nothing is left to do.
