@@ -1,12 +1,14 @@
 -- What a run has for a keyed window, and what stays a run.
-use Rattle.std.proofs.Common.{◌≡◌, cond, List, [], ◌∷◌, ◌++◌, Some, None, append_assoc, sym, subst, refl, ap, ◌∙◌}
+use Rattle.std.proofs.Common.{◌≡◌, ℕ, ◌+◌, ◌-◌, ◌<◌, IsTrue, cond, List, [], ◌∷◌, ◌++◌, length, take, get_or, Some, None, append_assoc, sym, subst, refl, ap, ◌∙◌, arith}
 use Rattle.std.specs.List.{AllByRecursion}
 use Rattle.std.specs.List.Sorted.{IsStrictlySortedBy}
 use Rattle.std.specs.BTreeMap.{is_at}
 use Rattle.std.specs.Map.{keys_of}
-use Rattle.std.specs.Ordering.{is_eq, ordering_reverse}
+use Rattle.std.specs.Ordering.{is_eq, is_lt, ordering_reverse}
 use Rattle.std.specs.declared.cmp.Ordering.{Ordering}
 use Rattle.std.specs.declared.cmp.Ordering.TheVariants.{Less, Equal, Greater}
+use Rattle.std.proofs.Math.Seq.{take-length}
+use Rattle.std.proofs.lemmas.List.{take_more}
 use Rattle.std.proofs.lemmas.Map.Keys.{sorted_head, sorted_tail}
 use Rattle.sb_record.proofs.Elements.{every}
 use Rattle.sb_window.specs.declared.keyed_window.KeyedWindow.{KeyedWindow}
@@ -38,7 +40,7 @@ pub run-none : IsStrictlySortedBy keyed_window_cmp []
 unfolding IsStrictlySortedBy
 run-none = tt
 
-run-cons : {V : Type 0} (e : KeyedWindow × V) (es : List (KeyedWindow × V)) → AllByRecursion (λ k. keyed_window_cmp e.0 k ≡ Less) (keys_of es) → IsRun es → IsRun (e ∷ es)
+pub run-cons : {V : Type 0} (e : KeyedWindow × V) (es : List (KeyedWindow × V)) → AllByRecursion (λ k. keyed_window_cmp e.0 k ≡ Less) (keys_of es) → IsRun es → IsRun (e ∷ es)
 unfolding IsStrictlySortedBy
 run-cons e es before run = (before, run)
 
@@ -73,6 +75,38 @@ run-push e f [] less run = run-cons e (f ∷ []) (less, tt) (run-one f)
 run-push e f (x ∷ xs) less run =
     run-cons x (xs ++ e ∷ f ∷ []) (all-push (λ k. keyed_window_cmp x.0 k ≡ Less) e f xs (λ h. keyed_windows_total.trans x.0 e.0 f.0 h less) (run-first x (xs ++ e ∷ []) run))
     (run-push e f xs less (run-rest x (xs ++ e ∷ []) run))
+
+-- a run behind another, where the last window of that one is before the first
+all-both : {V : Type 0} (P : KeyedWindow → Type 0) (xs ys : List (KeyedWindow × V)) → AllByRecursion P (keys_of xs) → AllByRecursion P (keys_of ys) → AllByRecursion P (keys_of (xs ++ ys))
+all-both P [] ys one other = other
+all-both P (x ∷ xs) ys one other = (one.0, all-both P xs ys one.1 other)
+
+run-both : {V : Type 0} (xs : List (KeyedWindow × V)) (e f : KeyedWindow × V) (ys : List (KeyedWindow × V)) → keyed_window_cmp e.0 f.0 ≡ Less → IsRun (xs ++ e ∷ []) → IsRun (f ∷ ys) → IsRun ((xs ++ e ∷ []) ++ f ∷ ys)
+run-both [] e f ys less one other = run-put e f [] [] ys less one other
+run-both (x ∷ xs) e f ys less one other =
+    let first : AllByRecursion (λ k. keyed_window_cmp x.0 k ≡ Less) (keys_of (xs ++ e ∷ [])) = run-first x (xs ++ e ∷ []) one in
+    let before : keyed_window_cmp x.0 f.0 ≡ Less = keyed_windows_total.trans x.0 e.0 f.0 (all-right (λ k. keyed_window_cmp x.0 k ≡ Less) xs (e ∷ []) first).0 less in
+    run-cons x ((xs ++ e ∷ []) ++ f ∷ ys)
+    (all-both (λ k. keyed_window_cmp x.0 k ≡ Less) (xs ++ e ∷ []) (f ∷ ys) first (before, every (λ k h. keyed_windows_total.trans x.0 f.0 k before h) (keys_of ys) (run-first f ys other)))
+    (run-both xs e f ys less (run-rest x (xs ++ e ∷ []) one) other)
+
+less : (o : Ordering) → IsTrue (is_lt o) → o ≡ Less
+less Less h = refl
+less Equal h = cc
+less Greater h = cc
+
+-- the same of lists that are known by their ends
+pub run-behind : {V : Type 0} (xs ys : List (KeyedWindow × V)) (count : ℕ) (last first : KeyedWindow × V) → count ≡ length xs → 0 < count → last ≡ get_or xs (count - 1) last → first ≡ get_or ys 0 first → 0 < length ys
+    → IsTrue (is_lt (keyed_window_cmp last.0 first.0)) → IsRun xs → IsRun ys → IsRun (xs ++ ys)
+run-behind xs [] count last first long some last_is first_is some_behind before run other = absurd (omega arith)
+run-behind {V} xs (y ∷ ys) count last first long some last_is first_is some_behind before run other =
+    let all : count - 1 + 1 ≡ length xs = omega arith in
+    let inside : count - 1 < length xs = omega arith in
+    let whole : xs ≡ take (count - 1) xs ++ last ∷ [] =
+    sym (take-length xs) ∙ ap (λ n. take n xs) (sym all) ∙ take_more xs (count - 1) last inside ∙ ap (λ x. take (count - 1) xs ++ x ∷ []) (sym last_is) in
+    subst (λ (l : List (KeyedWindow × V)). IsRun (l ++ y ∷ ys)) (sym whole)
+    (run-both (take (count - 1) xs) last y ys (ap (λ (e : KeyedWindow × V). keyed_window_cmp last.0 e.0) (sym first_is) ∙ less (keyed_window_cmp last.0 first.0) before)
+    (subst (λ (l : List (KeyedWindow × V)). IsRun l) whole run) other)
 
 -- another value
 pub keys-same : {V : Type 0} (k : KeyedWindow) (v w : V) (xs ys : List (KeyedWindow × V)) → keys_of (xs ++ (k, v) ∷ ys) ≡ keys_of (xs ++ (k, w) ∷ ys)

@@ -13,6 +13,9 @@ pub mod Merging
 pub mod Splitting
 pub mod FoundIn
 pub mod Placed
+pub mod Shifting
+pub mod PaneEnds
+pub mod Spreading
 pub mod RunRows
 pub mod Ends
 pub mod Absorbing

@@ -1,5 +1,5 @@
 -- The values of records, each placed at the keyed windows of its record.
-use Rattle.std.specs.Prelude.{ℤ, Bool, List, map, filter, if◌then◌else◌, Option, Some, None}
+use Rattle.std.specs.Prelude.{ℤ, Bool, List, map, take, filter, if◌then◌else◌, Option, Some, None}
 use Rattle.std.specs.BTreeMap.{is_at}
 use Rattle.std.specs.List.{list_any}
 use Rattle.sb_record.specs.declared.item.Record.{Record}
@@ -10,6 +10,10 @@ use Rattle.sb_window.specs.Windows.{keyed_window_cmp, windows_of}
 -- the value of a record at each of its keyed windows
 abbrev pub placed_of : Spacing → Record → List (KeyedWindow × ℤ)
 placed_of windows r = map (λ q. (q, r.value)) (windows_of windows r)
+
+-- the value of a record at its pane, which ends where the first of its windows does
+abbrev pub placed_first : Spacing → Record → List (KeyedWindow × ℤ)
+placed_first windows r = take 1 (placed_of windows r)
 
 -- whether the value is placed at the keyed window
 abbrev pub is_placed : KeyedWindow → KeyedWindow × ℤ → Bool

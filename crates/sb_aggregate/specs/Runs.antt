@@ -1,5 +1,5 @@
 -- Sorted runs: lists of keyed windows with a value each, every window once, in order. A run is seen as a finite map.
-use Rattle.std.specs.Prelude.{◌≡◌, ℕ, nat_lt, Bool, false, not, List, [], ◌∷◌, ◌++◌, Option, Some, None}
+use Rattle.std.specs.Prelude.{◌≡◌, ℕ, suc, zero, ◌+◌, ◌*◌, nat_lt, Bool, false, not, List, [], ◌∷◌, ◌++◌, map, Option, Some, None}
 use Rattle.std.specs.BTreeMap.{is_at}
 use Rattle.std.specs.List.Sorted.{IsStrictlySortedBy}
 use Rattle.std.specs.Map.{keys_of, lookup}
@@ -48,3 +48,18 @@ abbrev pub with_run : {V : Type 0}
     → List (List (KeyedWindow × V)) → List (KeyedWindow × V) → List (List (KeyedWindow × V))
 with_run runs [] = runs
 with_run runs (e ∷ es) = runs ++ (e ∷ es) ∷ []
+
+-- the entry, with a window that ends so much later
+abbrev pub later_entry : {V : Type 0} → ℕ → KeyedWindow × V → KeyedWindow × V
+later_entry by e = (record { end = e.0.end + by; key = e.0.key }, e.1)
+
+-- the run, with windows that end so much later
+abbrev pub shifted_by : {V : Type 0} → ℕ → List (KeyedWindow × V) → List (KeyedWindow × V)
+shifted_by by run = map (later_entry by) run
+
+-- what several runs have for a keyed window, joined: the run as it is, one step later, two steps later, and so on
+abbrev pub spread_value : {V : Type 0}
+    → (V → V → V) → ℕ → ℕ → List (KeyedWindow × V) → KeyedWindow → Option V
+spread_value join step zero run q = None
+spread_value join step (suc count) run q =
+    joined_value join (spread_value join step count run q) (found (shifted_by (count * step) run) q)

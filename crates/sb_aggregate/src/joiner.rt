@@ -1,10 +1,10 @@
-//! What joins two values of a keyed window.
+//! What joins and copies the values of keyed windows.
 
-ghost use Rattle.std.specs.Prelude.{◌≡◌, OnOk};
+ghost use Rattle.std.specs.Prelude.{◌≡◌, OnOk, IfOk};
 
 use sb_record::NoMemory;
 
-/// Joins two values of a keyed window into one.
+/// Joins two values of a keyed window into one, and copies values.
 pub(crate) trait Joiner {
     /// What is joined.
     type Value: Drop;
@@ -19,4 +19,12 @@ pub(crate) trait Joiner {
     /// [`NoMemory`]; both are lost then.
     fn join(&self, value: &mut Self::Value, later: Self::Value) -> Result<(), NoMemory>
         ensures { OnOk result (value.new ≡ joined self.now value.old later) };
+
+    /// A copy of a value.
+    ///
+    /// # Errors
+    ///
+    /// [`NoMemory`].
+    fn copy(&self, value: &Self::Value) -> Result<Self::Value, NoMemory>
+        ensures { IfOk result (λ copied. copied ≡ value.now) };
 }

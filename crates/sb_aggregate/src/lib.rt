@@ -16,6 +16,7 @@ mod aggregate;
 mod grouping;
 mod joiner;
 pub mod laws;
+mod panes;
 mod part;
 mod partial;
 mod rows;

@@ -5,10 +5,11 @@ ghost use Rattle.sb_record.specs.Reorderings.{IsReordered};
 ghost use Rattle.sb_window.specs.declared.keyed_window.KeyedWindow.{KeyedWindow as Window};
 ghost use Rattle.sb_aggregate.specs.Aggregates.{IsValid};
 ghost use Rattle.sb_aggregate.specs.Partials.{partial_values};
-ghost use Rattle.sb_aggregate.specs.Placed.{placed_of, placed_value};
+ghost use Rattle.sb_aggregate.specs.Placed.{placed_first, placed_value};
 ghost use Rattle.sb_aggregate.specs.Runs.{found};
 
 use crate::aggregate::Agg;
+use crate::panes::spread;
 use crate::partial::{Partial, PartialJoiner};
 use crate::run::Run;
 use sb_record::{END_MARK, NoMemory, Record, Trail};
@@ -35,8 +36,7 @@ impl Model for AggPart {
     ghost invariant = { λ p. HasPartials p.agg p.windows p.records p.partials };
 }
 
-/// Groups the records of a bundle. It takes memory for each keyed window that they lie in, and works with room for each
-/// record in each of its windows.
+/// Groups the records of a bundle. It takes memory for each record, and for each keyed window that they lie in.
 ///
 /// # Errors
 ///
@@ -58,7 +58,10 @@ pub fn part_of(
         grouped = grouped.with(Record { ..*record });
     }
     sort_placed(&mut placed);
-    let partials = run_of(alloc, agg, &placed)?;
+    let panes = run_of(alloc, agg, &placed)?;
+    let every = windows.every();
+    let joiner = PartialJoiner { alloc, agg };
+    let partials = spread(alloc, &joiner, panes, every, windows.size() / every)?;
     Ok(AggPart {
         agg,
         windows: *windows,
@@ -67,16 +70,16 @@ pub fn part_of(
     })
 }
 
-// Adds the value of a record at each of its windows.
+// Adds the value of a record at its pane, which ends where the first of its windows does.
 fn place(
     placed: &mut Vec<(KeyedWindow, i64)>,
     windows: &Windows,
     record: &Record,
 ) -> Result<(), NoMemory>
     requires { «record».now.time < END_MARK }
-    ensures { OnOk result (placed.new.items ≡ placed.old.items ++ placed_of windows.now «record».now) }
+    ensures { OnOk result (placed.new.items ≡ placed.old.items ++ placed_first windows.now «record».now) }
 {
-    for end in windows.ends(record.time) {
+    if let Some(end) = windows.ends(record.time).next() {
         let window = KeyedWindow {
             end,
             key: record.key,

@@ -81,6 +81,22 @@ impl Partial {
         Ok(())
     }
 
+    /// A copy.
+    ///
+    /// # Errors
+    ///
+    /// [`NoMemory`].
+    pub(crate) fn copied(&self, alloc: Global) -> Result<Partial, NoMemory>
+        ensures { IfOk result (λ copy. copy ≡ self.now) }
+    {
+        let held = match &self.held {
+            Held::One(value) => Held::One(*value),
+            Held::Different(values) => Held::Different(values.copied(alloc)?),
+            Held::Several(values) => Held::Several(Vec::from_slice(alloc, values)?),
+        };
+        Ok(Partial { held })
+    }
+
     /// Adds the rows of a keyed window that has this partial value.
     ///
     /// # Errors
@@ -122,6 +138,10 @@ impl Joiner for PartialJoiner {
 
     fn join(&self, value: &mut Partial, later: Partial) -> Result<(), NoMemory> {
         value.join(self.alloc, self.agg, later)
+    }
+
+    fn copy(&self, value: &Partial) -> Result<Partial, NoMemory> {
+        value.copied(self.alloc)
     }
 }
 

@@ -1,9 +1,10 @@
 //! Sorted runs: for each of some keyed windows a value, in the windows' order.
 
-ghost use Rattle.std.specs.Prelude.{◌≡◌, ◌∷◌, ◌++◌, [], length, take, drop, nat_lt, None, if◌then◌else◌, OnOk, IfOk};
+ghost use Rattle.std.specs.Prelude.{◌≡◌, ◌∷◌, ◌++◌, [], ◌+◌, ◌^◌, ◌<◌, length, take, drop, nat_lt, None, if◌then◌else◌, IsTrue, OnOk, IfOk};
+ghost use Rattle.std.specs.List.{AllByRecursion};
 ghost use Rattle.sb_window.specs.declared.keyed_window.KeyedWindow.{KeyedWindow as Window};
 ghost use Rattle.sb_window.specs.Gatherings.{joined_value};
-ghost use Rattle.sb_aggregate.specs.Runs.{IsRun, found, firsts_cmp, joined_firsts, begins_by};
+ghost use Rattle.sb_aggregate.specs.Runs.{IsRun, found, shifted_by, firsts_cmp, joined_firsts, begins_by};
 
 use crate::joiner::Joiner;
 use sb_record::NoMemory;
@@ -70,7 +71,8 @@ impl<V: Drop> Run<V> {
         Ok(Run { entries })
     }
 
-    /// The run with the values of a later one joined.
+    /// The run with the values of a later one joined. If the windows of the later one are all behind those of this one,
+    /// none are compared.
     ///
     /// # Errors
     ///
@@ -90,7 +92,37 @@ impl<V: Drop> Run<V> {
         if later.len() == 0 {
             return Ok(self);
         }
+        if is_before(&self.entries, &later.entries) {
+            let (mut entries, mut behind) = (self.entries, later.entries);
+            entries.append(&mut behind)?;
+            return Ok(Run { entries });
+        }
         let entries = merge(alloc, joiner, self.entries, later.entries)?;
+        Ok(Run { entries })
+    }
+
+    /// The run with windows that end so much later, and with copies of its values.
+    ///
+    /// # Errors
+    ///
+    /// [`NoMemory`].
+    pub(crate) fn shifted<J: Joiner<Value = V>>(
+        &self,
+        alloc: Global,
+        joiner: &J,
+        by: u64,
+    ) -> Result<Run<V>, NoMemory>
+        requires { AllByRecursion (λ e. e.0.end + by < 2 ^ 64) self.now }
+        ensures { IfOk result (λ run. run ≡ shifted_by by self.now) }
+    {
+        let mut entries = VecDeque::with_capacity(alloc, self.entries.len())?;
+        for (window, value) in self.entries.iter() {
+            let window = KeyedWindow {
+                end: window.end + by,
+                key: window.key,
+            };
+            entries.push_back((window, joiner.copy(value)?))?;
+        }
         Ok(Run { entries })
     }
 
@@ -187,6 +219,18 @@ fn merge<V: Drop, J: Joiner<Value = V>>(
     all.append(&mut ones)?;
     all.append(&mut others)?;
     Ok(all)
+}
+
+// Whether the windows of a run are before those of another.
+fn is_before<V>(ones: &VecDeque<(KeyedWindow, V)>, others: &VecDeque<(KeyedWindow, V)>) -> bool
+    requires ones { IsRun ones.now.items }
+    requires others { IsRun others.now.items }
+    ensures { IsTrue result → IsRun (ones.now.items ++ others.now.items) }
+{
+    match (ones.back(), others.front()) {
+        (Some(one), Some(other)) => one.0.cmp(&other.0).is_lt(),
+        _ => false,
+    }
 }
 
 // How the first windows compare, if there are both.

@@ -73,6 +73,18 @@ impl SortedList {
         Ok(SortedList { values })
     }
 
+    /// A copy.
+    ///
+    /// # Errors
+    ///
+    /// [`NoMemory`].
+    pub(crate) fn copied(&self, alloc: Global) -> Result<SortedList, NoMemory>
+        ensures { IfOk result (λ copy. copy ≡ self.now) }
+    {
+        let values = Vec::from_slice(alloc, &self.values)?;
+        Ok(SortedList { values })
+    }
+
     /// The values, least first.
     pub(crate) fn into_list(self) -> Vec<i64>
         ensures { result.items ≡ self }

@@ -89,6 +89,20 @@ impl ValueSet {
         }
     }
 
+    /// A copy.
+    ///
+    /// # Errors
+    ///
+    /// [`NoMemory`].
+    pub(crate) fn copied(&self, alloc: Global) -> Result<ValueSet, NoMemory>
+        ensures { IfOk result (λ set. set_values set ≡ set_values self.now) }
+    {
+        match self {
+            ValueSet::Listed(list) => Ok(ValueSet::Listed(list.copied(alloc)?)),
+            ValueSet::Grown(set) => Ok(ValueSet::Grown(set.clone()?)),
+        }
+    }
+
     /// The values, least first.
     ///
     /// # Errors

@@ -1,19 +1,21 @@
-use Rattle.std.proofs.Common.{◌∷◌, [], ◌++◌, SFits, w64, rules, take, sym, ap, ◌∙◌, arith}
+use Rattle.std.proofs.Common.{◌<◌, ◌∷◌, [], ◌++◌, SFits, w64, rules, take, sym, ap, ◌∙◌, arith}
 use Rattle.std.specs.List.{flat_map}
+use Rattle.std.proofs.lemmas.List.Elements.{recursion_from_All}
+use Rattle.sb_record.specs.declared.item.TheConstants.{END_MARK}
 use Rattle.std.proofs.lemmas.Int.{to_z-of_z}
 use Rattle.std.proofs.lemmas.List.{take_more, flat_map_more}
 use Rattle.sb_record.specs.declared.item.Record.{Record}
 use Rattle.sb_aggregate.specs.Partials.{partial_values, partial_at}
-use Rattle.sb_aggregate.specs.Placed.{placed_of, placed_value}
-use Rattle.sb_aggregate.proofs.PartialValues.{partials-orderless}
-use Rattle.sb_aggregate.proofs.Placed.{placed-reordered, placed-gathered}
+use Rattle.sb_aggregate.specs.Placed.{placed_first, placed_value}
+use Rattle.sb_aggregate.proofs.PartialValues.{join_values-grouped}
+use Rattle.sb_aggregate.proofs.Spreading.{All-take, part-room, part-spread}
 use Rattle.sb_aggregate.proofs.part.part_of.Goals as goal
 
 pub loop-record-preserved : goal.loop-record-preserved
 loop-record-preserved c =
     let i = c.loop-record.record-index in
     let records = c.args.records.now in
-    let place = placed_of c.args.windows.now in
+    let place = placed_first c.args.windows.now in
     let r : Record = c.record-item.result in
     let fits : SFits w64 c.record-item.result.value = search rules in
     record {
@@ -26,12 +28,20 @@ loop-record-preserved c =
           ∙ ap (λ l. l ++ r ∷ []) c.loop-record.invariant.grouped ∙ ap (λ x. take i records ++ x ∷ []) c.record-item.is ∙ sym (take_more records i r (omega arith));
     }
 
+pub spread-requires-clause-groups : goal.spread-requires-clause-groups
+spread-requires-clause-groups c = join_values-grouped c.args.agg
+
+pub spread-requires-clause-ends : goal.spread-requires-clause-ends
+spread-requires-clause-ends c =
+    let records = c.args.records.now in
+    let i = c.loop-record.record-index in
+    part-room c.args.agg c.args.windows.now c.size.ensures.sound (take i records) c.sort_placed.new.placed.items c.loop-record.placed.items c.sort_placed.ensures c.loop-record.invariant.placed c.in_ok-panes.panes
+    (λ q. c.in_ok-panes.ensures q ∙ ap (λ l. placed_value (partial_values c.args.agg) l q) c.deref.ensures.value) c.size.result c.every-every.result c.size.ensures.value c.every-every.ensures.value
+    (All-take (λ r. r.time < END_MARK) i records (recursion_from_All (λ r. r.time < END_MARK) records c.requires.times))
+
 pub invariant_of-result : goal.invariant_of-result
 invariant_of-result c q =
-    let made = partial_values c.args.agg in
     c.in_ok-partials.ensures q
-    ∙ ap (λ l. placed_value made l q) c.deref.ensures.value
-    ∙ placed-reordered made (partials-orderless c.args.agg) c.sort_placed.new.placed.items c.loop-record.placed.items c.sort_placed.ensures q
-    ∙ ap (λ l. placed_value made l q) c.loop-record.invariant.placed
-    ∙ placed-gathered made c.args.windows.now (take c.loop-record.record-index c.args.records.now) q
+    ∙ part-spread c.args.agg c.args.windows.now c.size.ensures.sound (take c.loop-record.record-index c.args.records.now) c.sort_placed.new.placed.items c.loop-record.placed.items c.sort_placed.ensures c.loop-record.invariant.placed c.in_ok-panes.panes
+    (λ q. c.in_ok-panes.ensures q ∙ ap (λ l. placed_value (partial_values c.args.agg) l q) c.deref.ensures.value) c.size.result c.every-every.result c.size.ensures.value c.every-every.ensures.value q
     ∙ ap (λ l. partial_at c.args.agg c.args.windows.now l q) (sym c.loop-record.invariant.grouped)

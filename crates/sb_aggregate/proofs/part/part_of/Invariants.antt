@@ -1,10 +1,10 @@
 use Rattle.std.proofs.Common.{◌≡◌, take}
 use Rattle.std.specs.List.{flat_map}
-use Rattle.sb_aggregate.specs.Placed.{placed_of}
+use Rattle.sb_aggregate.specs.Placed.{placed_first}
 use Rattle.sb_aggregate.proofs.part.part_of.Given as goal
 
 abbrev pub invariant-loop-record : goal.invariant-loop-record
 invariant-loop-record l = record {
-  placed : l.placed.items ≡ flat_map (placed_of l.windows) (take l.record-index l.records);
+  placed : l.placed.items ≡ flat_map (placed_first l.windows) (take l.record-index l.records);
   grouped : l.grouped ≡ take l.record-index l.records;
 }
