@@ -1,8 +1,8 @@
 //! How rows leave the engine: to an output, which takes all of them, and past taps, which look at them one at a time.
 //!
-//! A [`RowOut`] takes rows in the order of their windows: [`Printing`] writes their text to a sink of bytes, [`Lent`] to
-//! one that is lent, and [`Summary`] keeps three numbers of them. A [`Tap`] says behind each row whether it has enough:
-//! [`offer`] offers a row to a list of taps and drops those that have. [`HeadTap`] writes the first rows, and
+//! A [`RowOut`] takes rows in the order of their windows: [`Printing`] writes their text to a sink of bytes, [`Lent`]
+//! to one that is lent, and [`Summary`] keeps three numbers of them. A [`Tap`] says behind each row whether it has
+//! enough: [`offer`] offers a row to a list of taps and drops those that have. [`HeadTap`] writes the first rows, and
 //! [`CountTap`] counts all. None of them takes memory.
 #![tactic(auto)]
 

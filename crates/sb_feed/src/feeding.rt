@@ -16,8 +16,8 @@ use sb_emit::{RowOut, Tap};
 use sb_outside::{LineBuffer, Source};
 use std::alloc::Global;
 
-/// Feeds the lines of an input to an engine that was fed nothing yet, and answers where reading stopped. What the engine
-/// gives is written and offered, and the late records that the plan drops go to the end of `dropped`.
+/// Feeds the lines of an input to an engine that was fed nothing yet, and answers where reading stopped. What the
+/// engine gives is written and offered, and the late records that the plan drops go to the end of `dropped`.
 /// `size` is the most records of a bundle.
 ///
 /// # Errors

@@ -140,10 +140,10 @@ impl Intake {
         Ok(item)
     }
 
-    /// Tests the line that these bytes begin with, where it is a record or a watermark and its line feed is at hand, and
-    /// gives it if it is accepted: it is then counted and its watermark kept, as by [`Intake::accept`]. Where it gives
-    /// none, nothing changes. It needs no search for the end of the line, and looks at a byte again only where it ends a
-    /// number or stands in a key that is a word.
+    /// Tests the line that these bytes begin with, where it is a record or a watermark and its line feed is at hand,
+    /// and gives it if it is accepted: it is then counted and its watermark kept, as by [`Intake::accept`]. Where it
+    /// gives none, nothing changes. It needs no search for the end of the line, and looks at a byte again only where it
+    /// ends a number or stands in a key that is a word.
     pub fn accept_front(&mut self, bytes: &[u8]) -> Option<FrontLine>
         ensures exact { (f : FrontLine) → (result ≡ Some f) ↔ IsAcceptedFront self.old f.item f.len bytes.now }
         ensures some { IfSome result (λ f. self.new ≡ spec.after f.item self.old) }

@@ -84,8 +84,8 @@ fn shelf_step<R: Wait, G: Gate>(
     }
 }
 
-/// A step of a helper. While no help is wanted it works off what lies on the shelf, where others may have left something
-/// that they looked for, and enters no turn beside that: so it stands in nobody's way.
+/// A step of a helper. While no help is wanted it works off what lies on the shelf, where others may have left
+/// something that they looked for, and enters no turn beside that: so it stands in nobody's way.
 fn help_step<R: Wait, G: Gate>(
     rt: &R,
     alloc: Global,
@@ -109,7 +109,8 @@ fn help_step<R: Wait, G: Gate>(
 /// Steps until the state word says that the work ends, and gives the pass back: it comes back only if a load of the
 /// state word said so. Behind a closing it looks for the next one, else only after some bundles. None if no memory was
 /// found: then the state word says so, and the pass is dropped with what it has in hand. Between steps that find
-/// nothing to do it rests, and so while the feeder wants no help. It may wait for turns, and whether it ends is not said.
+/// nothing to do it rests, and so while the feeder wants no help. It may wait for turns, and whether it ends is not
+/// said.
 pub fn help<R: Wait + Clock, G: Gate>(
     rt: &R,
     alloc: Global,

@@ -1,9 +1,9 @@
 //! Whether the feeder works off what a watermark closes by itself, or leaves it to all workers.
 //!
 //! Workers that meet in every turn are slower than one of them, and a helper that has found nothing to do sleeps for a
-//! millisecond, in which one worker does many epochs of a few records. So the feeder works off a little epoch by itself,
-//! as one worker does, and tells the helpers that it does without them. Where that takes long, since the plan is heavy or
-//! much was left over, it leaves the next epochs to all.
+//! millisecond, in which one worker does many epochs of a few records. So the feeder works off a little epoch by
+//! itself, as one worker does, and tells the helpers that it does without them. Where that takes long, since the plan
+//! is heavy or much was left over, it leaves the next epochs to all.
 
 use sb_worker::sb_cascade::Cascade;
 use std::io;
