@@ -1,15 +1,13 @@
 //! Runs over lines that are made from numbers: what they leave is what the plain program leaves, and their diaries are
 //! settled.
 
-use crate::around::{Taps, around_of, words_of};
-use crate::difference::Difference;
-use crate::left::{check_bytes, check_number};
-use crate::random::lines_from;
-use crate::tables::{Trial, Ways};
 use crate::tries::{SLOW, run, strings_of};
 use std::sync::Wait;
 use std::thread::Threads;
 use std::time::Clock;
+use trial_cases::{
+    Difference, Taps, Trial, Ways, around_of, check_bytes, check_number, lines_from, words_of,
+};
 
 /// The words of an audit.
 const AUDIT: &[&str] = &["audit"];

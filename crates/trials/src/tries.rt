@@ -2,11 +2,7 @@
 
 ghost use Rattle.std.specs.Prelude.{◌≡◌, OnOk};
 
-use crate::around::{Around, HEAD, Taps, around_of, count_of, head_of, words_of};
-use crate::difference::Difference;
-use crate::left::{check_bytes, check_left, check_reads, check_seen};
 use crate::seeds::try_by_seeds;
-use crate::tables::{Calls, Case, Lines, Trial, Watch, Ways};
 use sb_cli::{Status, streambox};
 use std::alloc::{AllocError, Global};
 use std::fs::File;
@@ -15,6 +11,10 @@ use std::sync::Wait;
 use std::thread::Threads;
 use std::time::Clock;
 use std::{fs, mem};
+use trial_cases::{
+    Around, Calls, Case, Difference, HEAD, Lines, Taps, Trial, Watch, Ways, around_of, check_bytes,
+    check_left, check_reads, check_seen, count_of, head_of, words_of,
+};
 
 /// How many taps a run has at most here.
 const MOST_TAPS: usize = 2;

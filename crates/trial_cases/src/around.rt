@@ -3,8 +3,8 @@
 ghost use Rattle.std.specs.Prelude.{◌≤◌, All, IfOk};
 
 use crate::tables::{Calls, Trial};
-use sb_cli::sb_emit::{CountTap, HeadTap, Tap};
-use sb_cli::sb_outside::{MemFolder, MemSink, MemSource, StdSink};
+use sb_emit::{CountTap, HeadTap, Tap};
+use sb_outside::{MemFolder, MemSink, MemSource, StdSink};
 use std::alloc::{AllocError, Global};
 use std::collections::BTreeMap;
 use std::fs::File;
