@@ -49,7 +49,7 @@ fn fresh_states(alloc: Global, nodes: Vec<NodeState>) -> Result<Vec<SharedNode>,
 {
     let mut states = Vec::new(alloc);
     for own in nodes {
-        states.push(SharedNode::new(alloc, own))?;
+        states.push(SharedNode::new(alloc, own)?)?;
     }
     Ok(states)
 }

@@ -36,9 +36,11 @@ use std::alloc::Global;
 use std::marker::Model;
 
 /// The state of a node, at the sink the rows that are not drained, and whether what the node keeps is unknown.
+///
+/// The state lies in a box, since each turn moves a shared node out of its slot and back.
 #[derive(Drop)]
 pub struct SharedNode {
-    own: NodeState,
+    own: Box<NodeState>,
     tray: Vec<Record>,
     spent: bool,
     /// The lines that bundles and closings under way will have: room for them is reserved.
@@ -56,10 +58,10 @@ impl Model for SharedNode {
 
     ghost coded = { Prim.hlevel (codes, state.the_row.coded) };
 
-    ghost view = { λ n. record { own = n.own; tray = n.tray.items; spent = n.spent } };
+    ghost view = { λ n. record { own = n.own.value; tray = n.tray.items; spent = n.spent } };
 
-    ghost invariant = { λ n. (owed_lines n.own.lanes.items ≤ n.promised) × (n.promised ≤ n.own.diary.spare)
-        × (length n.own.diary.events + n.own.diary.spare ≤ MAX_DIARY_LINES) };
+    ghost invariant = { λ n. (owed_lines n.own.value.lanes.items ≤ n.promised) × (n.promised ≤ n.own.value.diary.spare)
+        × (length n.own.value.diary.events + n.own.value.diary.spare ≤ MAX_DIARY_LINES) };
 }
 
 /// A bundle that a node gave out.
@@ -117,19 +119,23 @@ fn close(
 }
 
 impl SharedNode {
-    /// A node in which nothing is under way. It takes no memory.
-    pub(crate) fn new(alloc: Global, mut own: NodeState) -> SharedNode
+    /// A node in which nothing is under way.
+    ///
+    /// # Errors
+    ///
+    /// [`NoMemory`].
+    pub(crate) fn new(alloc: Global, mut own: NodeState) -> Result<SharedNode, NoMemory>
         requires { owed_lines own.lanes.items ≡ 0 }
-        ensures { result ≡ record { own = own; tray = []; spent = false } }
+        ensures { IfOk result (λ node. node ≡ record { own = own; tray = []; spent = false }) }
     {
         // For the proof: a diary has at most so many lines.
         let _ = own.diary.reserve(0);
-        SharedNode {
-            own,
+        Ok(SharedNode {
+            own: Box::new(alloc, own)?,
             tray: Vec::new(alloc),
             spent: false,
             promised: 0,
-        }
+        })
     }
 
     /// The state, and the rows that were not drained.
@@ -142,7 +148,7 @@ impl SharedNode {
             spent: _,
             promised: _,
         } = self;
-        (own, tray)
+        (Box::into_inner(own), tray)
     }
 
     /// Whether what the node keeps is unknown.
@@ -173,10 +179,11 @@ impl SharedNode {
         ensures back { IfErr result (λ e. (at : LaneView) → HasLane lane at self.old.own → IsBackFrom at bundle e) }
         ensures same { OnErr result (ShowsSame self.old self.new) }
     {
-        if self.own.diary.reserve(self.promised + 3).is_err() {
+        let own = &mut *self.own;
+        if own.diary.reserve(self.promised + 3).is_err() {
             return Err(ArriveStop::Memory(bundle));
         }
-        let number = self.own.arrive(lane, bundle)?;
+        let number = own.arrive(lane, bundle)?;
         self.promised += 2;
         Ok(number)
     }
@@ -203,13 +210,14 @@ impl SharedNode {
             (line.Arrive lane bundle.epoch (at.arrived + 1) (length bundle.records))) self.old self.new) }
         ensures same { OnErr result (ShowsSame self.old self.new) }
     {
-        self.own.diary.reserve(self.promised + 3)?;
+        let own = &mut *self.own;
+        own.diary.reserve(self.promised + 3)?;
         let place = match link {
             Some(place) => {
-                self.own.put_at(lane, place, bundle)?;
+                own.put_at(lane, place, bundle)?;
                 place
             }
-            None => self.own.put_first(lane, bundle)?,
+            None => own.put_first(lane, bundle)?,
         };
         self.promised += 2;
         Ok(place)
@@ -223,8 +231,9 @@ impl SharedNode {
             (line.Seal lane (next_epoch (lane_of at)) mark)) self.old self.new) }
         ensures same { OnErr result (ShowsSame self.old self.new) }
     {
-        self.own.diary.reserve(self.promised + 1)?;
-        self.own.seal(lane, mark)?;
+        let own = &mut *self.own;
+        own.diary.reserve(self.promised + 1)?;
+        own.seal(lane, mark)?;
         Ok(())
     }
 
@@ -236,11 +245,12 @@ impl SharedNode {
             × (t.lane ≡ 0 → t.link ≡ down_of t.bundle.epoch (links_of at.containers))) }
         ensures none { IfNone result (All NoneWaits self.old.own.lanes.items × (self.new ≡ self.old)) }
     {
-        let lane = self.own.waiting_lane()?;
-        let bundle = self.own.take(lane);
+        let own = &mut *self.own;
+        let lane = own.waiting_lane()?;
+        let bundle = own.take(lane);
         self.promised -= 1;
         let link = if lane == 0 {
-            self.own.down(bundle.epoch)
+            own.down(bundle.epoch)
         } else {
             None
         };
@@ -263,11 +273,12 @@ impl SharedNode {
             (record (lane_of at) { conts = finish_first epoch number (conts_of at.containers) })
             (FinishesLinked epoch link) (line.Finish lane number length)) self.old self.new }
     {
-        self.own.finish(lane, epoch, number, length);
+        let own = &mut *self.own;
+        own.finish(lane, epoch, number, length);
         self.promised -= 1;
         if let Some(place) = link {
-            if self.own.down(epoch).is_none() {
-                self.own.link(epoch, place);
+            if own.down(epoch).is_none() {
+                own.link(epoch, place);
             }
         }
     }
@@ -289,7 +300,8 @@ impl SharedNode {
             → ChangesOwn (Absorbs lane at epoch number part) self.old self.new) }
         ensures err { OnErr result (LosesKept self.old self.new) }
     {
-        if self.spent || self.own.absorb(lane, epoch, number, part).is_err() {
+        let own = &mut *self.own;
+        if self.spent || own.absorb(lane, epoch, number, part).is_err() {
             self.spent = true;
             return Err(NoMemory);
         }
@@ -307,15 +319,16 @@ impl SharedNode {
         ensures begins { IfOk result (λ c. (c.node ≡ node) × BeginsAt is_sink c self.old self.new) }
         ensures stops { IfErr result (λ stop. StopsAt stop self.old self.new) }
     {
-        let (lane, epoch) = match self.own.may_close() {
+        let own = &mut *self.own;
+        let (lane, epoch) = match own.may_close() {
             Ok(oldest) => oldest,
             Err(why) => return Err(BeginStop::NotYet(why)),
         };
-        let is_full = self.spent || self.own.closings == u64::MAX;
-        if is_full || self.own.diary.reserve(self.promised + 2).is_err() {
+        let is_full = self.spent || own.closings == u64::MAX;
+        if is_full || own.diary.reserve(self.promised + 2).is_err() {
             return Err(BeginStop::Memory);
         }
-        match close(&mut self.own, &mut self.tray, node, lane, epoch, is_sink) {
+        match close(own, &mut self.tray, node, lane, epoch, is_sink) {
             Ok(closing) => {
                 self.promised += 1;
                 Ok(closing)
@@ -335,7 +348,8 @@ impl SharedNode {
             (record (lane_of at) { conts = drop 1 (conts_of at.containers); ended = at.ended + 1 }) DropsLink
             (line.End lane epoch)) self.old self.new }
     {
-        self.own.end(lane, epoch);
+        let own = &mut *self.own;
+        own.end(lane, epoch);
         self.promised -= 1;
     }
 

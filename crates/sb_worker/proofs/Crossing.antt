@@ -14,7 +14,7 @@ use denote.Struct.Field.{mut_ref_field, row_field, shr_ref_field}
 use denote.Struct.Tuple.{TupleAt, parts, type_at}
 use Rattle.std.specs.contracts.alloc.Global as heap
 use Rattle.std.specs.contracts.option.Option as option
-use Rattle.std.proofs.Crossing.{crosses, Vec-send, Vec-sync, send as heap-send, sync as heap-sync}
+use Rattle.std.proofs.Crossing.{crosses, Box-send, Box-sync, Vec-send, Vec-sync, send as heap-send, sync as heap-sync}
 use Rattle.std.proofs.MapsCrossing.{crosses as maps}
 use Rattle.atomic_table.proofs.shared.Seat.TheSendSync as seat_crossing
 use Rattle.sb_cascade.specs.base.records.contracts.item.Record as record_row
@@ -94,14 +94,14 @@ Node-sync = declared_sync node.the_type (Vec-sync lane.the_row Lane-sync, (Kept-
 -- what lies under a turn
 Inside-send : IsSend inside.the_row
 Inside-send =
-    declared_send inside.the_type (Node-send, (Vec-send record_row.the_row record_crossing.the_send, (search sendable, (search sendable, tt))))
+    declared_send inside.the_type (Box-send node.the_row Node-send, (Vec-send record_row.the_row record_crossing.the_send, (search sendable, (search sendable, tt))))
 
 Shared-send : IsSend shared.the_row
 Shared-send = search (sendable, Inside-send)
 
 Inside-sync : IsSync inside.the_row
 Inside-sync =
-    declared_sync inside.the_type (Node-sync, (Vec-sync record_row.the_row record_crossing.the_sync, (search sendable, (search sendable, tt))))
+    declared_sync inside.the_type (Box-sync node.the_row Node-sync, (Vec-sync record_row.the_row record_crossing.the_sync, (search sendable, (search sendable, tt))))
 
 Shared-sync : IsSync shared.the_row
 Shared-sync = search (sendable, Inside-sync)

@@ -1,5 +1,5 @@
 -- Room for the lines that a node owes, kept over an event.
-use Rattle.std.proofs.Common.{◌≡◌, ◌≤◌, ℕ, ◌+◌, ◌-◌, List, [], ◌∷◌, length, map, max, length-append, ap, refl, ◌∙◌, arith}
+use Rattle.std.proofs.Common.{◌≡◌, ◌≤◌, ℕ, ◌+◌, ◌-◌, List, [], ◌∷◌, length, map, max, length-append, ap, refl, ◌∙◌, arith, subst, sym}
 use Rattle.std.specs.Prelude.{slice_get, slice_set, Some}
 use Rattle.std.proofs.lemmas.List.{map-set}
 use Rattle.sb_hand.specs.diary.declared.diary.TheConstants.{MAX_DIARY_LINES}
@@ -21,6 +21,10 @@ abbrev pub HasRoom : ℕ → NodeState → Type 0
 HasRoom promised n =
     (owed_lines n.lanes.items ≤ promised) × (promised ≤ n.diary.spare)
     × (length n.diary.events + n.diary.spare ≤ MAX_DIARY_LINES)
+
+-- a state that is the same has room, too
+pub room-is : (p : ℕ) (own was : NodeState) → own ≡ was → HasRoom p was → HasRoom p own
+room-is p own was is room = subst (HasRoom p) (sym is) room
 
 -- a lane is another, and a line was written
 pub room-set : (p q l : ℕ) (was is : LaneView) (line : DiaryEvent) (old new : NodeState) → SetsLane l was is line old new → HasRoom p old

@@ -8,8 +8,13 @@ use Rattle.sb_cascade.specs.Found.{IsFound}
 use Rattle.sb_cascade.specs.SharedNodes.{ChangesOwn, SharedView, lines_of}
 use Rattle.sb_cascade.specs.Views.{as_list}
 use Rattle.sb_cascade.proofs.lives.Claims.{taken}
+use Rattle.sb_cascade.proofs.entered.FoundLanes.{lanes_few}
 use Rattle.sb_cascade.proofs.entered.Taken.{takes-told}
 use Rattle.sb_cascade.proofs.cascade.Cascade.take_under.Goals as goal
+
+pub take-requires : goal.take-requires
+take-requires c =
+    record { few = (lanes_few c.args.self.now.setting c.args.pass.now.seat.me.0.client c.args.node c.args.guard.state c.requires.pass.0.found).1 }
 
 pub leave-requires-clause-does : goal.leave-requires-clause-does
 leave-requires-clause-does c =

@@ -6,7 +6,7 @@ use Rattle.sb_hand.specs.lane.Placed.{conts_of}
 use Rattle.sb_hand.specs.node.Changes.{HasLane}
 use Rattle.sb_hand.specs.node.declared.state.NodeState.{NodeState}
 use Rattle.sb_cascade.proofs.diaries.Promises.{owed_of, owed-arrived}
-use Rattle.sb_cascade.proofs.diaries.Rooms.{HasRoom, room-set, room-stays, room-reserved, shows-stays}
+use Rattle.sb_cascade.proofs.diaries.Rooms.{HasRoom, room-set, room-stays, room-reserved, shows-stays, room-is}
 use Rattle.sb_hand.specs.lane.Changes.{StandsAt}
 use Rattle.std.specs.Prelude.{length}
 use Rattle.sb_hand.specs.diary.declared.event.DiaryEvent.TheVariants as line
@@ -19,20 +19,23 @@ use Rattle.sb_cascade.proofs.shared_node.SharedNode.put.Goals as goal
 use Rattle.sb_cascade.proofs.shared_node.SharedNode.put.Goals.{in-Some+in_ok-put_at-in-Some, in-None+in_ok-place-in-None}
 
 pub overflow_add-self-inside : goal.overflow_add-self-inside
-overflow_add-self-inside c = omega (arith, c.self.invariant.1, c.self.invariant.2)
+overflow_add-self-inside c =
+    let has_room = room-is c.self.inside.promised c.deref_mut-own.result.now c.self.inside.own.value c.deref_mut-own.ensures.value c.self.invariant in
+    omega (arith, has_room.1, has_room.2)
 
 pub invariant_of-self-in_err-put_at-in-Some : goal.invariant_of-self-in_err-put_at-in-Some
 invariant_of-self-in_err-put_at-in-Some c =
-    let own = c.self.inside.own in
+    let has_room = room-is c.self.inside.promised c.deref_mut-own.result.now c.self.inside.own.value c.deref_mut-own.ensures.value c.self.invariant in
+    let own = c.deref_mut-own.result.now in
     let p = c.self.inside.promised in
     let mid : NodeState = record own { diary = c.reserve.new.self } in
-    let room = room-reserved p own c.reserve.new.self _ c.in_ok-reserve.ensures.ok c.reserve.ensures.most c.self.invariant in
+    let room = room-reserved p own c.reserve.new.self _ c.in_ok-reserve.ensures.ok c.reserve.ensures.most has_room in
     let at = c.requires.lane in
     room-stays p c.args.lane at.0 mid c.put_at.new.self (c.in_err-put_at-in-Some.ensures.same at.0 (search rules)) room.0
 
 pub returns-in_err-put_at-in-Some-clause-same : goal.returns-in_err-put_at-in-Some-clause-same
 returns-in_err-put_at-in-Some-clause-same c =
-    let own = c.self.inside.own in
+    let own = c.deref_mut-own.result.now in
     let p = c.self.inside.promised in
     let mid : NodeState = record own { diary = c.reserve.new.self } in
     let at = c.requires.lane in
@@ -41,16 +44,17 @@ returns-in_err-put_at-in-Some-clause-same c =
 
 pub invariant_of-self-in_err-place-in-None : goal.invariant_of-self-in_err-place-in-None
 invariant_of-self-in_err-place-in-None c =
-    let own = c.self.inside.own in
+    let has_room = room-is c.self.inside.promised c.deref_mut-own.result.now c.self.inside.own.value c.deref_mut-own.ensures.value c.self.invariant in
+    let own = c.deref_mut-own.result.now in
     let p = c.self.inside.promised in
     let mid : NodeState = record own { diary = c.reserve.new.self } in
-    let room = room-reserved p own c.reserve.new.self _ c.in_ok-reserve.ensures.ok c.reserve.ensures.most c.self.invariant in
+    let room = room-reserved p own c.reserve.new.self _ c.in_ok-reserve.ensures.ok c.reserve.ensures.most has_room in
     let at = c.requires.lane in
     room-stays p c.args.lane at.0 mid c.put_first.new.self (c.in_err-place-in-None.ensures.same at.0 (search rules)) room.0
 
 pub returns-in_err-place-in-None-clause-same : goal.returns-in_err-place-in-None-clause-same
 returns-in_err-place-in-None-clause-same c =
-    let own = c.self.inside.own in
+    let own = c.deref_mut-own.result.now in
     let p = c.self.inside.promised in
     let mid : NodeState = record own { diary = c.reserve.new.self } in
     let at = c.requires.lane in
@@ -59,10 +63,11 @@ returns-in_err-place-in-None-clause-same c =
 
 pub invariant_of-self-2 : goal.invariant_of-self-2
 invariant_of-self-2 c =
-    let own = c.self.inside.own in
+    let has_room = room-is c.self.inside.promised c.deref_mut-own.result.now c.self.inside.own.value c.deref_mut-own.ensures.value c.self.invariant in
+    let own = c.deref_mut-own.result.now in
     let p = c.self.inside.promised in
     let mid : NodeState = record own { diary = c.reserve.new.self } in
-    let room = room-reserved p own c.reserve.new.self _ c.in_ok-reserve.ensures.ok c.reserve.ensures.most c.self.invariant in
+    let room = room-reserved p own c.reserve.new.self _ c.in_ok-reserve.ensures.ok c.reserve.ensures.most has_room in
     let at = c.requires.lane in
     let has : HasLane c.args.lane at.0 mid = search rules in
     let b : Bundle = record { number = at.0.arrived + 1; epoch = c.args.bundle.epoch; floor = c.args.bundle.floor; records = c.args.bundle.records } in
@@ -70,16 +75,16 @@ invariant_of-self-2 c =
       | in-Some+in_ok-put_at-in-Some w ↦
           let turn = (w.in_ok-put_at-in-Some.ensures.puts at.0 has).1 in
           let n = ap (λ (l : CoreLane). owed_of l.conts) turn.is ∙ owed-arrived b.epoch b.floor b (conts_of at.0.containers) in
-          subst (λ s. HasRoom (s.promised + 2) s.own) (sym w.self-inside-is) (room-set p (p + 2) c.args.lane at.0 turn.now _ mid w.put_at.new.self turn.sets room.0 (omega (arith, n)) (omega (arith, room.1)))
+          subst (λ s. HasRoom (s.promised + 2) s.own.value) (sym w.self-inside-is) (room-set p (p + 2) c.args.lane at.0 turn.now _ mid w.put_at.new.self turn.sets room.0 (omega (arith, n)) (omega (arith, room.1)))
       | in-None+in_ok-place-in-None w ↦
           let turn = (w.in_ok-place-in-None.ensures.puts at.0 has).1 in
           let n = ap (λ (l : CoreLane). owed_of l.conts) turn.is ∙ owed-arrived b.epoch b.floor b (conts_of at.0.containers) in
-          subst (λ s. HasRoom (s.promised + 2) s.own) (sym w.self-inside-is) (room-set p (p + 2) c.args.lane at.0 turn.now _ mid w.put_first.new.self turn.sets room.0 (omega (arith, n)) (omega (arith, room.1)))
+          subst (λ s. HasRoom (s.promised + 2) s.own.value) (sym w.self-inside-is) (room-set p (p + 2) c.args.lane at.0 turn.now _ mid w.put_first.new.self turn.sets room.0 (omega (arith, n)) (omega (arith, room.1)))
     ]
 
 pub returns-clause-puts : goal.returns-clause-puts
 returns-clause-puts c = λ at has0.
-    let own = c.self.inside.own in
+    let own = c.deref_mut-own.result.now in
     let p = c.self.inside.promised in
     let mid : NodeState = record own { diary = c.reserve.new.self } in
     let has : HasLane c.args.lane at mid = search rules in

@@ -5,23 +5,26 @@ use Rattle.sb_hand.specs.lane.LaneView.{lane_of}
 use Rattle.sb_hand.specs.lane.Placed.{conts_of}
 use Rattle.sb_hand.specs.node.declared.state.NodeState.{NodeState}
 use Rattle.sb_cascade.proofs.diaries.Promises.{owed_of, owed-sealed}
-use Rattle.sb_cascade.proofs.diaries.Rooms.{room-set, room-stays, room-reserved, shows-stays}
+use Rattle.sb_cascade.proofs.diaries.Rooms.{room-set, room-stays, room-reserved, shows-stays, room-is}
 use Rattle.sb_cascade.proofs.shared_node.SharedNode.seal.Goals as goal
 
 pub overflow_add-self-inside : goal.overflow_add-self-inside
-overflow_add-self-inside c = omega (arith, c.self.invariant.1, c.self.invariant.2)
+overflow_add-self-inside c =
+    let has_room = room-is c.self.inside.promised c.deref_mut-own.result.now c.self.inside.own.value c.deref_mut-own.ensures.value c.self.invariant in
+    omega (arith, has_room.1, has_room.2)
 
 pub invariant_of-self-in_err-seal : goal.invariant_of-self-in_err-seal
 invariant_of-self-in_err-seal c =
-    let own = c.self.inside.own in
+    let has_room = room-is c.self.inside.promised c.deref_mut-own.result.now c.self.inside.own.value c.deref_mut-own.ensures.value c.self.invariant in
+    let own = c.deref_mut-own.result.now in
     let mid : NodeState = record own { diary = c.reserve.new.self } in
-    let room = room-reserved c.self.inside.promised own c.reserve.new.self _ c.in_ok-reserve.ensures.ok c.reserve.ensures.most c.self.invariant in
+    let room = room-reserved c.self.inside.promised own c.reserve.new.self _ c.in_ok-reserve.ensures.ok c.reserve.ensures.most has_room in
     let at = c.requires.lane in
     room-stays c.self.inside.promised c.args.lane at.0 mid c.seal.new.self (c.in_err-seal.ensures.same at.0 (search rules)) room.0
 
 pub returns-in_err-seal-clause-same : goal.returns-in_err-seal-clause-same
 returns-in_err-seal-clause-same c =
-    let own = c.self.inside.own in
+    let own = c.deref_mut-own.result.now in
     let mid : NodeState = record own { diary = c.reserve.new.self } in
     let at = c.requires.lane in
     let same = shows-stays c.args.self.now mid c.seal.new.self (max own.diary.spare (c.self.inside.promised + 1)) c.args.lane at.0 (search rules) (c.in_err-seal.ensures.same at.0 (search rules)) in
@@ -29,9 +32,10 @@ returns-in_err-seal-clause-same c =
 
 pub invariant_of-self-2 : goal.invariant_of-self-2
 invariant_of-self-2 c =
-    let own = c.self.inside.own in
+    let has_room = room-is c.self.inside.promised c.deref_mut-own.result.now c.self.inside.own.value c.deref_mut-own.ensures.value c.self.invariant in
+    let own = c.deref_mut-own.result.now in
     let mid : NodeState = record own { diary = c.reserve.new.self } in
-    let room = room-reserved c.self.inside.promised own c.reserve.new.self _ c.in_ok-reserve.ensures.ok c.reserve.ensures.most c.self.invariant in
+    let room = room-reserved c.self.inside.promised own c.reserve.new.self _ c.in_ok-reserve.ensures.ok c.reserve.ensures.most has_room in
     let at = c.requires.lane in
     let turn = c.in_ok-seal.ensures.seals at.0 (search rules) in
     let n = ap (λ (l : CoreLane). owed_of l.conts) turn.is ∙ owed-sealed (next_epoch (lane_of at.0)) (next_floor (lane_of at.0)) c.args.mark (conts_of at.0.containers) in
