@@ -1,7 +1,8 @@
 //! The machine by example.
 
 use sb_hand::sb_base::{END_MARK, Key, NoMemory, Record, Sequence, Stream, sum_plan};
-use sb_hand::sb_core::{Event, Moment, RunStop, StepStop, first, run, step};
+use sb_hand::sb_core::{Event, Moment};
+use sb_machine::{RunStop, StepStop, first, run, step};
 use std::alloc::Global;
 
 /// The arrival of records of a stream, each a time, a key and a value.

@@ -8,7 +8,7 @@ use sb_hand::sb_base::{
     Agg, Change, Combine, END_MARK, Field, Item, Key, Keys, Kind, MAX_KEY, MAX_TOP, Op, Plan,
     Record, Step, Table, Test, read_line,
 };
-use sb_hand::sb_slow::slow_rows;
+use sb_machine::sb_slow::slow_rows;
 use std::alloc::Global;
 use std::test::Fail;
 

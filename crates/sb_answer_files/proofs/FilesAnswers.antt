@@ -25,7 +25,7 @@ use Rattle.sb_answer_runs.specs.one_feed.Due.{AreFirstDropped, AreFirstRows, due
 use Rattle.sb_answer_runs.specs.run.declared.files.two_end.TwoEnd.{TwoEnd}
 use Rattle.sb_answer_runs.specs.run.declared.files.two_end.TwoEnd.TheVariants as two
 use Rattle.sb_answer_runs.specs.run.Files.{items_of_file, items_of_files, stream_alone}
-use Rattle.sb_answer_runs.specs.slow.Inputs.{by_stream}
+use Rattle.sb_answer_runs.specs.base.Inputs.{by_stream}
 use Rattle.sb_answer_runs.specs.run.TwoEnds.{FilesEndAt, FilesEndEarly, TwoEnds, as_run}
 use Rattle.sb_answer_runs.specs.words.declared.options.Options.{Options}
 use Rattle.sb_answer_runs.specs.told.declared.late.LateRecords.TheVariants.{OfFiles}

@@ -4,7 +4,7 @@ ghost use Rattle.std.specs.Prelude.{◌≡◌, ◌≤◌, ◌<◌, ◌^◌, fals
 ghost use Rattle.std.specs.Io.KnownBytes.{Keeps};
 ghost use Rattle.sb_answer_runs.specs.outside.Folders.{Load};
 ghost use Rattle.sb_answer_runs.specs.outside.Sinks.{SinkCause};
-ghost use Rattle.sb_answer_runs.specs.slow.Inputs.{by_stream};
+ghost use Rattle.sb_answer_runs.specs.base.Inputs.{by_stream};
 ghost use Rattle.sb_answer_runs.specs.run.RunEnds as ends;
 ghost use Rattle.sb_answer_runs.specs.run.TwoEnds.{TwoEnds, as_run};
 ghost use Rattle.sb_answer_runs.specs.words.Options.{AreInRange};

@@ -6,7 +6,6 @@ pub use Rattle.sb_answers.specs.diary
 pub use Rattle.sb_answers.specs.emit
 pub use Rattle.sb_answers.specs.live
 pub use Rattle.sb_answers.specs.base
-pub use Rattle.sb_answers.specs.slow
 pub use Rattle.sb_answers.specs.one_feed
 pub use Rattle.sb_answers.specs.run
 pub use Rattle.sb_answers.specs.cut

@@ -20,7 +20,7 @@ use Rattle.sb_cut.specs.checkpoint.Reach.{HasNoSession, is_session}
 use Rattle.sb_told.specs.plan.declared.fault.PlanFault.{PlanFault}
 use Rattle.sb_told.specs.plan.Failures.Failure.{Fails}
 use Rattle.sb_watch.specs.base.pipeline.Results.{output_of}
-use Rattle.sb_watch.specs.slow.Inputs.{by_stream}
+use Rattle.sb_watch.specs.base.Inputs.{by_stream}
 use Rattle.sb_watch.specs.outside.Folders.{Files, Load}
 use Rattle.sb_watch.specs.outside.Sinks.{AppendsPrefix}
 use Rattle.sb_watch.specs.outside.Sources.{Rose}

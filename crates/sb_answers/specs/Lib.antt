@@ -15,7 +15,6 @@ pub use Rattle.sb_watch.specs.diary
 pub use Rattle.sb_watch.specs.emit
 pub use Rattle.sb_watch.specs.live
 pub use Rattle.sb_watch.specs.base
-pub use Rattle.sb_watch.specs.slow
 pub use Rattle.sb_watch.specs.hand
 pub use Rattle.sb_watch.specs.one_feed
 pub use Rattle.sb_watch.specs.run

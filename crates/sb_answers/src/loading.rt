@@ -9,7 +9,7 @@ ghost use Rattle.sb_answers.specs.Faults.{IsWantedFor};
 ghost use Rattle.sb_answers.specs.Pipelines.{plan_in, GivesPlan, IsFaultOfCut};
 ghost use Rattle.sb_told.specs.plan.declared.fault.PlanFault.{PlanFault as APlanFault};
 ghost use Rattle.sb_cut.specs.checkpoint.Reach.{HasNoSession};
-ghost use Rattle.sb_watch.specs.slow.Inputs.{by_stream};
+ghost use Rattle.sb_watch.specs.base.Inputs.{by_stream};
 ghost use Rattle.sb_answers.specs.FileSteps.{HasNoBytes, HaveNoBytes};
 ghost use Rattle.sb_answers.specs.RecordFiles.{HasBytes, HaveBytes, IsLoadOfFile, record_load};
 ghost use Rattle.sb_cut.specs.checkpoint.Saved.{items_in};

@@ -1,3 +1,4 @@
+pub mod Inputs
 pub use Rattle.sb_record.specs as records
 pub use Rattle.sb_window.specs as window
 pub use Rattle.sb_pardo.specs as pardo

@@ -1,8 +1,9 @@
 //! The common ground: what flows through the engine, and what it is asked.
 //!
-//! Records and rows, windows, transforms of every kind, plans and bundles, each from the crate that defines it. The crates
-//! of the engine stand on this one library in place of seven: as the kit's build goes through the lists of crates by each
-//! of their paths, short lists are quick ones. Nothing is defined here.
+//! Records and rows, windows, transforms of every kind, plans and bundles, each from the crate that defines it. The
+//! crates of the engine stand on this one library in place of seven: as the kit's build goes through the lists of
+//! crates by each of their paths, short lists are quick ones. Nothing is defined here but a word on what there is of
+//! both streams (`specs/Inputs.antt`).
 #![tactic(auto)]
 
 pub use sb_aggregate::{Agg, AggPart, Aggregate, MAX_GAP, MAX_TOP, aggregated, part_of};

@@ -20,7 +20,6 @@ pub use Rattle.sb_hand.specs.diary
 pub use Rattle.sb_turn.specs as turn
 pub use Rattle.sb_hand.specs.base
 pub use Rattle.sb_hand.specs.work
-pub use Rattle.sb_hand.specs.slow
 pub use Rattle.sb_hand.specs.core
 pub use Rattle.sb_hand.specs.lane
 pub use Rattle.sb_hand.specs.tally

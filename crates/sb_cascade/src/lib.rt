@@ -26,5 +26,5 @@ pub use taking::TryTake;
 
 // What the crates above name of the crates below.
 pub use sb_hand;
-pub use sb_hand::{sb_base, sb_diary, sb_lane, sb_node, sb_slow, sb_work};
+pub use sb_hand::{sb_base, sb_diary, sb_lane, sb_node, sb_work};
 pub use sb_turn;

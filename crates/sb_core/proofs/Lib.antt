@@ -7,4 +7,4 @@ pub mod lawful
 pub mod sound
 pub mod parts
 pub mod ends
-pub use Rattle.sb_slow.proofs.base
+pub use Rattle.sb_base.proofs as base

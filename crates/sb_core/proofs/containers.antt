@@ -1,6 +1,5 @@
 -- What the changes of a lane do to its containers.
 pub mod Lists
-pub mod Closed
 pub mod InEpoch
 pub mod LaneLaws
 pub mod TidyLanes

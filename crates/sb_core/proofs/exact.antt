@@ -1,5 +1,4 @@
 -- What each node gives stays the same.
-pub mod Nodewise
 pub mod Nodes
 pub mod Gives
 pub mod Flow

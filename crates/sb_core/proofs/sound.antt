@@ -9,5 +9,4 @@ pub mod BeginSound
 pub mod EndSound
 pub mod AfterSound
 pub mod FirstMoment
-pub mod Stepping
 pub mod AnyOrder

@@ -1,6 +1,6 @@
 -- Words on options and lists.
 use Rattle.std.specs.Prelude.{Bool, true, false, if◌then◌else◌, List, [], ◌∷◌, Option, Some, None}
-use Rattle.sb_slow.specs.base.records.Reading.{◌>>=◌}
+use Rattle.sb_base.specs.records.Reading.{◌>>=◌}
 
 -- the value, where the test passes
 abbrev pub only_if : {X : Type 0} → Bool → Option X → Option X

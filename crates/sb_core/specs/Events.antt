@@ -3,13 +3,13 @@ use Rattle.std.specs.Prelude.{ℕ, ◌+◌, ◌^◌, ◌-◌, ◌==◌, nat_lt, 
 use Rattle.std.specs.Prelude.{if◌then◌else◌, List, [], ◌∷◌, ◌++◌, length, take, drop, Option, Some, None, slice_get}
 use Rattle.std.specs.Prelude.{slice_set}
 use Rattle.std.specs.List.{list_any, list_all}
-use Rattle.sb_slow.specs.base.records.declared.item.Record.{Record}
-use Rattle.sb_slow.specs.base.records.declared.item.TheConstants.{MAX_TIME, END_MARK}
-use Rattle.sb_slow.specs.base.records.Reading.{◌>>=◌}
-use Rattle.sb_slow.specs.base.records.Elements.{on_lane}
-use Rattle.sb_slow.specs.base.pipeline.declared.transform.Down.{Down}
-use Rattle.sb_slow.specs.base.pipeline.Shapes.{Shape, source}
-use Rattle.sb_slow.specs.base.pipeline.Operators.{operator_at}
+use Rattle.sb_base.specs.records.declared.item.Record.{Record}
+use Rattle.sb_base.specs.records.declared.item.TheConstants.{MAX_TIME, END_MARK}
+use Rattle.sb_base.specs.records.Reading.{◌>>=◌}
+use Rattle.sb_base.specs.records.Elements.{on_lane}
+use Rattle.sb_base.specs.pipeline.declared.transform.Down.{Down}
+use Rattle.sb_base.specs.pipeline.Shapes.{Shape, source}
+use Rattle.sb_base.specs.pipeline.Operators.{operator_at}
 use Rattle.sb_core.specs.declared.moment.Node.{Node}
 use Rattle.sb_core.specs.declared.moment.Moment.{Moment}
 use Rattle.sb_core.specs.declared.held.Held.{Held}

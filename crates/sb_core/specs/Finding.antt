@@ -1,6 +1,6 @@
 -- Where the first element is that passes, and what is held there.
 use Rattle.std.specs.Prelude.{◌≡◌, ◌<◌, ℕ, Bool, List, length, remove, slice_get, Option, Some, None}
-use Rattle.sb_slow.specs.base.records.declared.item.Record.{Record}
+use Rattle.sb_base.specs.records.declared.item.Record.{Record}
 use Rattle.sb_core.specs.declared.held.Held.{Held}
 use Rattle.sb_core.specs.declared.held.Held.TheVariants.{Work, Close}
 use Rattle.sb_core.specs.Choices.{first_and_rest}

@@ -1,13 +1,13 @@
 -- What holds of each Work and each Close.
 use Rattle.std.specs.Prelude.{◌≡◌, ℕ, ◌+◌, ◌<◌, ◌≤◌, ◌==◌, Bool, true, false, not, ◌&&◌, List, [], Some, slice_get}
 use Rattle.std.specs.List.{AllByRecursion, list_any}
-use Rattle.sb_slow.specs.base.records.declared.item.Record.{Record}
-use Rattle.sb_slow.specs.base.records.Orders.{IsAscending}
-use Rattle.sb_slow.specs.base.records.Records.{record_cmp}
-use Rattle.sb_slow.specs.base.window.declared.windows.TheConstants.{MAX_SIZE}
-use Rattle.sb_slow.specs.base.pipeline.declared.transform.Step.{Step}
-use Rattle.sb_slow.specs.base.pipeline.Shapes.{Shape}
-use Rattle.sb_slow.specs.base.pipeline.Operators.{operator_at}
+use Rattle.sb_base.specs.records.declared.item.Record.{Record}
+use Rattle.sb_base.specs.records.Orders.{IsAscending}
+use Rattle.sb_base.specs.records.Records.{record_cmp}
+use Rattle.sb_base.specs.window.declared.windows.TheConstants.{MAX_SIZE}
+use Rattle.sb_base.specs.pipeline.declared.transform.Step.{Step}
+use Rattle.sb_base.specs.pipeline.Shapes.{Shape}
+use Rattle.sb_base.specs.pipeline.Operators.{operator_at}
 use Rattle.sb_core.specs.declared.moment.Cont.{Cont}
 use Rattle.sb_core.specs.declared.moment.CoreLane.{CoreLane}
 use Rattle.sb_core.specs.declared.moment.Moment.{Moment}

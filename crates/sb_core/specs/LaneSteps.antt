@@ -1,9 +1,9 @@
 -- What becomes of a single lane in a step.
 use Rattle.std.specs.Prelude.{◌≡◌, ℕ, ◌-◌, ◌^◌, nat_lt, List, Option, Some, None}
-use Rattle.sb_slow.specs.base.records.declared.item.Record.{Record}
-use Rattle.sb_slow.specs.base.records.Reading.{◌>>=◌}
-use Rattle.sb_slow.specs.base.bundle.declared.bundle.Bundle.{Bundle}
-use Rattle.sb_slow.specs.base.pipeline.declared.transform.Down.{Down}
+use Rattle.sb_base.specs.records.declared.item.Record.{Record}
+use Rattle.sb_base.specs.records.Reading.{◌>>=◌}
+use Rattle.sb_base.specs.bundle.declared.bundle.Bundle.{Bundle}
+use Rattle.sb_base.specs.pipeline.declared.transform.Down.{Down}
 use Rattle.sb_core.specs.declared.moment.CoreLane.{CoreLane}
 use Rattle.sb_core.specs.declared.moment.Moment.{Moment}
 use Rattle.sb_core.specs.Choices.{only_if}

@@ -8,9 +8,6 @@ pub mod Events
 pub mod LaneSteps
 pub mod MomentSteps
 pub mod Finding
-pub mod Places
-pub mod Steps
-pub mod Beginnings
 pub mod Exactness
 pub mod LaneOrder
 pub mod Holdings
@@ -20,5 +17,4 @@ pub mod Parts
 pub mod OneLane
 pub mod NewRows
 pub mod Rest
-pub use Rattle.sb_slow.specs.base
-pub use Rattle.sb_slow.specs as slow
+pub use Rattle.sb_base.specs as base

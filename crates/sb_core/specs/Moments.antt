@@ -1,11 +1,11 @@
 -- Moments: the whole state of the engine between two events.
 use Rattle.std.specs.Prelude.{ℕ, ◌==◌, Bool, false, ◌&&◌, List, [], ◌∷◌, ◌++◌, map, replicate, Option, Some, None}
 use Rattle.std.specs.Prelude.{slice_get, slice_index_or, slice_set}
-use Rattle.sb_slow.specs.base.records.Reading.{◌>>=◌}
-use Rattle.sb_slow.specs.base.pipeline.declared.transform.Down.{Down}
-use Rattle.sb_slow.specs.base.pipeline.Shapes.{Shape}
-use Rattle.sb_slow.specs.base.pipeline.Operators.{Operator, operator_of, lanes_of}
-use Rattle.sb_slow.specs.base.pipeline.Operators.Operator.{Sink}
+use Rattle.sb_base.specs.records.Reading.{◌>>=◌}
+use Rattle.sb_base.specs.pipeline.declared.transform.Down.{Down}
+use Rattle.sb_base.specs.pipeline.Shapes.{Shape}
+use Rattle.sb_base.specs.pipeline.Operators.{Operator, operator_of, lanes_of}
+use Rattle.sb_base.specs.pipeline.Operators.Operator.{Sink}
 use Rattle.sb_core.specs.declared.moment.CoreLane.{CoreLane}
 use Rattle.sb_core.specs.declared.moment.Node.{Node}
 use Rattle.sb_core.specs.declared.moment.Moment.{Moment}

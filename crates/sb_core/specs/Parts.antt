@@ -1,7 +1,7 @@
 -- The laws of the events by the part of one node.
 use Rattle.std.specs.Prelude.{◌≡◌, ◌⊎◌, ℕ, true, List, ◌∷◌, ◌++◌, [], Some, None, slice_get, slice_set}
-use Rattle.sb_slow.specs.base.pipeline.Shapes.{Shape}
-use Rattle.sb_slow.specs.base.pipeline.Plans.{IsPlan}
+use Rattle.sb_base.specs.pipeline.Shapes.{Shape}
+use Rattle.sb_base.specs.pipeline.Plans.{IsPlan}
 use Rattle.sb_core.specs.declared.moment.Node.{Node}
 use Rattle.sb_core.specs.declared.moment.Moment.{Moment}
 use Rattle.sb_core.specs.declared.held.Held.{Held}

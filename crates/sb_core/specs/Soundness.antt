@@ -2,17 +2,17 @@
 use Rattle.std.specs.Prelude.{◌≡◌, ℕ, ◌+◌, ◌≤◌, ◌<◌, ◌==◌, Bool, true, false, ◌&&◌, List, [], ◌∷◌, length, count_by}
 use Rattle.std.specs.Prelude.{sum_by, Some, slice_get}
 use Rattle.std.specs.List.{AllByRecursion, list_any}
-use Rattle.sb_slow.specs.base.records.declared.item.Stream.{Stream}
-use Rattle.sb_slow.specs.base.records.declared.item.TheConstants.{MAX_TIME}
-use Rattle.sb_slow.specs.base.records.Orders.{IsAscending}
-use Rattle.sb_slow.specs.base.records.Records.{record_cmp}
-use Rattle.sb_slow.specs.base.bundle.declared.bundle.TheConstants.{MAX_BUNDLE}
-use Rattle.sb_slow.specs.base.pipeline.declared.transform.Down.{Down}
-use Rattle.sb_slow.specs.base.records.declared.element.KeptRec.{KeptRec}
-use Rattle.sb_slow.specs.base.pipeline.declared.transform.Step.{Step}
-use Rattle.sb_slow.specs.base.pipeline.Shapes.{Shape, source}
-use Rattle.sb_slow.specs.base.pipeline.Operators.{Operator, operator_at, lanes_of}
-use Rattle.sb_slow.specs.base.pipeline.Operators.Operator.{ParDo, Windowed, Sink}
+use Rattle.sb_base.specs.records.declared.item.Stream.{Stream}
+use Rattle.sb_base.specs.records.declared.item.TheConstants.{MAX_TIME}
+use Rattle.sb_base.specs.records.Orders.{IsAscending}
+use Rattle.sb_base.specs.records.Records.{record_cmp}
+use Rattle.sb_base.specs.bundle.declared.bundle.TheConstants.{MAX_BUNDLE}
+use Rattle.sb_base.specs.pipeline.declared.transform.Down.{Down}
+use Rattle.sb_base.specs.records.declared.element.KeptRec.{KeptRec}
+use Rattle.sb_base.specs.pipeline.declared.transform.Step.{Step}
+use Rattle.sb_base.specs.pipeline.Shapes.{Shape, source}
+use Rattle.sb_base.specs.pipeline.Operators.{Operator, operator_at, lanes_of}
+use Rattle.sb_base.specs.pipeline.Operators.Operator.{ParDo, Windowed, Sink}
 use Rattle.sb_core.specs.declared.moment.Cont.{Cont}
 use Rattle.sb_core.specs.declared.moment.CoreLane.{CoreLane}
 use Rattle.sb_core.specs.declared.moment.Moment.{Moment}

@@ -1,11 +1,6 @@
 //! Events: what changes a moment.
 
-ghost use Rattle.std.specs.Prelude.{◌≡◌, true, IfOk, OnErr};
-ghost use Rattle.sb_core.specs.declared.moment.Moment.{Moment as AMoment};
-ghost use Rattle.sb_core.specs.Steps.{asks_for_memory};
-
-use sb_slow::sb_base::{NoMemory, Record, Sequence, Stream};
-use std::alloc::Global;
+use sb_base::{Record, Sequence, Stream};
 
 /// A single change of a moment. Workers make them in any order: each has a condition, and only where that holds the
 /// event can happen.
@@ -54,48 +49,4 @@ pub enum Event {
     End {
         node: u32,
     },
-}
-
-impl Event {
-    /// The event once more, with records of its own. Only an [`Event::Arrive`] has records, and takes memory.
-    pub fn copy(&self, alloc: Global) -> Result<Event, NoMemory>
-        ensures value { IfOk result (λ event. event ≡ self.now) }
-        ensures memory { OnErr result ((moment : AMoment) → asks_for_memory moment self.now ≡ true) }
-    {
-        Ok(match self {
-            Event::Arrive { stream, records } => {
-                let mut copied = Vec::new(alloc);
-                copied.extend_from_slice(records.as_slice())?;
-                Event::Arrive {
-                    stream: *stream,
-                    records: Sequence::new(copied),
-                }
-            }
-            Event::Seal { stream, mark } => Event::Seal {
-                stream: *stream,
-                mark: *mark,
-            },
-            Event::Take { node, lane, number } => Event::Take {
-                node: *node,
-                lane: *lane,
-                number: *number,
-            },
-            Event::Deliver { node, lane, number } => Event::Deliver {
-                node: *node,
-                lane: *lane,
-                number: *number,
-            },
-            Event::Finish { node, lane, number } => Event::Finish {
-                node: *node,
-                lane: *lane,
-                number: *number,
-            },
-            Event::Begin { node, lane } => Event::Begin {
-                node: *node,
-                lane: *lane,
-            },
-            Event::Pass { node } => Event::Pass { node: *node },
-            Event::End { node } => Event::End { node: *node },
-        })
-    }
 }

@@ -4,28 +4,17 @@
 //! workers have in hand. An [`Event`] is a single change: a bundle or a watermark comes, a worker takes a bundle,
 //! delivers what it gives, finishes it, begins the closing of a container, passes its watermark, or ends it. [`laws`]
 //! states what holds of every list of events, in whatever order workers make them: no record is lost and none counts
-//! twice.
+//! twice. What runs events on a moment is `sb_machine`.
 #![tactic(auto)]
 
-mod begin;
-mod bundles;
-mod closings;
 mod event;
-mod feeding;
 mod held;
-mod hold;
-mod lanes;
 pub mod laws;
-mod machine;
-mod marks;
 mod moment;
-mod operate;
 
 pub use event::Event;
 pub use held::Held;
-pub use machine::{RunStop, StepStop, first, run, step};
 pub use moment::{Cont, CoreLane, Moment, Node};
 
 // What the crates above name of the crates below.
-pub use sb_slow;
-pub use sb_slow::sb_base;
+pub use sb_base;

@@ -1,7 +1,7 @@
 //! Moments: the whole state of the engine between two events.
 
 use crate::held::Held;
-use sb_slow::sb_base::{Bundle, KeptRec, Record, Sequence};
+use sb_base::{Bundle, KeptRec, Record, Sequence};
 
 /// The container of an epoch in a lane: its bundles, and its watermark once it has come.
 #[derive(Drop)]

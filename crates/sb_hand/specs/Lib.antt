@@ -16,7 +16,6 @@ pub mod Todo
 pub use Rattle.sb_node.specs.diary
 pub use Rattle.sb_node.specs.base
 pub use Rattle.sb_node.specs.work
-pub use Rattle.sb_tally.specs.slow
 pub use Rattle.sb_tally.specs.core
 pub use Rattle.sb_node.specs.lane
 pub use Rattle.sb_tally.specs as tally

@@ -18,4 +18,4 @@ pub use hand::{Hand, HandParts, MAX_PENDING};
 // What the crates above name of the crates below.
 pub use sb_node;
 pub use sb_node::{sb_base, sb_diary, sb_lane, sb_work};
-pub use sb_tally::{sb_core, sb_slow};
+pub use sb_tally::sb_core;

@@ -20,7 +20,7 @@ use Rattle.sb_run.specs.declared.files.reading.FilePart.{FilePart}
 use Rattle.sb_run.specs.declared.files.reading.Files.{Files}
 use Rattle.sb_run.specs.declared.files.reading.FilesDone.{FilesDone}
 use Rattle.sb_run.specs.Files.{accepted_of_file, stream_alone}
-use Rattle.sb_worker.specs.slow.Inputs.{by_stream}
+use Rattle.sb_feeds.specs.base.Inputs.{by_stream}
 use Rattle.sb_run.specs.FilesRead.{AreFedWhole, AreNew, AreOpened, IsFedWhole, IsOpened}
 use Rattle.sb_run.specs.Pops.{AreInlets, values_of}
 

@@ -14,7 +14,6 @@ pub use Rattle.sb_feeds.specs.outside
 pub use Rattle.sb_worker.specs.diary
 pub use Rattle.sb_feeds.specs.emit
 pub use Rattle.sb_feeds.specs.base
-pub use Rattle.sb_worker.specs.slow
 pub use Rattle.sb_worker.specs.tally
 pub use Rattle.sb_worker.specs.node
 pub use Rattle.sb_worker.specs.hand

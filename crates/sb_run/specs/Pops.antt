@@ -21,7 +21,7 @@ use Rattle.sb_run.specs.declared.files.inlet.Inlet.{Inlet}
 use Rattle.sb_run.specs.declared.files.inlets.Inlets.{Inlets}
 use Rattle.sb_run.specs.declared.files.inlets.FilesStop.{FilesStop}
 use Rattle.sb_run.specs.declared.files.inlets.FilesStop.TheVariants.{End, Refused}
-use Rattle.sb_worker.specs.slow.Inputs.{by_stream}
+use Rattle.sb_feeds.specs.base.Inputs.{by_stream}
 
 -- whether the two are the same stream
 abbrev pub is_stream : Stream → Stream → Bool

@@ -24,4 +24,4 @@ pub use together::execute;
 
 // What the crates above name of the crates below.
 pub use sb_feeds::{sb_base, sb_emit, sb_feed, sb_outside};
-pub use sb_worker::{sb_diary, sb_hand, sb_slow, sb_work};
+pub use sb_worker::{sb_diary, sb_hand, sb_work};

@@ -6,7 +6,7 @@ ghost use Rattle.sb_base.specs.pipeline.Flow as flow;
 ghost use Rattle.sb_base.specs.pipeline.Operators as operators;
 ghost use Rattle.sb_base.specs.pipeline.Plans.{IsValidKind};
 ghost use Rattle.sb_base.specs.pipeline.Results as results;
-ghost use Rattle.sb_slow.specs.Inputs.{by_stream};
+ghost use Rattle.sb_base.specs.Inputs.{by_stream};
 
 use crate::gather::records_of;
 use crate::operate::{first_lane, given_for};

@@ -4,7 +4,7 @@
 ghost use Rattle.std.specs.Prelude.{◌≡◌, ◌++◌, [], ◌∷◌, OnOk, IfOk};
 ghost use Rattle.sb_base.specs.pipeline.Flow as flow;
 ghost use Rattle.sb_base.specs.pipeline.Shapes.{source};
-ghost use Rattle.sb_slow.specs.Inputs.{by_stream};
+ghost use Rattle.sb_base.specs.Inputs.{by_stream};
 ghost use Rattle.sb_slow.specs.Sendings as spec;
 
 use sb_base::{Down, NoMemory, Plan, Record, Sequence, Stream};

@@ -20,3 +20,4 @@ pub use status::Status;
 
 // What the crates above name of the crates below.
 pub use sb_plan;
+pub use sb_slow;

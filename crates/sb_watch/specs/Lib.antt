@@ -4,7 +4,6 @@ pub use Rattle.sb_run.specs.diary
 pub use Rattle.sb_run.specs.emit
 pub use Rattle.sb_live.specs as live
 pub use Rattle.sb_run.specs.base
-pub use Rattle.sb_run.specs.slow
 pub use Rattle.sb_run.specs.tally
 pub use Rattle.sb_run.specs.node
 pub use Rattle.sb_run.specs.hand

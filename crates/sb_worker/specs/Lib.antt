@@ -3,7 +3,6 @@ pub mod Helping
 pub mod Steps
 pub use Rattle.sb_cascade.specs.diary
 pub use Rattle.sb_cascade.specs.turn
-pub use Rattle.sb_cascade.specs.slow
 pub use Rattle.sb_cascade.specs.core
 pub use Rattle.sb_cascade.specs.lane
 pub use Rattle.sb_cascade.specs.tally

@@ -15,4 +15,4 @@ pub use working::work_off;
 
 // What the crates above name of the crates below.
 pub use sb_cascade;
-pub use sb_cascade::{sb_diary, sb_hand, sb_lane, sb_slow, sb_turn, sb_work};
+pub use sb_cascade::{sb_diary, sb_hand, sb_lane, sb_turn, sb_work};

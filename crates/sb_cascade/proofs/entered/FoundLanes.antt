@@ -20,7 +20,7 @@ use Rattle.sb_hand.specs.core.Closings.{is_sink}
 use Rattle.sb_hand.specs.core.Events.{below}
 use Rattle.sb_hand.specs.core.LaneOrder.{IsLane}
 use Rattle.sb_hand.specs.core.Moments.{lane_at, node_at}
-use Rattle.sb_hand.proofs.core.places.BeginParts.{sink-last}
+use Rattle.sb_hand.proofs.core.times.Timely.{sink-last}
 use Rattle.sb_hand.specs.lane.LaneView.{LaneView, lane_of}
 use Rattle.sb_hand.specs.node.Changes.{HasLane}
 use Rattle.sb_hand.proofs.Beginning.{lanes_two}

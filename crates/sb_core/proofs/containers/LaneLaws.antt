@@ -1,15 +1,15 @@
 -- The changes of a lane keep its containers in order.
-use Rattle.sb_slow.specs.base.NumberLemmas.{bind_some}
+use Rattle.sb_base.specs.NumberLemmas.{bind_some}
 use Rattle.std.proofs.Common.{◌≡◌, ℕ, ◌+◌, ◌≤◌, ◌<◌, Bool, true, false, not, cond, eqb, ltb, List, [], ◌∷◌, ◌++◌, length, Some, Option, sym, ◌∙◌, refl, subst, arith, ⊎_elim}
 use Rattle.std.specs.Prelude.{◌≢◌}
 use Rattle.std.specs.List.{filter, list_any, AllByRecursion}
 use Rattle.std.proofs.lemmas.Bool.{eq-eqb, ne_eqb, cases_eq, lt-ltb, le-ltb, cases_lt}
 use Rattle.std.proofs.lemmas.Option.{same_Some}
-use Rattle.sb_slow.specs.base.records.declared.item.Record.{Record}
-use Rattle.sb_slow.specs.base.bundle.declared.bundle.Bundle.{Bundle}
+use Rattle.sb_base.specs.records.declared.item.Record.{Record}
+use Rattle.sb_base.specs.bundle.declared.bundle.Bundle.{Bundle}
 use Rattle.sb_core.specs.declared.moment.Cont.{Cont}
-use Rattle.sb_slow.specs.base.records.Reading.{◌>>=◌}
-use Rattle.sb_slow.specs.base.ElementLemmas.{every}
+use Rattle.sb_base.specs.records.Reading.{◌>>=◌}
+use Rattle.sb_base.specs.ElementLemmas.{every}
 use Rattle.sb_core.specs.Lanes.{fresh, in_epoch, with_bundle, take_from, finish_in, next_floor}
 use Rattle.sb_core.specs.Choices.{first_and_rest}
 use Rattle.sb_core.specs.LaneOrder.{NeverFalls, IsWithin, IsBundleOf, IsSealed, IsOpen, AreOpen, AreContainers}

@@ -1,5 +1,5 @@
 -- What the words on lists and lanes do to the records that wait.
-use Rattle.sb_slow.specs.base.NumberLemmas.{bind_some}
+use Rattle.sb_base.specs.NumberLemmas.{bind_some}
 use Rattle.std.proofs.Common.{◌≡◌, ℕ, ◌+◌, Bool, true, false, cond, eqb, ltb, List, [], ◌∷◌, ◌++◌, Some, None, Option, sym, refl, ap, ◌∙◌, arith, add_assoc}
 use Rattle.std.specs.List.{filter, sum_by, flat_map, list_any}
 use Rattle.std.proofs.Math.Nat.{add_left_comm}
@@ -7,13 +7,13 @@ use Rattle.std.proofs.lemmas.List.Sums.{sum_by-append, sum_by-cons}
 use Rattle.std.proofs.lemmas.List.Concat.{flat_map-append}
 use Rattle.std.proofs.lemmas.Option.{same_Some}
 use Rattle.std.specs.Prelude.{is_some, ◌||◌}
-use Rattle.sb_slow.specs.base.records.declared.item.Record.{Record}
-use Rattle.sb_slow.specs.base.bundle.declared.bundle.Bundle.{Bundle}
+use Rattle.sb_base.specs.records.declared.item.Record.{Record}
+use Rattle.sb_base.specs.bundle.declared.bundle.Bundle.{Bundle}
 use Rattle.sb_core.specs.declared.moment.Cont.{Cont}
-use Rattle.sb_slow.specs.base.records.Reading.{◌>>=◌}
+use Rattle.sb_base.specs.records.Reading.{◌>>=◌}
 use Rattle.sb_core.specs.Choices.{first_and_rest, is_empty}
 use Rattle.sb_core.specs.Lanes.{fresh, in_epoch, with_bundle, take_from}
-use Rattle.sb_slow.specs.base.SumLemmas.{IsReordered, sum_by-flat_map}
+use Rattle.sb_base.specs.SumLemmas.{IsReordered, sum_by-flat_map}
 
 pub cond_is_some : {X : Type 0} (b : Bool) (o : Option X) (x : X) → cond b o None ≡ Some x → (b ≡ true) × (o ≡ Some x)
 cond_is_some true o x h = (refl, h)

@@ -11,7 +11,7 @@ use Rattle.sb_core.specs.LaneOrder.{NeverFalls, AreOpen, AreContainers, IsLane, 
 use Rattle.sb_core.proofs.containers.Fitting.{Fits}
 use Rattle.sb_core.proofs.times.InTime.{ups, next_mark}
 use Rattle.sb_core.proofs.exact.Nodes.{begun_mark}
-use Rattle.sb_slow.specs.base.ElementLemmas.{every}
+use Rattle.sb_base.specs.ElementLemmas.{every}
 
 -- epochs rise, and floors do not fall
 abbrev pub AreRising : ℕ → ℕ → List Cont → Type 0

@@ -5,17 +5,17 @@ use Rattle.std.specs.List.{slice_get, list_any, AllByRecursion}
 use Rattle.std.proofs.lemmas.Bool.{eq-eqb, cases_lt}
 use Rattle.std.proofs.lemmas.List.Sums.{sum_by-cons}
 use Rattle.std.proofs.lemmas.Option.{same_Some, slice_get_cases, slice_get_within}
-use Rattle.sb_slow.specs.base.records.declared.item.Stream.{Stream}
-use Rattle.sb_slow.specs.base.records.declared.item.Stream.TheVariants.{A, B}
-use Rattle.sb_slow.specs.base.pipeline.declared.transform.Down.{Down}
-use Rattle.sb_slow.specs.base.pipeline.declared.transform.Step.{Step}
-use Rattle.sb_slow.specs.base.pipeline.Shapes.{Shape, source}
-use Rattle.sb_slow.specs.base.pipeline.Operators.{Operator, operator_at, lanes_of}
-use Rattle.sb_slow.specs.base.pipeline.Operators.Operator.{ParDo, Windowed, Sink}
-use Rattle.sb_slow.specs.base.pipeline.Operators.WindowOperator.{Aggregated, Sessions, Joined}
-use Rattle.sb_slow.specs.base.pipeline.Plans.{IsPlace, IsPlan}
-use Rattle.sb_slow.specs.base.FeedingLemmas as Feeding
-use Rattle.sb_slow.specs.base.StepLemmas.{place-at}
+use Rattle.sb_base.specs.records.declared.item.Stream.{Stream}
+use Rattle.sb_base.specs.records.declared.item.Stream.TheVariants.{A, B}
+use Rattle.sb_base.specs.pipeline.declared.transform.Down.{Down}
+use Rattle.sb_base.specs.pipeline.declared.transform.Step.{Step}
+use Rattle.sb_base.specs.pipeline.Shapes.{Shape, source}
+use Rattle.sb_base.specs.pipeline.Operators.{Operator, operator_at, lanes_of}
+use Rattle.sb_base.specs.pipeline.Operators.Operator.{ParDo, Windowed, Sink}
+use Rattle.sb_base.specs.pipeline.Operators.WindowOperator.{Aggregated, Sessions, Joined}
+use Rattle.sb_base.specs.pipeline.Plans.{IsPlace, IsPlan}
+use Rattle.sb_base.specs.FeedingLemmas as Feeding
+use Rattle.sb_base.specs.StepLemmas.{place-at}
 use Rattle.sb_core.specs.declared.moment.Cont.{Cont}
 use Rattle.sb_core.specs.declared.moment.CoreLane.{CoreLane}
 use Rattle.sb_core.specs.declared.moment.Moment.{Moment}

@@ -3,16 +3,16 @@ use Rattle.std.proofs.Common.{◌≡◌, ℕ, suc, zero, ◌≤◌, ◌<◌, Boo
 use Rattle.std.specs.Prelude.{◌&&◌, ◌||◌}
 use Rattle.std.specs.List.{slice_get, list_any, AllByRecursion}
 use Rattle.std.proofs.lemmas.Option.{slice_get_within}
-use Rattle.sb_slow.specs.base.NumberLemmas.{bind_some}
-use Rattle.sb_slow.specs.base.records.declared.item.Stream.{Stream}
-use Rattle.sb_slow.specs.base.records.declared.item.TheConstants.{END_MARK, MAX_TIME}
-use Rattle.sb_slow.specs.base.pipeline.declared.transform.Down.{Down}
-use Rattle.sb_slow.specs.base.pipeline.declared.transform.Step.{Step}
-use Rattle.sb_slow.specs.base.pipeline.Shapes.{Shape, source}
-use Rattle.sb_slow.specs.base.pipeline.Operators.{Operator, operator_at}
-use Rattle.sb_slow.specs.base.pipeline.Operators.Operator.{ParDo, Windowed, Sink}
-use Rattle.sb_slow.specs.base.pipeline.Plans.{IsPlan}
-use Rattle.sb_slow.specs.base.FeedingLemmas as Feeding
+use Rattle.sb_base.specs.NumberLemmas.{bind_some}
+use Rattle.sb_base.specs.records.declared.item.Stream.{Stream}
+use Rattle.sb_base.specs.records.declared.item.TheConstants.{END_MARK, MAX_TIME}
+use Rattle.sb_base.specs.pipeline.declared.transform.Down.{Down}
+use Rattle.sb_base.specs.pipeline.declared.transform.Step.{Step}
+use Rattle.sb_base.specs.pipeline.Shapes.{Shape, source}
+use Rattle.sb_base.specs.pipeline.Operators.{Operator, operator_at}
+use Rattle.sb_base.specs.pipeline.Operators.Operator.{ParDo, Windowed, Sink}
+use Rattle.sb_base.specs.pipeline.Plans.{IsPlan}
+use Rattle.sb_base.specs.FeedingLemmas as Feeding
 use Rattle.sb_core.specs.declared.moment.Cont.{Cont}
 use Rattle.sb_core.specs.declared.moment.CoreLane.{CoreLane}
 use Rattle.sb_core.specs.declared.moment.Moment.{Moment}

@@ -1,5 +1,5 @@
 -- What each single event does to what the nodes of a lawful moment have yet to give.
-use Rattle.sb_slow.specs.base.NumberLemmas.{bind_some}
+use Rattle.sb_base.specs.NumberLemmas.{bind_some}
 use Rattle.sb_core.specs.Choices
 use Rattle.sb_core.specs.Closings
 use Rattle.sb_core.specs.Events
@@ -8,7 +8,7 @@ use Rattle.sb_core.specs.MomentSteps
 use Rattle.sb_core.specs.Lanes
 use Rattle.sb_core.specs.Marks
 use Rattle.sb_core.specs.Moments
-use Rattle.sb_slow.specs.base.records.declared.item.TheConstants
+use Rattle.sb_base.specs.records.declared.item.TheConstants
 use Rattle.std.proofs.Common.{◌≡◌, ℕ, ◌+◌, ◌-◌, ◌≤◌, ◌<◌, ◌^◌, Bool, true, false, not, cond, eqb, ltb, List, [], ◌∷◌, ◌++◌, length, take, drop, Some, Option, sym, refl, ap, subst, ◌∙◌, arith, ⊎_elim, get_or, length-drop, length-append, set as slice_set}
 use Rattle.std.specs.Prelude.{◌&&◌, nat_lt, nat_le}
 use Rattle.std.specs.List.{flat_map, sum_by, slice_get, list_all, All, AllByRecursion}
@@ -19,15 +19,15 @@ use Rattle.std.proofs.lemmas.Option.{slice_get_within, same_Some}
 use Rattle.std.proofs.lemmas.List.Sums.{sum_by-append}
 use Rattle.std.proofs.Math.Nat.{add_comm}
 use Rattle.std.proofs.lemmas.List.{get_or-append_right, get_or_append_left}
-use Rattle.sb_slow.specs.base.records.declared.item.Record.{Record}
-use Rattle.sb_slow.specs.base.records.declared.item.Stream.{Stream}
-use Rattle.sb_slow.specs.base.records.declared.item.Stream.TheVariants.{A, B}
+use Rattle.sb_base.specs.records.declared.item.Record.{Record}
+use Rattle.sb_base.specs.records.declared.item.Stream.{Stream}
+use Rattle.sb_base.specs.records.declared.item.Stream.TheVariants.{A, B}
 use Rattle.sb_core.specs.declared.moment.Cont.{Cont}
 use Rattle.sb_core.specs.declared.moment.CoreLane.{CoreLane}
-use Rattle.sb_slow.specs.base.pipeline.declared.transform.Down.{Down}
+use Rattle.sb_base.specs.pipeline.declared.transform.Down.{Down}
 use Rattle.sb_core.specs.declared.moment.Node.{Node}
-use Rattle.sb_slow.specs.base.pipeline.declared.transform.Step.{Step}
-use Rattle.sb_slow.specs.base.pipeline.Shapes.{Shape, source}
+use Rattle.sb_base.specs.pipeline.declared.transform.Step.{Step}
+use Rattle.sb_base.specs.pipeline.Shapes.{Shape, source}
 use Rattle.sb_core.specs.declared.moment.Moment.{Moment}
 use Rattle.sb_core.specs.declared.held.Held.{Held}
 use Rattle.sb_core.specs.declared.held.Held.TheVariants.{Work, Close}
@@ -38,17 +38,17 @@ use Rattle.sb_core.specs.LaneOrder.{AreContainers, IsLane, IsReady}
 use Rattle.sb_core.specs.Bounds.{bound_at}
 use Rattle.sb_core.specs.Closings.{is_pardo}
 use Rattle.sb_core.proofs.sound.Orderly.{IsLawful}
-use Rattle.sb_slow.specs.base.SumLemmas.{IsReordered, IsReordered-flat_map}
+use Rattle.sb_base.specs.SumLemmas.{IsReordered, IsReordered-flat_map}
 use Rattle.sb_core.proofs.containers.Lists.{cond_is_some, waiting_of, IsReordered-pulled}
-use Rattle.sb_slow.specs.base.pipeline.Operators.{Operator, operator_at}
-use Rattle.sb_slow.specs.base.pardo.Outputs.{outputs_of}
-use Rattle.sb_slow.specs.base.pipeline.Operators.Operator.{ParDo, Windowed, Sink}
+use Rattle.sb_base.specs.pipeline.Operators.{Operator, operator_at}
+use Rattle.sb_base.specs.pardo.Outputs.{outputs_of}
+use Rattle.sb_base.specs.pipeline.Operators.Operator.{ParDo, Windowed, Sink}
 use Rattle.sb_core.specs.Holdings.{IsHeld}
 use Rattle.sb_core.proofs.containers.LaneLaws.{All-pulled}
 use Rattle.sb_core.proofs.exact.Nodes.{begun_mark, lane_at-set, lane_at-cases, node_at-same, node_at-set_same, lane_at-is}
 use Rattle.sb_core.proofs.exact.MoveExact.{arrival-gives, calm-gives, waiting-with_seal, rows-gives, delivery-gives}
 use Rattle.sb_core.proofs.exact.FinishExact.{finished-gives}
-use Rattle.sb_slow.specs.base.pipeline.Plans.{IsPlan}
+use Rattle.sb_base.specs.pipeline.Plans.{IsPlan}
 use Rattle.sb_core.proofs.exact.BeginExact.{begun-gives}
 use Rattle.sb_core.proofs.windows.WindowsAt.{windows-at}
 use Rattle.sb_core.proofs.exact.Flow.{extra}

@@ -6,13 +6,13 @@ use Rattle.std.proofs.lemmas.List.{get_or-set_same, get_or-set_other}
 use Rattle.std.proofs.lemmas.List.Sums.{sum_by-append, sum_by-set}
 use Rattle.std.proofs.lemmas.Option.{slice_get_within, get_or_from_slice_get}
 use Rattle.std.proofs.lemmas.Bool.{eq-eqb, ne_eqb, cases_eq}
-use Rattle.sb_slow.specs.base.records.declared.element.KeptRec.{KeptRec}
-use Rattle.sb_slow.specs.base.pipeline.declared.transform.Down.{Down}
+use Rattle.sb_base.specs.records.declared.element.KeptRec.{KeptRec}
+use Rattle.sb_base.specs.pipeline.declared.transform.Down.{Down}
 use Rattle.sb_core.specs.declared.moment.CoreLane.{CoreLane}
 use Rattle.sb_core.specs.declared.moment.Node.{Node}
 use Rattle.sb_core.specs.declared.moment.Moment.{Moment}
-use Rattle.sb_slow.specs.base.records.Elements.{on_lane}
-use Rattle.sb_slow.specs.base.records.Reading.{◌>>=◌}
+use Rattle.sb_base.specs.records.Elements.{on_lane}
+use Rattle.sb_base.specs.records.Reading.{◌>>=◌}
 use Rattle.sb_core.specs.Marks.{begun_count, last_of_first, least_begun_mark}
 use Rattle.sb_core.specs.Moments.{set_lane, set_node, lane_at, no_node, node_at}
 use Rattle.sb_core.specs.Exactness.{waiting_in, waiting_from}

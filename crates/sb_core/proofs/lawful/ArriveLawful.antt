@@ -1,16 +1,16 @@
 -- A bundle arrives: the moment stays lawful.
-use Rattle.sb_slow.specs.base.ElementLemmas.{every}
+use Rattle.sb_base.specs.ElementLemmas.{every}
 use Rattle.std.proofs.Common.{◌≡◌, ℕ, suc, zero, ◌+◌, ◌-◌, ◌≤◌, cond, eqb, List, [], ◌∷◌, length, drop, Some, sym, refl, ap, subst, ◌∙◌, arith, get_or, length-drop}
 use Rattle.std.specs.List.{slice_get}
 use Rattle.std.proofs.lemmas.Bool.{ne_eqb}
 use Rattle.std.proofs.Math.Numerals.{sub-one}
-use Rattle.sb_slow.specs.base.records.declared.item.Record.{Record}
-use Rattle.sb_slow.specs.base.bundle.declared.bundle.Bundle.{Bundle}
+use Rattle.sb_base.specs.records.declared.item.Record.{Record}
+use Rattle.sb_base.specs.bundle.declared.bundle.Bundle.{Bundle}
 use Rattle.sb_core.specs.declared.moment.Cont.{Cont}
 use Rattle.sb_core.specs.declared.moment.CoreLane.{CoreLane}
-use Rattle.sb_slow.specs.base.pipeline.declared.transform.Down.{Down}
+use Rattle.sb_base.specs.pipeline.declared.transform.Down.{Down}
 use Rattle.sb_core.specs.declared.moment.Node.{Node}
-use Rattle.sb_slow.specs.base.pipeline.Shapes.{Shape}
+use Rattle.sb_base.specs.pipeline.Shapes.{Shape}
 use Rattle.sb_core.specs.declared.moment.Moment.{Moment}
 use Rattle.sb_core.specs.Lanes.{with_bundle, with_arrival, next_epoch, next_floor}
 use Rattle.sb_core.specs.Marks.{last_of_first}

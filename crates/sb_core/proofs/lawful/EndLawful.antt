@@ -5,12 +5,12 @@ use Rattle.std.specs.List.{filter, slice_get, list_any, AllByRecursion}
 use Rattle.std.proofs.lemmas.Bool.{eq-eqb, ne_eqb, cases_eq, eqb-true, eqb-false}
 use Rattle.std.proofs.Math.Bool.{and-false}
 use Rattle.std.proofs.lemmas.Option.{same_Some}
-use Rattle.sb_slow.specs.base.records.declared.item.Record.{Record}
+use Rattle.sb_base.specs.records.declared.item.Record.{Record}
 use Rattle.sb_core.specs.declared.moment.Cont.{Cont}
 use Rattle.sb_core.specs.declared.moment.CoreLane.{CoreLane}
-use Rattle.sb_slow.specs.base.pipeline.declared.transform.Down.{Down}
+use Rattle.sb_base.specs.pipeline.declared.transform.Down.{Down}
 use Rattle.sb_core.specs.declared.moment.Node.{Node}
-use Rattle.sb_slow.specs.base.pipeline.Shapes.{Shape}
+use Rattle.sb_base.specs.pipeline.Shapes.{Shape}
 use Rattle.sb_core.specs.declared.moment.Moment.{Moment}
 use Rattle.sb_core.specs.declared.held.Held.{Held}
 use Rattle.sb_core.specs.declared.held.Held.TheVariants.{Work, Close}
@@ -21,7 +21,7 @@ use Rattle.sb_core.specs.LaneOrder.{AreContainers, IsLane, IsReady, cont_at}
 use Rattle.sb_core.specs.Bounds.{bound_at}
 use Rattle.sb_core.specs.Holdings.{IsHeld, is_unpassed}
 use Rattle.sb_core.proofs.sound.Orderly.{IsLawful}
-use Rattle.sb_slow.specs.base.SumLemmas.{IsReordered}
+use Rattle.sb_base.specs.SumLemmas.{IsReordered}
 use Rattle.sb_core.proofs.containers.LaneLaws.{DifferInBundles, containers-differ, finish_in-differ}
 use Rattle.sb_core.proofs.exact.Nodes.{begun_mark, lane_at-is, lane_at-cases, lane_at-there}
 use Rattle.sb_core.proofs.times.InTime.{next_mark, out_behind}

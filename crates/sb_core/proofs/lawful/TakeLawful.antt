@@ -1,6 +1,6 @@
 -- A bundle is taken: the moment stays lawful.
-use Rattle.sb_slow.specs.base.ElementLemmas.{every}
-use Rattle.sb_slow.specs.base.NumberLemmas.{bind_some}
+use Rattle.sb_base.specs.ElementLemmas.{every}
+use Rattle.sb_base.specs.NumberLemmas.{bind_some}
 use Rattle.sb_core.specs.Moments
 use Rattle.std.proofs.Common.{◌≡◌, ℕ, ◌+◌, ◌≤◌, ◌<◌, Bool, true, false, cond, eqb, List, [], ◌∷◌, ◌++◌, drop, Some, Option, sym, refl, ap, subst, ◌∙◌, arith}
 use Rattle.std.specs.Prelude.{◌||◌}
@@ -10,15 +10,15 @@ use Rattle.std.proofs.lemmas.List.Sums.{sum_by-append}
 use Rattle.std.proofs.lemmas.List.Folds.{list_any-append}
 use Rattle.std.proofs.Math.Bool.{or-true, or-false}
 use Rattle.std.proofs.lemmas.Option.{same_Some}
-use Rattle.sb_slow.specs.base.bundle.declared.bundle.Bundle.{Bundle}
+use Rattle.sb_base.specs.bundle.declared.bundle.Bundle.{Bundle}
 use Rattle.sb_core.specs.declared.moment.Cont.{Cont}
 use Rattle.sb_core.specs.declared.moment.CoreLane.{CoreLane}
-use Rattle.sb_slow.specs.base.pipeline.declared.transform.Down.{Down}
-use Rattle.sb_slow.specs.base.pipeline.Shapes.{Shape}
+use Rattle.sb_base.specs.pipeline.declared.transform.Down.{Down}
+use Rattle.sb_base.specs.pipeline.Shapes.{Shape}
 use Rattle.sb_core.specs.declared.moment.Moment.{Moment}
 use Rattle.sb_core.specs.declared.held.Held.{Held}
 use Rattle.sb_core.specs.declared.held.Held.TheVariants.{Work}
-use Rattle.sb_slow.specs.base.records.Reading.{◌>>=◌}
+use Rattle.sb_base.specs.records.Reading.{◌>>=◌}
 use Rattle.sb_core.specs.Marks.{first_is_closing}
 use Rattle.sb_core.specs.Choices.{first_and_rest}
 use Rattle.sb_core.specs.Lanes.{take_from}

@@ -2,10 +2,10 @@
 use Rattle.std.proofs.Common.{◌≡◌, ℕ, Bool, true, false, cond, List, [], ◌∷◌, ◌++◌, Some, None, Option, refl, sym, ap, ◌∙◌, inl, inr, ⊎_elim}
 use Rattle.std.specs.Prelude.{◌⊎◌, slice_get}
 use Rattle.std.proofs.lemmas.Option.{same_Some}
-use Rattle.sb_slow.specs.base.NumberLemmas.{bind_some}
-use Rattle.sb_slow.specs.base.records.declared.item.Record.{Record}
-use Rattle.sb_slow.specs.base.records.Reading.{◌>>=◌}
-use Rattle.sb_slow.specs.base.pipeline.Shapes.{Shape}
+use Rattle.sb_base.specs.NumberLemmas.{bind_some}
+use Rattle.sb_base.specs.records.declared.item.Record.{Record}
+use Rattle.sb_base.specs.records.Reading.{◌>>=◌}
+use Rattle.sb_base.specs.pipeline.Shapes.{Shape}
 use Rattle.sb_core.specs.declared.moment.Moment.{Moment}
 use Rattle.sb_core.specs.declared.moment.Node.{Node}
 use Rattle.sb_core.specs.declared.held.Held.{Held}

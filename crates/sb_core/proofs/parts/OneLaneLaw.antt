@@ -3,11 +3,11 @@ use Rattle.std.proofs.Common.{◌≡◌, ℕ, ◌+◌, eqb, List, [], ◌∷◌,
 use Rattle.std.specs.Prelude.{slice_get, slice_set}
 use Rattle.std.proofs.lemmas.Bool.{eqb-true, and_parts}
 use Rattle.std.proofs.lemmas.Option.{same_Some}
-use Rattle.sb_slow.specs.base.NumberLemmas.{bind_some}
-use Rattle.sb_slow.specs.base.records.Reading.{◌>>=◌}
-use Rattle.sb_slow.specs.base.records.declared.item.Record.{Record}
-use Rattle.sb_slow.specs.base.pipeline.declared.transform.Down.{Down}
-use Rattle.sb_slow.specs.base.pipeline.Shapes.{source}
+use Rattle.sb_base.specs.NumberLemmas.{bind_some}
+use Rattle.sb_base.specs.records.Reading.{◌>>=◌}
+use Rattle.sb_base.specs.records.declared.item.Record.{Record}
+use Rattle.sb_base.specs.pipeline.declared.transform.Down.{Down}
+use Rattle.sb_base.specs.pipeline.Shapes.{source}
 use Rattle.sb_core.specs.declared.moment.CoreLane.{CoreLane}
 use Rattle.sb_core.specs.declared.moment.Node.{Node}
 use Rattle.sb_core.specs.declared.held.Held.{Held}

@@ -3,8 +3,8 @@ use Rattle.std.proofs.Common.{◌≡◌, ℕ, suc, zero, ◌<◌, Bool, cond, eq
 use Rattle.std.specs.Prelude.{◌≢◌, insert, slice_get, slice_set, is_some}
 use Rattle.std.proofs.lemmas.Bool.{eq-eqb, ne_eqb, lt-ltb, le-ltb}
 use Rattle.std.proofs.lemmas.Option.{same_Some}
-use Rattle.sb_slow.specs.base.bundle.declared.bundle.Bundle.{Bundle}
-use Rattle.sb_slow.specs.base.records.Reading.{◌>>=◌}
+use Rattle.sb_base.specs.bundle.declared.bundle.Bundle.{Bundle}
+use Rattle.sb_base.specs.records.Reading.{◌>>=◌}
 use Rattle.sb_core.specs.declared.moment.Cont.{Cont}
 use Rattle.sb_core.specs.Choices.{first_and_rest}
 use Rattle.sb_core.specs.Lanes.{fresh, in_epoch, take_from}

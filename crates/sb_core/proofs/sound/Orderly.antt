@@ -2,16 +2,16 @@
 use Rattle.std.proofs.Common.{◌≡◌, ℕ, suc, zero, ◌+◌, ◌≤◌, ◌<◌, true, List, [], ◌∷◌, length, Some, refl, ◌∙◌, arith}
 use Rattle.std.specs.Prelude.{count_by}
 use Rattle.std.specs.List.{slice_get, sum_by, list_any, AllByRecursion}
-use Rattle.sb_slow.specs.base.records.declared.item.Stream.{Stream}
-use Rattle.sb_slow.specs.base.records.Orders.{IsAscending}
-use Rattle.sb_slow.specs.base.records.Records.{record_cmp}
-use Rattle.sb_slow.specs.base.bundle.declared.bundle.TheConstants.{MAX_BUNDLE}
-use Rattle.sb_slow.specs.base.pipeline.declared.transform.Down.{Down}
-use Rattle.sb_slow.specs.base.pipeline.declared.transform.Step.{Step}
+use Rattle.sb_base.specs.records.declared.item.Stream.{Stream}
+use Rattle.sb_base.specs.records.Orders.{IsAscending}
+use Rattle.sb_base.specs.records.Records.{record_cmp}
+use Rattle.sb_base.specs.bundle.declared.bundle.TheConstants.{MAX_BUNDLE}
+use Rattle.sb_base.specs.pipeline.declared.transform.Down.{Down}
+use Rattle.sb_base.specs.pipeline.declared.transform.Step.{Step}
 use Rattle.sb_core.specs.Soundness.{IsOpenAtSource}
-use Rattle.sb_slow.specs.base.pipeline.Shapes.{Shape, source}
-use Rattle.sb_slow.specs.base.pipeline.Operators.{Operator, operator_of, operator_at, lanes_of}
-use Rattle.sb_slow.specs.base.pipeline.Operators.Operator.{ParDo, Windowed, Sink}
+use Rattle.sb_base.specs.pipeline.Shapes.{Shape, source}
+use Rattle.sb_base.specs.pipeline.Operators.{Operator, operator_of, operator_at, lanes_of}
+use Rattle.sb_base.specs.pipeline.Operators.Operator.{ParDo, Windowed, Sink}
 use Rattle.sb_core.specs.declared.moment.CoreLane.{CoreLane}
 use Rattle.sb_core.specs.declared.moment.Moment.{Moment}
 use Rattle.sb_core.specs.Bounds.{bound_at}

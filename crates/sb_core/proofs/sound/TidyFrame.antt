@@ -1,21 +1,21 @@
 -- A lane changes and begins the same marks: what stays tidy.
-use Rattle.sb_slow.specs.base.ElementLemmas.{every}
+use Rattle.sb_base.specs.ElementLemmas.{every}
 use Rattle.std.proofs.Common.{length-set, refl, ◌≡◌, ℕ, suc, zero, ◌≤◌, ◌<◌, List, [], ◌∷◌, length, Some, sym, ap, subst, ◌∙◌, arith, ⊎_elim, inl, inr, set as slice_set}
 use Rattle.std.specs.Prelude.{◌⊎◌, ◌≢◌, count_by, sum_by}
 use Rattle.std.specs.List.{slice_get, list_any, AllByRecursion}
 use Rattle.std.proofs.lemmas.Bool.{cases_eq}
 use Rattle.std.proofs.lemmas.Option.{same_Some}
 use Rattle.sb_core.specs.declared.moment.CoreLane.{CoreLane}
-use Rattle.sb_slow.specs.base.records.declared.item.Stream.{Stream}
-use Rattle.sb_slow.specs.base.pipeline.declared.transform.Down.{Down}
+use Rattle.sb_base.specs.records.declared.item.Stream.{Stream}
+use Rattle.sb_base.specs.pipeline.declared.transform.Down.{Down}
 use Rattle.sb_core.specs.declared.moment.Node.{Node}
-use Rattle.sb_slow.specs.base.pipeline.declared.transform.Step.{Step}
+use Rattle.sb_base.specs.pipeline.declared.transform.Step.{Step}
 use Rattle.sb_core.specs.Soundness.{IsOpenAtSource}
-use Rattle.sb_slow.specs.base.pipeline.Shapes.{Shape, source}
+use Rattle.sb_base.specs.pipeline.Shapes.{Shape, source}
 use Rattle.sb_core.specs.declared.moment.Moment.{Moment}
 use Rattle.sb_core.specs.declared.held.Held.{Held}
 use Rattle.sb_core.specs.declared.held.Held.TheVariants.{Work, Close}
-use Rattle.sb_slow.specs.base.pipeline.Operators.{operator_at}
+use Rattle.sb_base.specs.pipeline.Operators.{operator_at}
 use Rattle.sb_core.specs.Marks.{before_closing, last_of_first, least_begun_mark}
 use Rattle.sb_core.specs.Moments.{is_work, lane_at, set_node, with_held, node_at}
 use Rattle.sb_core.specs.Lanes.{next_epoch}

@@ -1,36 +1,38 @@
 -- Nothing comes late to a lane: what each node gives is from the floor of the lane below on.
-use Rattle.std.proofs.Common.{◌≡◌, ℕ, ◌+◌, ◌≤◌, Bool, true, false, not, cond, ltb, List, [], ◌∷◌, ◌++◌, Some, None, Option, sym, refl, ap, subst, ◌∙◌, arith, ⊎_elim}
+use Rattle.std.proofs.Common.{◌≡◌, ℕ, ◌+◌, ◌≤◌, Bool, true, false, not, cond, ltb, List, [], ◌∷◌, ◌++◌, length, Some, None, Option, sym, refl, ap, subst, ◌∙◌, arith, ⊎_elim}
+use Rattle.std.specs.Prelude.{◌==◌}
+use Rattle.std.proofs.lemmas.Option.{slice_get_cases}
 use Rattle.std.specs.List.{flat_map, sum_by, slice_get, All, AllByRecursion}
 use Rattle.std.proofs.lemmas.Bool.{le-ltb, ltb-false, cases_eq, eq-eqb, ne_eqb}
 use Rattle.std.proofs.lemmas.List.Sums.{sum_by-append, sum_by-cons}
 use Rattle.std.proofs.lemmas.List.Elements.{recursion_from_All}
 use Rattle.std.proofs.lemmas.List.Concat.{flat_map-append}
-use Rattle.sb_slow.specs.base.records.declared.item.Record.{Record}
-use Rattle.sb_slow.specs.base.records.declared.element.KeptRec.{KeptRec}
-use Rattle.sb_slow.specs.base.records.declared.item.Stream.{Stream}
-use Rattle.sb_slow.specs.base.records.declared.item.Stream.TheVariants.{A, B}
-use Rattle.sb_slow.specs.base.pardo.declared.operation.Op.{Op}
-use Rattle.sb_slow.specs.base.KeepingLemmas.{outputs_keep_time}
-use Rattle.sb_slow.specs.base.pipeline.declared.transform.Down.{Down}
-use Rattle.sb_slow.specs.base.pipeline.declared.transform.Step.{Step}
-use Rattle.sb_slow.specs.base.pipeline.Shapes.{Shape, source}
+use Rattle.sb_base.specs.records.declared.item.Record.{Record}
+use Rattle.sb_base.specs.records.declared.element.KeptRec.{KeptRec}
+use Rattle.sb_base.specs.records.declared.item.Stream.{Stream}
+use Rattle.sb_base.specs.records.declared.item.Stream.TheVariants.{A, B}
+use Rattle.sb_base.specs.pardo.declared.operation.Op.{Op}
+use Rattle.sb_base.specs.KeepingLemmas.{outputs_keep_time}
+use Rattle.sb_base.specs.pipeline.declared.transform.Down.{Down}
+use Rattle.sb_base.specs.pipeline.declared.transform.Step.{Step}
+use Rattle.sb_base.specs.pipeline.Shapes.{Shape, source}
 use Rattle.sb_core.specs.declared.moment.Moment.{Moment}
 use Rattle.sb_core.specs.declared.moment.CoreLane.{CoreLane}
-use Rattle.sb_slow.specs.base.records.Records.{at_least}
-use Rattle.sb_slow.specs.base.pipeline.Operators.{Operator, operator_of, operator_at, operator_rows}
-use Rattle.sb_slow.specs.base.pardo.Outputs.{outputs_of}
-use Rattle.sb_slow.specs.base.records.Elements.{on_lane, all_records}
-use Rattle.sb_slow.specs.base.pipeline.Flow.{arrivals_at, from_stream, from_streams}
-use Rattle.sb_slow.specs.base.pipeline.Operators.Operator.{ParDo, Windowed, Sink}
-use Rattle.sb_slow.specs.base.pipeline.declared.transform.Kind.{Kind}
-use Rattle.sb_slow.specs.base.pipeline.declared.transform.Kind.TheVariants.{Do, Group, Session, Join}
+use Rattle.sb_base.specs.records.Records.{at_least}
+use Rattle.sb_base.specs.pipeline.Operators.{Operator, operator_of, operator_at, operator_rows}
+use Rattle.sb_base.specs.pardo.Outputs.{outputs_of}
+use Rattle.sb_base.specs.records.Elements.{on_lane, all_records}
+use Rattle.sb_base.specs.pipeline.Flow.{arrivals_at, from_stream, from_streams}
+use Rattle.sb_base.specs.pipeline.Operators.Operator.{ParDo, Windowed, Sink}
+use Rattle.sb_base.specs.pipeline.declared.transform.Kind.{Kind}
+use Rattle.sb_base.specs.pipeline.declared.transform.Kind.TheVariants.{Do, Group, Session, Join}
 use Rattle.sb_core.specs.Marks.{least_begun_mark}
 use Rattle.sb_core.specs.Lanes.{next_floor}
 use Rattle.sb_core.specs.Moments.{lane_at, node_at, floor_of, floor_at}
 use Rattle.sb_core.specs.Closings.{is_sink}
-use Rattle.sb_slow.specs.base.records.declared.item.TheConstants.{MAX_TIME}
+use Rattle.sb_base.specs.records.declared.item.TheConstants.{MAX_TIME}
 use Rattle.sb_core.specs.Exactness.{waiting_from, work_in, rows_left_in, rest, gives, gives_by, IsAdmissible}
-use Rattle.sb_slow.specs.base.SumLemmas.{sum_by-flat_map, sum_by-map, sum_by-filter}
+use Rattle.sb_base.specs.SumLemmas.{sum_by-flat_map, sum_by-map, sum_by-filter}
 use Rattle.sb_core.proofs.exact.Flow.{brought}
 use Rattle.sb_core.proofs.windows.Groupings.{early, early_one}
 use Rattle.sb_core.proofs.exact.Gives.{sum_by-rest}
@@ -63,6 +65,12 @@ no_sink (Do op) = refl
 no_sink (Group agg windows) = refl
 no_sink (Session agg gap) = refl
 no_sink (Join combine windows) = refl
+
+-- the node after the transforms is the sink
+pub sink-last : (steps : List Step) (k count : ℕ) → count ≡ length steps → k ≤ length steps → (k == count) ≡ is_sink (operator_at (slice_get steps k))
+sink-last steps k count e within = ⊎_elim
+    (λ a. ne_eqb k count (λ same. omega (arith, a.1, e, same)) ∙ sym (ap (λ (o : Option Step). is_sink (operator_at o)) a.2 ∙ no_sink a.0.kind))
+    (λ b. eq-eqb k count (omega (arith, b.0, e, within)) ∙ sym (ap (λ (o : Option Step). is_sink (operator_at o)) b.1)) (slice_get_cases steps k).1
 
 -- ---- sums of ones that are zero
 pub zero_by : {X : Type 0} (f g : X → ℕ) → ((x : X) → f x ≡ 0 → g x ≡ 0) → (l : List X) → sum_by f l ≡ 0 → sum_by g l ≡ 0

@@ -10,7 +10,7 @@ ghost use Rattle.sb_feeds.specs.one_feed.Feeds.{nothing_fed};
 ghost use Rattle.sb_feeds.specs.one_feed.GiveCauses.{GiveCause};
 ghost use Rattle.sb_feeds.specs.Ends.{ring_in};
 ghost use Rattle.sb_run.specs.Feeders.{HasFed, IsStill};
-ghost use Rattle.sb_worker.specs.slow.Inputs.{by_stream};
+ghost use Rattle.sb_feeds.specs.base.Inputs.{by_stream};
 ghost use Rattle.sb_run.specs.FilesFed.{FeedsValues};
 ghost use Rattle.sb_run.specs.FilesRead.{AreNewOnce, AreReadOnce};
 ghost use Rattle.sb_run.specs.Pops.{AreInlets, values_of};

@@ -13,7 +13,7 @@ ghost use Rattle.sb_feeds.specs.one_feed.GiveCauses.{GiveCause};
 ghost use Rattle.sb_feeds.specs.one_feed.Takes.{MayEnd, MayTake, TakesOrFails};
 ghost use Rattle.sb_feeds.specs.Ends.{ring_in};
 ghost use Rattle.sb_run.specs.Feeders.{HasFed, IsStill};
-ghost use Rattle.sb_worker.specs.slow.Inputs.{by_stream};
+ghost use Rattle.sb_feeds.specs.base.Inputs.{by_stream};
 ghost use Rattle.sb_run.specs.FilesFed.{FeedsValues};
 ghost use Rattle.sb_run.specs.Pops.{AreInlets, as_stop as spec_as_stop, item_for, values_of};
 
@@ -31,8 +31,8 @@ use std::alloc::Global;
 use std::sync::Wait;
 use std::time::Clock;
 
-// Takes an item of the file of a stream: a late record that is dropped is listed with those of this file. Whatever came,
-// it is left to all workers, of which the feeder is one while the files give nothing.
+// Takes an item of the file of a stream: a late record that is dropped is listed with those of this file. Whatever
+// came, it is left to all workers, of which the feeder is one while the files give nothing.
 fn take_of<W: Wait + Clock, G: Gate, R: RowOut>(
     rt: &W,
     alloc: Global,

@@ -9,7 +9,7 @@ use Rattle.sb_base.specs.pipeline.Flow.{Sent, arrivals_at, from_streams, sent_fr
 use Rattle.sb_base.specs.pipeline.Operators.{operator_of, output}
 use Rattle.sb_base.specs.pipeline.Results.{output_at, output_of}
 use Rattle.sb_base.proofs.pipeline.Times.{AreTimely}
-use Rattle.sb_slow.specs.Inputs.{by_stream}
+use Rattle.sb_base.specs.Inputs.{by_stream}
 use Rattle.sb_slow.specs.Sendings.{records_to}
 use Rattle.sb_slow.proofs.Steps.{sent_from-more, sent_from-timely_more, arriving-before_end, from_streams-in_time, output_of-before_end, arriving-output_of}
 use Rattle.sb_slow.proofs.TakingOut.{records_to-node, arriving-more}

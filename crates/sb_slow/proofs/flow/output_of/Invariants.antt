@@ -2,7 +2,7 @@ use Rattle.std.proofs.Common.{◌≡◌, ◌≤◌, ℕ, List, drop}
 use Rattle.sb_base.specs.pipeline.Flow.{Sent, arrivals_at, from_streams, sent_from}
 use Rattle.sb_base.specs.pipeline.Results.{output_at}
 use Rattle.sb_base.proofs.pipeline.Times.{AreTimely}
-use Rattle.sb_slow.specs.Inputs.{by_stream}
+use Rattle.sb_base.specs.Inputs.{by_stream}
 use Rattle.sb_slow.proofs.flow.output_of.Given as goal
 
 abbrev pub invariant-loop-node : goal.invariant-loop-node

@@ -4,7 +4,7 @@ use Rattle.sb_feeds.proofs.one_feed.GiveLaws.{cause_then}
 use Rattle.sb_feeds.proofs.one_feed.GivesInTurn.{AddsUp}
 use Rattle.sb_run.specs.declared.files.TheConstants.{MAX_FILE_LENGTH}
 use Rattle.sb_run.specs.Feeders.{HasFed}
-use Rattle.sb_worker.specs.slow.Inputs.{by_stream}
+use Rattle.sb_feeds.specs.base.Inputs.{by_stream}
 use Rattle.sb_run.specs.Pops.{values_of}
 use Rattle.sb_run.proofs.FilesEnded.{something_fed, two_done, two_early, two_end_cause, two_memory, two_none, two_stopped}
 use Rattle.sb_run.proofs.FilesOpened.{files_read, of_each}

@@ -4,7 +4,7 @@ use Rattle.sb_worker.specs.cascade.Calls.{plan_of, setting_of}
 use Rattle.sb_feeds.proofs.one_feed.GiveLaws.{cause_of_none, cause_then}
 use Rattle.sb_feeds.proofs.one_feed.GivesInTurn.{AddsUp}
 use Rattle.sb_run.specs.Feeders.{HasFed}
-use Rattle.sb_worker.specs.slow.Inputs.{by_stream}
+use Rattle.sb_feeds.specs.base.Inputs.{by_stream}
 use Rattle.sb_run.specs.Pops.{files_stop_if, values_of}
 use Rattle.sb_run.specs.EngineLaws.{still_here, still_then}
 use Rattle.sb_run.proofs.FilesSoFar.{files_ended, files_fail, files_may_end, files_may_take, files_more, files_still, files_wanting, nothing_yet}

@@ -4,7 +4,7 @@ use Rattle.sb_worker.specs.cascade.Calls.{plan_of, setting_of}
 use Rattle.sb_feeds.specs.one_feed.GiveCauses.{GiveCause}
 use Rattle.sb_feeds.specs.Ends.{ring_in}
 use Rattle.sb_run.specs.Feeders.{HasFed, IsStill}
-use Rattle.sb_worker.specs.slow.Inputs.{by_stream}
+use Rattle.sb_feeds.specs.base.Inputs.{by_stream}
 use Rattle.sb_run.specs.Pops.{AreInlets, values_of}
 use Rattle.sb_run.proofs.FilesSoFar.{FilesSoFar}
 use Rattle.sb_run.proofs.files.feeding.feed_values.Given as goal

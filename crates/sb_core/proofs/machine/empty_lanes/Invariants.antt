@@ -1,7 +1,0 @@
-use Rattle.std.proofs.Common.{◌≡◌}
-use Rattle.std.specs.Prelude.{replicate}
-use Rattle.sb_core.specs.Moments.{empty_lane}
-use Rattle.sb_core.proofs.machine.empty_lanes.Given as goal
-
-abbrev pub invariant-loop-lane : goal.invariant-loop-lane
-invariant-loop-lane l = l.lanes.items ≡ replicate l._lane empty_lane

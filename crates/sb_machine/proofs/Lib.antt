@@ -1,0 +1,9 @@
+mod FirstPlace
+mod FromHeld
+mod Finished
+mod Arriving
+mod Becoming
+mod BeginParts
+mod Closed
+mod Nodewise
+mod Stepping
