@@ -4,28 +4,28 @@ use Rattle.std.specs.Prelude.{◌||◌, nat_lt, sum_by, None}
 use Rattle.std.specs.List.{flat_map, list_any, AllByRecursion}
 use Rattle.std.proofs.lemmas.Bool.{le-ltb, ltb-false}
 use Rattle.std.proofs.lemmas.List.{map-append}
-use Rattle.sb_record.specs.declared.element.KeptRec.{KeptRec}
-use Rattle.sb_record.specs.declared.item.Record.{Record}
-use Rattle.sb_record.specs.Elements.{all_records}
-use Rattle.sb_record.specs.Records.{sorted_records, at_least}
-use Rattle.sb_record.specs.Reorderings.{IsReordered}
-use Rattle.sb_record.proofs.Sums.{IsReordered-append, any_reordered}
-use Rattle.sb_window.specs.declared.keyed_window.KeyedWindow.{KeyedWindow}
-use Rattle.sb_window.specs.Spacing.{Spacing}
-use Rattle.sb_window.specs.Gatherings.{joined_value, rows_of_entries}
-use Rattle.sb_window.specs.Groupings.{Closes}
-use Rattle.sb_window.specs.Aggregations.{rows_by}
-use Rattle.sb_window.proofs.Closing.{is_between, closes-between}
-use Rattle.sb_window.proofs.Rows.{when}
+use Rattle.sb_runs.specs.records.declared.element.KeptRec.{KeptRec}
+use Rattle.sb_runs.specs.records.declared.item.Record.{Record}
+use Rattle.sb_runs.specs.records.Elements.{all_records}
+use Rattle.sb_runs.specs.records.Records.{sorted_records, at_least}
+use Rattle.sb_runs.specs.records.Reorderings.{IsReordered}
+use Rattle.sb_runs.proofs.records.Sums.{IsReordered-append, any_reordered}
+use Rattle.sb_runs.specs.window.declared.keyed_window.KeyedWindow.{KeyedWindow}
+use Rattle.sb_runs.specs.window.Spacing.{Spacing}
+use Rattle.sb_runs.specs.window.Gatherings.{joined_value, rows_of_entries}
+use Rattle.sb_runs.specs.window.Groupings.{Closes}
+use Rattle.sb_runs.specs.window.Aggregations.{rows_by}
+use Rattle.sb_runs.proofs.window.Closing.{is_between, closes-between}
+use Rattle.sb_runs.proofs.window.Rows.{when}
 use Rattle.sb_aggregate.specs.declared.aggregate.Agg.{Agg}
 use Rattle.sb_aggregate.specs.Aggregates.{aggregate_values, aggregate_rows}
 use Rattle.sb_aggregate.specs.Partials.{PartialValues, partial_values, join_values, final_values}
 use Rattle.sb_aggregate.specs.Groups.{HasPartials, HasPartialsFrom}
-use Rattle.sb_aggregate.specs.Runs.{IsRun, found, found_in}
+use Rattle.sb_runs.specs.Runs.{IsRun, found, found_in}
 use Rattle.sb_aggregate.specs.Orderless.{aggregate_rows-orderless}
 use Rattle.sb_aggregate.proofs.PartialValues.{final-partial}
 use Rattle.sb_aggregate.proofs.Ends.{partial_from-append, partials-closed, partials-open}
-use Rattle.sb_aggregate.proofs.RunRows.{rows-when}
+use Rattle.sb_runs.proofs.RunRows.{rows-when}
 
 -- one list more after others
 pub flat-more : (ls : List (List Record)) (l : List Record) → flat_map (λ l. l) (ls ++ l ∷ []) ≡ flat_map (λ l. l) ls ++ l

@@ -3,15 +3,15 @@ use Rattle.std.proofs.Common.{◌≡◌, ℕ, ℤ, ◌-◌, ◌≤◌, ◌<◌, 
 use Rattle.std.specs.Prelude.{◌&&◌, nat_lt}
 use Rattle.std.specs.List.{list_any, AllByRecursion}
 use Rattle.std.proofs.lemmas.Bool.{lt-ltb, le-ltb, ltb-true, cases_lt}
-use Rattle.sb_record.specs.declared.item.Record.{Record}
-use Rattle.sb_record.proofs.Elements.{All-any, All-anything}
-use Rattle.sb_window.specs.declared.keyed_window.KeyedWindow.{KeyedWindow}
-use Rattle.sb_window.specs.Spacing.{Spacing}
-use Rattle.sb_window.specs.Windows.{is_in, values_in}
-use Rattle.sb_window.specs.Gatherings.{joined_value}
-use Rattle.sb_window.proofs.Gathering.{gathered-append}
-use Rattle.sb_window.proofs.Rows.{end-of}
-use Rattle.sb_window.proofs.Closing.{is_between, none_late}
+use Rattle.sb_runs.specs.records.declared.item.Record.{Record}
+use Rattle.sb_runs.proofs.records.Elements.{All-any, All-anything}
+use Rattle.sb_runs.specs.window.declared.keyed_window.KeyedWindow.{KeyedWindow}
+use Rattle.sb_runs.specs.window.Spacing.{Spacing}
+use Rattle.sb_runs.specs.window.Windows.{is_in, values_in}
+use Rattle.sb_runs.specs.window.Gatherings.{joined_value}
+use Rattle.sb_runs.proofs.window.Gathering.{gathered-append}
+use Rattle.sb_runs.proofs.window.Rows.{end-of}
+use Rattle.sb_runs.proofs.window.Closing.{is_between, none_late}
 use Rattle.sb_aggregate.specs.declared.aggregate.Agg.{Agg}
 use Rattle.sb_aggregate.specs.Partials.{partial_values, join_values, partial_at, partial_from}
 use Rattle.sb_aggregate.proofs.PartialValues.{partials-joined}

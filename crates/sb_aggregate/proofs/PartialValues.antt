@@ -7,17 +7,17 @@ use Rattle.std.proofs.Math.Nat.{mod-add-mod, add-mod}
 use Rattle.std.proofs.lemmas.Int.{of_z-to_z}
 use Rattle.std.proofs.lemmas.List.Sums.{sum_by-append, sum_by-cons}
 use Rattle.std.proofs.lemmas.Map.Lookups.{exact_signed}
-use Rattle.sb_record.proofs.Sums.{IsReordered-swap}
-use Rattle.sb_record.proofs.Firsts.{firsts-kept}
-use Rattle.sb_record.proofs.Different.{distinct-reordered, distinct-kept}
-use Rattle.sb_window.specs.Reorderings.{IgnoresOrder}
-use Rattle.sb_window.specs.Aggregations.{sum_values}
+use Rattle.sb_runs.proofs.records.Sums.{IsReordered-swap}
+use Rattle.sb_runs.proofs.records.Firsts.{firsts-kept}
+use Rattle.sb_runs.proofs.records.Different.{distinct-reordered, distinct-kept}
+use Rattle.sb_runs.specs.window.Reorderings.{IgnoresOrder}
+use Rattle.sb_runs.specs.window.Aggregations.{sum_values}
 use Rattle.sb_aggregate.specs.declared.aggregate.Agg.{Agg}
 use Rattle.sb_aggregate.specs.declared.aggregate.Agg.TheVariants.{Count, Sum, Min, Max, Distinct, Top}
 use Rattle.sb_aggregate.specs.Aggregates.{signed_value, aggregate_values}
 use Rattle.sb_aggregate.specs.Orderless.{greatest_total, exact_greatest, aggregates-orderless}
 use Rattle.sb_aggregate.specs.Partials.{partial_values, joining, join_values, final_values}
-use Rattle.sb_aggregate.specs.Runs.{IsAssociative}
+use Rattle.sb_runs.specs.Runs.{IsAssociative}
 
 pub partials-orderless : (agg : Agg) → IgnoresOrder (partial_values agg)
 partials-orderless Count vs ws h = aggregates-orderless Count vs ws h

@@ -7,15 +7,15 @@ use Rattle.std.specs.Cmp.{nat_cmp_total, eq_by_cmp_equiv}
 use Rattle.std.proofs.lemmas.Bool.{eqb-true, and_parts, false_from_ne_true, ltb-true, ltb-false, eq-eqb, ne_eqb, cases_lt}
 use Rattle.std.proofs.lemmas.Bool.Decides.{nat_tests}
 use Rattle.std.proofs.lemmas.Map.Views.{tells_apart}
-use Rattle.sb_record.specs.declared.item.Record.{Record}
-use Rattle.sb_record.specs.declared.key.Key.{Key}
-use Rattle.sb_record.specs.Keys.{same_key}
-use Rattle.sb_record.specs.KeyOrder.{key_cmp_total}
-use Rattle.sb_record.specs.Orders.{IsAscending}
-use Rattle.sb_record.proofs.KeyOrder.{exact_keys}
-use Rattle.sb_record.proofs.Elements.{every, All-any}
-use Rattle.sb_record.proofs.Sums.{any_reordered}
-use Rattle.sb_record.proofs.Sorting.{IsReordered-in_order, in_order-ascending, All-in_order}
+use Rattle.sb_runs.specs.records.declared.item.Record.{Record}
+use Rattle.sb_runs.specs.records.declared.key.Key.{Key}
+use Rattle.sb_runs.specs.records.Keys.{same_key}
+use Rattle.sb_runs.specs.records.KeyOrder.{key_cmp_total}
+use Rattle.sb_runs.specs.records.Orders.{IsAscending}
+use Rattle.sb_runs.specs.window.KeyOrderLemmas.{exact_keys}
+use Rattle.sb_runs.specs.window.ElementLemmas.{every, All-any}
+use Rattle.sb_runs.specs.window.SumLemmas.{any_reordered}
+use Rattle.sb_runs.specs.window.SortingLemmas.{IsReordered-in_order, in_order-ascending, All-in_order}
 use Rattle.sb_aggregate.specs.Laws.{SessionsAreCutAtGaps, LastRecordsEndSessions}
 use Rattle.std.proofs.lemmas.List.Elements.{recursion_from_All}
 use Rattle.std.proofs.lemmas.List.Folds.{list_any_at}

@@ -6,13 +6,13 @@ use Rattle.std.proofs.lemmas.Bool.{lt-ltb, eqb-true, ne_eqb, cases_lt, and_parts
 use Rattle.std.proofs.lemmas.List.Folds.{list_any-append}
 use Rattle.std.proofs.lemmas.List.Elements.{filter-append, filter_agree}
 use Rattle.std.proofs.lemmas.Map.Views.{tells_apart}
-use Rattle.sb_record.specs.declared.item.Record.{Record}
-use Rattle.sb_record.specs.declared.key.Key.{Key}
-use Rattle.sb_record.specs.Keys.{same_key}
-use Rattle.sb_record.proofs.KeyOrder.{exact_keys}
-use Rattle.sb_record.proofs.Elements.{All-any, filter_of_filter}
-use Rattle.sb_record.proofs.Sums.{IsReordered, any_reordered, any_filtered}
-use Rattle.sb_window.specs.declared.keyed_window.KeyedWindow.{KeyedWindow}
+use Rattle.sb_runs.specs.records.declared.item.Record.{Record}
+use Rattle.sb_runs.specs.records.declared.key.Key.{Key}
+use Rattle.sb_runs.specs.records.Keys.{same_key}
+use Rattle.sb_runs.specs.window.KeyOrderLemmas.{exact_keys}
+use Rattle.sb_runs.specs.window.ElementLemmas.{All-any, filter_of_filter}
+use Rattle.sb_runs.specs.window.SumLemmas.{IsReordered, any_reordered, any_filtered}
+use Rattle.sb_runs.specs.window.declared.keyed_window.KeyedWindow.{KeyedWindow}
 use Rattle.sb_aggregate.specs.Sessions.{end_from, times_from, session_end, is_in_session, is_session_open}
 use Rattle.sb_aggregate.proofs.SessionEnds.{has_time, end-low, end-is}
 

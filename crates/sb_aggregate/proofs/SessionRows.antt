@@ -9,15 +9,15 @@ use Rattle.std.proofs.Math.Bool.{and_comm}
 use Rattle.std.proofs.lemmas.Bool.{lt-ltb, ltb-true, ltb-false, eqb-true, cases_lt, and_parts, false_from_ne_true, not-true}
 use Rattle.std.proofs.lemmas.List.Elements.{filter_agree, recursion_from_All}
 use Rattle.std.proofs.lemmas.Map.Made.{All-is_member}
-use Rattle.sb_record.specs.declared.item.Record.{Record}
-use Rattle.sb_record.specs.Keys.{same_key}
-use Rattle.sb_record.specs.Records.{before}
-use Rattle.sb_record.proofs.Elements.{every, All-any, All-map, All-flat_map, filter_all}
-use Rattle.sb_record.proofs.Sums.{IsReordered, IsReordered-map, IsReordered-filter, sum_by-filter, any_by_count}
-use Rattle.sb_record.proofs.Distinct.{distinct-same, any_distinct}
-use Rattle.sb_window.specs.declared.keyed_window.KeyedWindow.{KeyedWindow}
-use Rattle.sb_window.specs.Windows.{keyed_window_cmp}
-use Rattle.sb_window.proofs.Rows.{keyed_windows_total, exact_keyed_windows, same_keyed_window, when, flat_map-agree, row, when-rows}
+use Rattle.sb_runs.specs.records.declared.item.Record.{Record}
+use Rattle.sb_runs.specs.records.Keys.{same_key}
+use Rattle.sb_runs.specs.records.Records.{before}
+use Rattle.sb_runs.specs.window.ElementLemmas.{every, All-any, All-map, All-flat_map, filter_all}
+use Rattle.sb_runs.specs.window.SumLemmas.{IsReordered, IsReordered-map, IsReordered-filter, sum_by-filter, any_by_count}
+use Rattle.sb_runs.specs.window.DistinctLemmas.{distinct-same, any_distinct}
+use Rattle.sb_runs.specs.window.declared.keyed_window.KeyedWindow.{KeyedWindow}
+use Rattle.sb_runs.specs.window.Windows.{keyed_window_cmp}
+use Rattle.sb_runs.specs.RowLemmas.{keyed_windows_total, exact_keyed_windows, same_keyed_window, when, flat_map-agree, row, when-rows}
 use Rattle.sb_aggregate.specs.declared.aggregate.Agg.{Agg}
 use Rattle.sb_aggregate.specs.Aggregates.{aggregate_values}
 use Rattle.sb_aggregate.specs.Sessions.{session_end, session_of, sessions_of, is_in_session, values_in_session, rows_in_session, session_rows, is_session_open}

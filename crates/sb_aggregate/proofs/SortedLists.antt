@@ -13,10 +13,10 @@ use Rattle.std.proofs.lemmas.List.{append-nil, drop_all, drop_more}
 use Rattle.std.proofs.lemmas.List.Folds.{list_any-append, list_any_at}
 use Rattle.std.proofs.lemmas.Map.Keys.{Less-from_sorted, sorted_tail}
 use Rattle.std.proofs.lemmas.Map.Lookups.{CmpEqualImpliesEq, btree_set_from_contains}
-use Rattle.sb_record.specs.Orders.{put_once, distinct, by_ordering}
-use Rattle.sb_record.proofs.Elements.{every, All-join}
-use Rattle.sb_record.proofs.Distinct.{distinct-sorted, any_distinct}
-use Rattle.sb_record.proofs.Different.{distinct-insert, distinct-sorted_keys}
+use Rattle.sb_runs.specs.records.Orders.{put_once, distinct, by_ordering}
+use Rattle.sb_runs.proofs.records.Elements.{every, All-join}
+use Rattle.sb_runs.proofs.records.Distinct.{distinct-sorted, any_distinct}
+use Rattle.sb_runs.proofs.records.Different.{distinct-insert, distinct-sorted_keys}
 
 or_again : (a b c : Bool) → (a || (b || (a || c))) ≡ (a || (b || c))
 or_again true b c = refl

@@ -1,9 +1,9 @@
 -- The times of the rows of an aggregation.
 use Rattle.std.proofs.Common.{ℕ, ◌+◌, ◌≤◌, List}
 use Rattle.std.specs.List.{AllByRecursion}
-use Rattle.sb_record.specs.declared.item.Record.{Record}
-use Rattle.sb_window.specs.Spacing.{Spacing}
-use Rattle.sb_window.proofs.Rows.{rows_by-times}
+use Rattle.sb_runs.specs.records.declared.item.Record.{Record}
+use Rattle.sb_runs.specs.window.Spacing.{Spacing}
+use Rattle.sb_runs.specs.RowLemmas.{rows_by-times}
 use Rattle.sb_aggregate.specs.declared.aggregate.Agg.{Agg}
 use Rattle.sb_aggregate.specs.Aggregates.{aggregate_values, aggregate_rows}
 

@@ -6,8 +6,8 @@ use Rattle.std.specs.Ordering.{int_cmp, eq_by_cmp}
 use Rattle.std.specs.List.Sorted.{IsStrictlySortedBy}
 use Rattle.std.proofs.lemmas.List.Folds.{list_any-append}
 use Rattle.std.proofs.lemmas.Map.Lookups.{btree_set_from_contains, exact_signed}
-use Rattle.sb_record.specs.Orders.{distinct}
-use Rattle.sb_record.proofs.Distinct.{distinct-sorted, any_distinct}
+use Rattle.sb_runs.specs.records.Orders.{distinct}
+use Rattle.sb_runs.proofs.records.Distinct.{distinct-sorted, any_distinct}
 
 -- a set with values more has the different ones of its own and of those
 pub distinct-inserted : (s n : BTreeSet ℤ) (xs : List ℤ) → InsertsAll int_cmp s xs n → n.keys ≡ distinct int_cmp (s.keys ++ xs)

@@ -2,10 +2,10 @@
 use Rattle.std.specs.Prelude.{ℕ, ℤ, ◌%◌, ◌^◌, ◌≤◌, List, [], ◌∷◌, length, take}
 use Rattle.std.specs.Int.{cast_signed, w64}
 use Rattle.std.specs.Ordering.{int_cmp, flip_args}
-use Rattle.sb_record.specs.declared.item.Record.{Record}
-use Rattle.sb_record.specs.Orders.{in_order, distinct}
-use Rattle.sb_window.specs.Spacing.{Spacing}
-use Rattle.sb_window.specs.Aggregations.{rows_by, sum_values}
+use Rattle.sb_runs.specs.records.declared.item.Record.{Record}
+use Rattle.sb_runs.specs.records.Orders.{in_order, distinct}
+use Rattle.sb_runs.specs.window.Spacing.{Spacing}
+use Rattle.sb_runs.specs.window.Aggregations.{rows_by, sum_values}
 use Rattle.sb_aggregate.specs.declared.aggregate.Agg.{Agg}
 use Rattle.sb_aggregate.specs.declared.aggregate.Agg.TheVariants.{Count, Sum, Min, Max, Distinct, Top}
 use Rattle.sb_aggregate.specs.declared.aggregate.TheConstants.{MAX_TOP}

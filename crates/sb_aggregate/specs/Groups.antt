@@ -1,16 +1,16 @@
 -- What contracts see of a part of an aggregate, and of an aggregate.
 use Rattle.std.specs.Prelude.{◌≡◌, ℕ, Bool, List, ◌++◌}
-use Rattle.sb_record.specs.declared.item.Record.{Record}
-use Rattle.sb_record.specs.declared.element.KeptRec.{KeptRec}
-use Rattle.sb_record.specs.Elements.{all_records}
-use Rattle.sb_record.specs.Records.{at_least}
-use Rattle.sb_record.specs.Reorderings.{IsReordered}
-use Rattle.sb_window.specs.declared.keyed_window.KeyedWindow.{KeyedWindow}
-use Rattle.sb_window.specs.Spacing.{Spacing}
+use Rattle.sb_runs.specs.records.declared.item.Record.{Record}
+use Rattle.sb_runs.specs.records.declared.element.KeptRec.{KeptRec}
+use Rattle.sb_runs.specs.records.Elements.{all_records}
+use Rattle.sb_runs.specs.records.Records.{at_least}
+use Rattle.sb_runs.specs.records.Reorderings.{IsReordered}
+use Rattle.sb_runs.specs.window.declared.keyed_window.KeyedWindow.{KeyedWindow}
+use Rattle.sb_runs.specs.window.Spacing.{Spacing}
 use Rattle.sb_aggregate.specs.declared.aggregate.Agg.{Agg}
 use Rattle.sb_aggregate.specs.Aggregates.{aggregate_rows}
 use Rattle.sb_aggregate.specs.Partials.{PartialValues, join_values, partial_at, partial_from}
-use Rattle.sb_aggregate.specs.Runs.{found, found_in}
+use Rattle.sb_runs.specs.Runs.{found, found_in}
 
 -- a part: the records that were grouped
 pub record Grouped : Type 0 where

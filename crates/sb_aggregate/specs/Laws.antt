@@ -1,10 +1,10 @@
 -- The laws of aggregations and of sessions, and their limits as numbers.
 use Rattle.std.specs.Prelude.{◌≡◌, ◌≤◌, ◌<◌, ◌+◌, ◌^◌, ℕ, List, ◌++◌, All, Contains, filter}
-use Rattle.sb_record.specs.declared.item.Record.{Record}
-use Rattle.sb_record.specs.Records.{before, at_least}
-use Rattle.sb_record.specs.Reorderings.{IsReordered}
-use Rattle.sb_window.specs.Spacing.{Spacing}
-use Rattle.sb_window.specs.Reorderings.{IgnoresOrder}
+use Rattle.sb_runs.specs.records.declared.item.Record.{Record}
+use Rattle.sb_runs.specs.records.Records.{before, at_least}
+use Rattle.sb_runs.specs.records.Reorderings.{IsReordered}
+use Rattle.sb_runs.specs.window.Spacing.{Spacing}
+use Rattle.sb_runs.specs.window.Reorderings.{IgnoresOrder}
 use Rattle.sb_aggregate.specs.declared.aggregate.TheConstants.{MAX_TOP}
 use Rattle.sb_aggregate.specs.declared.session.TheConstants.{MAX_GAP}
 use Rattle.sb_aggregate.specs.declared.aggregate.Agg.{Agg}

@@ -2,8 +2,9 @@ pub mod Aggregates
 pub mod Sessions
 pub mod Laws
 pub mod Orderless
-pub mod Runs
-pub mod Placed
 pub mod Partials
 pub mod Held
 pub mod Groups
+pub use Rattle.sb_runs.specs.records
+pub use Rattle.sb_runs.specs.window
+pub use Rattle.sb_runs.specs.RowLemmas

@@ -7,20 +7,20 @@ use Rattle.std.specs.Cmp.{IsTotalOrder, int_cmp_total}
 use Rattle.std.proofs.lemmas.Cmp.{back_total}
 use Rattle.std.proofs.lemmas.List.Recursion.{is_sum_by}
 use Rattle.std.proofs.lemmas.Map.Lookups.{CmpEqualImpliesEq, exact_signed}
-use Rattle.sb_record.specs.declared.element.KeptRec.{KeptRec}
-use Rattle.sb_record.specs.Elements.{all_records}
-use Rattle.sb_record.specs.Orders.{in_order}
-use Rattle.sb_record.specs.Records.{at_least}
-use Rattle.sb_record.specs.Reorderings.{IsReordered}
-use Rattle.sb_record.proofs.Sums.{IsReordered-append, IsReordered-map}
+use Rattle.sb_runs.specs.records.declared.element.KeptRec.{KeptRec}
+use Rattle.sb_runs.specs.records.Elements.{all_records}
+use Rattle.sb_runs.specs.records.Orders.{in_order}
+use Rattle.sb_runs.specs.records.Records.{at_least}
+use Rattle.sb_runs.specs.records.Reorderings.{IsReordered}
+use Rattle.sb_runs.specs.window.SumLemmas.{IsReordered-append, IsReordered-map}
 use Rattle.sb_aggregate.specs.Groups.{Absorbed, given}
 use Rattle.std.specs.declared.cmp.Ordering.TheVariants.{Less, Equal, Greater}
-use Rattle.sb_window.proofs.Rows.{rows_by-order}
+use Rattle.sb_runs.specs.RowLemmas.{rows_by-order}
 use Rattle.sb_aggregate.specs.declared.aggregate.Agg.TheVariants.{Count, Sum, Min, Max, Distinct, Top}
 use Rattle.sb_aggregate.specs.Aggregates.{signed_value, greatest_first, aggregate_values}
 use Rattle.sb_aggregate.specs.Laws.{AggregatesDoNotDependOnOrder, AggregateRowsDoNotDependOnOrder}
-use Rattle.sb_record.proofs.Firsts.{first_of, in_order-reordered}
-use Rattle.sb_record.proofs.Different.{distinct-reordered}
+use Rattle.sb_runs.specs.window.FirstLemmas.{first_of, in_order-reordered}
+use Rattle.sb_runs.specs.window.DifferentLemmas.{distinct-reordered}
 
 -- the order of values, greatest first
 pub greatest_total : IsTotalOrder (flip_args int_cmp)

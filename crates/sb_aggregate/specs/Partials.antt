@@ -1,11 +1,11 @@
 -- What is kept of the values of a keyed window until it closes: its partial value, a list of values.
 use Rattle.std.specs.Prelude.{ℕ, ℤ, ◌-◌, nat_lt, if◌then◌else◌, List, [], ◌∷◌, ◌++◌, length, map, Option, None}
 use Rattle.std.specs.Ordering.{int_cmp}
-use Rattle.sb_record.specs.declared.item.Record.{Record}
-use Rattle.sb_record.specs.Orders.{distinct}
-use Rattle.sb_window.specs.declared.keyed_window.KeyedWindow.{KeyedWindow}
-use Rattle.sb_window.specs.Spacing.{Spacing}
-use Rattle.sb_window.specs.Gatherings.{gathered_value}
+use Rattle.sb_runs.specs.records.declared.item.Record.{Record}
+use Rattle.sb_runs.specs.records.Orders.{distinct}
+use Rattle.sb_runs.specs.window.declared.keyed_window.KeyedWindow.{KeyedWindow}
+use Rattle.sb_runs.specs.window.Spacing.{Spacing}
+use Rattle.sb_runs.specs.window.Gatherings.{gathered_value}
 use Rattle.sb_aggregate.specs.declared.aggregate.Agg.{Agg}
 use Rattle.sb_aggregate.specs.declared.aggregate.Agg.TheVariants.{Count, Sum, Distinct}
 use Rattle.sb_aggregate.specs.Aggregates.{signed_value, aggregate_values}

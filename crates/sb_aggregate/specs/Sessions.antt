@@ -2,12 +2,12 @@
 use Rattle.std.specs.Prelude.{ℕ, ℤ, ◌+◌, ◌-◌, ◌==◌, nat_lt, Bool, not, ◌&&◌, if◌then◌else◌, List, [], ◌∷◌, map, filter}
 use Rattle.std.specs.List.{flat_map}
 use Rattle.std.specs.Ordering.{nat_cmp}
-use Rattle.sb_record.specs.declared.item.Record.{Record}
-use Rattle.sb_record.specs.declared.key.Key.{Key}
-use Rattle.sb_record.specs.Keys.{same_key}
-use Rattle.sb_record.specs.Orders.{in_order, distinct}
-use Rattle.sb_window.specs.declared.keyed_window.KeyedWindow.{KeyedWindow}
-use Rattle.sb_window.specs.Windows.{keyed_window_cmp}
+use Rattle.sb_runs.specs.records.declared.item.Record.{Record}
+use Rattle.sb_runs.specs.records.declared.key.Key.{Key}
+use Rattle.sb_runs.specs.records.Keys.{same_key}
+use Rattle.sb_runs.specs.records.Orders.{in_order, distinct}
+use Rattle.sb_runs.specs.window.declared.keyed_window.KeyedWindow.{KeyedWindow}
+use Rattle.sb_runs.specs.window.Windows.{keyed_window_cmp}
 use Rattle.sb_aggregate.specs.declared.aggregate.Agg.{Agg}
 use Rattle.sb_aggregate.specs.Aggregates.{aggregate_values}
 

@@ -9,9 +9,9 @@ use crate::aggregate::Agg;
 use crate::part::AggPart;
 use crate::partial::{Partial, PartialJoiner};
 use crate::rows::rows_of;
-use crate::runs::Runs;
-use sb_record::{NoMemory, Record, Trail};
-use sb_window::{Grouping, Windows};
+use sb_runs::Runs;
+use sb_runs::sb_record::{NoMemory, Record, Trail};
+use sb_runs::sb_window::{Grouping, Windows};
 use std::alloc::Global;
 use std::marker::Model;
 

@@ -14,14 +14,10 @@
 
 mod aggregate;
 mod grouping;
-mod joiner;
 pub mod laws;
-mod panes;
 mod part;
 mod partial;
 mod rows;
-mod run;
-mod runs;
 mod session;
 mod sorted_list;
 mod value_set;
@@ -30,3 +26,6 @@ pub use aggregate::{Agg, MAX_TOP, aggregated};
 pub use grouping::Aggregate;
 pub use part::{AggPart, part_of};
 pub use session::MAX_GAP;
+
+// What the crates above name of the crates below.
+pub use sb_runs::{sb_record, sb_window};

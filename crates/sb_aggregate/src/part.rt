@@ -1,19 +1,17 @@
 //! Parts of an aggregate: what a worker makes of a bundle outside of any turn.
 
-ghost use Rattle.std.specs.Prelude.{◌≡◌, ◌<◌, ◌++◌, All, OnOk, IfOk};
-ghost use Rattle.sb_record.specs.Reorderings.{IsReordered};
-ghost use Rattle.sb_window.specs.declared.keyed_window.KeyedWindow.{KeyedWindow as Window};
+ghost use Rattle.std.specs.Prelude.{◌≡◌, ◌<◌, All, IfOk};
+ghost use Rattle.sb_runs.specs.window.declared.keyed_window.KeyedWindow.{KeyedWindow as Window};
 ghost use Rattle.sb_aggregate.specs.Aggregates.{IsValid};
 ghost use Rattle.sb_aggregate.specs.Partials.{partial_values};
-ghost use Rattle.sb_aggregate.specs.Placed.{placed_first, placed_value};
-ghost use Rattle.sb_aggregate.specs.Runs.{found};
+ghost use Rattle.sb_runs.specs.Placed.{placed_value};
+ghost use Rattle.sb_runs.specs.Runs.{found};
 
 use crate::aggregate::Agg;
-use crate::panes::spread;
 use crate::partial::{Partial, PartialJoiner};
-use crate::run::Run;
-use sb_record::{END_MARK, NoMemory, Record, Trail};
-use sb_window::{KeyedWindow, Windows};
+use sb_runs::sb_record::{END_MARK, NoMemory, Record, Trail};
+use sb_runs::sb_window::{KeyedWindow, Windows};
+use sb_runs::{Run, place, sort_placed, spread};
 use std::alloc::Global;
 use std::marker::Model;
 
@@ -68,32 +66,6 @@ pub fn part_of(
         partials,
         records: grouped,
     })
-}
-
-// Adds the value of a record at its pane, which ends where the first of its windows does.
-fn place(
-    placed: &mut Vec<(KeyedWindow, i64)>,
-    windows: &Windows,
-    record: &Record,
-) -> Result<(), NoMemory>
-    requires { «record».now.time < END_MARK }
-    ensures { OnOk result (placed.new.items ≡ placed.old.items ++ placed_first windows.now «record».now) }
-{
-    if let Some(end) = windows.ends(record.time).next() {
-        let window = KeyedWindow {
-            end,
-            key: record.key,
-        };
-        placed.push((window, record.value))?;
-    }
-    Ok(())
-}
-
-// Puts what is placed in the order of windows. Nothing but time depends on that order.
-fn sort_placed(placed: &mut Vec<(KeyedWindow, i64)>)
-    ensures { IsReordered placed.new.items placed.old.items }
-{
-    placed.sort_unstable();
 }
 
 // The partial values of what is placed.

@@ -6,10 +6,10 @@ ghost use Rattle.sb_aggregate.specs.Partials.{partial_values, join_values, final
 ghost use Rattle.sb_aggregate.specs.Held.{held_values};
 
 use crate::aggregate::{Agg, aggregated};
-use crate::joiner::Joiner;
 use crate::value_set::ValueSet;
-use sb_record::{NoMemory, Record};
-use sb_window::KeyedWindow;
+use sb_runs::Joiner;
+use sb_runs::sb_record::{NoMemory, Record};
+use sb_runs::sb_window::KeyedWindow;
 use std::alloc::Global;
 use std::marker::Model;
 

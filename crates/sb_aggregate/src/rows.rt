@@ -1,15 +1,15 @@
 //! The rows of partial values.
 
 ghost use Rattle.std.specs.Prelude.{◌≡◌, OnOk, IfOk};
-ghost use Rattle.sb_record.specs.Records.{sorted_records};
-ghost use Rattle.sb_window.specs.Gatherings.{rows_of_entries};
+ghost use Rattle.sb_runs.specs.records.Records.{sorted_records};
+ghost use Rattle.sb_runs.specs.window.Gatherings.{rows_of_entries};
 ghost use Rattle.sb_aggregate.specs.Partials.{final_values};
-ghost use Rattle.sb_aggregate.specs.Runs.{IsRun};
+ghost use Rattle.sb_runs.specs.Runs.{IsRun};
 
 use crate::aggregate::Agg;
 use crate::partial::Partial;
-use crate::run::Run;
-use sb_record::{NoMemory, Record};
+use sb_runs::Run;
+use sb_runs::sb_record::{NoMemory, Record};
 use std::alloc::Global;
 
 /// The rows of partial values, in order.

@@ -3,10 +3,10 @@
 ghost use Rattle.std.specs.Prelude.{◌≡◌, ◌∷◌, ◌++◌, [], length, IfOk, OnOk};
 ghost use Rattle.std.specs.List.Sorted.{IsStrictlySortedBy};
 ghost use Rattle.std.specs.Ordering.{int_cmp};
-ghost use Rattle.sb_record.specs.Orders.{distinct};
+ghost use Rattle.sb_runs.specs.records.Orders.{distinct};
 
 use crate::aggregate::keep_distinct;
-use sb_record::NoMemory;
+use sb_runs::sb_record::NoMemory;
 use std::alloc::Global;
 use std::collections::BTreeSet;
 use std::marker::Model;

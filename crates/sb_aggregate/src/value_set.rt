@@ -2,11 +2,11 @@
 
 ghost use Rattle.std.specs.Prelude.{◌≡◌, ◌∷◌, ◌++◌, [], ◌%◌, ◌^◌, length, IfOk};
 ghost use Rattle.std.specs.Ordering.{int_cmp};
-ghost use Rattle.sb_record.specs.Orders.{distinct};
+ghost use Rattle.sb_runs.specs.records.Orders.{distinct};
 ghost use Rattle.sb_aggregate.specs.Held.{set_values};
 
 use crate::sorted_list::SortedList;
-use sb_record::NoMemory;
+use sb_runs::sb_record::NoMemory;
 use std::alloc::Global;
 use std::collections::BTreeSet;
 

@@ -125,7 +125,7 @@ found-behind e es [] before all = tt
 found-behind e es (x ∷ xs) before all =
     (ap (λ o. cond (is_eq o) (Some e.1) (lookup (is_at (keyed_window_cmp x.0)) es)) (keyed_windows_total.antisymm x.0 e.0 ∙ ap ordering_reverse before.0) ∙ all.0, found-behind e es xs before.1 all.1)
 
-all-found : {V : Type 0} (es : List (KeyedWindow × V)) → IsStrictlySortedBy keyed_window_cmp (keys_of es) → AllByRecursion (λ x. lookup (is_at (keyed_window_cmp x.0)) es ≡ Some x.1) es
+pub all-found : {V : Type 0} (es : List (KeyedWindow × V)) → IsStrictlySortedBy keyed_window_cmp (keys_of es) → AllByRecursion (λ x. lookup (is_at (keyed_window_cmp x.0)) es ≡ Some x.1) es
 unfolding IsStrictlySortedBy
 all-found [] run = tt
 all-found (e ∷ es) run =

@@ -17,3 +17,6 @@ pub use ends::Ends;
 pub use grouping::Grouping;
 pub use keyed_window::KeyedWindow;
 pub use windows::{BadWindow, MAX_SIZE, MAX_WINDOWS_OF_A_TIME, Windows};
+
+// What the crates above name of the crates below.
+pub use sb_record;

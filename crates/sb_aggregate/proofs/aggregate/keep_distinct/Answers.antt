@@ -5,7 +5,7 @@ use Rattle.std.specs.Cmp.{int_cmp_total}
 use Rattle.std.proofs.lemmas.List.Filters.{dedup_is}
 use Rattle.std.proofs.lemmas.List.Sorted.{sum_by-IsPermutation}
 use Rattle.std.proofs.lemmas.Map.Lookups.{exact_signed}
-use Rattle.sb_record.proofs.Different.{dedup-distinct}
+use Rattle.sb_runs.proofs.records.Different.{dedup-distinct}
 use Rattle.sb_aggregate.proofs.aggregate.keep_distinct.Goals as goal
 
 pub returns : goal.returns

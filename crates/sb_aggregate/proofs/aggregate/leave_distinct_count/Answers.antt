@@ -1,8 +1,8 @@
 use Rattle.std.proofs.Common.{◌≡◌, ◌<◌, false, true, ℤ, List, [], ◌∷◌, length, Result, Ok, Err, IsOk, OnErr, arith}
 use Rattle.std.specs.Ordering.{int_cmp}
-use Rattle.sb_record.specs.declared.item.NoMemory.{NoMemory}
-use Rattle.sb_record.specs.Orders.{distinct}
-use Rattle.sb_record.proofs.Different.{some-distinct}
+use Rattle.sb_runs.specs.records.declared.item.NoMemory.{NoMemory}
+use Rattle.sb_runs.specs.records.Orders.{distinct}
+use Rattle.sb_runs.proofs.records.Different.{some-distinct}
 use Rattle.sb_aggregate.proofs.aggregate.leave_distinct_count.Goals as goal
 
 -- where memory fails, there were no values

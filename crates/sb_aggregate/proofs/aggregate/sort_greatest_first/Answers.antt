@@ -2,7 +2,7 @@ use Rattle.std.proofs.Common.{rules}
 use Rattle.std.specs.Ordering.{is_lt, int_cmp, flip_args}
 use Rattle.std.proofs.lemmas.Fn.{always_returns_same}
 use Rattle.std.proofs.lemmas.List.Sorted.{ranks_by, sum_by-IsPermutation}
-use Rattle.sb_record.proofs.Firsts.{sort-in_order}
+use Rattle.sb_runs.proofs.records.Firsts.{sort-in_order}
 use Rattle.sb_aggregate.proofs.Orderless.{greatest_total, exact_greatest}
 use Rattle.sb_aggregate.proofs.aggregate.sort_greatest_first.Goals as goal
 

@@ -1,14 +1,15 @@
 use Rattle.std.proofs.Common.{◌<◌, ◌∷◌, [], ◌++◌, SFits, w64, rules, take, sym, ap, ◌∙◌, arith}
 use Rattle.std.specs.List.{flat_map}
 use Rattle.std.proofs.lemmas.List.Elements.{recursion_from_All}
-use Rattle.sb_record.specs.declared.item.TheConstants.{END_MARK}
+use Rattle.sb_runs.specs.records.declared.item.TheConstants.{END_MARK}
 use Rattle.std.proofs.lemmas.Int.{to_z-of_z}
 use Rattle.std.proofs.lemmas.List.{take_more, flat_map_more}
-use Rattle.sb_record.specs.declared.item.Record.{Record}
+use Rattle.sb_runs.specs.records.declared.item.Record.{Record}
 use Rattle.sb_aggregate.specs.Partials.{partial_values, partial_at}
-use Rattle.sb_aggregate.specs.Placed.{placed_first, placed_value}
+use Rattle.sb_runs.specs.Placed.{placed_first, placed_value}
 use Rattle.sb_aggregate.proofs.PartialValues.{join_values-grouped}
-use Rattle.sb_aggregate.proofs.Spreading.{All-take, part-room, part-spread}
+use Rattle.sb_runs.proofs.Spreading.{All-take}
+use Rattle.sb_aggregate.proofs.Panes.{part-room, part-spread}
 use Rattle.sb_aggregate.proofs.part.part_of.Goals as goal
 
 pub loop-record-preserved : goal.loop-record-preserved

@@ -1,6 +1,6 @@
 use Rattle.std.proofs.Common.{◌≡◌, take}
 use Rattle.std.specs.List.{flat_map}
-use Rattle.sb_aggregate.specs.Placed.{placed_first}
+use Rattle.sb_runs.specs.Placed.{placed_first}
 use Rattle.sb_aggregate.proofs.part.part_of.Given as goal
 
 abbrev pub invariant-loop-record : goal.invariant-loop-record

@@ -1,12 +1,12 @@
 use Rattle.std.proofs.Common.{◌≡◌, ℤ, [], ◌∷◌, ◌++◌, rules, take, sym, ap, ◌∙◌, arith}
 use Rattle.std.proofs.lemmas.List.{take_more}
-use Rattle.sb_window.specs.declared.keyed_window.KeyedWindow.{KeyedWindow}
-use Rattle.sb_window.specs.Gatherings.{joined_value}
+use Rattle.sb_runs.specs.window.declared.keyed_window.KeyedWindow.{KeyedWindow}
+use Rattle.sb_runs.specs.window.Gatherings.{joined_value}
 use Rattle.sb_aggregate.specs.Partials.{join_values, partial_values}
-use Rattle.sb_aggregate.specs.Placed.{placed_value}
-use Rattle.sb_aggregate.specs.Runs.{found}
+use Rattle.sb_runs.specs.Placed.{placed_value}
+use Rattle.sb_runs.specs.Runs.{found}
 use Rattle.sb_aggregate.proofs.PartialValues.{partials-joined}
-use Rattle.sb_aggregate.proofs.Placed.{placed-more}
+use Rattle.sb_runs.proofs.Placed.{placed-more}
 use Rattle.sb_aggregate.proofs.part.run_of.Goals as goal
 
 pub loop-entry-preserved : goal.loop-entry-preserved

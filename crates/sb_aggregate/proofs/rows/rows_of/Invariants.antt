@@ -1,5 +1,5 @@
 use Rattle.std.proofs.Common.{◌≡◌, ◌++◌, length}
-use Rattle.sb_window.specs.Gatherings.{rows_of_entries}
+use Rattle.sb_runs.specs.window.Gatherings.{rows_of_entries}
 use Rattle.sb_aggregate.specs.Partials.{final_values}
 use Rattle.sb_aggregate.proofs.rows.rows_of.Given as goal
 

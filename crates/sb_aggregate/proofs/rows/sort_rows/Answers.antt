@@ -1,5 +1,5 @@
 use Rattle.std.proofs.lemmas.List.Sorted.{sum_by-IsPermutation}
-use Rattle.sb_record.proofs.Sorting.{records_total, ascending-from_sorted, sorted-unique}
+use Rattle.sb_runs.proofs.records.Sorting.{records_total, ascending-from_sorted, sorted-unique}
 use Rattle.sb_aggregate.proofs.rows.sort_rows.Goals as goal
 
 pub returns : goal.returns

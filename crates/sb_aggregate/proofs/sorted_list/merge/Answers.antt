@@ -4,7 +4,7 @@ use Rattle.std.specs.Cmp.{int_cmp_total}
 use Rattle.std.specs.Ordering.{int_cmp}
 use Rattle.std.proofs.lemmas.Int.{to_z-of_z}
 use Rattle.std.proofs.lemmas.Map.Lookups.{exact_signed}
-use Rattle.sb_record.specs.Orders.{distinct}
+use Rattle.sb_runs.specs.records.Orders.{distinct}
 use Rattle.sb_aggregate.proofs.LeastOfTwo.{places-next, at-most-one}
 use Rattle.sb_aggregate.proofs.SortedLists.{merge-step, rest-distinct}
 use Rattle.sb_aggregate.proofs.sorted_list.merge.Goals as goal

@@ -1,6 +1,6 @@
 use Rattle.std.proofs.Common.{◌≡◌, ◌≤◌, ◌+◌, ◌-◌, ◌++◌, length, drop}
 use Rattle.std.specs.Ordering.{int_cmp}
-use Rattle.sb_record.specs.Orders.{distinct}
+use Rattle.sb_runs.specs.records.Orders.{distinct}
 use Rattle.sb_aggregate.proofs.sorted_list.merge.Given as goal
 
 abbrev pub invariant-loop-place : goal.invariant-loop-place

@@ -1,13 +1,13 @@
 use Rattle.std.proofs.Common.{◌≡◌, true, false, List, ◌++◌, subst, sym, ap, ◌∙◌}
 use Rattle.std.specs.Prelude.{sum_by, ◌≤◌}
 use Rattle.std.specs.List.{flat_map}
-use Rattle.sb_record.specs.declared.item.Record.{Record}
-use Rattle.sb_record.specs.Elements.{all_records}
-use Rattle.sb_record.specs.Records.{at_least}
-use Rattle.sb_record.specs.Reorderings.{IsReordered}
-use Rattle.sb_record.proofs.OnLanes.{All-all_records}
-use Rattle.sb_window.specs.Groupings.{IsFrom}
-use Rattle.sb_window.specs.Spacing.{Spacing}
+use Rattle.sb_runs.specs.records.declared.item.Record.{Record}
+use Rattle.sb_runs.specs.records.Elements.{all_records}
+use Rattle.sb_runs.specs.records.Records.{at_least}
+use Rattle.sb_runs.specs.records.Reorderings.{IsReordered}
+use Rattle.sb_runs.proofs.records.OnLanes.{All-all_records}
+use Rattle.sb_runs.specs.window.Groupings.{IsFrom}
+use Rattle.sb_runs.specs.window.Spacing.{Spacing}
 use Rattle.sb_aggregate.specs.declared.aggregate.Agg.{Agg}
 use Rattle.sb_aggregate.specs.Aggregates.{aggregate_rows}
 use Rattle.sb_aggregate.specs.Groups.{Absorbed, Grouped, HasPartials, HasPartialsFrom, given}

@@ -1,8 +1,8 @@
 use Rattle.std.proofs.Common.{◌≡◌, ◌≤◌, ◌++◌, true, false, subst, sym, ap, ◌∙◌}
 use Rattle.std.specs.List.{flat_map}
-use Rattle.sb_record.specs.Elements.{all_records}
-use Rattle.sb_record.specs.Records.{at_least}
-use Rattle.sb_window.specs.Groupings.{Closes}
+use Rattle.sb_runs.specs.records.Elements.{all_records}
+use Rattle.sb_runs.specs.records.Records.{at_least}
+use Rattle.sb_runs.specs.window.Groupings.{Closes}
 use Rattle.sb_aggregate.specs.Aggregates.{aggregate_rows}
 use Rattle.sb_aggregate.specs.Groups.{Absorbed, given}
 use Rattle.sb_aggregate.proofs.PartialValues.{join_values-grouped}

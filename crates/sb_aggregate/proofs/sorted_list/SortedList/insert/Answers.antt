@@ -4,8 +4,8 @@ use Rattle.std.specs.List.Sorted.{IsStrictlySortedBy}
 use Rattle.std.specs.Ordering.{int_cmp}
 use Rattle.std.proofs.lemmas.Int.{to_z-of_z}
 use Rattle.std.proofs.lemmas.Map.Lookups.{exact_signed}
-use Rattle.sb_record.specs.Orders.{distinct}
-use Rattle.sb_record.proofs.Distinct.{distinct-sorted}
+use Rattle.sb_runs.specs.records.Orders.{distinct}
+use Rattle.sb_runs.proofs.records.Distinct.{distinct-sorted}
 use Rattle.sb_aggregate.proofs.SortedLists.{rises, distinct-placed, distinct-there}
 use Rattle.sb_aggregate.proofs.sorted_list.SortedList.insert.Goals as goal
 

@@ -2,7 +2,7 @@ use Rattle.std.proofs.Common.{sym, subst}
 use Rattle.std.specs.Cmp.{int_cmp_total}
 use Rattle.std.specs.List.Sorted.{IsStrictlySortedBy}
 use Rattle.std.specs.Ordering.{int_cmp}
-use Rattle.sb_record.proofs.Distinct.{distinct-sorted}
+use Rattle.sb_runs.proofs.records.Distinct.{distinct-sorted}
 use Rattle.sb_aggregate.proofs.sorted_list.SortedList.of_values.Goals as goal
 
 pub invariant_of-result : goal.invariant_of-result

@@ -3,8 +3,8 @@ use Rattle.std.specs.Cmp.{int_cmp_total}
 use Rattle.std.specs.Ordering.{int_cmp}
 use Rattle.std.proofs.lemmas.Int.{to_z-of_z}
 use Rattle.std.proofs.lemmas.Map.Lookups.{exact_signed}
-use Rattle.sb_record.specs.Orders.{distinct}
-use Rattle.sb_record.proofs.Different.{distinct-updated}
+use Rattle.sb_runs.specs.records.Orders.{distinct}
+use Rattle.sb_runs.proofs.records.Different.{distinct-updated}
 use Rattle.sb_aggregate.specs.Held.{set_values}
 use Rattle.sb_aggregate.proofs.value_set.ValueSet.with_value.Goals as goal
 

@@ -1,7 +1,0 @@
-use Rattle.std.proofs.Common.{sym, subst}
-use Rattle.sb_aggregate.specs.Runs.{IsRun}
-use Rattle.sb_aggregate.proofs.Found.{run-none}
-use Rattle.sb_aggregate.proofs.run.Run.new.Goals as goal
-
-pub invariant_of-result : goal.invariant_of-result
-invariant_of-result g c = subst (λ es. IsRun {V = g.row.V.Denot} es) (sym c.new.ensures.items) run-none
