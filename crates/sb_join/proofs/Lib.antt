@@ -1,7 +1,10 @@
 pub mod Pairs
 pub mod Times
 pub mod Fixed
+pub mod Sides
+pub mod PartValues
 pub mod KeptValues
 pub mod KeptRows
 pub mod KeptLaws
-pub mod KeptSteps
+pub use Rattle.sb_runs.proofs.records
+pub use Rattle.sb_runs.proofs.window

@@ -1,11 +1,11 @@
 -- The times of the rows of a join.
 use Rattle.std.proofs.Common.{◌≡◌, ℕ, ◌+◌, ◌≤◌, true, List}
 use Rattle.std.specs.List.{list_any, AllByRecursion}
-use Rattle.sb_record.specs.declared.item.Record.{Record}
-use Rattle.sb_record.proofs.Elements.{All-flat_map, All-map}
-use Rattle.sb_window.specs.Spacing.{Spacing}
-use Rattle.sb_window.specs.Windows.{is_in, keyed_windows, values_in}
-use Rattle.sb_window.proofs.Rows.{row, last_time, All-keyed_windows}
+use Rattle.sb_runs.specs.records.declared.item.Record.{Record}
+use Rattle.sb_runs.specs.window.ElementLemmas.{All-flat_map, All-map}
+use Rattle.sb_runs.specs.window.Spacing.{Spacing}
+use Rattle.sb_runs.specs.window.Windows.{is_in, keyed_windows, values_in}
+use Rattle.sb_runs.specs.RowLemmas.{row, last_time, All-keyed_windows}
 use Rattle.sb_join.specs.declared.join.Combine.{Combine}
 use Rattle.sb_join.specs.Joins.{pair_values, pairs, join_rows}
 

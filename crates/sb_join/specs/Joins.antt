@@ -2,10 +2,10 @@
 use Rattle.std.specs.Prelude.{ℤ, ◌-◌, List, map}
 use Rattle.std.specs.List.{flat_map}
 use Rattle.std.specs.Int.{int_wrapping_add, int_wrapping_sub, int_wrapping_mul, int_min, int_max, w64}
-use Rattle.sb_record.specs.declared.item.Record.{Record}
-use Rattle.sb_window.specs.declared.keyed_window.KeyedWindow.{KeyedWindow}
-use Rattle.sb_window.specs.Spacing.{Spacing}
-use Rattle.sb_window.specs.Windows.{keyed_windows, values_in}
+use Rattle.sb_runs.specs.records.declared.item.Record.{Record}
+use Rattle.sb_runs.specs.window.declared.keyed_window.KeyedWindow.{KeyedWindow}
+use Rattle.sb_runs.specs.window.Spacing.{Spacing}
+use Rattle.sb_runs.specs.window.Windows.{keyed_windows, values_in}
 use Rattle.sb_join.specs.declared.join.Combine.{Combine}
 use Rattle.sb_join.specs.declared.join.Combine.TheVariants.{Add, Sub, Mul, Min, Max, Left, Right}
 

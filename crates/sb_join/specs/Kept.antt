@@ -1,12 +1,12 @@
 -- A join between closings: what it has kept, its marks, and what it would give.
 use Rattle.std.specs.Prelude.{◌≡◌, ℕ, ◌<◌, min, Bool, true, false, List, [], ◌++◌, All}
-use Rattle.sb_record.specs.declared.element.KeptRec.{KeptRec}
-use Rattle.sb_record.specs.declared.item.Record.{Record}
-use Rattle.sb_record.specs.declared.item.TheConstants.{END_MARK}
-use Rattle.sb_record.specs.Elements.{on_lane, of_lane}
-use Rattle.sb_record.specs.Records.{at_least}
-use Rattle.sb_record.specs.Reorderings.{IsReordered}
-use Rattle.sb_window.specs.Spacing.{Spacing}
+use Rattle.sb_runs.specs.records.declared.element.KeptRec.{KeptRec}
+use Rattle.sb_runs.specs.records.declared.item.Record.{Record}
+use Rattle.sb_runs.specs.records.declared.item.TheConstants.{END_MARK}
+use Rattle.sb_runs.specs.records.Elements.{on_lane, of_lane}
+use Rattle.sb_runs.specs.records.Records.{at_least}
+use Rattle.sb_runs.specs.records.Reorderings.{IsReordered}
+use Rattle.sb_runs.specs.window.Spacing.{Spacing}
 use Rattle.sb_join.specs.declared.join.Combine.{Combine}
 use Rattle.sb_join.specs.declared.join.Side.{Side}
 use Rattle.sb_join.specs.declared.join.Side.TheVariants.{Left, Right}

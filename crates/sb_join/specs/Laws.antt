@@ -1,9 +1,9 @@
 -- The laws of joins.
 use Rattle.std.specs.Prelude.{◌≡◌, ℕ, List}
-use Rattle.sb_record.specs.declared.item.Record.{Record}
-use Rattle.sb_record.specs.Records.{before}
-use Rattle.sb_record.specs.Reorderings.{IsReordered}
-use Rattle.sb_window.specs.Spacing.{Spacing}
+use Rattle.sb_runs.specs.records.declared.item.Record.{Record}
+use Rattle.sb_runs.specs.records.Records.{before}
+use Rattle.sb_runs.specs.records.Reorderings.{IsReordered}
+use Rattle.sb_runs.specs.window.Spacing.{Spacing}
 use Rattle.sb_join.specs.declared.join.Combine.{Combine}
 use Rattle.sb_join.specs.Joins.{join_rows}
 

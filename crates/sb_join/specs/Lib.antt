@@ -3,3 +3,5 @@ pub mod Kept
 pub mod Entries
 pub mod Orderless
 pub mod Laws
+pub use Rattle.sb_runs.specs.records
+pub use Rattle.sb_runs.specs.window

@@ -2,22 +2,22 @@
 use Rattle.std.proofs.Common.{◌≡◌, ℕ, ℤ, true, not, eqb, List, ◌++◌, map, refl, sym, ap, ◌∙◌}
 use Rattle.std.specs.Prelude.{nat_lt}
 use Rattle.std.specs.List.{filter, flat_map, sum_by}
-use Rattle.sb_record.specs.declared.element.KeptRec.{KeptRec}
-use Rattle.sb_record.specs.declared.item.Record.{Record}
-use Rattle.sb_record.specs.Elements.{of_lane}
-use Rattle.sb_record.specs.Reorderings.{IsReordered}
-use Rattle.sb_record.proofs.Elements.{filter_all}
-use Rattle.sb_record.proofs.Sums.{IsReordered-append, IsReordered-map, IsReordered-filter, IsReordered-flat_map_each, any_reordered}
-use Rattle.sb_window.specs.declared.keyed_window.KeyedWindow.{KeyedWindow}
-use Rattle.sb_window.specs.Spacing.{Spacing}
-use Rattle.sb_window.specs.Windows.{is_in, keyed_windows, values_in}
-use Rattle.sb_window.proofs.Rows.{row, values_in-reordered, keyed_windows-same}
+use Rattle.sb_runs.specs.records.declared.element.KeptRec.{KeptRec}
+use Rattle.sb_runs.specs.records.declared.item.Record.{Record}
+use Rattle.sb_runs.specs.records.Elements.{of_lane}
+use Rattle.sb_runs.specs.records.Reorderings.{IsReordered}
+use Rattle.sb_runs.specs.window.ElementLemmas.{filter_all}
+use Rattle.sb_runs.specs.window.SumLemmas.{IsReordered-append, IsReordered-map, IsReordered-filter, IsReordered-flat_map_each, any_reordered}
+use Rattle.sb_runs.specs.window.declared.keyed_window.KeyedWindow.{KeyedWindow}
+use Rattle.sb_runs.specs.window.Spacing.{Spacing}
+use Rattle.sb_runs.specs.window.Windows.{is_in, keyed_windows, values_in}
+use Rattle.sb_runs.specs.RowLemmas.{row, values_in-reordered, keyed_windows-same}
 use Rattle.sb_join.specs.declared.join.Combine.{Combine}
 use Rattle.sb_join.specs.Joins.{pair_value, pair_values, pairs, join_rows}
 use Rattle.sb_join.specs.Kept.{JoinState, gives}
 
 module _ (combine : Combine) (windows : Spacing) where
-  reordered_pair_values : (xs ws ys zs : List ℤ) → IsReordered xs ws → IsReordered ys zs
+  pub reordered_pair_values : (xs ws ys zs : List ℤ) → IsReordered xs ws → IsReordered ys zs
       → IsReordered (pair_values combine xs ys) (pair_values combine ws zs)
   reordered_pair_values xs ws ys zs h k =
       IsReordered-flat_map_each (λ x. map (pair_value combine x) ys) (λ x. map (pair_value combine x) zs)

@@ -10,7 +10,12 @@
 mod join;
 mod kept;
 pub mod laws;
-mod sides;
+mod part;
+mod rows;
+mod side_values;
 
 pub use join::{Combine, Side, pair_values};
 pub use kept::{JoinKept, JoinPart};
+
+// What the crates above name of the crates below.
+pub use sb_runs::{sb_record, sb_window};
