@@ -1,23 +1,23 @@
 pub mod Inputs
-pub use Rattle.sb_record.specs as records
-pub use Rattle.sb_window.specs as window
-pub use Rattle.sb_pardo.specs as pardo
-pub use Rattle.sb_aggregate.specs as aggregate
-pub use Rattle.sb_join.specs as join
+pub use Rattle.sb_pipeline.specs.records
+pub use Rattle.sb_pipeline.specs.window
+pub use Rattle.sb_pipeline.specs.pardo
+pub use Rattle.sb_pipeline.specs.aggregate
+pub use Rattle.sb_pipeline.specs.join
 pub use Rattle.sb_pipeline.specs as pipeline
 pub use Rattle.sb_bundle.specs as bundle
-pub use Rattle.sb_record.proofs.Earlier as EarlierLemmas
-pub use Rattle.sb_record.proofs.Elements as ElementLemmas
-pub use Rattle.sb_record.proofs.Numbers as NumberLemmas
-pub use Rattle.sb_record.proofs.OnLanes as OnLaneLemmas
-pub use Rattle.sb_record.proofs.Sorting as SortingLemmas
-pub use Rattle.sb_record.proofs.Sums as SumLemmas
-pub use Rattle.sb_window.proofs.Rows as RowLemmas
-pub use Rattle.sb_pardo.proofs.Keeping as KeepingLemmas
-pub use Rattle.sb_aggregate.proofs.Orderless as OrderlessLemmas
-pub use Rattle.sb_aggregate.proofs.SessionRows as SessionRowLemmas
-pub use Rattle.sb_aggregate.proofs.Times as AggregateTimeLemmas
-pub use Rattle.sb_join.proofs.Pairs as PairLemmas
-pub use Rattle.sb_join.proofs.Times as JoinTimeLemmas
+pub use Rattle.sb_pipeline.specs.window.EarlierLemmas
+pub use Rattle.sb_pipeline.specs.window.ElementLemmas
+pub use Rattle.sb_pipeline.specs.window.NumberLemmas
+pub use Rattle.sb_pipeline.specs.window.OnLaneLemmas
+pub use Rattle.sb_pipeline.specs.window.SortingLemmas
+pub use Rattle.sb_pipeline.specs.window.SumLemmas
+pub use Rattle.sb_pipeline.specs.RowLemmas
+pub use Rattle.sb_pipeline.specs.KeepingLemmas
+pub use Rattle.sb_pipeline.specs.OrderlessLemmas
+pub use Rattle.sb_pipeline.specs.SessionRowLemmas
+pub use Rattle.sb_pipeline.specs.AggregateTimeLemmas
+pub use Rattle.sb_pipeline.specs.PairLemmas
+pub use Rattle.sb_pipeline.specs.JoinTimeLemmas
 pub use Rattle.sb_pipeline.proofs.Feeding as FeedingLemmas
 pub use Rattle.sb_pipeline.proofs.Steps as StepLemmas

@@ -1,6 +1,6 @@
 -- Which shapes are plans.
 use Rattle.std.specs.Prelude.{◌≡◌, ◌≤◌, ◌<◌, ℕ, Bool, true, false, List, All, length, count_by, Some, IfSome, slice_get}
-use Rattle.sb_window.specs.Spacing.{AreWindows}
+use Rattle.sb_aggregate.specs.window.Spacing.{AreWindows}
 use Rattle.sb_pardo.specs.Validity as pardo
 use Rattle.sb_aggregate.specs.Aggregates as aggregate
 use Rattle.sb_aggregate.specs.Aggregates.{GivesOne}

@@ -14,3 +14,9 @@ mod validity;
 pub use plan::{Plan, sum_plan};
 pub use sb_aggregate::MAX_GAP;
 pub use transform::{Down, Kind, MAX_TRANSFORMS, Step};
+
+// What the crates above name of the crates below.
+pub use sb_aggregate;
+pub use sb_aggregate::{sb_record, sb_window};
+pub use sb_join;
+pub use sb_pardo;
