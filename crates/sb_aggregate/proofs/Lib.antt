@@ -8,6 +8,7 @@ pub mod PartialValues
 pub mod LeastOfTwo
 pub mod SortedLists
 pub mod Unions
+pub mod InPlace
 pub mod Panes
 pub mod Ends
 pub mod Absorbing

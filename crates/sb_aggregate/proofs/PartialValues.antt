@@ -14,7 +14,7 @@ use Rattle.sb_runs.specs.window.Reorderings.{IgnoresOrder}
 use Rattle.sb_runs.specs.window.Aggregations.{sum_values}
 use Rattle.sb_aggregate.specs.declared.aggregate.Agg.{Agg}
 use Rattle.sb_aggregate.specs.declared.aggregate.Agg.TheVariants.{Count, Sum, Min, Max, Distinct, Top}
-use Rattle.sb_aggregate.specs.Aggregates.{signed_value, aggregate_values}
+use Rattle.sb_aggregate.specs.Aggregates.{IsValid, signed_value, aggregate_values}
 use Rattle.sb_aggregate.specs.Orderless.{greatest_total, exact_greatest, aggregates-orderless}
 use Rattle.sb_aggregate.specs.Partials.{partial_values, joining, join_values, final_values}
 use Rattle.sb_runs.specs.Runs.{IsAssociative}
@@ -50,7 +50,7 @@ counts-added vs ws =
     ∙ sym (sum_of_two (signed_value (length vs)) (signed_value (length ws)))
 
 -- ---- partial values of partial values
-kept : (agg : Agg) → (vs ws : List ℤ) → partial_values (joining agg) (partial_values (joining agg) vs ++ ws) ≡ partial_values (joining agg) (vs ++ ws)
+pub kept : (agg : Agg) → (vs ws : List ℤ) → partial_values (joining agg) (partial_values (joining agg) vs ++ ws) ≡ partial_values (joining agg) (vs ++ ws)
 kept Count vs ws = sum-kept vs ws
 kept Sum vs ws = sum-kept vs ws
 kept Min vs ws = firsts-kept int_cmp_total exact_signed 1 vs ws
@@ -58,7 +58,8 @@ kept Max vs ws = firsts-kept greatest_total exact_greatest 1 vs ws
 kept Distinct vs ws = distinct-kept int_cmp_total exact_signed vs ws
 kept (Top k) vs ws = firsts-kept greatest_total exact_greatest k vs ws
 
-both-kept : (agg : Agg) → (vs ws : List ℤ) → partial_values (joining agg) (vs ++ ws) ≡ partial_values (joining agg) (partial_values (joining agg) vs ++ partial_values (joining agg) ws)
+-- the partial values of two lists of partial values are joined
+pub both-kept : (agg : Agg) → (vs ws : List ℤ) → partial_values (joining agg) (vs ++ ws) ≡ partial_values (joining agg) (partial_values (joining agg) vs ++ partial_values (joining agg) ws)
 both-kept agg vs ws =
     sym (kept agg vs ws)
     ∙ swapped (partial_values (joining agg) vs) ws
@@ -97,3 +98,15 @@ final-partial Min vs = refl
 final-partial Max vs = refl
 final-partial Distinct vs = refl
 final-partial (Top k) vs = refl
+
+-- a single value stands for the two that it was made of
+pub one-kept : (agg : Agg) (value v w : ℤ) → value ∷ [] ≡ join_values agg (v ∷ []) (w ∷ []) → partial_values (joining agg) (value ∷ []) ≡ partial_values (joining agg) (v ∷ w ∷ [])
+one-kept agg value v w is = ap (λ vs. partial_values (joining agg) (vs ++ [])) is ∙ kept agg (v ∷ w ∷ []) []
+
+pub valid-joining : (agg : Agg) → IsValid agg → IsValid (joining agg)
+valid-joining Count valid = tt
+valid-joining Sum valid = tt
+valid-joining Min valid = tt
+valid-joining Max valid = tt
+valid-joining Distinct valid = tt
+valid-joining (Top k) valid = valid

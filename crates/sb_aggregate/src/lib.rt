@@ -17,6 +17,7 @@ mod grouping;
 pub mod laws;
 mod part;
 mod partial;
+mod placing;
 mod rows;
 mod session;
 mod sorted_list;

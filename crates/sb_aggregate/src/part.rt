@@ -1,17 +1,19 @@
 //! Parts of an aggregate: what a worker makes of a bundle outside of any turn.
 
-ghost use Rattle.std.specs.Prelude.{◌≡◌, ◌<◌, All, IfOk};
+ghost use Rattle.std.specs.Prelude.{◌≡◌, ◌<◌, All, map, OnOk, IfOk};
+ghost use Rattle.std.specs.Option.{option_to_list};
 ghost use Rattle.sb_runs.specs.window.declared.keyed_window.KeyedWindow.{KeyedWindow as Window};
+ghost use Rattle.sb_runs.specs.window.Gatherings.{joined_value};
 ghost use Rattle.sb_aggregate.specs.Aggregates.{IsValid};
-ghost use Rattle.sb_aggregate.specs.Partials.{partial_values};
-ghost use Rattle.sb_runs.specs.Placed.{placed_value};
-ghost use Rattle.sb_runs.specs.Runs.{found};
+ghost use Rattle.sb_aggregate.specs.Partials.{partial_values, joining, join_values};
+ghost use Rattle.sb_runs.specs.Placed.{placed_first, placed_value};
 
 use crate::aggregate::Agg;
 use crate::partial::{Partial, PartialJoiner};
+use crate::placing::Placing;
 use sb_runs::sb_record::{END_MARK, NoMemory, Record, Trail};
 use sb_runs::sb_window::{KeyedWindow, Windows};
-use sb_runs::{Run, place, sort_placed, spread};
+use sb_runs::{Run, spread};
 use std::alloc::Global;
 use std::marker::Model;
 
@@ -49,14 +51,13 @@ pub fn part_of(
     requires times { All (λ r. r.time < END_MARK) records.now }
     ensures { IfOk result (λ p. p ≡ record { agg = agg; windows = windows.now; records = records.now }) }
 {
-    let mut placed = Vec::with_capacity(alloc, records.len())?;
+    let mut placing = Placing::new(alloc, records.len())?;
     let mut grouped = Trail::start();
     for record in records {
-        place(&mut placed, windows, record)?;
+        place(&mut placing, agg, windows, record)?;
         grouped = grouped.with(Record { ..*record });
     }
-    sort_placed(&mut placed);
-    let panes = run_of(alloc, agg, &placed)?;
+    let panes = placing.run(alloc, agg)?;
     let every = windows.every();
     let joiner = PartialJoiner { alloc, agg };
     let partials = spread(alloc, &joiner, panes, every, windows.size() / every)?;
@@ -68,16 +69,32 @@ pub fn part_of(
     })
 }
 
-// The partial values of what is placed.
-fn run_of(alloc: Global, agg: Agg, placed: &[(KeyedWindow, i64)]) -> Result<Run<Partial>, NoMemory>
-    requires { IsValid agg }
-    ensures { IfOk result (λ run. (q : Window) → found run q ≡ placed_value (partial_values agg) placed.now q) }
+// Places the value of a record at its pane, which ends where the first of its windows does.
+fn place(
+    placing: &mut Placing,
+    agg: Agg,
+    windows: &Windows,
+    record: &Record,
+) -> Result<(), NoMemory>
+    requires { «record».now.time < END_MARK }
+    ensures { OnOk result ((q : Window) → placed_value (partial_values (joining agg)) placing.new q
+        ≡ joined_value (join_values agg) (placed_value (partial_values (joining agg)) placing.old q)
+        (placed_value (partial_values agg) (placed_first windows.now «record».now) q)) }
 {
-    let joiner = PartialJoiner { alloc, agg };
-    let mut run = Run::new(alloc);
-    for entry in placed {
-        let window = KeyedWindow { ..entry.0 };
-        run = run.with(alloc, &joiner, window, Partial::of_one(agg, entry.1))?;
+    if let Some(pane) = pane_of(windows, record) {
+        placing.add(agg, pane, agg.first(record.value))?;
     }
-    Ok(run)
+    Ok(())
+}
+
+// The pane of a record.
+fn pane_of(windows: &Windows, record: &Record) -> Option<KeyedWindow>
+    requires { «record».now.time < END_MARK }
+    ensures { placed_first windows.now «record».now ≡ map (λ q. (q, «record».now.value)) (option_to_list result) }
+{
+    let end = windows.ends(record.time).next()?;
+    Some(KeyedWindow {
+        end,
+        key: record.key,
+    })
 }

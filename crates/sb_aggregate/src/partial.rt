@@ -1,6 +1,6 @@
 //! Partial values: what is kept of the values of a keyed window until it closes.
 
-ghost use Rattle.std.specs.Prelude.{◌≡◌, ◌∷◌, ◌++◌, [], ◌%◌, ◌^◌, length, IfOk, OnOk};
+ghost use Rattle.std.specs.Prelude.{◌≡◌, ◌∷◌, ◌++◌, [], ◌%◌, ◌^◌, length, IfSome, IfOk, OnOk};
 ghost use Rattle.sb_aggregate.specs.Aggregates.{IsValid};
 ghost use Rattle.sb_aggregate.specs.Partials.{partial_values, join_values, final_values, joining, rows_of_values};
 ghost use Rattle.sb_aggregate.specs.Held.{held_values};
@@ -40,12 +40,34 @@ impl Model for Partial {
 
 impl Agg {
     // The aggregation that makes one partial value of two.
-    fn joining(self) -> Agg
+    pub(crate) fn joining(self) -> Agg
         ensures { result ≡ joining self }
     {
         match self {
             Agg::Count => Agg::Sum,
             agg => agg,
+        }
+    }
+
+    /// What stands for a value where partial values are joined: counts begin at 1.
+    pub(crate) fn first(self, value: i64) -> i64
+        ensures { partial_values (joining self) (result ∷ []) ≡ partial_values self (value ∷ []) }
+    {
+        match self {
+            Agg::Count => 1,
+            _ => value,
+        }
+    }
+
+    /// What two partial values come to, each a single value, where it is always a single value too.
+    pub(crate) fn joined(self, one: i64, other: i64) -> Option<i64>
+        ensures { IfSome result (λ value. value ∷ [] ≡ join_values self (one ∷ []) (other ∷ [])) }
+    {
+        match self {
+            Agg::Count | Agg::Sum => Some(one.wrapping_add(other)),
+            Agg::Min => Some(one.min(other)),
+            Agg::Max => Some(one.max(other)),
+            Agg::Distinct | Agg::Top(_) => None,
         }
     }
 }

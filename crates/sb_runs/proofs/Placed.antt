@@ -53,6 +53,33 @@ module _ {V : Type 0} (made : List ℤ → V) where
       by_case false true e = ap (λ ps. Some (made (map (λ (p : KeyedWindow × ℤ). p.1) ps ++ v ∷ []))) (none_pass (is_placed q) xs e)
       by_case false false e = refl
 
+  -- ---- two lists
+  pub placed-append : (join : V → V → V) → ((v w : ℤ) (vs ws : List ℤ) → made ((v ∷ vs) ++ w ∷ ws) ≡ join (made (v ∷ vs)) (made (w ∷ ws)))
+      → (xs ys : List (KeyedWindow × ℤ)) (q : KeyedWindow) → placed_value made (xs ++ ys) q ≡ joined_value join (placed_value made xs q) (placed_value made ys q)
+  placed-append join joins xs ys q =
+      (λ i. cond (list_any-append (is_placed q) xs ys i) (Some (made (values_at-append q xs ys i))) None)
+      ∙ by_case (list_any (is_placed q) xs) (list_any (is_placed q) ys) refl refl
+    where
+      by_case : (a b : Bool) → list_any (is_placed q) xs ≡ a → list_any (is_placed q) ys ≡ b
+          → cond {A = Option V} (a || b) (Some (made (values_at q xs ++ values_at q ys))) None
+          ≡ joined_value join (cond a (Some (made (values_at q xs))) None) (cond b (Some (made (values_at q ys))) None)
+      by_case true true e f =
+          let s = some-values q xs e in
+          let t = some-values q ys f in
+          (λ i. Some (made (s.2 i ++ t.2 i))) ∙ ap (λ x. Some x) (joins s.0 t.0 s.1 t.1) ∙ sym (λ i. Some (join (made (s.2 i)) (made (t.2 i))))
+      by_case true false e f =
+          ap (λ ps. Some (made (values_at q xs ++ map (λ (p : KeyedWindow × ℤ). p.1) ps))) (none_pass (is_placed q) ys f)
+          ∙ ap (λ vs. Some (made vs)) (append-nil (values_at q xs))
+      by_case false true e f = ap (λ ps. Some (made (map (λ (p : KeyedWindow × ℤ). p.1) ps ++ values_at q ys))) (none_pass (is_placed q) xs e)
+      by_case false false e f = refl
+
+  pub placed-one : (w : KeyedWindow) (v : ℤ) (q : KeyedWindow) → placed_value made ((w, v) ∷ []) q ≡ found ((w, made (v ∷ [])) ∷ []) q
+  placed-one w v q = by_case (is_at (keyed_window_cmp q) w)
+    where
+      by_case : (b : Bool) → cond {A = Option V} (b || false) (Some (made (map (λ (p : KeyedWindow × ℤ). p.1) (cond b ((w, v) ∷ []) [])))) None ≡ cond b (Some (made (v ∷ []))) None
+      by_case true = refl
+      by_case false = refl
+
   -- ---- another order
   pub placed-reordered : ((vs ws : List ℤ) → IsReordered vs ws → made vs ≡ made ws) → (xs ys : List (KeyedWindow × ℤ)) → IsReordered xs ys → (q : KeyedWindow) → placed_value made xs q ≡ placed_value made ys q
   placed-reordered ignores xs ys h q =

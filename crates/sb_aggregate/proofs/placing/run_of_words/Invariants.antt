@@ -1,9 +1,9 @@
 use Rattle.std.proofs.Common.{◌≡◌, take}
 use Rattle.sb_runs.specs.window.declared.keyed_window.KeyedWindow.{KeyedWindow}
-use Rattle.sb_aggregate.specs.Partials.{partial_values}
+use Rattle.sb_aggregate.specs.Partials.{partial_values, joining}
 use Rattle.sb_runs.specs.Placed.{placed_value}
 use Rattle.sb_runs.specs.Runs.{found}
-use Rattle.sb_aggregate.proofs.part.run_of.Given as goal
+use Rattle.sb_aggregate.proofs.placing.run_of_words.Given as goal
 
 abbrev pub invariant-loop-entry : goal.invariant-loop-entry
-invariant-loop-entry l = (q : KeyedWindow) → found l.run q ≡ placed_value (partial_values l.agg) (take l.entry-index l.placed) q
+invariant-loop-entry l = (q : KeyedWindow) → found l.run q ≡ placed_value (partial_values (joining l.agg)) (take l.entry-index l.words) q

@@ -1,0 +1,215 @@
+//! The values of a bundle, each placed at the pane of its record.
+//!
+//! A value is joined at once to one that was placed at the same pane, where that one is still remembered. So where many
+//! records fall in one pane, few values are left to put in order. What is remembered changes no result, only time.
+
+ghost use Rattle.std.specs.Prelude.{◌≡◌, ◌∷◌, [], ◌<◌, false, IsTrue, map, OnOk, IfOk};
+ghost use Rattle.sb_runs.specs.records.Reorderings.{IsReordered};
+ghost use Rattle.sb_runs.specs.window.declared.keyed_window.KeyedWindow.{KeyedWindow as Window};
+ghost use Rattle.sb_runs.specs.window.Gatherings.{joined_value};
+ghost use Rattle.sb_aggregate.specs.Aggregates.{IsValid};
+ghost use Rattle.sb_aggregate.specs.Partials.{partial_values, joining, join_values};
+ghost use Rattle.sb_runs.specs.Placed.{placed_value};
+ghost use Rattle.sb_aggregate.specs.Numbers.{numbered_entry};
+ghost use Rattle.sb_runs.specs.Runs.{found};
+
+use crate::aggregate::Agg;
+use crate::partial::{Partial, PartialJoiner};
+use sb_runs::Run;
+use sb_runs::sb_record::{Key, NoMemory};
+use sb_runs::sb_window::KeyedWindow;
+use std::alloc::Global;
+use std::marker::Model;
+
+// How many panes are remembered.
+const SLOTS: usize = 1024;
+
+/// A value at the pane of a key that is a number.
+#[derive(Clone, Copy)]
+pub(crate) struct Numbered {
+    pub(crate) end: u64,
+    pub(crate) key: u64,
+    pub(crate) value: i64,
+}
+
+/// Partial values at panes, each a single value, in any order. Contracts see them as the list of all.
+///
+/// Those of keys that are numbers are kept apart: they take less room, and are put in order in less time.
+#[derive(Drop)]
+pub(crate) struct Placing {
+    numbers: Vec<Numbered>,
+    words: Vec<(KeyedWindow, i64)>,
+    slots: [u16; SLOTS],
+}
+
+impl Model for Placing {
+    ghost use Rattle.std.specs.Prelude.{ℤ, List, ◌++◌, map};
+    ghost use Rattle.sb_runs.specs.window.declared.keyed_window.KeyedWindow.{KeyedWindow as Window};
+    ghost use Rattle.sb_aggregate.specs.Numbers.{numbered_entry};
+
+    ghost Value = { List (Window × ℤ) };
+
+    ghost view = { λ p. map numbered_entry p.numbers.items ++ p.words.items };
+}
+
+impl Numbered {
+    // Where its pane is remembered.
+    fn slot(&self) -> usize
+        ensures { result < SLOTS }
+    {
+        let end = self.end.wrapping_mul(0x9E37_79B9_7F4A_7C15);
+        let key = self.key.wrapping_mul(0xD6E8_FEB8_6659_FD93);
+        ((end ^ key) >> 32) as usize % SLOTS
+    }
+
+    // Its pane.
+    fn window(&self) -> KeyedWindow
+        ensures { result ≡ (numbered_entry self.now).0 }
+    {
+        KeyedWindow {
+            end: self.end,
+            key: Key::Number(self.key),
+        }
+    }
+}
+
+impl Placing {
+    /// No values, with room for as many at keys that are numbers.
+    ///
+    /// # Errors
+    ///
+    /// [`NoMemory`].
+    pub(crate) fn new(alloc: Global, room: usize) -> Result<Placing, NoMemory>
+        ensures { IfOk result (λ placing. placing ≡ []) }
+    {
+        Ok(Placing {
+            numbers: Vec::with_capacity(alloc, room)?,
+            words: Vec::new(alloc),
+            slots: [0; SLOTS],
+        })
+    }
+
+    /// Places a value at a pane.
+    ///
+    /// # Errors
+    ///
+    /// [`NoMemory`].
+    pub(crate) fn add(&mut self, agg: Agg, window: KeyedWindow, value: i64) -> Result<(), NoMemory>
+        ensures { OnOk result ((q : Window) → placed_value (partial_values (joining agg)) self.new q
+            ≡ joined_value (join_values agg) (placed_value (partial_values (joining agg)) self.old q)
+            (placed_value (partial_values (joining agg)) ((window, value) ∷ []) q)) }
+    {
+        let KeyedWindow { end, key } = window;
+        let Key::Number(key) = key else {
+            self.words.push((window, value))?;
+            return Ok(());
+        };
+        let entry = Numbered { end, key, value };
+        let slot = entry.slot();
+        if join_at(
+            agg,
+            &mut self.numbers,
+            usize::from(self.slots[slot]),
+            &entry,
+        ) {
+            return Ok(());
+        }
+        self.slots[slot] = u16::try_from(self.numbers.len()).unwrap_or(0);
+        self.numbers.push(entry)?;
+        Ok(())
+    }
+
+    /// Puts the values in order, and gives what they come to at each pane.
+    ///
+    /// # Errors
+    ///
+    /// [`NoMemory`].
+    pub(crate) fn run(&mut self, alloc: Global, agg: Agg) -> Result<Run<Partial>, NoMemory>
+        requires { IsValid agg }
+        ensures { IfOk result
+            (λ run. (q : Window) → found run q ≡ placed_value (partial_values (joining agg)) self.old q) }
+    {
+        sort_numbers(&mut self.numbers);
+        sort_words(&mut self.words);
+        let joiner = PartialJoiner { alloc, agg };
+        let numbers = run_of_numbers(alloc, agg, &self.numbers)?;
+        let words = run_of_words(alloc, agg, &self.words)?;
+        numbers.merged(alloc, &joiner, words)
+    }
+}
+
+// Joins a value to the one at this place, and answers true, where both are of the same pane and give a single value.
+fn join_at(agg: Agg, numbers: &mut Vec<Numbered>, at: usize, entry: &Numbered) -> bool
+    ensures joined { IsTrue result → (q : Window)
+        → placed_value (partial_values (joining agg)) (map numbered_entry numbers.new.items) q
+        ≡ joined_value (join_values agg)
+        (placed_value (partial_values (joining agg)) (map numbered_entry numbers.old.items) q)
+        (placed_value (partial_values (joining agg)) (numbered_entry entry.now ∷ []) q) }
+    ensures left { result ≡ false → numbers.new.items ≡ numbers.old.items }
+{
+    if at >= numbers.len() {
+        return false;
+    }
+    let Numbered { end, key, value } = numbers[at];
+    if end != entry.end || key != entry.key {
+        return false;
+    }
+    let Some(joined) = agg.joined(value, entry.value) else {
+        return false;
+    };
+    numbers[at] = Numbered {
+        end,
+        key,
+        value: joined,
+    };
+    true
+}
+
+// Puts values in the order of panes. Nothing but time depends on that order.
+fn sort_numbers(numbers: &mut Vec<Numbered>)
+    ensures { IsReordered numbers.new.items numbers.old.items }
+{
+    numbers.sort_unstable_by(|one, other| one.end.cmp(&other.end).then(one.key.cmp(&other.key)));
+}
+
+// The same.
+fn sort_words(words: &mut Vec<(KeyedWindow, i64)>)
+    ensures { IsReordered words.new.items words.old.items }
+{
+    words.sort_unstable();
+}
+
+// What values at keys that are numbers come to.
+fn run_of_numbers(alloc: Global, agg: Agg, numbers: &[Numbered]) -> Result<Run<Partial>, NoMemory>
+    requires { IsValid agg }
+    ensures { IfOk result (λ run. (q : Window)
+        → found run q ≡ placed_value (partial_values (joining agg)) (map numbered_entry numbers.now) q) }
+{
+    let joiner = PartialJoiner { alloc, agg };
+    let mut run = Run::new(alloc);
+    for entry in numbers {
+        let partial = Partial::of_one(agg.joining(), entry.value);
+        run = run.with(alloc, &joiner, entry.window(), partial)?;
+    }
+    Ok(run)
+}
+
+// What values at other keys come to.
+fn run_of_words(
+    alloc: Global,
+    agg: Agg,
+    words: &[(KeyedWindow, i64)],
+) -> Result<Run<Partial>, NoMemory>
+    requires { IsValid agg }
+    ensures { IfOk result
+        (λ run. (q : Window) → found run q ≡ placed_value (partial_values (joining agg)) words.now q) }
+{
+    let joiner = PartialJoiner { alloc, agg };
+    let mut run = Run::new(alloc);
+    for entry in words {
+        let window = KeyedWindow { ..entry.0 };
+        let partial = Partial::of_one(agg.joining(), entry.1);
+        run = run.with(alloc, &joiner, window, partial)?;
+    }
+    Ok(run)
+}
