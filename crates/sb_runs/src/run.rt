@@ -2,14 +2,16 @@
 
 ghost use Rattle.std.specs.Prelude.{◌≡◌, ◌∷◌, ◌++◌, [], ◌+◌, ◌^◌, ◌<◌, length, take, drop, nat_lt, None, if◌then◌else◌, IsTrue, OnOk, IfOk};
 ghost use Rattle.std.specs.List.{AllByRecursion};
+ghost use Rattle.std.specs.Ordering.{is_lt};
 ghost use Rattle.sb_window.specs.declared.keyed_window.KeyedWindow.{KeyedWindow as Window};
 ghost use Rattle.sb_window.specs.Gatherings.{joined_value};
+ghost use Rattle.sb_window.specs.Windows.{keyed_window_cmp};
 ghost use Rattle.sb_runs.specs.Merges.{firsts_cmp, joined_firsts, begins_by};
 ghost use Rattle.sb_runs.specs.Runs.{IsRun, found, shifted_by};
 
 use crate::joiner::Joiner;
 use sb_window::KeyedWindow;
-use sb_window::sb_record::NoMemory;
+use sb_window::sb_record::{Key, NoMemory};
 use std::alloc::Global;
 use std::cmp::Ordering;
 use std::collections::VecDeque;
@@ -46,6 +48,19 @@ impl<V: Drop> Run<V> {
         }
     }
 
+    /// The run without entries, with room for so many.
+    ///
+    /// # Errors
+    ///
+    /// [`NoMemory`].
+    pub fn with_room(alloc: Global, room: usize) -> Result<Run<V>, NoMemory>
+        ensures { IfOk result (λ run. run ≡ []) }
+    {
+        Ok(Run {
+            entries: VecDeque::with_capacity(alloc, room)?,
+        })
+    }
+
     /// How many entries there are.
     pub fn len(&self) -> usize
         ensures { result ≡ length self.now }
@@ -70,6 +85,30 @@ impl<V: Drop> Run<V> {
     {
         let entries = with_entry(alloc, joiner, self.entries, window, value)?;
         Ok(Run { entries })
+    }
+
+    /// Joins a value at a keyed window. Nothing is moved if the window is behind all windows of the run.
+    ///
+    /// # Errors
+    ///
+    /// [`NoMemory`]; what the run has is unknown then.
+    pub fn add<J: Joiner<Value = V>>(
+        &mut self,
+        alloc: Global,
+        joiner: &J,
+        window: KeyedWindow,
+        value: V,
+    ) -> Result<(), NoMemory>
+        ensures { OnOk result ((q : Window) → found self.new q
+            ≡ joined_value (J.joined joiner.now) (found self.old q) (found ((window, value) ∷ []) q)) }
+    {
+        if is_behind(&self.entries, &window) {
+            self.entries.push_back((window, value))?;
+            return Ok(());
+        }
+        let entries = std::mem::replace(&mut self.entries, VecDeque::new(alloc));
+        self.entries = with_entry(alloc, joiner, entries, window, value)?;
+        Ok(())
     }
 
     /// The run with the values of a later one joined. If the windows of the later one are all behind those of this one,
@@ -231,6 +270,30 @@ fn is_before<V>(ones: &VecDeque<(KeyedWindow, V)>, others: &VecDeque<(KeyedWindo
     match (ones.back(), others.front()) {
         (Some(one), Some(other)) => one.0.cmp(&other.0).is_lt(),
         _ => false,
+    }
+}
+
+// Whether a keyed window is behind all windows of a run.
+fn is_behind<V>(entries: &VecDeque<(KeyedWindow, V)>, window: &KeyedWindow) -> bool
+    requires { IsRun entries.now.items }
+    ensures { IsTrue result → (value : V) → IsRun (entries.now.items ++ (window.now, value) ∷ []) }
+{
+    match entries.back() {
+        Some(last) => is_less(&last.0, window),
+        None => true,
+    }
+}
+
+// Whether a keyed window is before another: that of two numbers is told at once.
+fn is_less(one: &KeyedWindow, other: &KeyedWindow) -> bool
+    ensures { result ≡ is_lt (keyed_window_cmp one.now other.now) }
+{
+    if one.end != other.end {
+        return one.end < other.end;
+    }
+    match (&one.key, &other.key) {
+        (Key::Number(key), Key::Number(later)) => key < later,
+        (key, later) => key.cmp(later).is_lt(),
     }
 }
 
