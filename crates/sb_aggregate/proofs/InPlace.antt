@@ -18,8 +18,16 @@ set-others xs i x d within f =
 
 one-others : {X : Type 0} (xs : List X) (i : ℕ) (y d : X) → i < length xs → IsReordered (xs ++ y ∷ []) (get_or xs i d ∷ y ∷ (take i xs ++ drop (i + 1) xs))
 one-others xs i y d within f =
-    omega (arith, sum_by-take-drop f xs i, sum_by-drop_more f xs i d within, sum_by-append f (take i xs) (drop (i + 1) xs), sum_by-append f xs (y ∷ []), sum_by-cons f y [],
-    sum_by-cons f y (take i xs ++ drop (i + 1) xs), sum_by-cons f (get_or xs i d) (y ∷ (take i xs ++ drop (i + 1) xs)))
+    omega (
+      arith,
+      sum_by-take-drop f xs i,
+      sum_by-drop_more f xs i d within,
+      sum_by-append f (take i xs) (drop (i + 1) xs),
+      sum_by-append f xs (y ∷ []),
+      sum_by-cons f y [],
+      sum_by-cons f y (take i xs ++ drop (i + 1) xs),
+      sum_by-cons f (get_or xs i d) (y ∷ (take i xs ++ drop (i + 1) xs)),
+    )
 
 module _ {V : Type 0} (made : List ℤ → V) (join : V → V → V) (joins : (v w : ℤ) (vs ws : List ℤ) → made ((v ∷ vs) ++ w ∷ ws) ≡ join (made (v ∷ vs)) (made (w ∷ ws))) (ignores : (vs ws : List ℤ) → IsReordered vs ws → made vs ≡ made ws) where
   -- one value at a window comes to what the two come to that it was made of

@@ -10,7 +10,7 @@ ghost use Rattle.sb_runs.specs.Placed.{placed_first, placed_value};
 
 use crate::aggregate::Agg;
 use crate::partial::{Partial, PartialJoiner};
-use crate::placing::Placing;
+use crate::placing::{Placing, SLOTS};
 use sb_runs::sb_record::{END_MARK, NoMemory, Record, Trail};
 use sb_runs::sb_window::{KeyedWindow, Windows};
 use sb_runs::{Run, spread};
@@ -52,9 +52,10 @@ pub fn part_of(
     ensures { IfOk result (λ p. p ≡ record { agg = agg; windows = windows.now; records = records.now }) }
 {
     let mut placing = Placing::new(alloc, records.len())?;
+    let mut slots = [0; SLOTS];
     let mut grouped = Trail::start();
     for record in records {
-        place(&mut placing, agg, windows, record)?;
+        place(&mut placing, &mut slots, agg, windows, record)?;
         grouped = grouped.with(Record { ..*record });
     }
     let panes = placing.run(alloc, agg)?;
@@ -72,6 +73,7 @@ pub fn part_of(
 // Places the value of a record at its pane, which ends where the first of its windows does.
 fn place(
     placing: &mut Placing,
+    slots: &mut [u16; SLOTS],
     agg: Agg,
     windows: &Windows,
     record: &Record,
@@ -82,7 +84,7 @@ fn place(
         (placed_value (partial_values agg) (placed_first windows.now «record».now) q)) }
 {
     if let Some(pane) = pane_of(windows, record) {
-        placing.add(agg, pane, agg.first(record.value))?;
+        placing.add(slots, agg, pane, agg.first(record.value))?;
     }
     Ok(())
 }

@@ -21,8 +21,8 @@ use sb_runs::sb_window::KeyedWindow;
 use std::alloc::Global;
 use std::marker::Model;
 
-// How many panes are remembered.
-const SLOTS: usize = 1024;
+/// How many panes are remembered at most.
+pub(crate) const SLOTS: usize = 1024;
 
 /// A value at the pane of a key that is a number.
 #[derive(Clone, Copy)]
@@ -39,7 +39,6 @@ pub(crate) struct Numbered {
 pub(crate) struct Placing {
     numbers: Vec<Numbered>,
     words: Vec<(KeyedWindow, i64)>,
-    slots: [u16; SLOTS],
 }
 
 impl Model for Placing {
@@ -85,16 +84,21 @@ impl Placing {
         Ok(Placing {
             numbers: Vec::with_capacity(alloc, room)?,
             words: Vec::new(alloc),
-            slots: [0; SLOTS],
         })
     }
 
-    /// Places a value at a pane.
+    /// Places a value at a pane. In `slots` is remembered where values of panes were placed last; it begins with zeros.
     ///
     /// # Errors
     ///
     /// [`NoMemory`].
-    pub(crate) fn add(&mut self, agg: Agg, window: KeyedWindow, value: i64) -> Result<(), NoMemory>
+    pub(crate) fn add(
+        &mut self,
+        slots: &mut [u16; SLOTS],
+        agg: Agg,
+        window: KeyedWindow,
+        value: i64,
+    ) -> Result<(), NoMemory>
         ensures { OnOk result ((q : Window) → placed_value (partial_values (joining agg)) self.new q
             ≡ joined_value (join_values agg) (placed_value (partial_values (joining agg)) self.old q)
             (placed_value (partial_values (joining agg)) ((window, value) ∷ []) q)) }
@@ -106,15 +110,10 @@ impl Placing {
         };
         let entry = Numbered { end, key, value };
         let slot = entry.slot();
-        if join_at(
-            agg,
-            &mut self.numbers,
-            usize::from(self.slots[slot]),
-            &entry,
-        ) {
+        if join_at(agg, &mut self.numbers, usize::from(slots[slot]), &entry) {
             return Ok(());
         }
-        self.slots[slot] = u16::try_from(self.numbers.len()).unwrap_or(0);
+        slots[slot] = u16::try_from(self.numbers.len()).unwrap_or(0);
         self.numbers.push(entry)?;
         Ok(())
     }
@@ -186,10 +185,10 @@ fn run_of_numbers(alloc: Global, agg: Agg, numbers: &[Numbered]) -> Result<Run<P
         → found run q ≡ placed_value (partial_values (joining agg)) (map numbered_entry numbers.now) q) }
 {
     let joiner = PartialJoiner { alloc, agg };
-    let mut run = Run::new(alloc);
+    let mut run = Run::with_room(alloc, numbers.len())?;
     for entry in numbers {
         let partial = Partial::of_one(agg.joining(), entry.value);
-        run = run.with(alloc, &joiner, entry.window(), partial)?;
+        run.add(alloc, &joiner, entry.window(), partial)?;
     }
     Ok(run)
 }
@@ -205,11 +204,11 @@ fn run_of_words(
         (λ run. (q : Window) → found run q ≡ placed_value (partial_values (joining agg)) words.now q) }
 {
     let joiner = PartialJoiner { alloc, agg };
-    let mut run = Run::new(alloc);
+    let mut run = Run::with_room(alloc, words.len())?;
     for entry in words {
         let window = KeyedWindow { ..entry.0 };
         let partial = Partial::of_one(agg.joining(), entry.1);
-        run = run.with(alloc, &joiner, window, partial)?;
+        run.add(alloc, &joiner, window, partial)?;
     }
     Ok(run)
 }

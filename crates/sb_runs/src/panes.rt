@@ -32,6 +32,9 @@ pub fn spread<V: Drop, J: Joiner<Value = V>>(
     ensures { IfOk result (λ run. (q : Window) → found run q
         ≡ spread_value (J.joined joiner.now) every count panes q) }
 {
+    if count == 1 {
+        return Ok(panes);
+    }
     let mut stack = VecDeque::new(alloc);
     let mut run = panes;
     for _ in 1..count {

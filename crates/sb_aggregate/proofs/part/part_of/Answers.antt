@@ -28,9 +28,9 @@ loop-record-preserved c =
           ∙ ap (λ x. joined_value (join_values agg) x (placed_value (partial_values agg) (place r) q)) (c.loop-record.invariant.placed q)
           ∙ sym (placed-append (partial_values agg) (join_values agg) (λ v w vs ws. partials-joined agg (v ∷ vs) (w ∷ ws)) (flat_map place (take i records)) (place r) q)
           ∙ ap (λ l. placed_value (partial_values agg) l q) (
-              flat_map_more place [] (take i records) r
-              ∙ ap (λ x. flat_map place (take i records ++ x ∷ [])) c.record-item.is
-              ∙ ap (flat_map place) (sym (take_more records i r (omega arith))));
+          flat_map_more place [] (take i records) r
+          ∙ ap (λ x. flat_map place (take i records ++ x ∷ [])) c.record-item.is
+          ∙ ap (flat_map place) (sym (take_more records i r (omega arith))));
       grouped = c.with-grouped.ensures ∙ ap (λ v. c.loop-record.grouped ++ record { time = r.time; key = r.key; value = v } ∷ []) (to_z-of_z w64 r.value fits)
           ∙ ap (λ l. l ++ r ∷ []) c.loop-record.invariant.grouped ∙ ap (λ x. take i records ++ x ∷ []) c.record-item.is ∙ sym (take_more records i r (omega arith));
     }

@@ -9,6 +9,11 @@ use Rattle.sb_runs.proofs.Shifting.{shifted-zero, shifted-more, room-more}
 use Rattle.sb_runs.proofs.Spreading.{spread-first, spread-more}
 use Rattle.sb_runs.proofs.panes.spread.Goals as goal
 
+pub returns-then-count-eq1 : goal.returns-then-count-eq1
+returns-then-count-eq1 g c q =
+    let join = g.J.Joiner.joined c.args.joiner.now in
+    spread-first join c.args.every c.args.panes q ∙ ap (λ n. spread_value join c.args.every n c.args.panes q) (sym c.if-count-eq1.true)
+
 pub loop-init : goal.loop-init
 loop-init g c =
     let join = g.J.Joiner.joined c.args.joiner.now in
