@@ -95,6 +95,12 @@ impl Partial {
     pub(crate) fn join(&mut self, alloc: Global, agg: Agg, more: Partial) -> Result<(), NoMemory>
         ensures { OnOk result (self.new ≡ join_values agg self.old more) }
     {
+        if let (Held::One(one), Held::One(other)) = (&self.held, &more.held) {
+            if let Some(joined) = agg.joined(*one, *other) {
+                self.held = Held::One(joined);
+                return Ok(());
+            }
+        }
         let held = std::mem::replace(&mut self.held, Held::One(0));
         self.held = match more.held {
             Held::One(value) => with_value(alloc, agg, held, value)?,
@@ -199,10 +205,6 @@ fn with_value(alloc: Global, agg: Agg, held: Held, value: i64) -> Result<Held, N
     ensures { IfOk result (λ h. held_values h ≡ join_values agg (held_values held) (value ∷ [])) }
 {
     match (agg, held) {
-        (Agg::Count, Held::One(count)) => Ok(Held::One(count.wrapping_add(value))),
-        (Agg::Sum, Held::One(sum)) => Ok(Held::One(sum.wrapping_add(value))),
-        (Agg::Min, Held::One(least)) => Ok(Held::One(least.min(value))),
-        (Agg::Max, Held::One(greatest)) => Ok(Held::One(greatest.max(value))),
         (Agg::Distinct, Held::Different(values)) => {
             Ok(Held::Different(values.with_value(alloc, value)?))
         }

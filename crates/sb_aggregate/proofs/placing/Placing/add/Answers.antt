@@ -1,4 +1,4 @@
-use Rattle.std.proofs.Common.{◌≡◌, ℤ, List, [], ◌∷◌, ◌++◌, IsTrue, SFits, w64, rules, to_z, of_z, map, append_assoc, sym, ap, ◌∙◌}
+use Rattle.std.proofs.Common.{◌≡◌, ℤ, [], ◌∷◌, ◌++◌, IsTrue, SFits, w64, rules, to_z, of_z, map, append_assoc, sym, ap, ◌∙◌}
 use Rattle.std.proofs.lemmas.Int.{to_z-of_z}
 use Rattle.std.proofs.lemmas.List.{map-append}
 use Rattle.sb_runs.specs.window.declared.keyed_window.KeyedWindow.{KeyedWindow}
