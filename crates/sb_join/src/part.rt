@@ -50,12 +50,8 @@ fn joined(
     let mut run = Run::new(alloc);
     for entry in placed {
         let window = KeyedWindow { ..entry.0 };
-        run = run.with(
-            alloc,
-            &joiner,
-            window,
-            SideValues::of_one(alloc, side, entry.1),
-        )?;
+        let value = SideValues::of_one(alloc, side, entry.1);
+        run.add(alloc, &joiner, window, value)?;
     }
     Ok(run)
 }

@@ -68,25 +68,6 @@ impl<V: Drop> Run<V> {
         self.entries.len()
     }
 
-    /// The run with a value joined at a keyed window. This takes one step if no window of the run is after it.
-    ///
-    /// # Errors
-    ///
-    /// [`NoMemory`].
-    pub fn with<J: Joiner<Value = V>>(
-        self,
-        alloc: Global,
-        joiner: &J,
-        window: KeyedWindow,
-        value: V,
-    ) -> Result<Run<V>, NoMemory>
-        ensures { IfOk result (λ run. (q : Window) → found run q
-            ≡ joined_value (J.joined joiner.now) (found self q) (found ((window, value) ∷ []) q)) }
-    {
-        let entries = with_entry(alloc, joiner, self.entries, window, value)?;
-        Ok(Run { entries })
-    }
-
     /// Joins a value at a keyed window. Nothing is moved if the window is behind all windows of the run.
     ///
     /// # Errors

@@ -14,8 +14,8 @@ loop-entry-preserved c q =
     let i = c.loop-entry.entry-index in
     let placed = c.args.placed.now in
     let x : KeyedWindow × ℤ = c.entry-item.result in
-    let one : c.of_one.result ≡ on_side c.args.side (c.entry-item.result.1 ∷ []) = search rules in
-    c.in_ok-run.ensures q
+    let one : c.of_one-value.result ≡ on_side c.args.side (c.entry-item.result.1 ∷ []) = search rules in
+    c.in_ok-add.ensures q
     ∙ (λ j. joined_value append (c.loop-entry.invariant q j) (found ((x.0, one j) ∷ []) q))
     ∙ sym (placed-more (on_side side) append (λ v w vs ws. on_side-append side (v ∷ vs) (w ∷ ws)) (take i placed) x.0 x.1 q)
     ∙ ap (λ y. placed_value (on_side side) (take i placed ++ y ∷ []) q) c.entry-item.is
