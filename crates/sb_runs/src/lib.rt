@@ -1,9 +1,10 @@
 //! Sorted runs of keyed windows, each with a value: what the groupings that gather by windows keep.
 //!
 //! The values of a keyed window can be joined, two to one: a [`Joiner`] says how. A [`Run`] has a value for each of
-//! some keyed windows, in the windows' order. A worker makes one of each bundle, outside of any turn: it places the
-//! values of the records ([`place`], [`sort_placed`]), and joins them one after the other, which takes one step for
-//! each if they come in order. If windows overlap, the values are gathered by pane, and [`spread`] to the windows then.
+//! some keyed windows, in the windows' order. One is made of each bundle: the values of its records are placed
+//! ([`place`], [`sort_placed`], or as a crate above places them), and added one after the other ([`Run::add`]), which
+//! takes one step for each if they come in order. If windows overlap, values are gathered by pane, and [`spread`] to
+//! the windows then.
 //!
 //! A node keeps [`Runs`]: it pushes each run that comes behind the others, and merges them when they are many. A
 //! closing takes off a prefix of each, merged, and looks at no window that stays open. Contracts see a run as a finite
