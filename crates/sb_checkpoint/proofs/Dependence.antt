@@ -6,24 +6,24 @@ use Rattle.std.proofs.lemmas.Bool.Decides.{nat_tests}
 use Rattle.std.proofs.lemmas.List.Elements.{filter-append, recursion_from_All}
 use Rattle.std.proofs.lemmas.List.Sums.{sum_by-cons}
 use Rattle.std.proofs.lemmas.Option.{slice_get_past}
-use Rattle.sb_record.specs.declared.item.Record.{Record}
-use Rattle.sb_record.specs.declared.item.Stream.{Stream}
-use Rattle.sb_record.specs.declared.item.Stream.TheVariants.{A, B}
-use Rattle.sb_record.proofs.Elements.{filter_of_filter}
-use Rattle.sb_window.specs.Spacing.{Spacing}
-use Rattle.sb_window.specs.Windows.{is_in}
-use Rattle.sb_window.proofs.Rows.{when, SameIn, end-of, rows_by-same}
-use Rattle.sb_pardo.specs.declared.operation.Op.{Op}
-use Rattle.sb_pardo.specs.Outputs.{outputs_of}
-use Rattle.sb_pardo.proofs.Keeping.{outputs_keep_time}
-use Rattle.sb_aggregate.specs.Aggregates.{aggregate_values}
-use Rattle.sb_join.proofs.Pairs.{join_rows-same}
+use Rattle.sb_pipeline.specs.records.declared.item.Record.{Record}
+use Rattle.sb_pipeline.specs.records.declared.item.Stream.{Stream}
+use Rattle.sb_pipeline.specs.records.declared.item.Stream.TheVariants.{A, B}
+use Rattle.sb_pipeline.proofs.records.Elements.{filter_of_filter}
+use Rattle.sb_pipeline.specs.window.Spacing.{Spacing}
+use Rattle.sb_pipeline.specs.window.Windows.{is_in}
+use Rattle.sb_pipeline.proofs.window.Rows.{when, SameIn, end-of, rows_by-same}
+use Rattle.sb_pipeline.specs.pardo.declared.operation.Op.{Op}
+use Rattle.sb_pipeline.specs.pardo.Outputs.{outputs_of}
+use Rattle.sb_pipeline.proofs.pardo.Keeping.{outputs_keep_time}
+use Rattle.sb_pipeline.specs.aggregate.Aggregates.{aggregate_values}
+use Rattle.sb_pipeline.proofs.join.Pairs.{join_rows-same}
 use Rattle.sb_pipeline.specs.declared.transform.Down.{Down}
-use Rattle.sb_record.specs.declared.element.KeptRec.{KeptRec}
+use Rattle.sb_pipeline.specs.records.declared.element.KeptRec.{KeptRec}
 use Rattle.sb_pipeline.specs.declared.transform.Kind.{Kind}
 use Rattle.sb_pipeline.specs.declared.transform.Kind.TheVariants.{Do, Group, Session, Join}
 use Rattle.sb_pipeline.specs.declared.transform.Step.{Step}
-use Rattle.sb_record.specs.Elements.{on_lane, all_records, of_lane}
+use Rattle.sb_pipeline.specs.records.Elements.{on_lane, all_records, of_lane}
 use Rattle.sb_pipeline.specs.Operators.{operator_of, operator_at, output}
 use Rattle.sb_pipeline.specs.Shapes.{Shape}
 use Rattle.sb_pipeline.specs.Flow.{Sent, arrivals_at, from_stream, from_streams, from_step, sent_from}

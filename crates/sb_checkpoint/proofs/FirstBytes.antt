@@ -5,15 +5,15 @@ use Rattle.std.specs.List.{AllByRecursion}
 use Rattle.std.proofs.lemmas.Bool.Decides.{nat_tests}
 use Rattle.sb_outside.specs.Lines.{is_too_long, lines, lines_from, without_cr}
 use Rattle.sb_outside.proofs.FirstLines.{begun_too_long}
-use Rattle.sb_record.specs.declared.item.Item.{Item}
-use Rattle.sb_record.specs.declared.item.Streams.{Streams}
-use Rattle.sb_record.specs.declared.intake.LatePolicy.{LatePolicy}
-use Rattle.sb_record.specs.declared.intake.Refusal.{Refusal}
-use Rattle.sb_record.specs.declared.key.Keys.{Keys}
-use Rattle.sb_record.specs.Inputs.{Accepted, accepted_after, accepted_if, progress_of}
-use Rattle.sb_record.specs.Intake.{answer_to, low}
-use Rattle.sb_record.specs.Records.{at_least}
-use Rattle.sb_record.specs.Streams.{dropped_of}
+use Rattle.sb_pipeline.specs.records.declared.item.Item.{Item}
+use Rattle.sb_pipeline.specs.records.declared.item.Streams.{Streams}
+use Rattle.sb_pipeline.specs.records.declared.intake.LatePolicy.{LatePolicy}
+use Rattle.sb_pipeline.specs.records.declared.intake.Refusal.{Refusal}
+use Rattle.sb_pipeline.specs.records.declared.key.Keys.{Keys}
+use Rattle.sb_pipeline.specs.records.Inputs.{Accepted, accepted_after, accepted_if, progress_of}
+use Rattle.sb_pipeline.specs.records.Intake.{answer_to, low}
+use Rattle.sb_pipeline.specs.records.Records.{at_least}
+use Rattle.sb_pipeline.specs.records.Streams.{dropped_of}
 use Rattle.sb_pipeline.specs.Results.{output_of, rows_below}
 use Rattle.sb_pipeline.specs.Shapes.{Shape, streams_of}
 use Rattle.sb_checkpoint.specs.Reach.{HasNoSession}

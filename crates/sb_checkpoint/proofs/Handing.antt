@@ -3,10 +3,10 @@ use Rattle.std.proofs.Common.{◌≡◌, ◌≤◌, ◌<◌, ℕ, cond, List, []
 use Rattle.std.specs.Prelude.{not}
 use Rattle.std.specs.List.{AllByRecursion}
 use Rattle.std.proofs.lemmas.Bool.{le-ltb, lt-ltb}
-use Rattle.sb_record.specs.declared.item.Record.{Record}
-use Rattle.sb_record.specs.Records.{at_least, before, record_cmp, sorted_records}
-use Rattle.sb_record.proofs.Earlier.{at_least-high, before-low, sorted-split}
-use Rattle.sb_record.proofs.Sorting.{All-in_order}
+use Rattle.sb_pipeline.specs.records.declared.item.Record.{Record}
+use Rattle.sb_pipeline.specs.records.Records.{at_least, before, record_cmp, sorted_records}
+use Rattle.sb_pipeline.proofs.records.Earlier.{at_least-high, before-low, sorted-split}
+use Rattle.sb_pipeline.proofs.records.Sorting.{All-in_order}
 use Rattle.sb_checkpoint.specs.LaterRows.{HandedOn, Hands, HandsFromFirst, from_first}
 
 all-later : (low : ℕ) (rows : List Record) → AllByRecursion (λ r. low ≤ r.time) rows → at_least low rows ≡ rows

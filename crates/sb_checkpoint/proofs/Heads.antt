@@ -10,7 +10,7 @@ use Rattle.std.proofs.lemmas.List.{drop-drop, take-append-drop}
 use Rattle.std.proofs.lemmas.List.Sums.{split_at_first, passes_at_first}
 use Rattle.std.proofs.lemmas.Option.{same_Some}
 use Rattle.std.proofs.lemmas.Fmt.{decimal_by_steps, decimal_injective}
-use Rattle.sb_record.proofs.Elements.{All-join}
+use Rattle.sb_pipeline.proofs.records.Elements.{All-join}
 use Rattle.sb_checkpoint.specs.Texts.{head_text, end_text, is_same, IsHead}
 use Rattle.sb_checkpoint.proofs.ReadBack.{same-itself, same-texts}
 

@@ -7,7 +7,7 @@ use Rattle.std.proofs.Math.Seq.{take-suc}
 use Rattle.std.proofs.lemmas.List.{take-append-drop, take_all}
 use Rattle.std.proofs.lemmas.List.Concat.{flat_map-append}
 use Rattle.std.proofs.lemmas.Option.{slice_get_within, slice_get_cases, get_or_from_slice_get}
-use Rattle.sb_record.specs.declared.item.Item.{Item}
+use Rattle.sb_pipeline.specs.records.declared.item.Item.{Item}
 use Rattle.sb_outside.specs.Sinks.{AppendsPrefix, WritesAll}
 use Rattle.sb_outside.proofs.Appending.{prefix_later, prefix_of_more}
 use Rattle.sb_checkpoint.specs.Texts.{item_text, with_end, items_text}

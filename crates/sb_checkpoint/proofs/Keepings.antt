@@ -4,9 +4,9 @@ use Rattle.std.specs.Prelude.{nat_lt, not}
 use Rattle.std.specs.List.{filter}
 use Rattle.std.proofs.lemmas.Bool.Decides.{nat_tests}
 use Rattle.std.proofs.lemmas.List.Elements.{filter-append}
-use Rattle.sb_record.specs.declared.item.Item.{Item}
-use Rattle.sb_record.specs.declared.item.Item.TheVariants.{Rec, Mark, Skip, Late}
-use Rattle.sb_record.proofs.Elements.{filter_of_filter}
+use Rattle.sb_pipeline.specs.records.declared.item.Item.{Item}
+use Rattle.sb_pipeline.specs.records.declared.item.Item.TheVariants.{Rec, Mark, Skip, Late}
+use Rattle.sb_pipeline.proofs.records.Elements.{filter_of_filter}
 use Rattle.sb_checkpoint.specs.declared.checkpoint.StreamRec.{StreamRec}
 use Rattle.sb_checkpoint.specs.Checkpoints.{is_kept}
 use Rattle.sb_checkpoint.specs.Reach.{is_within}

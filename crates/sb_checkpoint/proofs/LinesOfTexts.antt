@@ -10,19 +10,19 @@ use Rattle.std.proofs.lemmas.Fmt.{decimal_by_steps}
 use Rattle.std.proofs.lemmas.List.Elements.{All-from_recursion}
 use lib.Signed.{mag}
 use Rattle.sb_outside.specs.Lines.{without_cr, lines_from, lines}
-use Rattle.sb_record.specs.declared.item.Item.{Item}
-use Rattle.sb_record.specs.declared.item.Item.TheVariants.{Rec, Mark, Skip, Late}
-use Rattle.sb_record.specs.declared.item.Stream.{Stream}
-use Rattle.sb_record.specs.declared.item.Stream.TheVariants.{A, B}
-use Rattle.sb_record.specs.declared.item.Streams.{Streams}
-use Rattle.sb_record.specs.declared.key.Key.{Key}
-use Rattle.sb_record.specs.declared.key.Key.TheVariants.{Number, Word}
-use Rattle.sb_record.specs.declared.key.Keys.{Keys}
-use Rattle.sb_record.specs.declared.key.Keys.TheVariants.{Numbers, Words}
-use Rattle.sb_record.specs.Keys.{key_text, IsKeyInRange}
-use Rattle.sb_record.specs.Lines.{letter}
-use Rattle.sb_record.specs.Words.{is_word_byte}
-use Rattle.sb_record.proofs.Elements.{All-join}
+use Rattle.sb_pipeline.specs.records.declared.item.Item.{Item}
+use Rattle.sb_pipeline.specs.records.declared.item.Item.TheVariants.{Rec, Mark, Skip, Late}
+use Rattle.sb_pipeline.specs.records.declared.item.Stream.{Stream}
+use Rattle.sb_pipeline.specs.records.declared.item.Stream.TheVariants.{A, B}
+use Rattle.sb_pipeline.specs.records.declared.item.Streams.{Streams}
+use Rattle.sb_pipeline.specs.records.declared.key.Key.{Key}
+use Rattle.sb_pipeline.specs.records.declared.key.Key.TheVariants.{Number, Word}
+use Rattle.sb_pipeline.specs.records.declared.key.Keys.{Keys}
+use Rattle.sb_pipeline.specs.records.declared.key.Keys.TheVariants.{Numbers, Words}
+use Rattle.sb_pipeline.specs.records.Keys.{key_text, IsKeyInRange}
+use Rattle.sb_pipeline.specs.records.Lines.{letter}
+use Rattle.sb_pipeline.specs.records.Words.{is_word_byte}
+use Rattle.sb_pipeline.proofs.records.Elements.{All-join}
 use Rattle.sb_checkpoint.specs.Texts.{item_text, items_text}
 use Rattle.sb_checkpoint.proofs.ReadAgain.{IsFit}
 

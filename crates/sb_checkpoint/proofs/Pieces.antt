@@ -7,11 +7,11 @@ use Rattle.std.proofs.lemmas.Bool.Decides.{nat_tests}
 use Rattle.std.proofs.lemmas.List.Elements.{All-from_recursion}
 use Rattle.std.proofs.lemmas.Option.{same_Some}
 use Rattle.std.proofs.lemmas.List.Splits.{slice_split_at, slice_split_first}
-use Rattle.sb_record.specs.declared.item.Item.{Item}
-use Rattle.sb_record.specs.declared.item.Streams.{Streams}
-use Rattle.sb_record.specs.declared.key.Keys.{Keys}
-use Rattle.sb_record.proofs.Elements.{All-join}
-use Rattle.sb_record.proofs.InputLemmas.{accepted-in_range, low_watermark-in_range}
+use Rattle.sb_pipeline.specs.records.declared.item.Item.{Item}
+use Rattle.sb_pipeline.specs.records.declared.item.Streams.{Streams}
+use Rattle.sb_pipeline.specs.records.declared.key.Keys.{Keys}
+use Rattle.sb_pipeline.proofs.records.Elements.{All-join}
+use Rattle.sb_pipeline.proofs.records.InputLemmas.{accepted-in_range, low_watermark-in_range}
 use Rattle.sb_pipeline.specs.Shapes.{streams_of}
 use Rattle.sb_checkpoint.specs.Texts.{item_text, items_text, head_text, end_text, with_end, checkpoint_text, pieces, IsRead}
 use Rattle.sb_checkpoint.specs.Checkpoints.{low_of, saved_items}

@@ -4,24 +4,24 @@ use Rattle.std.specs.Prelude.{nat_lt, nat_le, replicate}
 use Rattle.std.specs.List.{filter, flat_map, AllByRecursion}
 use Rattle.std.proofs.lemmas.Bool.{cases_Bool}
 use Rattle.std.proofs.lemmas.Bool.Decides.{nat_tests}
-use Rattle.sb_record.specs.declared.item.TheConstants.{MAX_TIME}
-use Rattle.sb_record.specs.declared.item.Item.{Item}
-use Rattle.sb_record.specs.declared.item.Item.TheVariants.{Rec, Mark, Skip, Late}
-use Rattle.sb_record.specs.declared.item.Stream.{Stream}
-use Rattle.sb_record.specs.declared.item.Stream.TheVariants.{A, B}
-use Rattle.sb_record.specs.declared.item.Streams.{Streams}
-use Rattle.sb_record.specs.declared.intake.LatePolicy.{LatePolicy}
-use Rattle.sb_record.specs.declared.intake.Refusal.{Refusal}
-use Rattle.sb_record.specs.declared.key.Keys.{Keys}
-use Rattle.sb_record.specs.Progress.{Progress}
-use Rattle.sb_record.specs.Lines.{IsTextOf, IsInRange, record_text, mark_text}
-use Rattle.sb_record.specs.Intake.{answer_to, timely, timely_if, after, mark_of, IsItemOf}
-use Rattle.sb_record.specs.Inputs.{progress_of, accepted_if, accepted_after}
-use Rattle.sb_record.specs.Reading.{item_of}
-use Rattle.sb_record.specs.Streams.{uses, last_or, watermark_in, last_watermark}
-use Rattle.sb_record.proofs.InputLemmas.{progress-more, tested_ok}
-use Rattle.sb_record.proofs.Grammar.{item_reads}
-use Rattle.sb_record.proofs.Elements.{All-join, All-passed, All-flat_map}
+use Rattle.sb_pipeline.specs.records.declared.item.TheConstants.{MAX_TIME}
+use Rattle.sb_pipeline.specs.records.declared.item.Item.{Item}
+use Rattle.sb_pipeline.specs.records.declared.item.Item.TheVariants.{Rec, Mark, Skip, Late}
+use Rattle.sb_pipeline.specs.records.declared.item.Stream.{Stream}
+use Rattle.sb_pipeline.specs.records.declared.item.Stream.TheVariants.{A, B}
+use Rattle.sb_pipeline.specs.records.declared.item.Streams.{Streams}
+use Rattle.sb_pipeline.specs.records.declared.intake.LatePolicy.{LatePolicy}
+use Rattle.sb_pipeline.specs.records.declared.intake.Refusal.{Refusal}
+use Rattle.sb_pipeline.specs.records.declared.key.Keys.{Keys}
+use Rattle.sb_pipeline.specs.records.Progress.{Progress}
+use Rattle.sb_pipeline.specs.records.Lines.{IsTextOf, IsInRange, record_text, mark_text}
+use Rattle.sb_pipeline.specs.records.Intake.{answer_to, timely, timely_if, after, mark_of, IsItemOf}
+use Rattle.sb_pipeline.specs.records.Inputs.{progress_of, accepted_if, accepted_after}
+use Rattle.sb_pipeline.specs.records.Reading.{item_of}
+use Rattle.sb_pipeline.specs.records.Streams.{uses, last_or, watermark_in, last_watermark}
+use Rattle.sb_pipeline.proofs.records.InputLemmas.{progress-more, tested_ok}
+use Rattle.sb_pipeline.proofs.records.Grammar.{item_reads}
+use Rattle.sb_pipeline.proofs.records.Elements.{All-join, All-passed, All-flat_map}
 use Rattle.sb_pipeline.specs.Shapes.{Shape, streams_of}
 use Rattle.sb_checkpoint.specs.Reach.{reach, is_within}
 use Rattle.sb_checkpoint.specs.Texts.{item_text}

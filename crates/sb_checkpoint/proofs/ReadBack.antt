@@ -2,9 +2,9 @@
 use Rattle.std.proofs.Common.{◌≡◌, ℕ, ◌+◌, Bool, true, false, cond, eqb, List, [], ◌∷◌, ◌++◌, map, length, Some, None, Ok, Err, refl, sym, ap, ◌∙◌, append-nil}
 use Rattle.std.specs.Prelude.{◌&&◌}
 use Rattle.std.proofs.lemmas.Bool.{eq-eqb, eqb-true}
-use Rattle.sb_record.specs.declared.item.Item.{Item}
-use Rattle.sb_record.specs.declared.key.Keys.{Keys}
-use Rattle.sb_record.specs.Reading.{item_of}
+use Rattle.sb_pipeline.specs.records.declared.item.Item.{Item}
+use Rattle.sb_pipeline.specs.records.declared.key.Keys.{Keys}
+use Rattle.sb_pipeline.specs.records.Reading.{item_of}
 use Rattle.sb_pipeline.specs.Shapes.{Shape}
 use Rattle.sb_checkpoint.specs.Texts.{item_text, end_text, may_follow, may_stand, with_item, is_same, is_whole, if_last, read_pieces, read_lines}
 use Rattle.sb_checkpoint.proofs.Runs.{join-assoc}

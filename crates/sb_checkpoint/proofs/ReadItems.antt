@@ -7,25 +7,25 @@ use Rattle.std.proofs.lemmas.Bool.{cases_Bool, eqb-true, leb-true}
 use Rattle.std.proofs.lemmas.Bool.Decides.{nat_tests}
 use Rattle.std.proofs.lemmas.Fmt.{length-decimal-le, length_signed_le}
 use Rattle.sb_outside.specs.Lines.{lines}
-use Rattle.sb_record.specs.declared.item.Item.{Item}
-use Rattle.sb_record.specs.declared.item.Item.TheVariants.{Rec, Mark, Skip, Late}
-use Rattle.sb_record.specs.declared.item.Record.{Record}
-use Rattle.sb_record.specs.declared.item.Stream.{Stream}
-use Rattle.sb_record.specs.declared.item.Stream.TheVariants.{A, B}
-use Rattle.sb_record.specs.declared.item.Streams.{Streams}
-use Rattle.sb_record.specs.declared.intake.LatePolicy.{LatePolicy}
-use Rattle.sb_record.specs.declared.key.Key.{Key}
-use Rattle.sb_record.specs.declared.key.Key.TheVariants.{Number, Word}
-use Rattle.sb_record.specs.declared.key.Keys.{Keys}
-use Rattle.sb_record.specs.declared.key.Keys.TheVariants.{Numbers, Words}
-use Rattle.sb_record.specs.Keys.{key_text, IsKeyInRange}
-use Rattle.sb_record.specs.Lines.{IsTextOf, IsInRange, record_text, mark_text}
-use Rattle.sb_record.specs.Inputs.{progress_of}
-use Rattle.sb_record.specs.Reading.{item_of}
-use Rattle.sb_record.specs.Streams.{uses, last_watermark}
-use Rattle.sb_record.proofs.Elements.{All-join}
-use Rattle.sb_record.proofs.Grammar.{item_some}
-use Rattle.sb_record.proofs.InputLemmas.{progress-more}
+use Rattle.sb_pipeline.specs.records.declared.item.Item.{Item}
+use Rattle.sb_pipeline.specs.records.declared.item.Item.TheVariants.{Rec, Mark, Skip, Late}
+use Rattle.sb_pipeline.specs.records.declared.item.Record.{Record}
+use Rattle.sb_pipeline.specs.records.declared.item.Stream.{Stream}
+use Rattle.sb_pipeline.specs.records.declared.item.Stream.TheVariants.{A, B}
+use Rattle.sb_pipeline.specs.records.declared.item.Streams.{Streams}
+use Rattle.sb_pipeline.specs.records.declared.intake.LatePolicy.{LatePolicy}
+use Rattle.sb_pipeline.specs.records.declared.key.Key.{Key}
+use Rattle.sb_pipeline.specs.records.declared.key.Key.TheVariants.{Number, Word}
+use Rattle.sb_pipeline.specs.records.declared.key.Keys.{Keys}
+use Rattle.sb_pipeline.specs.records.declared.key.Keys.TheVariants.{Numbers, Words}
+use Rattle.sb_pipeline.specs.records.Keys.{key_text, IsKeyInRange}
+use Rattle.sb_pipeline.specs.records.Lines.{IsTextOf, IsInRange, record_text, mark_text}
+use Rattle.sb_pipeline.specs.records.Inputs.{progress_of}
+use Rattle.sb_pipeline.specs.records.Reading.{item_of}
+use Rattle.sb_pipeline.specs.records.Streams.{uses, last_watermark}
+use Rattle.sb_pipeline.proofs.records.Elements.{All-join}
+use Rattle.sb_pipeline.proofs.records.Grammar.{item_some}
+use Rattle.sb_pipeline.proofs.records.InputLemmas.{progress-more}
 use Rattle.sb_pipeline.specs.Shapes.{Shape, streams_of}
 use Rattle.sb_checkpoint.specs.Reach.{reach, is_within}
 use Rattle.sb_checkpoint.specs.Texts.{item_text, items_text, end_text, may_follow, may_stand, with_item, is_same, is_whole, if_last, read_pieces, read_lines}

@@ -1,7 +1,7 @@
 -- Each text is a checkpoint of one input, or has one first faulty line.
 use Rattle.std.proofs.Common.{◌≡◌, ◌<◌, ◌^◌, ◌⊎◌, ℕ, zero, suc, true, List, [], ◌∷◌, Result, Ok, Err, refl, sym, ap, subst, ◌∙◌, arith, inl, inr}
 use Rattle.std.proofs.lemmas.Bool.{cases_Bool, cases_lt}
-use Rattle.sb_record.specs.declared.item.Item.{Item}
+use Rattle.sb_pipeline.specs.records.declared.item.Item.{Item}
 use Rattle.sb_pipeline.specs.Shapes.{Shape}
 use Rattle.sb_checkpoint.specs.Texts.{head_text, is_same, read_pieces, pieces, IsHead, Gives, IsRead, HasNoHead, IsFaultAt}
 use Rattle.sb_checkpoint.specs.Laws.{CheckpointsAreReadOrFaulty}

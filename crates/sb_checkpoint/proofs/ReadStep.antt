@@ -4,8 +4,8 @@ use Rattle.std.specs.Prelude.{◌&&◌}
 use Rattle.std.specs.List.{onto_first}
 use Rattle.std.proofs.lemmas.Bool.{eqb-true}
 use Rattle.std.proofs.lemmas.List.Splits.{length-slice_split}
-use Rattle.sb_record.specs.declared.item.Item.{Item}
-use Rattle.sb_record.specs.Reading.{item_of}
+use Rattle.sb_pipeline.specs.records.declared.item.Item.{Item}
+use Rattle.sb_pipeline.specs.records.Reading.{item_of}
 use Rattle.sb_pipeline.specs.Shapes.{Shape}
 use Rattle.sb_checkpoint.specs.Texts.{pieces, may_stand, with_item, is_same, end_text, is_whole, if_last, read_pieces, read_lines, IsHead, Gives, IsFaultAt}
 

@@ -5,16 +5,16 @@ use Rattle.std.specs.List.{filter, AllByRecursion}
 use Rattle.std.proofs.lemmas.Bool.Decides.{nat_tests}
 use Rattle.std.proofs.lemmas.List.Elements.{filter-append, recursion_from_All}
 use Rattle.std.proofs.lemmas.List.Concat.{flat_map-append}
-use Rattle.sb_record.specs.declared.item.Item.{Item}
-use Rattle.sb_record.specs.declared.item.Item.TheVariants.{Rec, Mark, Skip, Late}
-use Rattle.sb_record.specs.declared.item.Record.{Record}
-use Rattle.sb_record.specs.declared.item.Stream.{Stream}
-use Rattle.sb_record.specs.declared.item.Stream.TheVariants.{A, B}
-use Rattle.sb_record.specs.Records.{before, at_least, sorted_records, record_cmp}
-use Rattle.sb_record.specs.Streams.{record_in, records_of, last_watermark}
-use Rattle.sb_record.proofs.Elements.{filter_of_filter}
-use Rattle.sb_record.proofs.Earlier.{before-low, at_least-high, sorted-split, sorted_before-front}
-use Rattle.sb_record.proofs.Sorting.{All-in_order}
+use Rattle.sb_pipeline.specs.records.declared.item.Item.{Item}
+use Rattle.sb_pipeline.specs.records.declared.item.Item.TheVariants.{Rec, Mark, Skip, Late}
+use Rattle.sb_pipeline.specs.records.declared.item.Record.{Record}
+use Rattle.sb_pipeline.specs.records.declared.item.Stream.{Stream}
+use Rattle.sb_pipeline.specs.records.declared.item.Stream.TheVariants.{A, B}
+use Rattle.sb_pipeline.specs.records.Records.{before, at_least, sorted_records, record_cmp}
+use Rattle.sb_pipeline.specs.records.Streams.{record_in, records_of, last_watermark}
+use Rattle.sb_pipeline.proofs.records.Elements.{filter_of_filter}
+use Rattle.sb_pipeline.proofs.records.Earlier.{before-low, at_least-high, sorted-split, sorted_before-front}
+use Rattle.sb_pipeline.proofs.records.Sorting.{All-in_order}
 use Rattle.sb_pipeline.specs.Results.{output_of}
 use Rattle.sb_pipeline.specs.Shapes.{Shape}
 use Rattle.sb_checkpoint.specs.Reach.{reach, is_within, within}

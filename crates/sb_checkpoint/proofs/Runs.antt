@@ -6,23 +6,23 @@ use Rattle.std.proofs.lemmas.Bool.{cases_Bool, eqb-true}
 use Rattle.std.proofs.lemmas.Bool.Decides.{nat_tests}
 use Rattle.std.proofs.lemmas.List.Elements.{All-from_recursion}
 use Rattle.std.proofs.lemmas.List.Concat.{flat_map-append}
-use Rattle.sb_record.specs.declared.item.Item.{Item}
-use Rattle.sb_record.specs.declared.item.Item.TheVariants.{Rec, Mark, Skip, Late}
-use Rattle.sb_record.specs.declared.item.Stream.{Stream}
-use Rattle.sb_record.specs.declared.item.Stream.TheVariants.{A, B}
-use Rattle.sb_record.specs.declared.item.Streams.{Streams}
-use Rattle.sb_record.specs.declared.intake.LatePolicy.{LatePolicy}
-use Rattle.sb_record.specs.declared.intake.LatePolicy.TheVariants.{Refuse, Drop}
-use Rattle.sb_record.specs.declared.intake.Refusal.{Refusal}
-use Rattle.sb_record.specs.declared.key.Keys.{Keys}
-use Rattle.sb_record.specs.Records.{at_least}
-use Rattle.sb_record.specs.Progress.{Progress}
-use Rattle.sb_record.specs.Intake.{answer_to, timely, timely_if, when_late, after, mark_of, low}
-use Rattle.sb_record.specs.Inputs.{Accepted, progress_of, accepted_if, accepted_after}
-use Rattle.sb_record.specs.Reading.{item_of}
-use Rattle.sb_record.specs.Streams.{uses, last_or, last_watermark, watermark_in, records_of, record_in, dropped_in, dropped_of, least_of}
-use Rattle.sb_record.proofs.InputLemmas.{progress-more}
-use Rattle.sb_record.proofs.Elements.{All-join}
+use Rattle.sb_pipeline.specs.records.declared.item.Item.{Item}
+use Rattle.sb_pipeline.specs.records.declared.item.Item.TheVariants.{Rec, Mark, Skip, Late}
+use Rattle.sb_pipeline.specs.records.declared.item.Stream.{Stream}
+use Rattle.sb_pipeline.specs.records.declared.item.Stream.TheVariants.{A, B}
+use Rattle.sb_pipeline.specs.records.declared.item.Streams.{Streams}
+use Rattle.sb_pipeline.specs.records.declared.intake.LatePolicy.{LatePolicy}
+use Rattle.sb_pipeline.specs.records.declared.intake.LatePolicy.TheVariants.{Refuse, Drop}
+use Rattle.sb_pipeline.specs.records.declared.intake.Refusal.{Refusal}
+use Rattle.sb_pipeline.specs.records.declared.key.Keys.{Keys}
+use Rattle.sb_pipeline.specs.records.Records.{at_least}
+use Rattle.sb_pipeline.specs.records.Progress.{Progress}
+use Rattle.sb_pipeline.specs.records.Intake.{answer_to, timely, timely_if, when_late, after, mark_of, low}
+use Rattle.sb_pipeline.specs.records.Inputs.{Accepted, progress_of, accepted_if, accepted_after}
+use Rattle.sb_pipeline.specs.records.Reading.{item_of}
+use Rattle.sb_pipeline.specs.records.Streams.{uses, last_or, last_watermark, watermark_in, records_of, record_in, dropped_in, dropped_of, least_of}
+use Rattle.sb_pipeline.proofs.records.InputLemmas.{progress-more}
+use Rattle.sb_pipeline.proofs.records.Elements.{All-join}
 use Rattle.sb_pipeline.specs.Results.{rows_below}
 use Rattle.sb_pipeline.specs.Shapes.{Shape, streams_of}
 use Rattle.sb_checkpoint.specs.Reach.{reach, is_within}

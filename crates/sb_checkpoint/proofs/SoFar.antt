@@ -4,10 +4,10 @@ use Rattle.std.specs.Prelude.{nat_le, ◌&&◌}
 use Rattle.std.specs.List.{flat_map}
 use Rattle.std.proofs.lemmas.Bool.{le-leb}
 use Rattle.std.proofs.lemmas.List.Concat.{flat_map-append}
-use Rattle.sb_record.specs.declared.item.Item.{Item}
-use Rattle.sb_record.specs.declared.item.Stream.{Stream}
-use Rattle.sb_record.specs.declared.item.Stream.TheVariants.{A, B}
-use Rattle.sb_record.specs.Streams.{least_of, last_or, watermark_in, last_watermark}
+use Rattle.sb_pipeline.specs.records.declared.item.Item.{Item}
+use Rattle.sb_pipeline.specs.records.declared.item.Stream.{Stream}
+use Rattle.sb_pipeline.specs.records.declared.item.Stream.TheVariants.{A, B}
+use Rattle.sb_pipeline.specs.records.Streams.{least_of, last_or, watermark_in, last_watermark}
 use Rattle.sb_pipeline.specs.Shapes.{Shape, streams_of}
 use Rattle.sb_checkpoint.specs.Texts.{may_come, may_follow}
 use Rattle.sb_checkpoint.specs.declared.checkpoint.StreamRec.{StreamRec}

@@ -1,6 +1,6 @@
 -- A run that is cut and goes on, over lines.
 use Rattle.std.proofs.Common.{◌≡◌, ℕ, List, ◌++◌, sym, ap, subst, ◌∙◌}
-use Rattle.sb_record.specs.declared.item.Item.{Item}
+use Rattle.sb_pipeline.specs.records.declared.item.Item.{Item}
 use Rattle.sb_pipeline.specs.Shapes.{streams_of}
 use Rattle.sb_checkpoint.specs.Checkpoints.{resumed_items}
 use Rattle.sb_checkpoint.specs.Laws.{accepted_in, accepted_behind, resumed_lines, Resumes, CutRunsGiveTheWhole}

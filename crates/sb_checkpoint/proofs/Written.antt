@@ -4,16 +4,16 @@ use Rattle.std.specs.Prelude.{nat_le, not, ◌&&◌}
 use Rattle.std.specs.List.{filter, AllByRecursion}
 use Rattle.std.proofs.lemmas.Bool.{eq-eqb}
 use Rattle.std.proofs.lemmas.Bool.Decides.{nat_tests}
-use Rattle.sb_record.specs.declared.item.TheConstants.{MAX_TIME}
-use Rattle.sb_record.specs.declared.item.Item.{Item}
-use Rattle.sb_record.specs.declared.item.Item.TheVariants.{Rec, Mark, Skip, Late}
-use Rattle.sb_record.specs.declared.item.Record.{Record}
-use Rattle.sb_record.specs.declared.item.Stream.{Stream}
-use Rattle.sb_record.specs.declared.item.Stream.TheVariants.{A, B}
-use Rattle.sb_record.specs.Reading.{item_of}
-use Rattle.sb_record.specs.Streams.{uses, least_of, last_watermark}
-use Rattle.sb_record.proofs.InputLemmas.{progress-more, accepted-in_range, low_watermark-in_range}
-use Rattle.sb_record.proofs.Grammar.{item_reads}
+use Rattle.sb_pipeline.specs.records.declared.item.TheConstants.{MAX_TIME}
+use Rattle.sb_pipeline.specs.records.declared.item.Item.{Item}
+use Rattle.sb_pipeline.specs.records.declared.item.Item.TheVariants.{Rec, Mark, Skip, Late}
+use Rattle.sb_pipeline.specs.records.declared.item.Record.{Record}
+use Rattle.sb_pipeline.specs.records.declared.item.Stream.{Stream}
+use Rattle.sb_pipeline.specs.records.declared.item.Stream.TheVariants.{A, B}
+use Rattle.sb_pipeline.specs.records.Reading.{item_of}
+use Rattle.sb_pipeline.specs.records.Streams.{uses, least_of, last_watermark}
+use Rattle.sb_pipeline.proofs.records.InputLemmas.{progress-more, accepted-in_range, low_watermark-in_range}
+use Rattle.sb_pipeline.proofs.records.Grammar.{item_reads}
 use Rattle.sb_pipeline.specs.Shapes.{Shape, streams_of}
 use Rattle.sb_checkpoint.specs.Reach.{reach, is_within}
 use Rattle.sb_checkpoint.specs.Texts.{item_text, head_text, end_text, is_whole, read_lines, IsHead, IsRead}

@@ -1,7 +1,7 @@
 -- Lines that are given before the bytes of a source.
 use Rattle.std.specs.Prelude.{◌≡◌, ◌⊎◌, ℕ, ◌+◌, List, [], ◌∷◌, ◌++◌, Option, None, Some, length, slice_get}
 use Rattle.std.specs.Io.KnownBytes.{Consumes}
-use Rattle.sb_record.specs.declared.item.Item.{Item}
+use Rattle.sb_pipeline.specs.records.declared.item.Item.{Item}
 use Rattle.sb_checkpoint.specs.Texts.{item_text, with_end}
 
 -- the bytes of the line at hand that are left, and those of the lines behind it

@@ -1,12 +1,12 @@
 -- What a checkpoint keeps of the items of an input, and what is read in their place. Each line of an input is one item:
 -- that of a late record that was dropped too.
 use Rattle.std.specs.Prelude.{ℕ, ◌-◌, ◌==◌, Bool, false, if◌then◌else◌, List, [], ◌∷◌, ◌++◌, filter, length, replicate}
-use Rattle.sb_record.specs.declared.item.Item.{Item}
-use Rattle.sb_record.specs.declared.item.Item.TheVariants.{Rec, Mark, Skip, Late}
-use Rattle.sb_record.specs.declared.item.Record.{Record}
-use Rattle.sb_record.specs.declared.item.Stream.{Stream}
-use Rattle.sb_record.specs.declared.item.Stream.TheVariants.{A, B}
-use Rattle.sb_record.specs.Streams.{records_of, last_watermark, low_watermark}
+use Rattle.sb_pipeline.specs.records.declared.item.Item.{Item}
+use Rattle.sb_pipeline.specs.records.declared.item.Item.TheVariants.{Rec, Mark, Skip, Late}
+use Rattle.sb_pipeline.specs.records.declared.item.Record.{Record}
+use Rattle.sb_pipeline.specs.records.declared.item.Stream.{Stream}
+use Rattle.sb_pipeline.specs.records.declared.item.Stream.TheVariants.{A, B}
+use Rattle.sb_pipeline.specs.records.Streams.{records_of, last_watermark, low_watermark}
 use Rattle.sb_pipeline.specs.Shapes.{Shape, streams_of}
 use Rattle.sb_checkpoint.specs.Reach.{reach, is_within}
 

@@ -5,7 +5,7 @@ use Rattle.std.specs.Prelude.{nat_lt}
 use Rattle.std.specs.List.{AllByRecursion}
 use Rattle.std.proofs.Math.Nat.{le_of_lt, le_trans}
 use Rattle.std.proofs.lemmas.Bool.{le-ltb, ltb-false}
-use Rattle.sb_record.specs.declared.item.Record.{Record}
+use Rattle.sb_pipeline.specs.records.declared.item.Record.{Record}
 use Rattle.sb_emit.specs.Outputs.{AreApart}
 use Rattle.sb_checkpoint.specs.LaterRows.{HandedOn, HandsFromFirst, from_first}
 

@@ -1,7 +1,7 @@
 -- An output that is handed the rows from a time on.
 use Rattle.std.specs.Prelude.{◌≡◌, ℕ, List, [], ◌∷◌, nat_lt, if◌then◌else◌}
-use Rattle.sb_record.specs.declared.item.Record.{Record}
-use Rattle.sb_record.specs.Records.{at_least}
+use Rattle.sb_pipeline.specs.records.declared.item.Record.{Record}
+use Rattle.sb_pipeline.specs.records.Records.{at_least}
 
 -- the output, and the time from which on it is handed rows
 pub record HandedOn (R : Type 0) : Type 0 where

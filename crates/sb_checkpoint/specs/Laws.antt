@@ -1,15 +1,15 @@
 -- The laws that resuming rests on.
 use Rattle.std.specs.Prelude.{◌≡◌, ◌≤◌, ◌⊎◌, ℕ, Bool, false, List, [], ◌∷◌, ◌++◌, map, length, All, None}
-use Rattle.sb_record.specs.declared.item.Item.{Item}
-use Rattle.sb_record.specs.declared.item.Record.{Record}
-use Rattle.sb_record.specs.declared.item.Stream.{Stream}
-use Rattle.sb_record.specs.declared.item.Streams.{Streams}
-use Rattle.sb_record.specs.declared.intake.LatePolicy.{LatePolicy}
-use Rattle.sb_record.specs.declared.key.Keys.{Keys}
-use Rattle.sb_record.specs.Inputs.{Accepted, accepted, accepted_after, progress_of}
-use Rattle.sb_record.specs.Progress.{Progress}
-use Rattle.sb_record.specs.Records.{before, at_least}
-use Rattle.sb_record.specs.Streams.{dropped_of}
+use Rattle.sb_pipeline.specs.records.declared.item.Item.{Item}
+use Rattle.sb_pipeline.specs.records.declared.item.Record.{Record}
+use Rattle.sb_pipeline.specs.records.declared.item.Stream.{Stream}
+use Rattle.sb_pipeline.specs.records.declared.item.Streams.{Streams}
+use Rattle.sb_pipeline.specs.records.declared.intake.LatePolicy.{LatePolicy}
+use Rattle.sb_pipeline.specs.records.declared.key.Keys.{Keys}
+use Rattle.sb_pipeline.specs.records.Inputs.{Accepted, accepted, accepted_after, progress_of}
+use Rattle.sb_pipeline.specs.records.Progress.{Progress}
+use Rattle.sb_pipeline.specs.records.Records.{before, at_least}
+use Rattle.sb_pipeline.specs.records.Streams.{dropped_of}
 use Rattle.sb_outside.specs.Lines.{line_feed, lines}
 use Rattle.sb_pipeline.specs.Results.{output_of, rows_below}
 use Rattle.sb_pipeline.specs.Shapes.{Shape, streams_of}

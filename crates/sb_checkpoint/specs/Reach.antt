@@ -1,6 +1,6 @@
 -- How far back a plan reaches, and which records can still be part of a row.
 use Rattle.std.specs.Prelude.{◌≡◌, ℕ, ◌+◌, Bool, true, false, nat_lt, not, List, All, Some, filter, slice_get, sum_by, take}
-use Rattle.sb_record.specs.declared.item.Record.{Record}
+use Rattle.sb_pipeline.specs.records.declared.item.Record.{Record}
 use Rattle.sb_pipeline.specs.declared.transform.Kind.{Kind}
 use Rattle.sb_pipeline.specs.declared.transform.Step.{Step}
 use Rattle.sb_pipeline.specs.declared.transform.Kind.TheVariants.{Do, Group, Session, Join}

@@ -1,7 +1,7 @@
 -- What a checkpoint has, as items.
 use Rattle.std.specs.Prelude.{List, ◌++◌, map}
-use Rattle.sb_record.specs.declared.item.Item.{Item}
-use Rattle.sb_record.specs.declared.item.Item.TheVariants.{Rec}
+use Rattle.sb_pipeline.specs.records.declared.item.Item.{Item}
+use Rattle.sb_pipeline.specs.records.declared.item.Item.TheVariants.{Rec}
 use Rattle.sb_checkpoint.specs.declared.checkpoint.StreamRec.{StreamRec}
 use Rattle.sb_checkpoint.specs.declared.checkpoint.Checkpoint.{Checkpoint}
 use Rattle.sb_checkpoint.specs.Checkpoints.{mark_items}

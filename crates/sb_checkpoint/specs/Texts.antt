@@ -2,13 +2,13 @@
 use Rattle.std.specs.Prelude.{◌≡◌, ◌<◌, ◌^◌, ◌+◌, ◌==◌, ◌⊎◌, ℕ, Bool, true, false, ◌&&◌, not, nat_le, if◌then◌else◌, List, [], ◌∷◌, ◌++◌, length, flat_map, decimal, Option, Some, None, Result, Ok, Err}
 use Rattle.std.specs.List.{slice_split}
 use Rattle.sb_outside.specs.Lines.{line_feed}
-use Rattle.sb_record.specs.declared.intake.TheConstants.{MAX_LINES}
-use Rattle.sb_record.specs.declared.item.Item.{Item}
-use Rattle.sb_record.specs.declared.item.Item.TheVariants.{Rec, Mark, Skip, Late}
-use Rattle.sb_record.specs.declared.item.Stream.TheVariants.{A, B}
-use Rattle.sb_record.specs.Lines.{record_text, mark_text}
-use Rattle.sb_record.specs.Reading.{item_of}
-use Rattle.sb_record.specs.Streams.{uses, last_watermark}
+use Rattle.sb_pipeline.specs.records.declared.intake.TheConstants.{MAX_LINES}
+use Rattle.sb_pipeline.specs.records.declared.item.Item.{Item}
+use Rattle.sb_pipeline.specs.records.declared.item.Item.TheVariants.{Rec, Mark, Skip, Late}
+use Rattle.sb_pipeline.specs.records.declared.item.Stream.TheVariants.{A, B}
+use Rattle.sb_pipeline.specs.records.Lines.{record_text, mark_text}
+use Rattle.sb_pipeline.specs.records.Reading.{item_of}
+use Rattle.sb_pipeline.specs.records.Streams.{uses, last_watermark}
 use Rattle.sb_pipeline.specs.Shapes.{Shape, streams_of}
 use Rattle.sb_checkpoint.specs.Reach.{reach, is_within}
 use Rattle.sb_checkpoint.specs.Checkpoints.{low_of}

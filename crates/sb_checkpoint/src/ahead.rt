@@ -8,7 +8,7 @@ ghost use Rattle.sb_checkpoint.specs.Ahead as spec;
 
 use crate::checkpoint::Checkpoint;
 use crate::line_text::{LineText, item_at, item_line};
-use sb_record::Item;
+use sb_pipeline::sb_record::Item;
 use std::marker::Model;
 
 /// The lines of a checkpoint's items, and then a comment for each line more that its input had, as bytes that are given

@@ -1,7 +1,7 @@
 //! Checkpoints: what of the accepted items of an input a run that goes on later has to know.
 
 ghost use Rattle.std.specs.Prelude.{◌≡◌, ◌≤◌, ◌++◌, ◌∷◌, [], IfOk, OnOk, filter, map, length};
-ghost use Rattle.sb_record.specs.Streams.{last_or, last_watermark, least_of, watermark_in};
+ghost use Rattle.sb_pipeline.specs.records.Streams.{last_or, last_watermark, least_of, watermark_in};
 ghost use Rattle.sb_checkpoint.specs.Reach.{HasNoSession};
 ghost use Rattle.sb_checkpoint.specs.Checkpoints as spec;
 ghost use Rattle.sb_checkpoint.specs.Keeping.{IsRecord};
@@ -9,7 +9,7 @@ ghost use Rattle.sb_checkpoint.specs.Saved.{record_item, items_in};
 
 use crate::reaching::reach;
 use sb_pipeline::Plan;
-use sb_record::{Item, NoMemory, Record, Stream, Streams};
+use sb_pipeline::sb_record::{Item, NoMemory, Record, Stream, Streams};
 use std::alloc::Global;
 
 /// A record, and the stream that it came by.

@@ -1,7 +1,7 @@
 //! The items of a checkpoint, as they are read one after another.
 
 ghost use Rattle.std.specs.Prelude.{◌≡◌, ◌==◌, ◌&&◌, ◌++◌, ◌∷◌, [], IfOk, if◌then◌else◌};
-ghost use Rattle.sb_record.specs.Streams.{uses as uses_stream};
+ghost use Rattle.sb_pipeline.specs.records.Streams.{uses as uses_stream};
 ghost use Rattle.sb_checkpoint.specs.Reach as reach_spec;
 ghost use Rattle.sb_checkpoint.specs.Saved.{items_in};
 ghost use Rattle.sb_checkpoint.specs.Texts as spec;
@@ -9,7 +9,7 @@ ghost use Rattle.sb_checkpoint.specs.Texts as spec;
 use crate::checkpoint::{Checkpoint, StreamRec, least};
 use crate::line_text::item_count;
 use sb_pipeline::Plan;
-use sb_record::{Item, MAX_LINES, NoMemory, Stream, Streams};
+use sb_pipeline::sb_record::{Item, MAX_LINES, NoMemory, Stream, Streams};
 
 /// Whether the stream is one of these.
 fn uses(streams: Streams, stream: Stream) -> bool

@@ -1,8 +1,8 @@
 //! What a checkpoint keeps, while the items of an input are read one by one.
 
 ghost use Rattle.std.specs.Prelude.{nat_lt, not, ◌≡◌, ◌≤◌, ◌<◌, ◌-◌, ℕ, ◌++◌, ◌∷◌, [], List, map, filter, OnErr, OnOk};
-ghost use Rattle.sb_record.specs.declared.item.Item.{Item as AnItem};
-ghost use Rattle.sb_record.specs.Streams.{least_of};
+ghost use Rattle.sb_pipeline.specs.records.declared.item.Item.{Item as AnItem};
+ghost use Rattle.sb_pipeline.specs.records.Streams.{least_of};
 ghost use Rattle.sb_pipeline.specs.Shapes.{Shape, streams_of};
 ghost use Rattle.sb_checkpoint.specs.Reach.{HasNoSession};
 ghost use Rattle.sb_checkpoint.specs.Checkpoints.{is_kept};
@@ -13,7 +13,7 @@ ghost use Rattle.sb_checkpoint.specs.Keeping.{IsRecord};
 use crate::checkpoint::{Checkpoint, StreamRec, least, push};
 use crate::reaching::reach;
 use sb_pipeline::Plan;
-use sb_record::{Item, NoMemory, Stream, Streams};
+use sb_pipeline::sb_record::{Item, NoMemory, Stream, Streams};
 use std::alloc::Global;
 use std::marker::Model;
 
@@ -38,7 +38,7 @@ pub struct Keeper {
 
 impl Model for Keeper {
     ghost use Rattle.std.specs.Prelude.{nat_lt, not, filter, map};
-    ghost use Rattle.sb_record.specs.Streams.{least_of};
+    ghost use Rattle.sb_pipeline.specs.records.Streams.{least_of};
     ghost use Rattle.sb_checkpoint.specs.Checkpoints.{is_kept};
     ghost use Rattle.sb_checkpoint.specs.Saved.{record_item};
     ghost use Rattle.sb_checkpoint.specs.Keeping.{Kept};

@@ -1,14 +1,14 @@
 //! The lines of a checkpoint, with their ends.
 
 ghost use Rattle.std.specs.Prelude.{◌≡◌, ◌≤◌, ◌<◌, ◌^◌, ◌+◌, ◌++◌, ◌∷◌, [], length, slice_get};
-ghost use Rattle.sb_record.specs.Keys.{key_text};
-ghost use Rattle.sb_record.specs.Lines.{letter, record_text, mark_text};
+ghost use Rattle.sb_pipeline.specs.records.Keys.{key_text};
+ghost use Rattle.sb_pipeline.specs.records.Lines.{letter, record_text, mark_text};
 ghost use Rattle.sb_checkpoint.specs.Texts as spec;
 ghost use Rattle.sb_checkpoint.specs.Checkpoints.{mark_items};
 ghost use Rattle.sb_checkpoint.specs.Saved.{items_in};
 
 use crate::checkpoint::Checkpoint;
-use sb_record::{Item, Key, Record, Stream, TextBuf};
+use sb_pipeline::sb_record::{Item, Key, Record, Stream, TextBuf};
 
 /// The most bytes of a line of a checkpoint, with its end.
 pub(crate) const LINE_ROOM: usize = 72;

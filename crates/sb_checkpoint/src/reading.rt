@@ -3,7 +3,7 @@
 ghost use Rattle.std.specs.Prelude.{◌≡◌, ◌==◌, ◌&&◌, ◌≤◌, ◌<◌, ◌∷◌, [], ℕ, false, IfOk, IfSome, IfNone, length, if◌then◌else◌};
 ghost use Rattle.std.specs.List.{position};
 ghost use Rattle.sb_outside.specs.Lines.{line_feed};
-ghost use Rattle.sb_record.specs.Reading.{item_of};
+ghost use Rattle.sb_pipeline.specs.records.Reading.{item_of};
 ghost use Rattle.sb_checkpoint.specs.Reach as reach_spec;
 ghost use Rattle.sb_checkpoint.specs.Saved.{items_in};
 ghost use Rattle.sb_checkpoint.specs.Texts as spec;
@@ -14,7 +14,7 @@ use crate::line_reading::{is_end, read_head};
 use crate::line_text::item_count;
 use crate::reaching::reach;
 use sb_pipeline::Plan;
-use sb_record::{Malformed, NoMemory, read_line};
+use sb_pipeline::sb_record::{Malformed, NoMemory, read_line};
 use std::alloc::Global;
 
 /// Why a checkpoint can't be read.

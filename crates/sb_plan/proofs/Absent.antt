@@ -3,12 +3,12 @@ use Rattle.std.proofs.Common.{◌≡◌, ◌+◌, ◌∙◌, ℕ, List, length, 
 use Rattle.std.specs.Prelude.{◌⊎◌, ◌==◌, bytes_eq, nat_lt, Bool, true, false, cond}
 use Rattle.std.proofs.lemmas.Bool.{cases_Bool}
 use Rattle.toml.specs.Data.{Data, Items, no_items, item, Members, as_array, as_str, as_table}
-use Rattle.sb_record.specs.declared.intake.LatePolicy.{LatePolicy}
-use Rattle.sb_record.specs.declared.intake.LatePolicy.TheVariants.{Refuse}
-use Rattle.sb_record.specs.declared.key.Keys.{Keys}
-use Rattle.sb_record.specs.declared.key.Keys.TheVariants.{Numbers}
+use Rattle.sb_pipeline.specs.records.declared.intake.LatePolicy.{LatePolicy}
+use Rattle.sb_pipeline.specs.records.declared.intake.LatePolicy.TheVariants.{Refuse}
+use Rattle.sb_pipeline.specs.records.declared.key.Keys.{Keys}
+use Rattle.sb_pipeline.specs.records.declared.key.Keys.TheVariants.{Numbers}
 use Rattle.sb_outside.specs.Folders.{Files, without}
-use Rattle.sb_pardo.specs.TableFiles.{or_fault, then_test}
+use Rattle.sb_pipeline.specs.pardo.TableFiles.{or_fault, then_test}
 use Rattle.sb_pipeline.specs.declared.transform.TheConstants.{MAX_TRANSFORMS}
 use Rattle.sb_plan.specs.declared.fault.PlanCause.{PlanCause}
 use Rattle.sb_plan.specs.declared.fault.PlanCause.TheVariants as cause

@@ -9,7 +9,7 @@ use Rattle.std.proofs.lemmas.List.Sums.{count_by_more_yes, sum_by-append, sum_by
 use Rattle.std.proofs.lemmas.Option.{slice_get_past, slice_get_within, slice_get-get_or, slice_get-map, slice_get_cases}
 use Rattle.std.proofs.NetLemmas.Options.{map_some}
 use Rattle.sb_plan.proofs.Counting.{All-unfound, count_by-any, count_by-none}
-use Rattle.sb_record.proofs.Sums.{sum_by-map}
+use Rattle.sb_pipeline.proofs.records.Sums.{sum_by-map}
 use Rattle.sb_pipeline.specs.declared.transform.Down.{Down}
 use Rattle.sb_pipeline.specs.declared.transform.Step.{Step}
 use Rattle.sb_pipeline.specs.declared.transform.TheConstants.{MAX_TRANSFORMS}

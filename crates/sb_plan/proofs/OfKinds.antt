@@ -6,41 +6,41 @@ use Rattle.std.proofs.lemmas.Bool.{and_parts, leb-true}
 use Rattle.std.proofs.lemmas.Option.{cond_some}
 use Rattle.std.proofs.NetLemmas.Options.{map_some}
 use Rattle.toml.specs.Data.{Members, get_member, as_integer, as_str}
-use Rattle.sb_record.specs.declared.key.TheConstants.{MAX_KEY}
-use Rattle.sb_record.specs.declared.key.Key.{Key}
-use Rattle.sb_record.specs.declared.key.Key.TheVariants.{Number, Word}
-use Rattle.sb_record.specs.declared.key.Keys.{Keys}
-use Rattle.sb_record.specs.declared.key.Keys.TheVariants.{Numbers, Words}
-use Rattle.sb_record.specs.Keys.{IsKey, key_cmp}
-use Rattle.sb_record.specs.Reading.{whole_number}
-use Rattle.sb_record.specs.Words.{is_word}
-use Rattle.sb_record.proofs.Numbers.{whole_number_exact}
+use Rattle.sb_pipeline.specs.records.declared.key.TheConstants.{MAX_KEY}
+use Rattle.sb_pipeline.specs.records.declared.key.Key.{Key}
+use Rattle.sb_pipeline.specs.records.declared.key.Key.TheVariants.{Number, Word}
+use Rattle.sb_pipeline.specs.records.declared.key.Keys.{Keys}
+use Rattle.sb_pipeline.specs.records.declared.key.Keys.TheVariants.{Numbers, Words}
+use Rattle.sb_pipeline.specs.records.Keys.{IsKey, key_cmp}
+use Rattle.sb_pipeline.specs.records.Reading.{whole_number}
+use Rattle.sb_pipeline.specs.records.Words.{is_word}
+use Rattle.sb_pipeline.proofs.records.Numbers.{whole_number_exact}
 use Rattle.sb_outside.specs.Folders.{Files}
-use Rattle.sb_window.specs.declared.windows.TheConstants.{MAX_SIZE, MAX_WINDOWS_OF_A_TIME}
-use Rattle.sb_window.specs.Spacing.{Spacing, AreWindows, fixed_windows}
-use Rattle.sb_window.specs.Windows.{spacing_of}
-use Rattle.sb_window.specs.declared.windows.BadWindow.TheVariants as bad
-use Rattle.sb_pardo.proofs.Tables.{no_images, images_with}
-use Rattle.sb_aggregate.specs.declared.aggregate.TheConstants.{MAX_TOP}
+use Rattle.sb_pipeline.specs.window.declared.windows.TheConstants.{MAX_SIZE, MAX_WINDOWS_OF_A_TIME}
+use Rattle.sb_pipeline.specs.window.Spacing.{Spacing, AreWindows, fixed_windows}
+use Rattle.sb_pipeline.specs.window.Windows.{spacing_of}
+use Rattle.sb_pipeline.specs.window.declared.windows.BadWindow.TheVariants as bad
+use Rattle.sb_pipeline.proofs.pardo.Tables.{no_images, images_with}
+use Rattle.sb_pipeline.specs.aggregate.declared.aggregate.TheConstants.{MAX_TOP}
 use Rattle.sb_plan.specs.declared.TheConstants.{MAX_TABLE_BYTES}
 use Rattle.std.proofs.lemmas.Bool.Decides.{nat_tests}
-use Rattle.sb_pardo.specs.declared.operation.TheConstants.{MAX_ADDENDS}
-use Rattle.sb_pardo.specs.declared.operation.Op.TheVariants.{Filter, Map, Expand, Lookup}
-use Rattle.sb_pardo.specs.declared.operation.Change.{Change}
-use Rattle.sb_pardo.specs.declared.operation.Change.TheVariants as change
-use Rattle.sb_pardo.specs.TableFiles.{then_test, or_fault, table_of, table_from, entry_of, rows_of, at_row, columns_of, key_of, Fields}
-use Rattle.sb_pardo.specs.declared.table_file.TheConstants.{MAX_ROWS}
-use Rattle.sb_pardo.specs.declared.table_file.TableFault.{TableFault}
-use Rattle.sb_pardo.specs.declared.table_file.RowFault.{RowFault}
-use Rattle.sb_pardo.specs.declared.table_file.RowFault.TheVariants as row_fault
-use Rattle.sb_pardo.specs.Validity.{IsValidChange}
-use Rattle.sb_pardo.specs.Tables.{HasKeyImages}
-use Rattle.sb_aggregate.specs.Aggregates as aggregate
-use Rattle.sb_aggregate.specs.declared.aggregate.Agg.{Agg}
-use Rattle.sb_aggregate.specs.declared.aggregate.Agg.TheVariants.{Top}
+use Rattle.sb_pipeline.specs.pardo.declared.operation.TheConstants.{MAX_ADDENDS}
+use Rattle.sb_pipeline.specs.pardo.declared.operation.Op.TheVariants.{Filter, Map, Expand, Lookup}
+use Rattle.sb_pipeline.specs.pardo.declared.operation.Change.{Change}
+use Rattle.sb_pipeline.specs.pardo.declared.operation.Change.TheVariants as change
+use Rattle.sb_pipeline.specs.pardo.TableFiles.{then_test, or_fault, table_of, table_from, entry_of, rows_of, at_row, columns_of, key_of, Fields}
+use Rattle.sb_pipeline.specs.pardo.declared.table_file.TheConstants.{MAX_ROWS}
+use Rattle.sb_pipeline.specs.pardo.declared.table_file.TableFault.{TableFault}
+use Rattle.sb_pipeline.specs.pardo.declared.table_file.RowFault.{RowFault}
+use Rattle.sb_pipeline.specs.pardo.declared.table_file.RowFault.TheVariants as row_fault
+use Rattle.sb_pipeline.specs.pardo.Validity.{IsValidChange}
+use Rattle.sb_pipeline.specs.pardo.Tables.{HasKeyImages}
+use Rattle.sb_pipeline.specs.aggregate.Aggregates as aggregate
+use Rattle.sb_pipeline.specs.aggregate.declared.aggregate.Agg.{Agg}
+use Rattle.sb_pipeline.specs.aggregate.declared.aggregate.Agg.TheVariants.{Top}
 use Rattle.sb_pipeline.specs.declared.transform.Kind.{Kind}
-use Rattle.sb_aggregate.specs.declared.session.TheConstants.{MAX_GAP}
-use Rattle.sb_aggregate.specs.Aggregates.{GivesOne}
+use Rattle.sb_pipeline.specs.aggregate.declared.session.TheConstants.{MAX_GAP}
+use Rattle.sb_pipeline.specs.aggregate.Aggregates.{GivesOne}
 use Rattle.sb_pipeline.specs.declared.transform.Kind.TheVariants.{Do, Group, Session, Join}
 use Rattle.sb_plan.specs.declared.fault.PlanCause.TheVariants.{OutOfRange, TableRow, TableTooLong}
 use Rattle.sb_plan.specs.declared.fault.PlanKey.{PlanKey}

@@ -1,6 +1,6 @@
 -- What tests that pass show, one after another.
 use Rattle.std.proofs.Common.{◌≡◌, Bool, true, false, cond, Option, Some, None, IfSome, Result, Ok, Err, refl, subst}
-use Rattle.sb_pardo.specs.TableFiles.{then_test, or_fault}
+use Rattle.sb_pipeline.specs.pardo.TableFiles.{then_test, or_fault}
 use Rattle.sb_plan.specs.Failures.{Failure, by_text}
 
 -- where a test and the next ones pass, each does

@@ -5,7 +5,7 @@ use Rattle.std.specs.List.{position}
 use Rattle.std.proofs.lemmas.List.{get_or_default}
 use Rattle.std.proofs.lemmas.List.Elements.{All-head, All-tail}
 use Rattle.std.proofs.lemmas.List.Quantifiers.{position-Some}
-use Rattle.sb_pardo.specs.TableFiles.{then_test}
+use Rattle.sb_pipeline.specs.pardo.TableFiles.{then_test}
 use Rattle.sb_pipeline.specs.declared.transform.Down.{Down}
 use Rattle.sb_plan.specs.declared.entry.Entry.{Entry}
 use Rattle.sb_plan.specs.declared.wiring.Wiring.{Wiring}

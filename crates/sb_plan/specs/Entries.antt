@@ -2,9 +2,9 @@
 use Rattle.std.specs.Prelude.{codes, bytes_eq, ℕ, nat_le, ◌==◌, Bool, true, false, not, ◌&&◌, ◌||◌, if◌then◌else◌, List, [], ◌∷◌, length, Option, Some, None, Result, Ok, Err}
 use Rattle.std.specs.List.{list_all, list_any}
 use Rattle.toml.specs.Data.{Members, no_members, member, as_str}
-use Rattle.sb_record.specs.declared.key.Keys.{Keys}
+use Rattle.sb_pipeline.specs.records.declared.key.Keys.{Keys}
 use Rattle.sb_outside.specs.Folders.{Files}
-use Rattle.sb_pardo.specs.TableFiles.{then_test, or_fault}
+use Rattle.sb_pipeline.specs.pardo.TableFiles.{then_test, or_fault}
 use Rattle.sb_plan.specs.declared.entry.Entry.{Entry}
 use Rattle.sb_plan.specs.declared.wiring.Part.{Part}
 use Rattle.sb_plan.specs.declared.fault.PlanKey.{PlanKey}

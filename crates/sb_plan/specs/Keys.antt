@@ -2,7 +2,7 @@
 use Rattle.std.specs.Prelude.{codes, bytes_eq, ℕ, ℤ, pos, negsuc, nat_le, Bool, ◌&&◌, if◌then◌else◌, List, Option, Some, None, is_some, Result, Ok}
 use Rattle.std.specs.List.{list_any}
 use Rattle.toml.specs.Data.{Data, Members, get_member, as_integer, as_str}
-use Rattle.sb_pardo.specs.TableFiles.{then_test, or_fault}
+use Rattle.sb_pipeline.specs.pardo.TableFiles.{then_test, or_fault}
 use Rattle.sb_plan.specs.declared.fault.PlanKey.{PlanKey}
 use Rattle.sb_plan.specs.declared.fault.PlanKey.TheVariants as key
 use Rattle.sb_plan.specs.declared.fault.PlanCause.{PlanCause}

@@ -2,18 +2,18 @@
 use Rattle.std.specs.Prelude.{nat_lt, nat_le, ◌&&◌, if◌then◌else◌, option_and_then, ℕ, ℤ, ◌∷◌, [], List, length, Option, Some, None, is_some, Result, Ok, Err}
 use Rattle.toml.specs.Data.{Data, Items, no_items, item, Members, get_member, as_array, as_integer}
 use Rattle.sb_outside.specs.Folders.{Files}
-use Rattle.sb_record.specs.declared.key.Keys.{Keys}
-use Rattle.sb_window.specs.declared.windows.TheConstants.{MAX_SIZE}
-use Rattle.sb_window.specs.Spacing.{Spacing, fixed_windows}
-use Rattle.sb_window.specs.Windows.{spacing_of}
-use Rattle.sb_pardo.specs.declared.operation.TheConstants.{MAX_ADDENDS}
-use Rattle.sb_pardo.specs.declared.operation.Op.TheVariants.{Filter, Map, Expand, Lookup}
-use Rattle.sb_pardo.specs.TableFiles.{then_test, or_fault, table_of}
-use Rattle.sb_aggregate.specs.declared.aggregate.Agg.{Agg}
-use Rattle.sb_aggregate.specs.declared.aggregate.Agg.TheVariants.{Top}
-use Rattle.sb_aggregate.specs.declared.aggregate.TheConstants.{MAX_TOP}
+use Rattle.sb_pipeline.specs.records.declared.key.Keys.{Keys}
+use Rattle.sb_pipeline.specs.window.declared.windows.TheConstants.{MAX_SIZE}
+use Rattle.sb_pipeline.specs.window.Spacing.{Spacing, fixed_windows}
+use Rattle.sb_pipeline.specs.window.Windows.{spacing_of}
+use Rattle.sb_pipeline.specs.pardo.declared.operation.TheConstants.{MAX_ADDENDS}
+use Rattle.sb_pipeline.specs.pardo.declared.operation.Op.TheVariants.{Filter, Map, Expand, Lookup}
+use Rattle.sb_pipeline.specs.pardo.TableFiles.{then_test, or_fault, table_of}
+use Rattle.sb_pipeline.specs.aggregate.declared.aggregate.Agg.{Agg}
+use Rattle.sb_pipeline.specs.aggregate.declared.aggregate.Agg.TheVariants.{Top}
+use Rattle.sb_pipeline.specs.aggregate.declared.aggregate.TheConstants.{MAX_TOP}
 use Rattle.sb_pipeline.specs.declared.transform.Kind.{Kind}
-use Rattle.sb_aggregate.specs.declared.session.TheConstants.{MAX_GAP}
+use Rattle.sb_pipeline.specs.aggregate.declared.session.TheConstants.{MAX_GAP}
 use Rattle.sb_pipeline.specs.declared.transform.Kind.TheVariants.{Do, Group, Session, Join}
 use Rattle.sb_plan.specs.declared.fault.PlanKey.TheVariants as key
 use Rattle.sb_plan.specs.declared.fault.PlanCause.{PlanCause}

@@ -1,7 +1,7 @@
 -- How the transforms of a file are connected: what each takes goes to a lane of it, and may go to no other.
 use Rattle.std.specs.Prelude.{codes, bytes_eq, ℕ, Bool, ◌&&◌, if◌then◌else◌, List, [], ◌∷◌, ◌++◌, length, Option, Some, None, Result, Ok, Err}
 use Rattle.std.specs.List.{list_any}
-use Rattle.sb_pardo.specs.TableFiles.{then_test}
+use Rattle.sb_pipeline.specs.pardo.TableFiles.{then_test}
 use Rattle.sb_pipeline.specs.declared.transform.Down.{Down}
 use Rattle.sb_pipeline.specs.declared.transform.Kind.{Kind}
 use Rattle.sb_pipeline.specs.Plans.{is_join}

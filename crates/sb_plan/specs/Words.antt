@@ -2,22 +2,22 @@
 use Rattle.std.specs.Prelude.{codes, bytes_eq, ℕ, ℤ, Bool, true, false, if◌then◌else◌, List, [], ◌∷◌, Option, Some, None}
 use Rattle.std.specs.Map.{lookup}
 use Rattle.std.specs.Option.{option_map, option_or}
-use Rattle.sb_record.specs.declared.key.TheConstants.{MAX_KEY}
-use Rattle.sb_record.specs.declared.key.Keys.{Keys}
-use Rattle.sb_record.specs.declared.key.Keys.TheVariants.{Numbers, Words}
-use Rattle.sb_record.specs.declared.intake.LatePolicy.{LatePolicy}
-use Rattle.sb_record.specs.declared.intake.LatePolicy.TheVariants as late
-use Rattle.sb_pardo.specs.declared.operation.Field.{Field}
-use Rattle.sb_pardo.specs.declared.operation.Field.TheVariants as field
-use Rattle.sb_pardo.specs.declared.operation.Test.{Test}
-use Rattle.sb_pardo.specs.declared.operation.Test.TheVariants as test
-use Rattle.sb_pardo.specs.declared.operation.Change.{Change}
-use Rattle.sb_pardo.specs.declared.operation.Change.TheVariants as change
-use Rattle.sb_aggregate.specs.declared.aggregate.Agg.{Agg}
-use Rattle.sb_aggregate.specs.declared.aggregate.Agg.TheVariants as agg
-use Rattle.sb_aggregate.specs.Aggregates.{GivesOne}
-use Rattle.sb_join.specs.declared.join.Combine.{Combine}
-use Rattle.sb_join.specs.declared.join.Combine.TheVariants as combine
+use Rattle.sb_pipeline.specs.records.declared.key.TheConstants.{MAX_KEY}
+use Rattle.sb_pipeline.specs.records.declared.key.Keys.{Keys}
+use Rattle.sb_pipeline.specs.records.declared.key.Keys.TheVariants.{Numbers, Words}
+use Rattle.sb_pipeline.specs.records.declared.intake.LatePolicy.{LatePolicy}
+use Rattle.sb_pipeline.specs.records.declared.intake.LatePolicy.TheVariants as late
+use Rattle.sb_pipeline.specs.pardo.declared.operation.Field.{Field}
+use Rattle.sb_pipeline.specs.pardo.declared.operation.Field.TheVariants as field
+use Rattle.sb_pipeline.specs.pardo.declared.operation.Test.{Test}
+use Rattle.sb_pipeline.specs.pardo.declared.operation.Test.TheVariants as test
+use Rattle.sb_pipeline.specs.pardo.declared.operation.Change.{Change}
+use Rattle.sb_pipeline.specs.pardo.declared.operation.Change.TheVariants as change
+use Rattle.sb_pipeline.specs.aggregate.declared.aggregate.Agg.{Agg}
+use Rattle.sb_pipeline.specs.aggregate.declared.aggregate.Agg.TheVariants as agg
+use Rattle.sb_pipeline.specs.aggregate.Aggregates.{GivesOne}
+use Rattle.sb_pipeline.specs.join.declared.join.Combine.{Combine}
+use Rattle.sb_pipeline.specs.join.declared.join.Combine.TheVariants as combine
 use Rattle.sb_plan.specs.declared.words.KindName.{KindName}
 use Rattle.sb_plan.specs.declared.words.KindName.TheVariants as kind
 use Rattle.sb_plan.specs.declared.words.ChangeName.{ChangeName}

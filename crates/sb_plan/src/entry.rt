@@ -20,7 +20,7 @@ use crate::wiring::Part;
 use crate::words::{KindName, kind_named};
 use sb_outside::Folder;
 use sb_pipeline::Kind;
-use sb_record::{Keys, NoMemory};
+use sb_pipeline::sb_record::{Keys, NoMemory};
 use std::alloc::Global;
 use toml::Table;
 

@@ -19,13 +19,13 @@ use crate::words::{
     ChangeName, KindName, aggregate_named, change_by, change_named, combine_named, field_named,
     test_named,
 };
-use sb_aggregate::{Agg, MAX_TOP};
-use sb_join::Combine;
 use sb_outside::Folder;
-use sb_pardo::{Field, Op, Test};
+use sb_pipeline::sb_aggregate::{Agg, MAX_TOP};
+use sb_pipeline::sb_join::Combine;
+use sb_pipeline::sb_pardo::{Field, Op, Test};
+use sb_pipeline::sb_record::Keys;
+use sb_pipeline::sb_window::{MAX_SIZE, Windows};
 use sb_pipeline::{Kind, MAX_GAP};
-use sb_record::Keys;
-use sb_window::{MAX_SIZE, Windows};
 use std::alloc::Global;
 use toml::Table;
 

@@ -1,5 +1,5 @@
 use Rattle.std.proofs.Common.{◌≡◌, ◌++◌, map, filter, length, ap, ◌∙◌, arith}
-use Rattle.sb_record.specs.Streams.{least_of}
+use Rattle.sb_pipeline.specs.records.Streams.{least_of}
 use Rattle.sb_checkpoint.specs.Checkpoints.{is_kept, low_of, mark_items, saved_items}
 use Rattle.sb_checkpoint.specs.Saved.{record_item}
 use Rattle.sb_checkpoint.proofs.Runs.{length_saved}

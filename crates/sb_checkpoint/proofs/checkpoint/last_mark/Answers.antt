@@ -1,5 +1,5 @@
 use Rattle.std.proofs.Common.{sym, ◌∙◌}
-use Rattle.sb_record.specs.Streams.{last_or, watermark_in}
+use Rattle.sb_pipeline.specs.records.Streams.{last_or, watermark_in}
 use Rattle.sb_checkpoint.proofs.LastMarks.{last-more}
 use Rattle.sb_checkpoint.proofs.checkpoint.last_mark.Goals as goal
 

@@ -1,5 +1,5 @@
 use Rattle.std.proofs.Common.{◌≡◌, take}
-use Rattle.sb_record.specs.Streams.{last_watermark}
+use Rattle.sb_pipeline.specs.records.Streams.{last_watermark}
 use Rattle.sb_checkpoint.proofs.checkpoint.last_mark.Given as goal
 
 abbrev pub invariant-items : goal.invariant-items

@@ -1,6 +1,6 @@
 use Rattle.std.proofs.Common.{◌≡◌, ◌≤◌, length, sym, ap, ◌∙◌, arith}
 use Rattle.std.proofs.lemmas.Bool.{leb-true}
-use Rattle.sb_record.specs.Streams.{least_of}
+use Rattle.sb_pipeline.specs.records.Streams.{least_of}
 use Rattle.sb_checkpoint.specs.Checkpoints.{low_of}
 use Rattle.sb_checkpoint.specs.Saved.{items_in}
 use Rattle.sb_checkpoint.proofs.SoFar.{low_is, whole_is}

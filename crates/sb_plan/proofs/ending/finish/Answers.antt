@@ -1,7 +1,7 @@
 use Rattle.std.proofs.Common.{◌≡◌, ◌∙◌, List, length, map, ap, sym, subst}
 use Rattle.std.specs.List.{list_any}
-use Rattle.sb_record.specs.declared.intake.LatePolicy.TheVariants.{Refuse}
-use Rattle.sb_record.specs.declared.key.Keys.TheVariants.{Numbers}
+use Rattle.sb_pipeline.specs.records.declared.intake.LatePolicy.TheVariants.{Refuse}
+use Rattle.sb_pipeline.specs.records.declared.key.Keys.TheVariants.{Numbers}
 use Rattle.sb_pipeline.specs.declared.transform.Step.{Step}
 use Rattle.sb_pipeline.specs.Plans.{IsPlan, has_windows}
 use Rattle.sb_pipeline.specs.Shapes as shapes

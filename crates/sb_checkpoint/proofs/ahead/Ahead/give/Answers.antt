@@ -1,6 +1,6 @@
 use Rattle.std.proofs.Common.{◌≡◌, ◌+◌, List, [], ◌++◌, take, drop, sym, ap, ◌∙◌, arith}
 use Rattle.std.proofs.lemmas.List.{drop_all}
-use Rattle.sb_record.specs.declared.item.Item.{Item}
+use Rattle.sb_pipeline.specs.records.declared.item.Item.{Item}
 use Rattle.sb_checkpoint.specs.Ahead.{bytes}
 use Rattle.sb_checkpoint.specs.Checkpoints.{with_comments}
 use Rattle.sb_checkpoint.specs.Saved.{items_in}

@@ -1,6 +1,6 @@
 use Rattle.std.proofs.Common.{◌≡◌, ◌++◌, ◌∷◌, [], map, ap, ◌∙◌}
 use Rattle.std.specs.List.{filter}
-use Rattle.sb_record.specs.Streams.{least_of}
+use Rattle.sb_pipeline.specs.records.Streams.{least_of}
 use Rattle.sb_checkpoint.specs.Checkpoints.{is_kept}
 use Rattle.sb_checkpoint.specs.Saved.{record_item}
 use Rattle.sb_checkpoint.proofs.Keepings.{kept_behind}

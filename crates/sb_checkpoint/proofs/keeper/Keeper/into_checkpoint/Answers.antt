@@ -1,5 +1,5 @@
 use Rattle.std.proofs.Common.{◌≡◌, ◌++◌, length, map, ap, ◌∙◌, arith}
-use Rattle.sb_record.specs.Streams.{least_of}
+use Rattle.sb_pipeline.specs.records.Streams.{least_of}
 use Rattle.sb_checkpoint.specs.Checkpoints.{kept_of, mark_items, saved_items}
 use Rattle.sb_checkpoint.specs.Keeping.{low_in}
 use Rattle.sb_checkpoint.specs.Saved.{record_item}

@@ -1,5 +1,5 @@
 use Rattle.std.proofs.Common.{sym, map}
-use Rattle.sb_record.specs.Streams.{least_of}
+use Rattle.sb_pipeline.specs.records.Streams.{least_of}
 use Rattle.sb_checkpoint.specs.Saved.{record_item}
 use Rattle.sb_checkpoint.proofs.Keepings.{kept_again}
 use Rattle.sb_checkpoint.proofs.keeper.Keeper.mark.Goals as goal
