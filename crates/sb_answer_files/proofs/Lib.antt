@@ -8,11 +8,10 @@ pub mod FilesFaults
 pub mod FilesThrough
 pub mod FeedsAnswers
 pub mod SaveAnswers
-pub use Rattle.sb_answer_runs.proofs.outside
-pub use Rattle.sb_answer_runs.proofs.live
-pub use Rattle.sb_answer_runs.proofs.base
-pub use Rattle.sb_answer_runs.proofs.generator
-pub use Rattle.sb_answer_runs.proofs.checkpoint
-pub use Rattle.sb_answer_runs.proofs.told
-pub use Rattle.sb_answer_runs.proofs.answers
-pub use Rattle.sb_answer_runs.proofs as answer_runs
+pub use Rattle.sb_answers.proofs.outside
+pub use Rattle.sb_answers.proofs.live
+pub use Rattle.sb_answers.proofs.base
+pub use Rattle.sb_answers.proofs.generator
+pub use Rattle.sb_answers.proofs.checkpoint
+pub use Rattle.sb_answers.proofs.told
+pub use Rattle.sb_answers.proofs as answers

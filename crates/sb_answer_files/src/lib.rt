@@ -11,8 +11,7 @@ pub use feeds::answer_feeds;
 pub use resuming::answer_resume;
 
 // What the crates above name of the crates below.
-pub use sb_answer_runs;
-pub use sb_answer_runs::{
-    sb_answers, sb_base, sb_emit, sb_generator, sb_live, sb_outside, sb_run, sb_slow, sb_told,
-    sb_words,
+pub use sb_answers;
+pub use sb_answers::{
+    sb_base, sb_emit, sb_generator, sb_live, sb_outside, sb_run, sb_slow, sb_told, sb_words,
 };

@@ -2,31 +2,32 @@
 
 ghost use Rattle.std.specs.Prelude.{◌≡◌, ◌≤◌, false, List, ℕ, [], length, Err};
 ghost use Rattle.std.specs.Io.KnownBytes.{prepend_known};
-ghost use Rattle.sb_answer_runs.specs.base.records.Records.{at_least};
-ghost use Rattle.sb_answer_runs.specs.outside.Folders.{Load};
-ghost use Rattle.sb_answer_runs.specs.checkpoint.Ahead.{AllReadOrNoneOfTheSource};
-ghost use Rattle.sb_answer_runs.specs.checkpoint.Checkpoints.{with_comments};
-ghost use Rattle.sb_answer_runs.specs.checkpoint.Saved.{items_in};
-ghost use Rattle.sb_answer_runs.specs.checkpoint.Texts.{items_text};
-ghost use Rattle.sb_answer_runs.specs.run.RunEnds as ends;
-ghost use Rattle.sb_answer_runs.specs.words.Options.{AreInRange};
-ghost use Rattle.sb_answer_runs.specs.words.Words.Asked.{Resume};
-ghost use Rattle.sb_answer_runs.specs.answers.Answers.{IsAnswer, IsRestAnswer, Wrote, WrotePrefix};
-ghost use Rattle.sb_answer_runs.specs.told.Outcomes.{IsNoTap, IsRead, IsUnread};
-ghost use Rattle.sb_answer_runs.specs.answers.Faults.{BlamesFile, HasCause, HidesNoFault, faults_of};
-ghost use Rattle.sb_answer_runs.specs.answers.RestSteps.{said_by};
+ghost use Rattle.sb_answers.specs.base.records.Records.{at_least};
+ghost use Rattle.sb_answers.specs.outside.Folders.{Load};
+ghost use Rattle.sb_answers.specs.checkpoint.Ahead.{AllReadOrNoneOfTheSource};
+ghost use Rattle.sb_answers.specs.checkpoint.Checkpoints.{with_comments};
+ghost use Rattle.sb_answers.specs.checkpoint.Saved.{items_in};
+ghost use Rattle.sb_answers.specs.checkpoint.Texts.{items_text};
+ghost use Rattle.sb_answers.specs.run.RunEnds as ends;
+ghost use Rattle.sb_answers.specs.words.Options.{AreInRange};
+ghost use Rattle.sb_answers.specs.words.Words.Asked.{Resume};
+ghost use Rattle.sb_answers.specs.Answers.{IsAnswer, IsRestAnswer, Wrote, WrotePrefix};
+ghost use Rattle.sb_answers.specs.told.Outcomes.{IsNoTap, IsRead, IsUnread};
+ghost use Rattle.sb_answers.specs.Faults.{BlamesFile, HasCause, HidesNoFault, faults_of};
+ghost use Rattle.sb_answers.specs.RestSteps.{said_by};
 
-use sb_answer_runs::sb_answers::{Diaries, Ending, load_checkpoint, plan_to_cut};
-use sb_answer_runs::sb_base::{Dropped, Plan, Sequence};
-use sb_answer_runs::sb_checkpoint::{Checkpoint, RowsFrom};
-use sb_answer_runs::sb_cut::run_rest;
-use sb_answer_runs::sb_emit::Lent;
-use sb_answer_runs::sb_outside::{Folder, Sink, Source};
-use sb_answer_runs::sb_plan::PlanStop;
-use sb_answer_runs::sb_run::{RunEnd, Sizes};
-use sb_answer_runs::sb_told::{LateRecords, Status};
-use sb_answer_runs::sb_words::Options;
-use sb_answer_runs::{finish_after, sizes_of, status_behind};
+use sb_answers::sb_base::{Dropped, Plan, Sequence};
+use sb_answers::sb_checkpoint::{Checkpoint, RowsFrom};
+use sb_answers::sb_cut::run_rest;
+use sb_answers::sb_emit::Lent;
+use sb_answers::sb_outside::{Folder, Sink, Source};
+use sb_answers::sb_plan::PlanStop;
+use sb_answers::sb_run::{RunEnd, Sizes};
+use sb_answers::sb_told::{LateRecords, Status};
+use sb_answers::sb_words::Options;
+use sb_answers::{
+    Diaries, Ending, finish_after, load_checkpoint, plan_to_cut, sizes_of, status_behind,
+};
 use std::alloc::Global;
 use std::sync::Wait;
 use std::thread::Threads;

@@ -21,15 +21,15 @@ use Rattle.sb_answers.specs.live.Lasts.{last_if_any, nearer}
 use Rattle.sb_answers.specs.live.Naming.{key_named}
 use Rattle.sb_answers.specs.one_feed.Due.{due_mark, due_rows, streams_in}
 use Rattle.sb_answers.specs.one_feed.Given.{Given, items_of}
-use Rattle.sb_answers.specs.watch.declared.watching.Watched.{Watched}
-use Rattle.sb_answers.specs.watch.Watches.{Tells, TellsNothing}
+use Rattle.sb_watch.specs.declared.watching.Watched.{Watched}
+use Rattle.sb_watch.specs.Watches.{Tells, TellsNothing}
 use Rattle.sb_answers.specs.words.declared.options.Options.{Options}
 use Rattle.sb_answers.specs.told.declared.status.Status.{Status}
 use Rattle.sb_answers.specs.told.declared.status.Status.TheVariants.{Memory}
 use Rattle.sb_answers.specs.Answers.{HasWritten, IsAnswerBy, ending_of}
 use Rattle.sb_answers.specs.Courses.{Course, last_text, row_if_any, watch_course}
 use Rattle.sb_answers.proofs.Answering.{nothing_printed, plain_answer}
-use Rattle.sb_answer_runs.proofs.RunAnswers.{answers_some, low_mark}
+use Rattle.sb_answers.proofs.RunAnswers.{answers_some, low_mark}
 
 -- what holds of all rows, and of the one that was found before, holds of the last one of a key
 last_keeps : (P : Record → Type 0) (k : Key) (found : Option Record) (rows : List Record) → IfSome found P → AllByRecursion P rows → IfSome (fold (nearer k) found rows) P

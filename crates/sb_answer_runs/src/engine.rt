@@ -1,9 +1,7 @@
 //! The answer of the engine to a plan: rows are written and offered as watermarks close them.
 
-ghost use Rattle.std.specs.Prelude.{◌≡◌, ◌<◌, ◌^◌, ◌⊎◌, false, IsTrue, List, ℕ, length, map, OnOk};
-ghost use Rattle.std.specs.Io.KnownBytes.{Keeps};
+ghost use Rattle.std.specs.Prelude.{◌≡◌, ◌<◌, ◌^◌, ◌⊎◌, false, IsTrue, List, ℕ, length, map};
 ghost use Rattle.sb_answers.specs.outside.Folders.{Load};
-ghost use Rattle.sb_answers.specs.outside.Sinks.{SinkCause};
 ghost use Rattle.sb_answers.specs.run.RunEnds as ends;
 ghost use Rattle.sb_answers.specs.words.Options.{AreInRange};
 ghost use Rattle.sb_answers.specs.Answers.{IsAnswerOf, Wrote, WroteAllDue, WrotePrefix};
@@ -11,15 +9,15 @@ ghost use Rattle.sb_answers.specs.told.Outcomes.{IsNoTap, IsRead};
 ghost use Rattle.sb_answers.specs.Courses.{run_course};
 ghost use Rattle.sb_answers.specs.Faults.{HasCause, HidesNoFault, faults_of};
 ghost use Rattle.sb_answers.specs.Offered.{BlamesTap, IsOfferedOf};
-ghost use Rattle.sb_answer_runs.specs.RunSteps.{CanTellAt, diaries_told, sizes_from, status_after, status_at};
+ghost use Rattle.sb_answers.specs.RunSteps.{CanTellAt, diaries_told};
 
 use sb_answers::sb_base::{Dropped, Plan, Sequence};
 use sb_answers::sb_emit::{Lent, Tap};
-use sb_answers::sb_outside::{Sink, SinkFault, Source};
+use sb_answers::sb_outside::{Sink, Source};
 use sb_answers::sb_run::{RunEnd, Sizes, run};
 use sb_answers::sb_told::{LateRecords, Status};
 use sb_answers::sb_words::Options;
-use sb_answers::{Diaries, Ending};
+use sb_answers::{Diaries, Ending, finish_after, sizes_of, status_behind};
 use std::alloc::Global;
 use std::sync::Wait;
 use std::thread::Threads;
@@ -118,18 +116,6 @@ fn answer_past<W: Threads + Wait + Clock + Sync, S: Source, K: Sink>(
     }
 }
 
-/// The sizes of a run with these options.
-pub fn sizes_of(options: &Options) -> Sizes
-    ensures { result ≡ sizes_from options.now }
-{
-    Sizes {
-        workers: options.workers,
-        bundle: options.bundle,
-        pending: options.pending,
-        keeps_diaries: options.diary,
-    }
-}
-
 /// Runs a plan over an input, and writes its rows to a sink.
 fn run_to<W: Threads + Wait + Clock + Sync, S: Source, K: Sink>(
     rt: &W,
@@ -157,29 +143,6 @@ fn run_to<W: Threads + Wait + Clock + Sync, S: Source, K: Sink>(
     run(rt, alloc, plan, sizes, source, &mut lent, taps, dropped)
 }
 
-/// Has the sink pass on all rows, unless writing failed or there was no memory.
-pub fn finish_after<K: Sink>(out: &mut K, end: &RunEnd) -> Result<(), SinkFault>
-    ensures bytes { Keeps (K.taken out.old) (K.taken out.new) }
-    ensures cause { SinkCause (K.sink_state out.old) (K.sink_state out.new) result }
-    ensures told { OnOk result (ends.IsWritten end.now → (K.sink_state out.new).refuses ≡ false) }
-{
-    match end {
-        RunEnd::Done(_) | RunEnd::Refused(_) | RunEnd::Input | RunEnd::Tap { .. } => out.finish(),
-        RunEnd::Output | RunEnd::Memory => Ok(()),
-    }
-}
-
-/// How a run of the engine ends, once its sink was asked to pass on all rows.
-pub fn status_behind(end: &RunEnd, passed: Result<(), SinkFault>) -> Status
-    ensures { result ≡ status_after end.now passed }
-{
-    match passed {
-        Ok(()) => of_end(end),
-        Err(SinkFault::Failed) => Status::Output,
-        Err(SinkFault::Memory) => Status::Memory,
-    }
-}
-
 /// The diaries that are told of a run that ended so.
 fn tell(end: RunEnd, status: Status, keeps: bool) -> Diaries
     requires { CanTellAt keeps end }
@@ -188,19 +151,5 @@ fn tell(end: RunEnd, status: Status, keeps: bool) -> Diaries
     match (status, end) {
         (Status::Done, RunEnd::Done(hand)) if keeps => Diaries::of(hand),
         _ => Diaries::none(),
-    }
-}
-
-/// How a run of the engine ends whose rows were passed on.
-fn of_end(end: &RunEnd) -> Status
-    ensures { result ≡ status_at end.now }
-{
-    match end {
-        RunEnd::Done(_) => Status::Done,
-        RunEnd::Refused(refusal) => Status::Line(*refusal),
-        RunEnd::Input => Status::Input,
-        RunEnd::Output => Status::Output,
-        RunEnd::Tap { place } => Status::Tap { place: *place },
-        RunEnd::Memory => Status::Memory,
     }
 }

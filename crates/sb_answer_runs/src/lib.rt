@@ -11,13 +11,5 @@ mod work;
 
 pub use answer::{answer_file, answer_slow, answer_sum};
 pub use audit::answer_audit;
-pub use engine::{finish_after, sizes_of, status_behind};
 pub use watching::answer_watch;
 pub use work::answer_work;
-
-// What the crates above name of the crates below.
-pub use sb_answers;
-pub use sb_answers::{
-    sb_base, sb_checkpoint, sb_cut, sb_emit, sb_generator, sb_live, sb_outside, sb_plan, sb_run,
-    sb_slow, sb_told, sb_words, sb_work,
-};

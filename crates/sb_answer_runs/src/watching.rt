@@ -11,15 +11,14 @@ ghost use Rattle.sb_answers.specs.told.Outcomes.{IsNoTap, IsRead, IsUnread, IsWr
 ghost use Rattle.sb_answers.specs.Courses.{row_if_any, watch_course};
 ghost use Rattle.sb_answers.specs.Faults.{BlamesFile, HasCause, HidesNoFault, faults_of};
 
-use crate::engine::sizes_of;
 use crate::plain::write_due;
 use sb_answers::sb_base::{END_MARK, NoMemory, Plan, Sequence, Stop};
 use sb_answers::sb_outside::{Folder, Sink, Source};
 use sb_answers::sb_plan::PlanStop;
 use sb_answers::sb_told::{LateRecords, Status};
-use sb_answers::sb_watch::{Watched, watch};
 use sb_answers::sb_words::Options;
-use sb_answers::{Diaries, Ending, load_plan};
+use sb_answers::{Diaries, Ending, load_plan, sizes_of};
+use sb_watch::{Watched, watch};
 use std::alloc::Global;
 use std::sync::Wait;
 use std::thread::Threads;

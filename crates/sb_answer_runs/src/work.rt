@@ -15,7 +15,6 @@ ghost use Rattle.sb_answers.specs.Faults.{HasCause, HidesNoFault, faults_of};
 ghost use Rattle.sb_answers.specs.Summaries.{summary_text, sums_text, work_rows};
 ghost use Rattle.sb_answer_runs.specs.WorkSteps.{SumsWork};
 
-use crate::engine::sizes_of;
 use sb_answers::sb_base::{NoMemory, Plan, sum_plan};
 use sb_answers::sb_emit::Summary;
 use sb_answers::sb_generator::GenSource;
@@ -23,7 +22,7 @@ use sb_answers::sb_outside::Sink;
 use sb_answers::sb_run::{RunEnd, Sizes, run};
 use sb_answers::sb_told::{Note, Status, print};
 use sb_answers::sb_words::Options;
-use sb_answers::{Ending, WORK_WINDOW};
+use sb_answers::{Ending, WORK_WINDOW, sizes_of};
 use std::alloc::Global;
 use std::sync::Wait;
 use std::thread::Threads;

@@ -6,10 +6,13 @@ pub mod Tellings
 pub mod CheckpointLoads
 pub mod FileLoads
 pub mod Sessions
-pub use Rattle.sb_watch.proofs.outside
-pub use Rattle.sb_watch.proofs.live
-pub use Rattle.sb_watch.proofs.base
-pub use Rattle.sb_watch.proofs.run
+pub mod DoneHands
+pub mod RunAnswers
+pub mod RunFaults
+pub use Rattle.sb_run.proofs.outside
+pub use Rattle.sb_live.proofs as live
+pub use Rattle.sb_run.proofs.base
+pub use Rattle.sb_run.proofs as run
 pub use Rattle.sb_generator.proofs as generator
 pub use Rattle.sb_cut.proofs.checkpoint
 pub use Rattle.sb_told.proofs as told

@@ -25,7 +25,7 @@ use Rattle.sb_answer_files.specs.cut.Parts.{part_accepted, part_items}
 use Rattle.sb_answer_files.specs.answers.CheckpointFiles.{Said}
 use Rattle.sb_answer_files.specs.answers.Courses.{if_ended, part_course, rest_course, run_course, saved_text}
 use Rattle.sb_cli.specs.Laws.{AreCutBehind, CutRunsWriteTheWhole, IsSavedPart, WriteTheWhole}
-use Rattle.sb_answer_files.proofs.answer_runs.RunAnswers.{low_at_most}
+use Rattle.sb_answer_files.proofs.answers.RunAnswers.{low_at_most}
 
 -- reading stops as at the end only where no line is refused
 none_refused : (ended : Bool) (refused : Option Refusal) → stop_of ended refused ≡ End → refused ≡ None

@@ -1,6 +1,6 @@
 use Rattle.std.proofs.Common.{refl}
-use Rattle.sb_answer_runs.proofs.RunAnswers.{output_alone, run_answer, run_blames, run_can_tell, run_offered}
-use Rattle.sb_answer_runs.proofs.RunFaults.{done_is_done, run_cause, run_hides_none, run_read, tap_alone}
+use Rattle.sb_answers.proofs.RunAnswers.{output_alone, run_answer, run_blames, run_can_tell, run_offered}
+use Rattle.sb_answers.proofs.RunFaults.{done_is_done, run_cause, run_hides_none, run_read, tap_alone}
 use Rattle.sb_answer_runs.proofs.engine.answer_past.Goals as goal
 
 pub tell-requires : goal.tell-requires

@@ -16,7 +16,7 @@ use Rattle.sb_answers.specs.Answers.{HasWritten}
 use Rattle.sb_answers.specs.Courses.{run_course}
 use Rattle.sb_answers.specs.Pipelines.{all_rows}
 use Rattle.sb_answers.proofs.Answering.{due_written, memory_answer, nothing_written, plain_answer, rows_are_due}
-use Rattle.sb_answer_runs.proofs.RunAnswers.{due_are_first}
+use Rattle.sb_answers.proofs.RunAnswers.{due_are_first}
 use Rattle.sb_answer_runs.proofs.plain.answer_plain.Goals as goal
 use Rattle.sb_answer_runs.proofs.plain.answer_plain.Goals.{in-Ok-rows_of_streams, in-Err}
 

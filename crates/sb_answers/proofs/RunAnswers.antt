@@ -1,42 +1,42 @@
 -- From how a run of the engine ended to its answer.
 use Rattle.std.proofs.Common.{◌≡◌, ◌⊎◌, inl, inr, ℕ, ◌≤◌, List, [], ◌++◌, Option, Result, Ok, Err, refl, sym, ap, subst, ◌∙◌, arith, append-nil}
 use Rattle.std.specs.Io.KnownBytes.{Appends, Keeps}
-use Rattle.sb_answers.specs.base.records.declared.intake.Stop.{Stop}
-use Rattle.sb_answers.specs.base.records.declared.intake.Stop.TheVariants as at
-use Rattle.sb_answers.specs.base.records.declared.item.Dropped.{Dropped}
-use Rattle.sb_answers.specs.base.records.declared.item.Item.{Item}
-use Rattle.sb_answers.specs.base.records.declared.item.Record.{Record}
-use Rattle.sb_answers.specs.base.records.declared.item.TheConstants.{END_MARK}
-use Rattle.sb_answers.specs.base.records.Rows.{text_of}
-use Rattle.sb_answers.specs.base.records.Streams.{low_watermark}
-use Rattle.sb_answers.proofs.base.records.Earlier.{sorted_before-front}
-use Rattle.sb_answers.proofs.base.records.InputLemmas.{accepted-in_range, low_watermark-in_range}
-use Rattle.sb_answers.specs.outside.Lines.{lines}
-use Rattle.sb_answers.specs.outside.Sinks.{AppendsPrefix}
-use Rattle.sb_answers.proofs.outside.Appending.{appends_kept}
-use Rattle.sb_answers.specs.outside.declared.sink.SinkFault.{SinkFault}
-use Rattle.sb_answers.specs.outside.declared.sink.SinkFault.TheVariants as fault
-use Rattle.sb_answers.specs.base.pipeline.Results.{output_of}
-use Rattle.sb_answers.specs.base.pipeline.Shapes.{Shape, streams_of}
-use Rattle.sb_answers.specs.checkpoint.Laws.{accepted_in}
-use Rattle.sb_answers.specs.emit.Taps.{TapState}
-use Rattle.sb_answers.specs.emit.TextLaws.{part_of_more}
-use Rattle.sb_answers.specs.one_feed.Due.{AreFirstDropped, AreFirstRows, due_rows, rows_below, streams_in}
-use Rattle.sb_answers.specs.one_feed.Given.{Given, items_of, stop_at}
-use Rattle.sb_answers.specs.one_feed.TapLists.{LeavesThoseThatStay}
-use Rattle.sb_answers.specs.run.declared.run_end.RunEnd.{RunEnd}
-use Rattle.sb_answers.specs.run.declared.run_end.RunEnd.TheVariants as run
-use Rattle.sb_answers.specs.run.RunEnds.{Ends, EndsAt, EndsEarly, InputCause}
-use Rattle.sb_answers.specs.words.declared.options.Options.{Options}
-use Rattle.sb_answers.specs.told.declared.status.Status.{Status}
-use Rattle.sb_answers.specs.told.declared.status.Status.TheVariants.{Done, Words, Plan, Line, Input, Output, Folder, Memory, Tap, Audit, FileTooLong, FileLine, Checkpoint}
+use Rattle.sb_run.specs.base.records.declared.intake.Stop.{Stop}
+use Rattle.sb_run.specs.base.records.declared.intake.Stop.TheVariants as at
+use Rattle.sb_run.specs.base.records.declared.item.Dropped.{Dropped}
+use Rattle.sb_run.specs.base.records.declared.item.Item.{Item}
+use Rattle.sb_run.specs.base.records.declared.item.Record.{Record}
+use Rattle.sb_run.specs.base.records.declared.item.TheConstants.{END_MARK}
+use Rattle.sb_run.specs.base.records.Rows.{text_of}
+use Rattle.sb_run.specs.base.records.Streams.{low_watermark}
+use Rattle.sb_run.proofs.base.records.Earlier.{sorted_before-front}
+use Rattle.sb_run.proofs.base.records.InputLemmas.{accepted-in_range, low_watermark-in_range}
+use Rattle.sb_run.specs.outside.Lines.{lines}
+use Rattle.sb_run.specs.outside.Sinks.{AppendsPrefix}
+use Rattle.sb_run.proofs.outside.Appending.{appends_kept}
+use Rattle.sb_run.specs.outside.declared.sink.SinkFault.{SinkFault}
+use Rattle.sb_run.specs.outside.declared.sink.SinkFault.TheVariants as fault
+use Rattle.sb_run.specs.base.pipeline.Results.{output_of}
+use Rattle.sb_run.specs.base.pipeline.Shapes.{Shape, streams_of}
+use Rattle.sb_cut.specs.checkpoint.Laws.{accepted_in}
+use Rattle.sb_run.specs.emit.Taps.{TapState}
+use Rattle.sb_run.specs.emit.TextLaws.{part_of_more}
+use Rattle.sb_run.specs.one_feed.Due.{AreFirstDropped, AreFirstRows, due_rows, rows_below, streams_in}
+use Rattle.sb_run.specs.one_feed.Given.{Given, items_of, stop_at}
+use Rattle.sb_run.specs.one_feed.TapLists.{LeavesThoseThatStay}
+use Rattle.sb_run.specs.declared.run_end.RunEnd.{RunEnd}
+use Rattle.sb_run.specs.declared.run_end.RunEnd.TheVariants as run
+use Rattle.sb_run.specs.RunEnds.{Ends, EndsAt, EndsEarly, InputCause}
+use Rattle.sb_words.specs.declared.options.Options.{Options}
+use Rattle.sb_told.specs.declared.status.Status.{Status}
+use Rattle.sb_told.specs.declared.status.Status.TheVariants.{Done, Words, Plan, Line, Input, Output, Folder, Memory, Tap, Audit, FileTooLong, FileLine, Checkpoint}
 use Rattle.sb_answers.specs.Answers.{IsAnswerBy, Wrote, WroteAllDue, WrotePrefix, ending_of}
 use Rattle.sb_answers.specs.Courses.{Course, run_course, shown_course}
 use Rattle.sb_answers.specs.Offered.{BlamesTap, IsOfferedOf}
 use Rattle.sb_answers.specs.Pipelines.{all_rows}
-use Rattle.sb_answer_runs.specs.RunSteps.{CanTellAt, diaries_told, sizes_from, status_after}
+use Rattle.sb_answers.specs.RunSteps.{CanTellAt, diaries_told, sizes_from, status_after}
 use Rattle.sb_answers.proofs.Blaming.{stops_blames}
-use Rattle.sb_answer_runs.proofs.DoneHands.{can_tell_if, other_ends, told_if}
+use Rattle.sb_answers.proofs.DoneHands.{can_tell_if, other_ends, told_if}
 
 -- what was written stays
 pub prefix_kept : (a b c : Option (List ℕ)) (rows : List Record) → WrotePrefix a b rows → Keeps b c → WrotePrefix a c rows
