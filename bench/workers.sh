@@ -1,70 +1,55 @@
 #!/usr/bin/env bash
-# Times the engine with several numbers of workers, side by side: elapsed and processor time of each. Beside them stands
-# what the machine itself gives: how long as many runs of one worker take at once. If four at once take twice as long as
-# one alone, four workers can be at most twice as fast as one there.
+# Times the engine with 1, 2 and 4 workers, by turns, over the eight cases of cases.sh: N lines each, and M for the heavy
+# one. It prints the middle of five runs, elapsed, how many times as fast as one worker each is, and the most memory. All
+# have to write the same rows and the same list of late records. With names of cases behind the numbers it measures those.
 #
-# First over N lines and a plan that is heavy for each record: an expansion by 8, and then how many different values there
-# are in sliding windows of 64 parts. Then over M lines and the sums over windows of 10.
+# What the machine itself gives stands in the last column: how many times as much four runs of one worker, all at once, do
+# as one alone. Four workers can be no faster than that.
 #
-#   bench/workers.sh 1000000 10000000
+#   bench/workers.sh 1000000 60000
+#   bench/workers.sh 1000000 60000 wide join
 set -eu
 cd "$(dirname "$0")/.."
-program=${STREAMBOX:-./streambox}
-lines=$(mktemp) plan=$(mktemp) rows=$(mktemp) alone=$(mktemp)
-trap 'rm -f "$lines" "$plan" "$rows" "$alone"' EXIT
+program=$(readlink -f "${STREAMBOX:-./streambox}")
+many=${1:?how many lines} few=${2:?how many lines for the heavy plan}
+shift 2
+scratch=$(mktemp -d)
+trap 'rm -rf "$scratch"' EXIT
+. bench/cases.sh
 "$program" sum 10 < /dev/null
-echo "$(nproc) processors"
+[ "$#" -gt 0 ] || set -- wide dense slide views join heavy eights late
+cd "$scratch"
 
-# measure WORKERS WORD..: one run by these words with so many workers
-measure() {
-  local workers=$1
-  shift
-  command time -f "$workers workers: %e s, of the processors %U s + %S s, %M kB" \
-    "$program" "$@" --workers "$workers" < "$lines" > "$rows"
+# run_with WORKERS: adds the elapsed seconds of a run and its memory in kB to the file of that number
+run_with() {
+  command time -a -o "spent.$1" -f '%e %M' "$program" "${words[@]}" --workers "$1" < lines > rows 2> notes
+  if [ -e rows.first ]; then cmp rows rows.first && cmp notes notes.first; else mv rows rows.first; mv notes notes.first; fi
 }
 
-# at_once COUNT WORD..: so many runs of one worker by these words, all at the same time
-at_once() {
-  local count=$1 from to
-  shift
+# four_at_once: the elapsed seconds of four runs of one worker
+four_at_once() {
+  local from
   from=$(date +%s%N)
-  for _ in $(seq "$count"); do "$program" "$@" --workers 1 < "$lines" > /dev/null & done
+  for _ in 1 2 3 4; do "$program" "${words[@]}" < lines > /dev/null 2>&1 & done
   wait
-  to=$(date +%s%N)
-  awk -v count="$count" -v spent="$((to - from))" \
-    'BEGIN { printf "%d at once, each of 1 worker: %.2f s\n", count, spent / 1e9 }'
+  awk -v spent="$(($(date +%s%N) - from))" 'BEGIN { print spent / 1e9 }'
 }
 
-cat > "$plan" <<'PLAN'
-[[transform]]
-name = "eight"
-kind = "expand"
-from = "a"
-addends = [0, 1, 2, 3, 4, 5, 6, 7]
+# middle WORKERS: the middle of the elapsed times, and the most memory in MB
+middle() {
+  sort -n "spent.$1" | awk '{ at[NR] = $1; if ($2 > most) most = $2 } END { printf "%s %d", at[int((NR + 1) / 2)], most / 1000 }'
+}
 
-[[transform]]
-name = "different"
-kind = "distinct"
-from = "eight"
-size = 6400
-every = 100
-PLAN
-
-# compare TITLE LINES EVERY WORD..: runs by these words with 1, 2 and 4 workers, which have to write the same rows
-compare() {
-  local title=$1 workers
-  bench/gen.sh "$2" "$3" > "$lines"
-  echo "$title, $2 lines, a watermark at each ${3}th"
-  shift 3
-  for workers in 1 2 4; do
-    measure "$workers" "$@"
-    if [ "$workers" = 1 ]; then cp "$rows" "$alone"; else cmp "$rows" "$alone"; fi
+echo "$(nproc) processors"
+printf '%-7s %9s %9s %9s %8s %8s %22s %s\n' case '1 worker' 2 4 'gain: 2' 4 'MB: 1, 2, 4' 'four at once'
+for name in "$@"; do
+  rm -f spent.* ./*.first
+  case_of "$name" "$([ "$name" = heavy ] && echo "$few" || echo "$many")"
+  for _ in 1 2 3 4 5; do
+    for workers in 1 2 4; do run_with "$workers"; done
   done
-  at_once 4 "$@"
-}
-
-heavy=${1:?how many lines for the heavy plan} light=${2:?how many lines for the sums}
-for every in 1000 100; do
-  compare 'an expansion by 8, then distinct over windows of 64 parts' "$heavy" "$every" run "$plan"
+  awk -v name="$name" -v one="$(middle 1)" -v two="$(middle 2)" -v four="$(middle 4)" -v all="$(four_at_once)" 'BEGIN {
+    split(one, a); split(two, b); split(four, c)
+    printf "%-7s %7.2f s %7.2f s %7.2f s %8.2f %8.2f %22s %.1f\n",
+      name, a[1], b[1], c[1], a[1] / b[1], a[1] / c[1], a[2] ", " b[2] ", " c[2], 4 * a[1] / all }'
 done
-for every in 1000 8; do compare 'sum 10' "$light" "$every" sum 10; done
