@@ -2,8 +2,8 @@
 use Rattle.std.proofs.Common.{◌≡◌, ◌≤◌, ◌<◌, ◌+◌, ℕ, List, take, Option, Some, length, ap, subst, arith, ◌∙◌}
 use Rattle.std.specs.Prelude.{min}
 use Rattle.std.proofs.lemmas.List.{length-take, take_all}
-use Rattle.sb_run.specs.outside.Folders.{Files, IsFile}
-use Rattle.sb_run.specs.base.pipeline.Shapes.{Shape}
+use Rattle.sb_cut.specs.outside.Folders.{Files, IsFile}
+use Rattle.sb_cut.specs.base.pipeline.Shapes.{Shape}
 use Rattle.sb_cut.specs.checkpoint.Texts.{IsFaultAt, IsRead, pieces}
 use Rattle.sb_answers.specs.declared.limits.TheConstants.{MAX_CHECKPOINT_BYTES}
 use Rattle.sb_told.specs.declared.status.Status.{Status}

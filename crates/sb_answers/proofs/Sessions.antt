@@ -1,9 +1,9 @@
 -- The first transform of a plan that gathers records by session.
 use Rattle.std.proofs.Common.{◌≤◌, ◌+◌, ℕ, arith}
 use Rattle.std.proofs.lemmas.Option.{slice_get_within}
-use Rattle.sb_run.specs.base.pipeline.Plans.{IsPlan}
-use Rattle.sb_run.specs.base.pipeline.Shapes.{Shape}
-use Rattle.sb_run.specs.base.pipeline.declared.transform.TheConstants.{MAX_TRANSFORMS}
+use Rattle.sb_cut.specs.base.pipeline.Plans.{IsPlan}
+use Rattle.sb_cut.specs.base.pipeline.Shapes.{Shape}
+use Rattle.sb_cut.specs.base.pipeline.declared.transform.TheConstants.{MAX_TRANSFORMS}
 use Rattle.sb_cut.specs.checkpoint.Reach.{IsFirstSession}
 
 -- its number, from 1, is among those of the transforms

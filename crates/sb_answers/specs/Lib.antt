@@ -11,14 +11,14 @@ pub mod Telling
 pub mod RunSteps
 pub mod RestSteps
 pub mod FileSteps
-pub use Rattle.sb_run.specs.outside
-pub use Rattle.sb_run.specs.diary
-pub use Rattle.sb_run.specs.emit
+pub use Rattle.sb_cut.specs.outside
+pub use Rattle.sb_cut.specs.diary
+pub use Rattle.sb_cut.specs.emit
 pub use Rattle.sb_live.specs as live
-pub use Rattle.sb_run.specs.base
-pub use Rattle.sb_run.specs.hand
-pub use Rattle.sb_run.specs.one_feed
-pub use Rattle.sb_run.specs as run
+pub use Rattle.sb_cut.specs.base
+pub use Rattle.sb_cut.specs.hand
+pub use Rattle.sb_cut.specs.one_feed
+pub use Rattle.sb_cut.specs.run
 pub use Rattle.sb_cut.specs as cut
 pub use Rattle.sb_words.specs as words
 pub use Rattle.sb_generator.specs as generator

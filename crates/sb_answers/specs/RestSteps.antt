@@ -1,7 +1,7 @@
 -- From the file of a checkpoint to what it says.
 use Rattle.std.specs.Prelude.{◌≤◌, ◌<◌, ℕ, List, Option, length, ⊤}
-use Rattle.sb_run.specs.outside.Folders.{Files}
-use Rattle.sb_run.specs.base.pipeline.Shapes.{Shape}
+use Rattle.sb_cut.specs.outside.Folders.{Files}
+use Rattle.sb_cut.specs.base.pipeline.Shapes.{Shape}
 use Rattle.sb_cut.specs.checkpoint.declared.checkpoint.Checkpoint.{Checkpoint}
 use Rattle.sb_cut.specs.checkpoint.Saved.{items_in}
 use Rattle.sb_cut.specs.checkpoint.Texts.{IsFaultAt, IsRead, pieces}

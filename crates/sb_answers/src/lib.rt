@@ -15,11 +15,10 @@ pub use running::{finish_after, sizes_of, status_behind};
 
 // What the crates above name of the crates below.
 pub use sb_cut;
-pub use sb_cut::sb_checkpoint;
+pub use sb_cut::sb_run::{sb_base, sb_diary, sb_emit, sb_outside, sb_work};
+pub use sb_cut::{sb_checkpoint, sb_run};
 pub use sb_generator;
 pub use sb_live;
-pub use sb_run;
-pub use sb_run::{sb_base, sb_diary, sb_emit, sb_outside, sb_work};
 pub use sb_told;
 pub use sb_told::{sb_plan, sb_slow};
 pub use sb_words;

@@ -19,3 +19,4 @@ pub use saving::{Saved, save};
 
 // What the crates above name of the crates below.
 pub use sb_checkpoint;
+pub use sb_run;

@@ -6,8 +6,3 @@
 mod watching;
 
 pub use watching::{Watched, watch};
-
-// What the crates above name of the crates below.
-pub use sb_live;
-pub use sb_run;
-pub use sb_run::{sb_base, sb_diary, sb_emit, sb_feed, sb_hand, sb_outside, sb_work};
