@@ -10,7 +10,7 @@ pub use sb_bundle::{Bundle, Cutter, MAX_BUNDLE};
 pub use sb_pipeline::sb_aggregate::{
     Agg, AggPart, Aggregate, MAX_GAP, MAX_TOP, aggregated, part_of,
 };
-pub use sb_pipeline::sb_join::{Combine, JoinKept, JoinPart, Side, pair_values};
+pub use sb_pipeline::sb_join::{Combine, JoinKept, JoinPart, Side, join_part_of, pair_values};
 pub use sb_pipeline::sb_pardo::{
     Change, Field, MAX_ADDENDS, MAX_ROWS, Op, RowFault, Table, TableFault, TableStop, Test, apply,
     is_valid,

@@ -33,7 +33,7 @@ use Rattle.sb_join.specs.declared.join.Side.{Side}
 use Rattle.sb_join.specs.declared.join.Side.TheVariants.{Left, Right}
 use Rattle.sb_join.specs.Entries.{Sided, of_side, combined_values, values_at, kept_at, entries_of, IsOpen, AreKept, HasPart}
 use Rattle.sb_join.specs.Joins.{join_rows}
-use Rattle.sb_join.specs.Kept.{JoinState, lane_of}
+use Rattle.sb_join.specs.Kept.{JoinState, OneSided, IsLike, lane_of}
 use Rattle.sb_join.specs.Orderless.{gives-orderless}
 use Rattle.sb_join.proofs.Fixed.{values_in-append}
 use Rattle.sb_join.proofs.KeptRows.{rows-times, join_rows-from, join_rows-kept}
@@ -220,12 +220,22 @@ module _ (combine : Combine) (windows : Spacing) (fixed : windows.size ≡ windo
       high = λ l from. All-at_least mark (join_rows combine windows (rows_of_entries (of_side Left) fs ++ of_lane 0 l) (rows_of_entries (of_side Right) fs ++ of_lane 1 l));
     }
 
--- the mark of a closing is not below the last one, where the join is not spent
+-- ---- what a call may rely on where the join is not spent
+unspent : (s t : JoinState) → s ≡ t → s.is_spent ≡ false → t.is_spent ≡ true → ⊥
+unspent s t same fresh e = let k : true ≡ false = sym e ∙ ap (λ (x : JoinState). x.is_spent) (sym same) ∙ fresh in cc
+
+-- the mark of a closing is not below the last one
 pub rising-mark : (s t : JoinState) (mark : ℕ) → s ≡ t → s.is_spent ≡ false → ((t.is_spent ≡ true → ⊥) → t.closed ≤ mark) → s.closed ≤ mark
-rising-mark s t mark same fresh from = subst (λ (x : JoinState). x.closed ≤ mark) (sym same) (from (λ e. let k : true ≡ false = sym e ∙ ap (λ (x : JoinState). x.is_spent) (sym same) ∙ fresh in cc))
+rising-mark s t mark same fresh from = subst (λ (x : JoinState). x.closed ≤ mark) (sym same) (from (unspent s t same fresh))
 
 -- what is absorbed has no record before it
 pub part-from : (s t : JoinState) (side : ℕ) (records : List Record) → s ≡ t → s.is_spent ≡ false → ((t.is_spent ≡ true → ⊥) → (es : List KeptRec) × IsReordered es (on_lane side records) × IsFrom t.closed es) → AllByRecursion (λ r. s.closed ≤ r.time) records
 part-from s t side records same fresh from =
-    let given = from (λ e. let k : true ≡ false = sym e ∙ ap (λ (x : JoinState). x.is_spent) (sym same) ∙ fresh in cc) in
+    let given = from (unspent s t same fresh) in
     subst (λ (x : JoinState). AllByRecursion (λ r. x.closed ≤ r.time) records) (sym same) (from-records t.closed side records given.0 given.1 given.2)
+
+-- the run of a part that fits has the values of its records, by the windows of the join
+pub part-values : (s t : JoinState) (p q : OneSided) (run : List (KeyedWindow × Sided)) → s ≡ t → s.is_spent ≡ false → p ≡ q → ((t.is_spent ≡ true → ⊥) → IsLike t q) → HasPart p.windows p.side p.records run → HasPart s.windows q.side q.records run
+part-values s t p q run same fresh is fits has =
+    let windows : p.windows ≡ s.windows = ap (λ (x : OneSided). x.windows) is ∙ fits (unspent s t same fresh) ∙ sym (ap (λ (x : JoinState). x.windows) same) in
+    subst (λ (x : OneSided). HasPart s.windows x.side x.records run) is (subst (λ (w : Spacing). HasPart w p.side p.records run) windows has)

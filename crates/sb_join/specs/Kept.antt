@@ -53,6 +53,16 @@ lane_of Left = 0
 lane_of Right = 1
 
 -- ---- what a bundle stands for
+-- a part: the records that came on a side, put into these windows
+pub record OneSided : Type 0 where
+  pub windows : Spacing
+  pub side : Side
+  pub records : List Record
+
+-- the part was made for such a join
+abbrev pub IsLike : JoinState → OneSided → Type 0
+IsLike s p = p.windows ≡ s.windows
+
 -- no record is so late that it is after the end of the input
 abbrev pub IsInTime : List Record → Type 0
 IsInTime records = All (λ r. r.time < END_MARK) records

@@ -1,7 +1,7 @@
 //! A join that keeps the values of open windows, and gives the pairs of a window once a watermark closes it.
 //!
 //! The windows of a join are fixed, so a record lies in exactly one. A [`JoinKept`] keeps the values of both sides as
-//! sorted runs, one for each bundle that it absorbed, which are merged when they are many. A closing takes off the
+//! sorted runs, one for each part that it absorbed, which are merged when they are many. A closing takes off the
 //! windows that end by the mark, and looks at no other. It pairs the values of these, so each pair is given once, when
 //! its window closes.
 
@@ -14,7 +14,7 @@ ghost use Rattle.sb_join.specs.Kept as spec;
 ghost use Rattle.sb_join.specs.Orderless.{gives-orderless};
 
 use crate::join::{Combine, Side};
-use crate::part::run_of;
+use crate::part::JoinPart;
 use crate::rows::rows_of;
 use crate::side_values::{SideJoiner, SideValues};
 use sb_runs::Runs;
@@ -22,13 +22,6 @@ use sb_runs::sb_record::{NoMemory, Record};
 use sb_runs::sb_window::{Grouping, Windows};
 use std::alloc::Global;
 use std::marker::Model;
-
-/// The records of a bundle that came on one side of a join.
-#[derive(Drop)]
-pub struct JoinPart {
-    pub side: Side,
-    pub records: Vec<Record>,
-}
 
 /// A join of fixed windows, and the marks of its sides.
 #[derive(Drop)]
@@ -117,9 +110,9 @@ impl Grouping for JoinKept {
 
     ghost gives = { spec.gives };
 
-    ghost fits = { λ g part. spec.IsInTime part.records.items };
+    ghost fits = { spec.IsLike };
 
-    ghost stands = { λ part. spec.StandsFor part.side part.records.items };
+    ghost stands = { λ part. spec.StandsFor part.side part.records };
 
     ghost order = { gives-orderless };
 
@@ -128,14 +121,15 @@ impl Grouping for JoinKept {
     }
 
     fn absorb(&mut self, part: JoinPart) -> Result<(), NoMemory>
-        requires fits { (spec.IsSpent self.old → ⊥) → spec.IsInTime part.records.items }
+        requires fits { (spec.IsSpent self.old → ⊥) → spec.IsLike self.old part }
         requires from { (spec.IsSpent self.old → ⊥)
-            → (es : List Element) × spec.StandsFor part.side part.records.items es × IsFrom self.old.closed es }
+            → (es : List Element) × spec.StandsFor part.side part.records es × IsFrom self.old.closed es }
         ensures was { OnOk result (spec.IsSpent self.old → ⊥) }
         ensures is { OnOk result (spec.IsSpent self.new → ⊥) }
         ensures closed { OnOk result (self.new.closed ≡ self.old.closed) }
-        ensures adds { OnOk result ((es : List Element) → spec.StandsFor part.side part.records.items es
+        ensures adds { OnOk result ((es : List Element) → spec.StandsFor part.side part.records es
             → IsFrom self.old.closed es → Adds self.old.closed (spec.gives self.old) (spec.gives self.new) es) }
+        ensures windows { OnOk result (self.new.windows ≡ self.old.windows) }
         ensures marks { OnOk result (spec.HaveSameMarks self.old self.new) }
         ensures err { OnErr result (spec.IsSpent self.new) }
     {
@@ -143,9 +137,8 @@ impl Grouping for JoinKept {
             return Err(NoMemory);
         }
         self.is_spent = true;
-        let run = run_of(self.alloc, &self.windows, part.side, &part.records)?;
         let joiner = SideJoiner { alloc: self.alloc };
-        self.values.push(self.alloc, &joiner, run)?;
+        self.values.push(self.alloc, &joiner, part.values)?;
         self.is_spent = false;
         Ok(())
     }
@@ -156,6 +149,7 @@ impl Grouping for JoinKept {
         ensures is { OnOk result (spec.IsSpent self.new → ⊥) }
         ensures closed { OnOk result (self.new.closed ≡ mark) }
         ensures closes { IfOk result (λ rows. Closes mark (spec.gives self.old) rows.items (spec.gives self.new)) }
+        ensures windows { OnOk result (self.new.windows ≡ self.old.windows) }
         ensures marks { OnOk result (spec.HaveSameMarks self.old self.new) }
         ensures err { OnErr result (spec.IsSpent self.new) }
     {

@@ -13,7 +13,6 @@ use Rattle.sb_work.specs.base.aggregate.Groups as aggregate
 use Rattle.sb_sink.specs.Sinks as sink
 use Rattle.sb_work.specs.base.join.Kept as join
 use Rattle.sb_session.specs.SessionStates as session
-use Rattle.sb_work.specs.base.join.declared.kept.JoinPart.{JoinPart}
 use Rattle.sb_work.specs.base.pipeline.Operators.{Operator, lanes_of}
 use Rattle.sb_work.specs.base.pipeline.Operators.Operator.{ParDo, Windowed, Sink}
 use Rattle.sb_work.specs.base.pipeline.Operators.WindowOperator.{Aggregated, Sessions, Joined}
@@ -90,16 +89,16 @@ lane_of-side_of zero h = refl
 lane_of-side_of (suc zero) h = refl
 lane_of-side_of (suc (suc lane)) h = absurd (omega arith)
 
-side_is : (op : Operator) (g : join.JoinState) (p : JoinPart) (lane : ℕ) (records : List Record) → IsMadeFor op (kept.Join g) → lane < lanes_of op → IsPart op lane records (part.Join p)
-    → on_lane lane records ≡ on_lane (join.lane_of p.side) p.records.items
+side_is : (op : Operator) (g : join.JoinState) (p : join.OneSided) (lane : ℕ) (records : List Record) → IsMadeFor op (kept.Join g) → lane < lanes_of op → IsPart op lane records (part.Join p)
+    → on_lane lane records ≡ on_lane (join.lane_of p.side) p.records
 side_is (ParDo op) g p lane records made two is = absurd made
 side_is (Windowed (Aggregated agg windows)) g p lane records made two is = absurd made
 side_is (Windowed (Sessions agg gap)) g p lane records made two is = absurd made
 side_is (Windowed (Joined combine windows)) g p lane records made two is =
-    ap (λ l. on_lane l records) (sym (ap join.lane_of is.0 ∙ lane_of-side_of lane two)) ∙ ap (on_lane (join.lane_of p.side)) (sym is.1)
+    ap (λ l. on_lane l records) (sym (ap (λ (x : join.OneSided). join.lane_of x.side) is ∙ lane_of-side_of lane two)) ∙ ap (λ (x : join.OneSided). on_lane (join.lane_of p.side) x.records) (sym is)
 side_is Sink g p lane records made two is = absurd made
 
-pub join-adds : (g h : join.JoinState) (p : JoinPart) → ((es : List KeptRec) → join.StandsFor p.side p.records.items es → IsFrom g.closed es → Adds g.closed (join.gives g) (join.gives h) es)
+pub join-adds : (g h : join.JoinState) (p : join.OneSided) → ((es : List KeptRec) → join.StandsFor p.side p.records es → IsFrom g.closed es → Adds g.closed (join.gives g) (join.gives h) es)
     → AddsPart (kept.Join g) (part.Join p) (kept.Join h)
 join-adds g h p adds lane records is =
     adds (on_lane lane records) (λ f. ap (sum_by f) (side_is is.operator g p lane records is.made is.is_lane is.is_part)) is.from

@@ -48,7 +48,7 @@ abbrev pub IsMadeFor : Operator → Kept → Type 0
 IsMadeFor (ParDo op) (kept.Nothing alloc closed) = Unit {0}
 IsMadeFor (Windowed (Aggregated agg windows)) (kept.Aggregate g) = (g.agg ≡ agg) × (g.windows ≡ windows)
 IsMadeFor (Windowed (Sessions agg gap)) (kept.Session g) = (g.agg ≡ agg) × (g.gap ≡ gap)
-IsMadeFor (Windowed (Joined combine windows)) (kept.Join g) = Unit {0}
+IsMadeFor (Windowed (Joined combine windows)) (kept.Join g) = g.windows ≡ windows
 IsMadeFor Sink (kept.Sink g) = Unit {0}
 IsMadeFor operator g = ⊥
 

@@ -17,14 +17,14 @@ use Rattle.sb_work.specs.declared.outputs.Part.TheVariants.{Agg, Join, Rows}
 abbrev pub side_of : ℕ → Side
 side_of lane = if lane == 0 then Left else Right
 
--- the part of a node that gathers records, of records on a lane: an aggregate groups them by its windows, a join has
--- them on a side, and sessions and the sink take them as they are
+-- the part of a node that gathers records, of records on a lane: an aggregate groups them by its windows, a join puts
+-- them into its windows on a side, and sessions and the sink take them as they are
 abbrev pub IsPart : Operator → ℕ → List Record → Part → Type 0
 IsPart (Windowed (Aggregated agg windows)) lane records (Agg part) =
     part ≡ record { agg = agg; windows = windows; records = records }
 IsPart (Windowed (Sessions agg gap)) lane records (Rows rows) = rows.items ≡ records
 IsPart (Windowed (Joined combine windows)) lane records (Join part) =
-    (part.side ≡ side_of lane) × (part.records.items ≡ records)
+    part ≡ record { windows = windows; side = side_of lane; records = records }
 IsPart Sink lane records (Rows rows) = rows.items ≡ records
 IsPart operator lane records part = ⊥
 

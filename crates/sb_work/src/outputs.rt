@@ -6,7 +6,9 @@ ghost use Rattle.sb_work.specs.Processing as spec;
 ghost use Rattle.sb_work.specs.Processing.{IsOutput};
 
 use crate::claim::Claim;
-use sb_base::{AggPart, END_MARK, JoinPart, Kind, NoMemory, Plan, Record, Side, apply, part_of};
+use sb_base::{
+    AggPart, END_MARK, JoinPart, Kind, NoMemory, Plan, Record, Side, apply, join_part_of, part_of,
+};
 use std::alloc::Global;
 
 /// What a node that gathers records takes in of a bundle.
@@ -14,7 +16,7 @@ use std::alloc::Global;
 pub enum Part {
     /// Partial values, for an aggregate.
     Agg(AggPart),
-    /// The records of one side, for a join.
+    /// The values of one side, for a join.
     Join(JoinPart),
     /// The records, for sessions and for the sink.
     Rows(Vec<Record>),
@@ -55,10 +57,10 @@ pub fn process(alloc: Global, plan: &Plan, claim: &Claim) -> Result<Output, NoMe
             Ok(Output::Part(Part::Agg(part)))
         }
         Kind::Session(_, _) => Ok(Output::Part(Part::Rows(copied(alloc, records)?))),
-        Kind::Join(_, _) => Ok(Output::Part(Part::Join(JoinPart {
-            side: side_of(claim.lane),
-            records: copied(alloc, records)?,
-        }))),
+        Kind::Join(_, windows) => {
+            let part = join_part_of(alloc, windows, side_of(claim.lane), records)?;
+            Ok(Output::Part(Part::Join(part)))
+        }
     }
 }
 

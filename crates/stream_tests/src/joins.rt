@@ -3,7 +3,7 @@
 ghost use Rattle.std.specs.Prelude.{◌≡◌, ◌≤◌};
 
 use sb_base::{
-    Combine, END_MARK, Grouping, JoinKept, JoinPart, Key, NoMemory, Record, Side, Windows,
+    Combine, END_MARK, Grouping, JoinKept, Key, NoMemory, Record, Side, Windows, join_part_of,
     pair_values,
 };
 use std::alloc::{AllocError, Global};
@@ -33,8 +33,7 @@ fn rows_after(alloc: Global, windows: Windows, steps: &[Step]) -> Result<Vec<Rec
                         key: Key::Number(key),
                         value,
                     };
-                    let records = vec![in alloc; record]?;
-                    join.absorb(JoinPart { side, records })?;
+                    join.absorb(join_part_of(alloc, &windows, side, &[record])?)?;
                 }
             }
             Step::Closes(mark) => {

@@ -3,4 +3,4 @@ use Rattle.sb_base.specs.join.Kept.{IsSpent}
 use Rattle.stream_tests.proofs.joins.rows_after.Given as goal
 
 abbrev pub invariant-loop-step : goal.invariant-loop-step
-invariant-loop-step l = (IsSpent l.join → ⊥) × (l.join.closed ≡ l.closed)
+invariant-loop-step l = (IsSpent l.join → ⊥) × (l.join.closed ≡ l.closed) × (l.join.windows ≡ l.windows)

@@ -3,7 +3,7 @@ use Rattle.std.proofs.lemmas.Result.{on_ok_weaker}
 use Rattle.sb_kept.proofs.Parts.{AddsPart, StaysMade, carried, aggregate-adds, aggregate-stands, session-adds, join-adds, sink-adds}
 use Rattle.sb_kept.proofs.Staying.{aggregate-stays}
 use Rattle.sb_kept.proofs.kept.Kept.absorb.Goals as goal
-use Rattle.sb_kept.proofs.kept.Kept.absorb.Goals.{in-Aggregate-Agg, in-Session-Rows, in-Join-Join, in-Sink-Rows, in_default+in-Agg+in-More-1, in_default+in-Agg+in-Start-1, in_default+in-Join-1, in_default+in-Rows-1}
+use Rattle.sb_kept.proofs.kept.Kept.absorb.Goals.{in-Aggregate-Agg, in-Session-Rows, in-Join-Join, in-Sink-Rows, in_default+in-Agg+in-More-1, in_default+in-Agg+in-Start-1, in_default+in-Join+in-More-1, in_default+in-Join+in-Start-1, in_default+in-Rows-1}
 
 pub returns-clause-made : goal.returns-clause-made
 returns-clause-made c =
@@ -14,7 +14,8 @@ returns-clause-made c =
       | in-Sink-Rows w ↦ (search rules)
       | in_default+in-Agg+in-More-1 w ↦ (search rules)
       | in_default+in-Agg+in-Start-1 w ↦ (search rules)
-      | in_default+in-Join-1 w ↦ (search rules)
+      | in_default+in-Join+in-More-1 w ↦ (search rules)
+      | in_default+in-Join+in-Start-1 w ↦ (search rules)
       | in_default+in-Rows-1 w ↦ (search rules)
     ]
 
@@ -27,7 +28,8 @@ returns-clause-adds c =
       | in-Sink-Rows w ↦ (let a = w.in-Sink-Rows in let b = w.absorb-in-Sink-Rows in carried AddsPart a.is-0 a.is-1 w.self-is w.result-is (on_ok_weaker b.result (sink-adds a.kept b.new.self a.rows) b.ensures.adds))
       | in_default+in-Agg+in-More-1 w ↦ (search rules)
       | in_default+in-Agg+in-Start-1 w ↦ (search rules)
-      | in_default+in-Join-1 w ↦ (search rules)
+      | in_default+in-Join+in-More-1 w ↦ (search rules)
+      | in_default+in-Join+in-Start-1 w ↦ (search rules)
       | in_default+in-Rows-1 w ↦ (search rules)
     ]
 
