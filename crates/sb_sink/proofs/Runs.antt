@@ -14,13 +14,13 @@ use Rattle.std.proofs.lemmas.List.Concat.{flat_map-append}
 use Rattle.std.proofs.lemmas.List.Elements.{filter-append}
 use Rattle.std.proofs.lemmas.List.Sorted.{ranks_by}
 use Rattle.std.proofs.lemmas.List.Sums.{sum_by-append}
-use Rattle.sb_record.specs.Keys.{key_cmp}
-use Rattle.sb_record.specs.declared.item.Record.{Record}
-use Rattle.sb_record.specs.Orders.{IsAscending}
-use Rattle.sb_record.specs.Records.{record_cmp, sorted_records, before, at_least}
-use Rattle.sb_record.specs.Reorderings.{IsReordered}
-use Rattle.sb_record.proofs.Elements.{every}
-use Rattle.sb_record.proofs.Sorting.{records_total, ascending-from_sorted, sorted-unique}
+use Rattle.sb_window.specs.records.Keys.{key_cmp}
+use Rattle.sb_window.specs.records.declared.item.Record.{Record}
+use Rattle.sb_window.specs.records.Orders.{IsAscending}
+use Rattle.sb_window.specs.records.Records.{record_cmp, sorted_records, before, at_least}
+use Rattle.sb_window.specs.records.Reorderings.{IsReordered}
+use Rattle.sb_window.proofs.records.Elements.{every}
+use Rattle.sb_window.proofs.records.Sorting.{records_total, ascending-from_sorted, sorted-unique}
 use Rattle.sb_window.proofs.Marks.{before-all, before-none, at_least-all, at_least-none, All-split}
 use Rattle.sb_sink.specs.Runs.{records_in, begins_before}
 

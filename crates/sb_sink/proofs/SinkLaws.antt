@@ -6,15 +6,15 @@ use Rattle.std.proofs.lemmas.Bool.{ltb-true}
 use Rattle.std.proofs.lemmas.List.{map-append}
 use Rattle.std.proofs.lemmas.List.Filters.{sum_by-filter_both, length-filter_both}
 use Rattle.std.proofs.lemmas.List.Sums.{sum_by-append}
-use Rattle.sb_record.specs.declared.element.KeptRec.{KeptRec}
-use Rattle.sb_record.specs.declared.item.Record.{Record}
-use Rattle.sb_record.specs.Elements.{all_records}
-use Rattle.sb_record.specs.Orders.{IsAscending}
-use Rattle.sb_record.specs.Records.{record_cmp, sorted_records, before, at_least}
-use Rattle.sb_record.specs.Reorderings.{IsReordered}
-use Rattle.sb_record.proofs.Elements.{All-join, All-anything, All-passed}
-use Rattle.sb_record.proofs.OnLanes.{All-all_records}
-use Rattle.sb_record.proofs.Sorting.{records_total, in_order-ascending, sorted-unique, All-in_order, IsReordered-in_order}
+use Rattle.sb_window.specs.records.declared.element.KeptRec.{KeptRec}
+use Rattle.sb_window.specs.records.declared.item.Record.{Record}
+use Rattle.sb_window.specs.records.Elements.{all_records}
+use Rattle.sb_window.specs.records.Orders.{IsAscending}
+use Rattle.sb_window.specs.records.Records.{record_cmp, sorted_records, before, at_least}
+use Rattle.sb_window.specs.records.Reorderings.{IsReordered}
+use Rattle.sb_window.proofs.records.Elements.{All-join, All-anything, All-passed}
+use Rattle.sb_window.proofs.records.OnLanes.{All-all_records}
+use Rattle.sb_window.proofs.records.Sorting.{records_total, in_order-ascending, sorted-unique, All-in_order, IsReordered-in_order}
 use Rattle.sb_window.specs.Groupings.{IsFrom, Adds, Closes}
 use Rattle.sb_window.proofs.Marks.{All-at_least, length-reordered}
 use Rattle.sb_sink.specs.Sinks.{SinkState, gives, StandsFor}

@@ -1,7 +1,7 @@
 -- How the sink keeps records: in sorted runs.
 use Rattle.std.specs.Prelude.{ℕ, nat_lt, Bool, false, List, [], ◌∷◌}
 use Rattle.std.specs.List.{flat_map}
-use Rattle.sb_record.specs.declared.item.Record.{Record}
+use Rattle.sb_window.specs.records.declared.item.Record.{Record}
 
 -- the records of all runs, those of the first run first
 abbrev pub records_in : List (List Record) → List Record

@@ -1,11 +1,11 @@
 -- The sink between closings: what it keeps, and what it would give.
 use Rattle.std.specs.Prelude.{◌≡◌, ℕ, Bool, true, false, List, [], ◌++◌}
 use Rattle.std.proofs.Common.{refl}
-use Rattle.sb_record.specs.declared.element.KeptRec.{KeptRec}
-use Rattle.sb_record.specs.declared.item.Record.{Record}
-use Rattle.sb_record.specs.Elements.{all_records}
-use Rattle.sb_record.specs.Reorderings.{IsReordered}
-use Rattle.sb_record.proofs.Sums.{IsReordered-append, IsReordered-map}
+use Rattle.sb_window.specs.records.declared.element.KeptRec.{KeptRec}
+use Rattle.sb_window.specs.records.declared.item.Record.{Record}
+use Rattle.sb_window.specs.records.Elements.{all_records}
+use Rattle.sb_window.specs.records.Reorderings.{IsReordered}
+use Rattle.sb_window.specs.SumLemmas.{IsReordered-append, IsReordered-map}
 
 -- the records that are kept, the mark of the last closing, and whether no memory was found
 pub record SinkState : Type 0 where

@@ -1,12 +1,12 @@
 //! Sorted runs: rows in ascending order.
 
 ghost use Rattle.std.specs.Prelude.{◌≡◌, ◌++◌, [], length, take, drop, true, OnOk, IfOk};
-ghost use Rattle.sb_record.specs.Orders.{IsAscending};
-ghost use Rattle.sb_record.specs.Records.{record_cmp, before, at_least};
-ghost use Rattle.sb_record.specs.Reorderings.{IsReordered};
+ghost use Rattle.sb_window.specs.records.Orders.{IsAscending};
+ghost use Rattle.sb_window.specs.records.Records.{record_cmp, before, at_least};
+ghost use Rattle.sb_window.specs.records.Reorderings.{IsReordered};
 ghost use Rattle.sb_sink.specs.Runs.{begins_before};
 
-use sb_record::{NoMemory, Record};
+use sb_window::sb_record::{NoMemory, Record};
 use std::alloc::Global;
 use std::collections::VecDeque;
 use std::marker::Model;
@@ -21,9 +21,9 @@ pub(crate) struct Run {
 
 impl Model for Run {
     ghost use Rattle.std.specs.Prelude.{List};
-    ghost use Rattle.sb_record.specs.declared.item.Record.{Record as Row};
-    ghost use Rattle.sb_record.specs.Orders.{IsAscending};
-    ghost use Rattle.sb_record.specs.Records.{record_cmp};
+    ghost use Rattle.sb_window.specs.records.declared.item.Record.{Record as Row};
+    ghost use Rattle.sb_window.specs.records.Orders.{IsAscending};
+    ghost use Rattle.sb_window.specs.records.Records.{record_cmp};
 
     ghost Value = { List Row };
 

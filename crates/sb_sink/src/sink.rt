@@ -7,17 +7,17 @@
 
 ghost use Rattle.std.specs.Prelude.{◌≡◌, ◌+◌, ◌≤◌, ◌++◌, List, length, OnOk, OnErr, OnSome, IfOk, IfSome, IfNone};
 ghost use Rattle.std.specs.Option.{option_to_list};
-ghost use Rattle.sb_record.specs.declared.element.KeptRec.{KeptRec as Element};
-ghost use Rattle.sb_record.specs.Records.{sorted_records, before, at_least};
-ghost use Rattle.sb_record.specs.Reorderings.{IsReordered};
+ghost use Rattle.sb_window.specs.records.declared.element.KeptRec.{KeptRec as Element};
+ghost use Rattle.sb_window.specs.records.Records.{sorted_records, before, at_least};
+ghost use Rattle.sb_window.specs.records.Reorderings.{IsReordered};
 ghost use Rattle.sb_window.specs.Groupings.{IsFrom, Adds, Closes};
 ghost use Rattle.sb_sink.specs.Runs.{records_in};
 ghost use Rattle.sb_sink.specs.Sinks as spec;
 ghost use Rattle.sb_sink.specs.Sinks.{gives-orderless};
 
 use crate::run::Run;
-use sb_record::{NoMemory, Record};
 use sb_window::Grouping;
+use sb_window::sb_record::{NoMemory, Record};
 use std::alloc::Global;
 use std::marker::Model;
 

@@ -1,5 +1,5 @@
 use Rattle.std.proofs.Common.{◌++◌, length}
-use Rattle.sb_record.specs.Reorderings.{IsReordered}
+use Rattle.sb_window.specs.records.Reorderings.{IsReordered}
 use Rattle.sb_sink.specs.Runs.{records_in}
 use Rattle.sb_sink.proofs.sink.push.Given as goal
 

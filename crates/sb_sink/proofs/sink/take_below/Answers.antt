@@ -1,10 +1,10 @@
 use Rattle.std.proofs.Common.{◌≡◌, ◌++◌, List, [], append-nil, subst, sym, ap, ◌∙◌}
 use Rattle.std.specs.List.{sum_by}
 use Rattle.std.proofs.lemmas.List.{nil_from_length}
-use Rattle.sb_record.specs.declared.item.Record.{Record}
-use Rattle.sb_record.specs.Orders.{IsAscending}
-use Rattle.sb_record.specs.Records.{record_cmp, before}
-use Rattle.sb_record.proofs.Sorting.{sorted-unique}
+use Rattle.sb_window.specs.records.declared.item.Record.{Record}
+use Rattle.sb_window.specs.records.Orders.{IsAscending}
+use Rattle.sb_window.specs.records.Records.{record_cmp, before}
+use Rattle.sb_window.proofs.records.Sorting.{sorted-unique}
 use Rattle.sb_sink.specs.Runs.{records_in}
 use Rattle.sb_sink.proofs.sink.take_below.Goals as goal
 

@@ -1,7 +1,7 @@
 use Rattle.std.proofs.Common.{◌≡◌, ◌++◌}
 use Rattle.std.specs.Vec.Iter.{into_iter_items}
-use Rattle.sb_record.specs.Records.{before, at_least}
-use Rattle.sb_record.specs.Reorderings.{IsReordered}
+use Rattle.sb_window.specs.records.Records.{before, at_least}
+use Rattle.sb_window.specs.records.Reorderings.{IsReordered}
 use Rattle.sb_sink.specs.Runs.{records_in}
 use Rattle.sb_sink.proofs.sink.take_below.Given as goal
 

@@ -1,5 +1,5 @@
 use Rattle.std.proofs.Common.{rules, ◌≡◌, length, ◌∙◌}
-use Rattle.sb_record.specs.Records.{before}
+use Rattle.sb_window.specs.records.Records.{before}
 use Rattle.sb_sink.proofs.Runs.{only-rows}
 use Rattle.sb_sink.proofs.sink.take_only.Goals as goal
 

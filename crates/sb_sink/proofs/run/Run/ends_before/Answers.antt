@@ -1,6 +1,6 @@
 use Rattle.std.proofs.Common.{◌≡◌, ◌-◌, List, [], get_or, subst, sym, ap, ◌∙◌}
-use Rattle.sb_record.specs.declared.item.Record.{Record}
-use Rattle.sb_record.specs.Records.{before, at_least}
+use Rattle.sb_window.specs.records.declared.item.Record.{Record}
+use Rattle.sb_window.specs.records.Records.{before, at_least}
 use Rattle.sb_window.proofs.Marks.{before-all, at_least-none}
 use Rattle.sb_sink.proofs.Runs.{ends-before}
 use Rattle.sb_sink.proofs.run.Run.ends_before.Goals as goal

@@ -1,7 +1,7 @@
 use Rattle.std.proofs.Common.{◌++◌, ◌-◌, get_or, List, subst, sym, ap, ◌∙◌}
-use Rattle.sb_record.specs.declared.item.Record.{Record}
-use Rattle.sb_record.specs.Orders.{IsAscending}
-use Rattle.sb_record.specs.Records.{record_cmp}
+use Rattle.sb_window.specs.records.declared.item.Record.{Record}
+use Rattle.sb_window.specs.records.Orders.{IsAscending}
+use Rattle.sb_window.specs.records.Records.{record_cmp}
 use Rattle.std.specs.Ordering.{is_ge}
 use Rattle.sb_sink.proofs.Runs.{leads}
 use Rattle.sb_sink.proofs.run.Run.leads_to.Goals as goal

@@ -1,9 +1,9 @@
 use Rattle.std.proofs.Common.{List, subst, sym, ap, ◌∙◌}
 use Rattle.std.specs.List.{sum_by}
 use Rattle.std.proofs.lemmas.List.Sorted.{sum_by-IsPermutation}
-use Rattle.sb_record.specs.declared.item.Record.{Record}
-use Rattle.sb_record.specs.Orders.{IsAscending}
-use Rattle.sb_record.specs.Records.{record_cmp}
+use Rattle.sb_window.specs.records.declared.item.Record.{Record}
+use Rattle.sb_window.specs.records.Orders.{IsAscending}
+use Rattle.sb_window.specs.records.Records.{record_cmp}
 use Rattle.sb_sink.proofs.Runs.{up-sorted}
 use Rattle.sb_sink.proofs.run.Run.of.Goals as goal
 

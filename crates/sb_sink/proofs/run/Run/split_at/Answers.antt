@@ -1,5 +1,5 @@
 use Rattle.std.proofs.Common.{sym, ap, ◌∙◌}
-use Rattle.sb_record.specs.Records.{before, at_least}
+use Rattle.sb_window.specs.records.Records.{before, at_least}
 use Rattle.sb_sink.proofs.Runs.{cut-below-up, cut-rest-up, cut-below, cut-rest}
 use Rattle.sb_sink.proofs.run.Run.split_at.Goals as goal
 
