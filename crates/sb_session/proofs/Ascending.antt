@@ -7,15 +7,15 @@ use Rattle.std.specs.Cmp.{nat_cmp_is}
 use Rattle.std.specs.declared.cmp.Ordering.{Ordering}
 use Rattle.std.specs.declared.cmp.Ordering.TheVariants.{Less, Equal, Greater}
 use Rattle.std.proofs.lemmas.Bool.Decides.{nat_tests}
-use Rattle.sb_record.specs.declared.item.Record.{Record}
-use Rattle.sb_record.specs.Keys.{key_cmp}
-use Rattle.sb_record.specs.KeyOrder.{key_cmp_total}
-use Rattle.sb_record.specs.Orders.{IsAscending, in_order}
-use Rattle.sb_record.specs.Records.{record_cmp}
-use Rattle.sb_record.proofs.Elements.{All-flat_map}
-use Rattle.sb_window.specs.declared.keyed_window.KeyedWindow.{KeyedWindow}
-use Rattle.sb_window.specs.Windows.{keyed_window_cmp}
-use Rattle.sb_window.proofs.Rows.{row}
+use Rattle.sb_aggregate.specs.records.declared.item.Record.{Record}
+use Rattle.sb_aggregate.specs.records.Keys.{key_cmp}
+use Rattle.sb_aggregate.specs.records.KeyOrder.{key_cmp_total}
+use Rattle.sb_aggregate.specs.records.Orders.{IsAscending, in_order}
+use Rattle.sb_aggregate.specs.records.Records.{record_cmp}
+use Rattle.sb_aggregate.proofs.records.Elements.{All-flat_map}
+use Rattle.sb_aggregate.specs.window.declared.keyed_window.KeyedWindow.{KeyedWindow}
+use Rattle.sb_aggregate.specs.window.Windows.{keyed_window_cmp}
+use Rattle.sb_aggregate.proofs.window.Rows.{row}
 use Rattle.sb_aggregate.specs.declared.aggregate.Agg.{Agg}
 use Rattle.sb_aggregate.specs.declared.aggregate.Agg.TheVariants.{Count, Sum, Min, Max, Distinct, Top}
 use Rattle.sb_aggregate.specs.Aggregates.{greatest_first, GivesOne}

@@ -7,21 +7,21 @@ use Rattle.std.proofs.lemmas.List.{map-append}
 use Rattle.std.proofs.lemmas.List.Sums.{sum_by-append}
 use Rattle.std.proofs.lemmas.List.Elements.{All-from_recursion}
 use Rattle.std.proofs.lemmas.List.Filters.{sum_by-filter_both}
-use Rattle.sb_record.specs.declared.element.KeptRec.{KeptRec}
-use Rattle.sb_record.specs.declared.item.Record.{Record}
-use Rattle.sb_record.specs.Elements.{all_records, on_lane}
-use Rattle.sb_record.specs.Keys.{same_key}
-use Rattle.sb_record.specs.Orders.{IsAscending}
-use Rattle.sb_record.specs.Records.{record_cmp, before, at_least}
-use Rattle.sb_record.specs.Reorderings.{IsReordered}
-use Rattle.sb_record.proofs.Earlier.{before-low}
-use Rattle.sb_record.proofs.Elements.{every, All-any, All-flat_map, All-join, All-map, All-passed, All-anything}
-use Rattle.sb_record.proofs.OnLanes.{All-all_records, all_records-on_lane}
-use Rattle.sb_record.proofs.Sorting.{sorted-unique}
-use Rattle.sb_record.proofs.Sums.{IsReordered-append}
-use Rattle.sb_window.specs.Groupings.{IsFrom, Adds, Closes}
-use Rattle.sb_window.specs.declared.keyed_window.KeyedWindow.{KeyedWindow}
-use Rattle.sb_window.proofs.Rows.{row}
+use Rattle.sb_aggregate.specs.records.declared.element.KeptRec.{KeptRec}
+use Rattle.sb_aggregate.specs.records.declared.item.Record.{Record}
+use Rattle.sb_aggregate.specs.records.Elements.{all_records, on_lane}
+use Rattle.sb_aggregate.specs.records.Keys.{same_key}
+use Rattle.sb_aggregate.specs.records.Orders.{IsAscending}
+use Rattle.sb_aggregate.specs.records.Records.{record_cmp, before, at_least}
+use Rattle.sb_aggregate.specs.records.Reorderings.{IsReordered}
+use Rattle.sb_aggregate.proofs.records.Earlier.{before-low}
+use Rattle.sb_aggregate.proofs.records.Elements.{every, All-any, All-flat_map, All-join, All-map, All-passed, All-anything}
+use Rattle.sb_aggregate.proofs.records.OnLanes.{All-all_records, all_records-on_lane}
+use Rattle.sb_aggregate.proofs.records.Sorting.{sorted-unique}
+use Rattle.sb_aggregate.proofs.records.Sums.{IsReordered-append}
+use Rattle.sb_aggregate.specs.window.Groupings.{IsFrom, Adds, Closes}
+use Rattle.sb_aggregate.specs.window.declared.keyed_window.KeyedWindow.{KeyedWindow}
+use Rattle.sb_aggregate.proofs.window.Rows.{row}
 use Rattle.sb_aggregate.specs.declared.aggregate.Agg.{Agg}
 use Rattle.sb_aggregate.specs.Aggregates.{aggregate_values}
 use Rattle.sb_aggregate.specs.Sessions.{session_end, sessions_of, is_in_session, is_session_open, values_in_session, rows_in_session, session_rows}

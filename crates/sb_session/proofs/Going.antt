@@ -10,13 +10,13 @@ use Rattle.std.proofs.lemmas.Bool.{lt-ltb, cases_lt}
 use Rattle.std.proofs.lemmas.List.Elements.{recursion_from_All}
 use Rattle.std.proofs.lemmas.List.Sums.{sum_by-cons}
 use Rattle.std.proofs.lemmas.Map.Views.{All-found}
-use Rattle.sb_record.specs.declared.item.Record.{Record}
-use Rattle.sb_record.specs.Keys.{same_key}
-use Rattle.sb_record.proofs.Elements.{every}
-use Rattle.sb_record.proofs.Sums.{any_reordered}
-use Rattle.sb_window.specs.declared.keyed_window.KeyedWindow.{KeyedWindow}
-use Rattle.sb_window.specs.Windows.{keyed_window_cmp}
-use Rattle.sb_record.specs.Reorderings.{IsReordered}
+use Rattle.sb_aggregate.specs.records.declared.item.Record.{Record}
+use Rattle.sb_aggregate.specs.records.Keys.{same_key}
+use Rattle.sb_aggregate.proofs.records.Elements.{every}
+use Rattle.sb_aggregate.proofs.records.Sums.{any_reordered}
+use Rattle.sb_aggregate.specs.window.declared.keyed_window.KeyedWindow.{KeyedWindow}
+use Rattle.sb_aggregate.specs.window.Windows.{keyed_window_cmp}
+use Rattle.sb_aggregate.specs.records.Reorderings.{IsReordered}
 use Rattle.sb_aggregate.specs.declared.aggregate.Agg.{Agg}
 use Rattle.sb_aggregate.specs.Sessions.{session_end, session_of, is_in_session, is_session_open, values_in_session}
 use Rattle.sb_aggregate.proofs.SessionEnds.{has_time}

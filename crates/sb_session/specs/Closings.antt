@@ -2,11 +2,11 @@
 use Rattle.std.specs.Prelude.{◌≡◌, ◌<◌, ◌+◌, ◌-◌, ◌⊎◌, ℕ, ℤ, IsSome, None, nat_lt, Bool, not, ◌&&◌, List, [], ◌∷◌, ◌++◌, map, filter}
 use Rattle.std.specs.BTreeMap.{BTreeMap, get}
 use Rattle.std.specs.List.{flat_map}
-use Rattle.sb_record.specs.declared.item.Record.{Record}
-use Rattle.sb_record.specs.declared.key.Key.{Key}
-use Rattle.sb_record.specs.Keys.{same_key}
-use Rattle.sb_record.specs.Reorderings.{IsReordered}
-use Rattle.sb_window.specs.declared.keyed_window.KeyedWindow.{KeyedWindow}
+use Rattle.sb_aggregate.specs.records.declared.item.Record.{Record}
+use Rattle.sb_aggregate.specs.records.declared.key.Key.{Key}
+use Rattle.sb_aggregate.specs.records.Keys.{same_key}
+use Rattle.sb_aggregate.specs.records.Reorderings.{IsReordered}
+use Rattle.sb_aggregate.specs.window.declared.keyed_window.KeyedWindow.{KeyedWindow}
 use Rattle.sb_aggregate.specs.declared.aggregate.Agg.{Agg}
 use Rattle.sb_aggregate.specs.Aggregates.{aggregate_values}
 use Rattle.sb_aggregate.specs.Sessions.{is_session_open, values_in_session}

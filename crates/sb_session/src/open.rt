@@ -6,11 +6,11 @@
 
 ghost use Rattle.std.specs.Prelude.{◌≡◌, ◌≤◌, ◌<◌, ◌++◌, ◌∷◌, [], All, filter, IfOk, OnOk, IfSome, IfNone};
 ghost use Rattle.std.specs.List.Sorted.{IsStrictlySortedBy};
-ghost use Rattle.sb_record.specs.Orders.{IsAscending};
-ghost use Rattle.sb_record.specs.Records.{before, record_cmp};
-ghost use Rattle.sb_record.specs.Reorderings.{IsReordered};
-ghost use Rattle.sb_record.specs.declared.item.TheConstants as item;
-ghost use Rattle.sb_window.specs.Windows.{keyed_window_cmp};
+ghost use Rattle.sb_aggregate.specs.records.Orders.{IsAscending};
+ghost use Rattle.sb_aggregate.specs.records.Records.{before, record_cmp};
+ghost use Rattle.sb_aggregate.specs.records.Reorderings.{IsReordered};
+ghost use Rattle.sb_aggregate.specs.records.declared.item.TheConstants as item;
+ghost use Rattle.sb_aggregate.specs.window.Windows.{keyed_window_cmp};
 ghost use Rattle.sb_aggregate.specs.Aggregates.{GivesOne};
 ghost use Rattle.sb_aggregate.specs.Sessions.{is_session_open, session_rows};
 ghost use Rattle.sb_aggregate.specs.declared.session.TheConstants as session;
@@ -20,9 +20,9 @@ ghost use Rattle.sb_session.specs.Kept.{kept_of};
 use crate::close::close_due;
 use crate::keyed_time::KeyedTime;
 use crate::times::add_value;
+use sb_aggregate::sb_record::{END_MARK, NoMemory, Record, Sequence};
+use sb_aggregate::sb_window::KeyedWindow;
 use sb_aggregate::{Agg, MAX_GAP};
-use sb_record::{END_MARK, NoMemory, Record, Sequence};
-use sb_window::KeyedWindow;
 use std::alloc::Global;
 use std::collections::{BTreeMap, BTreeSet};
 

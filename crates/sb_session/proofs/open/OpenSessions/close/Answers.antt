@@ -1,11 +1,11 @@
 use Rattle.std.proofs.Common.{◌≤◌, List, sym, subst, ◌∙◌, arith}
 use Rattle.std.specs.List.{AllByRecursion}
 use Rattle.std.proofs.lemmas.List.Elements.{recursion_from_All, All-from_recursion}
-use Rattle.sb_record.specs.declared.item.Record.{Record}
-use Rattle.sb_record.specs.Orders.{IsAscending}
-use Rattle.sb_record.specs.Records.{record_cmp}
-use Rattle.sb_record.proofs.Elements.{every}
-use Rattle.sb_window.specs.declared.keyed_window.KeyedWindow.{KeyedWindow}
+use Rattle.sb_aggregate.specs.records.declared.item.Record.{Record}
+use Rattle.sb_aggregate.specs.records.Orders.{IsAscending}
+use Rattle.sb_aggregate.specs.records.Records.{record_cmp}
+use Rattle.sb_aggregate.proofs.records.Elements.{every}
+use Rattle.sb_aggregate.specs.window.declared.keyed_window.KeyedWindow.{KeyedWindow}
 use Rattle.sb_aggregate.specs.Sessions.{values_in_session}
 use Rattle.sb_session.specs.Kept.{kept_of}
 use Rattle.sb_session.specs.Candidates.{AreDue}
