@@ -8,3 +8,5 @@ pub mod OfferSteps
 pub mod TapKinds
 pub mod Summaries
 pub mod SumLaws
+pub use Rattle.sb_record.specs as records
+pub use Rattle.sb_outside.specs as outside

@@ -25,3 +25,7 @@ pub use output::RowOut;
 pub use printing::Printing;
 pub use summary::Summary;
 pub use tap::{Tap, TapFault, Wish};
+
+// What the crates above name of the crates below.
+pub use sb_outside;
+pub use sb_record;

@@ -3,10 +3,10 @@ use Rattle.std.proofs.Common.{◌≡◌, ◌⊎◌, inl, inr, ⊎_elim, ℕ, ◌
 use Rattle.std.specs.List.{AllByRecursion}
 use Rattle.std.specs.Option.{option_map_or}
 use Rattle.std.specs.Prelude.{◌-◌, length, slice_get, fold, Option, Some, None, true, false, Bool, if◌then◌else◌}
-use Rattle.sb_record.specs.declared.item.Record.{Record}
-use Rattle.sb_record.specs.declared.key.Key.{Key}
-use Rattle.sb_record.specs.Keys.{same_key}
-use Rattle.sb_record.proofs.Elements.{every}
+use Rattle.sb_emit.specs.records.declared.item.Record.{Record}
+use Rattle.sb_emit.specs.records.declared.key.Key.{Key}
+use Rattle.sb_emit.specs.records.Keys.{same_key}
+use Rattle.sb_emit.proofs.records.Elements.{every}
 use Rattle.sb_emit.specs.Outputs.{AreApart}
 use Rattle.sb_emit.proofs.Apart.{apart_at, apart_front, apart_join}
 use Rattle.sb_live.specs.declared.change.Change.{Change}

@@ -6,7 +6,7 @@ use mathlib.Core.Option.{some}
 use lib.ListN.{get_elem?}
 use Rattle.crossbeam_utils.specs.Register.{Admits, TurnsAt, Forks, Merges}
 use Rattle.atomic_table.proofs.Lists.{at_set, at_snoc}
-use Rattle.sb_record.specs.declared.item.Record.{Record}
+use Rattle.sb_emit.specs.records.declared.item.Record.{Record}
 use Rattle.sb_live.specs.declared.change.Change.{Change}
 use Rattle.sb_live.specs.declared.change.Change.TheVariants.{Row, End}
 use Rattle.sb_live.specs.declared.table.Table.{Table}

@@ -11,19 +11,19 @@ use Rattle.std.proofs.lemmas.Bool.Decides.{same_from_decides}
 use Rattle.std.proofs.lemmas.List.Elements.{recursion_from_All}
 use Rattle.std.proofs.lemmas.Map.Views.{tells_apart}
 use Rattle.std.proofs.lemmas.Option.{none-some, same_Some}
-use Rattle.sb_record.specs.declared.item.Record.{Record}
-use Rattle.sb_record.specs.declared.key.TheConstants.{MAX_KEY}
-use Rattle.sb_record.specs.declared.key.Keys.{Keys}
-use Rattle.sb_record.specs.declared.key.Keys.TheVariants.{Numbers, Words}
-use Rattle.sb_record.specs.declared.key.Key.{Key}
-use Rattle.sb_record.specs.declared.key.Key.TheVariants.{Number, Word}
-use Rattle.sb_record.specs.KeyOrder.{key_cmp_total}
-use Rattle.sb_record.specs.Keys.{IsKeyInRange, key_text, same_key}
-use Rattle.sb_record.specs.Reading.{whole_number}
-use Rattle.sb_record.specs.Words.{is_word}
-use Rattle.sb_record.proofs.Elements.{every}
-use Rattle.sb_record.proofs.KeyOrder.{exact_keys}
-use Rattle.sb_record.proofs.Numbers.{whole_number_exact}
+use Rattle.sb_emit.specs.records.declared.item.Record.{Record}
+use Rattle.sb_emit.specs.records.declared.key.TheConstants.{MAX_KEY}
+use Rattle.sb_emit.specs.records.declared.key.Keys.{Keys}
+use Rattle.sb_emit.specs.records.declared.key.Keys.TheVariants.{Numbers, Words}
+use Rattle.sb_emit.specs.records.declared.key.Key.{Key}
+use Rattle.sb_emit.specs.records.declared.key.Key.TheVariants.{Number, Word}
+use Rattle.sb_emit.specs.records.KeyOrder.{key_cmp_total}
+use Rattle.sb_emit.specs.records.Keys.{IsKeyInRange, key_text, same_key}
+use Rattle.sb_emit.specs.records.Reading.{whole_number}
+use Rattle.sb_emit.specs.records.Words.{is_word}
+use Rattle.sb_emit.proofs.records.Elements.{every}
+use Rattle.sb_emit.proofs.records.KeyOrder.{exact_keys}
+use Rattle.sb_emit.proofs.records.Numbers.{whole_number_exact}
 use Rattle.sb_live.specs.Lasts.{last_if_any, last_named}
 use Rattle.sb_live.specs.Naming.{key_named}
 

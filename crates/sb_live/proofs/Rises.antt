@@ -5,12 +5,12 @@ use Rattle.std.specs.List.{AllByRecursion}
 use Rattle.std.specs.Ordering.{is_lt, int_cmp, ordering_then}
 use Rattle.std.specs.declared.cmp.Ordering.TheVariants.{Less, Equal, Greater}
 use Rattle.std.proofs.lemmas.Bool.Decides.{nat_tests}
-use Rattle.sb_record.specs.declared.item.Record.{Record}
-use Rattle.sb_record.specs.Keys.{key_cmp}
-use Rattle.sb_record.specs.Orders.{IsAscending}
-use Rattle.sb_record.specs.Records.{record_cmp, sorted_records}
-use Rattle.sb_record.proofs.Elements.{every, All-anything}
-use Rattle.sb_record.proofs.Sorting.{in_order-ascending, records_total}
+use Rattle.sb_emit.specs.records.declared.item.Record.{Record}
+use Rattle.sb_emit.specs.records.Keys.{key_cmp}
+use Rattle.sb_emit.specs.records.Orders.{IsAscending}
+use Rattle.sb_emit.specs.records.Records.{record_cmp, sorted_records}
+use Rattle.sb_emit.proofs.records.Elements.{every, All-anything}
+use Rattle.sb_emit.proofs.records.Sorting.{in_order-ascending, records_total}
 use Rattle.sb_live.specs.Rising.{RiseFrom}
 use Rattle.sb_live.specs.ShowLaws.{rise_first}
 

@@ -1,6 +1,6 @@
 -- Lists of changes: the calls that showed rows, one after another.
 use Rattle.std.specs.Prelude.{◌≡◌, ◌⊎◌, List, [], ◌∷◌, ◌++◌, map}
-use Rattle.sb_record.specs.declared.item.Record.{Record}
+use Rattle.sb_emit.specs.records.declared.item.Record.{Record}
 use Rattle.sb_emit.specs.Outputs.{AreApart}
 use Rattle.sb_live.specs.declared.change.Change.{Change}
 use Rattle.sb_live.specs.declared.change.Change.TheVariants.{Row, End}

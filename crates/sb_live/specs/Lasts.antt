@@ -1,9 +1,9 @@
 -- The last row of a key.
 use Rattle.std.specs.Prelude.{ℕ, List, fold, Option, Some, None, bytes_eq, if◌then◌else◌}
 use Rattle.std.specs.Option.{option_and_then}
-use Rattle.sb_record.specs.declared.item.Record.{Record}
-use Rattle.sb_record.specs.declared.key.Key.{Key}
-use Rattle.sb_record.specs.Keys.{key_text, same_key}
+use Rattle.sb_emit.specs.records.declared.item.Record.{Record}
+use Rattle.sb_emit.specs.records.declared.key.Key.{Key}
+use Rattle.sb_emit.specs.records.Keys.{key_text, same_key}
 use Rattle.sb_live.specs.declared.change.Change.{Change}
 use Rattle.sb_live.specs.declared.change.Change.TheVariants.{Row, End}
 

@@ -1,10 +1,10 @@
 -- What the laws say.
 use Rattle.std.specs.Prelude.{◌≡◌, ◌↔◌, ℕ, List, ◌++◌, Some, All}
-use Rattle.sb_record.specs.declared.item.Record.{Record}
-use Rattle.sb_record.specs.declared.key.Key.{Key}
-use Rattle.sb_record.specs.declared.key.Keys.{Keys}
-use Rattle.sb_record.specs.Keys.{IsKeyInRange, key_text}
-use Rattle.sb_record.specs.Records.{sorted_records}
+use Rattle.sb_emit.specs.records.declared.item.Record.{Record}
+use Rattle.sb_emit.specs.records.declared.key.Key.{Key}
+use Rattle.sb_emit.specs.records.declared.key.Keys.{Keys}
+use Rattle.sb_emit.specs.records.Keys.{IsKeyInRange, key_text}
+use Rattle.sb_emit.specs.records.Records.{sorted_records}
 use Rattle.sb_live.specs.declared.change.Change.{Change}
 use Rattle.sb_live.specs.Changes.{rows_in}
 use Rattle.sb_live.specs.Lasts.{last_if_any, last_named, last_of, last_row}

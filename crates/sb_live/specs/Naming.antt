@@ -1,13 +1,13 @@
 -- Keys by their text.
 use Rattle.std.specs.Prelude.{ℕ, List, Option, Some, None, if◌then◌else◌}
 use Rattle.std.specs.Option.{option_map}
-use Rattle.sb_record.specs.declared.key.TheConstants.{MAX_KEY}
-use Rattle.sb_record.specs.declared.key.Keys.{Keys}
-use Rattle.sb_record.specs.declared.key.Keys.TheVariants.{Numbers, Words}
-use Rattle.sb_record.specs.declared.key.Key.{Key}
-use Rattle.sb_record.specs.declared.key.Key.TheVariants.{Number, Word}
-use Rattle.sb_record.specs.Reading.{whole_number}
-use Rattle.sb_record.specs.Words.{is_word}
+use Rattle.sb_emit.specs.records.declared.key.TheConstants.{MAX_KEY}
+use Rattle.sb_emit.specs.records.declared.key.Keys.{Keys}
+use Rattle.sb_emit.specs.records.declared.key.Keys.TheVariants.{Numbers, Words}
+use Rattle.sb_emit.specs.records.declared.key.Key.{Key}
+use Rattle.sb_emit.specs.records.declared.key.Key.TheVariants.{Number, Word}
+use Rattle.sb_emit.specs.records.Reading.{whole_number}
+use Rattle.sb_emit.specs.records.Words.{is_word}
 
 -- the key with this text, where keys are numbers or words
 abbrev pub key_named : Keys → List ℕ → Option Key

@@ -1,6 +1,6 @@
 -- Rows whose times never fall.
 use Rattle.std.specs.Prelude.{ℕ, ◌+◌, ◌≤◌, ◌<◌, List, [], ◌∷◌, fold, Option, Some, None}
-use Rattle.sb_record.specs.declared.item.Record.{Record}
+use Rattle.sb_emit.specs.records.declared.item.Record.{Record}
 use Rattle.sb_live.specs.declared.change.Change.{Change}
 use Rattle.sb_live.specs.Changes.{rows_in}
 

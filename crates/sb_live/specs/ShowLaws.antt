@@ -1,7 +1,7 @@
 -- The laws of a live table as an output. Each is proved here, where its implementation can name it.
 use Rattle.std.proofs.Common.{◌≡◌, ◌≤◌, ◌+◌, ◌++◌, ℕ, List, [], ◌∷◌, inl, inr, ⊎_elim, refl, sym, ap, subst, ◌∙◌, append_assoc, append-nil}
 use Rattle.std.proofs.Math.Numerals.{suc-eq-add-one}
-use Rattle.sb_record.specs.declared.item.Record.{Record}
+use Rattle.sb_emit.specs.records.declared.item.Record.{Record}
 use Rattle.sb_emit.specs.Outputs.{AreApart}
 use Rattle.sb_live.specs.declared.change.Change.{Change}
 use Rattle.sb_live.specs.declared.change.Change.TheVariants.{Row, End}

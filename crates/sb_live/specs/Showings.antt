@@ -1,7 +1,7 @@
 -- What contracts see of a writer, and what rows make of it.
 use Rattle.std.specs.Prelude.{◌≡◌, ◌⊎◌, ℕ, Bool, false, List, ◌++◌}
-use Rattle.sb_record.specs.declared.item.Record.{Record}
-use Rattle.sb_outside.specs.Sinks.{SinkState}
+use Rattle.sb_emit.specs.records.declared.item.Record.{Record}
+use Rattle.sb_emit.specs.outside.Sinks.{SinkState}
 use Rattle.sb_live.specs.declared.change.Change.{Change}
 use Rattle.sb_live.specs.Changes.{rows_in}
 use Rattle.sb_live.specs.Rising.{RiseFrom, next_in}

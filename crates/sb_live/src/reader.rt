@@ -2,7 +2,7 @@
 
 ghost use Rattle.std.specs.Prelude.{◌≡◌, IfOk, OnErr, OnOk};
 ghost use Rattle.left_right.specs.Sides.{view as known_by};
-ghost use Rattle.sb_record.specs.declared.key.Key.{Key};
+ghost use Rattle.sb_emit.specs.records.declared.key.Key.{Key};
 ghost use Rattle.sb_live.specs.Changes.{AreCallsApart, IsPrefix, IsWhole};
 ghost use Rattle.sb_live.specs.Following.{Sees};
 ghost use Rattle.sb_live.specs.Lasts.{last_of};
@@ -12,7 +12,7 @@ use crate::rule::{Follow, Known, See};
 use crate::table::Table;
 use core::mem::replace_with;
 use left_right::reader::Reader;
-use sb_record::{Key, Record};
+use sb_emit::sb_record::{Key, Record};
 use std::error::Error;
 use std::fmt;
 use std::marker::Model;

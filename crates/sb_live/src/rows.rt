@@ -1,16 +1,16 @@
 //! Rows of a run, shown in a live table.
 
 ghost use Rattle.std.specs.Prelude.{◌≡◌, ◌<◌, All, IsErrOf, OnErr};
-ghost use Rattle.sb_outside.specs.Sinks.{SinkCause};
-ghost use Rattle.sb_outside.specs.declared.sink.SinkFault.TheVariants as fault;
+ghost use Rattle.sb_emit.specs.outside.Sinks.{SinkCause};
+ghost use Rattle.sb_emit.specs.outside.declared.sink.SinkFault.TheVariants as fault;
 ghost use Rattle.sb_emit.specs.Outputs.{TakesRows};
 ghost use Rattle.sb_live.specs.Rising.{RiseFrom, next_in};
 ghost use Rattle.sb_live.specs.Showings.{ShowsAll, ShowsSome, counts_of};
 
 use crate::writer::LiveOut;
 use sb_emit::RowOut;
-use sb_outside::SinkFault;
-use sb_record::{END_MARK, NoMemory, Record};
+use sb_emit::sb_outside::SinkFault;
+use sb_emit::sb_record::{END_MARK, NoMemory, Record};
 use std::marker::Model;
 use std::sync::Wait;
 

@@ -2,13 +2,13 @@
 
 ghost use Rattle.std.specs.Prelude.{◌≡◌, [], ◌∷◌, ◌++◌, OnErr, OnOk};
 ghost use Rattle.std.specs.BTreeMap.{IsUnchanged, get};
-ghost use Rattle.sb_record.specs.declared.key.Key.{Key};
-ghost use Rattle.sb_record.specs.Keys.{key_cmp};
+ghost use Rattle.sb_emit.specs.records.declared.key.Key.{Key};
+ghost use Rattle.sb_emit.specs.records.Keys.{key_cmp};
 ghost use Rattle.sb_live.specs.Lasts.{last_of, later};
 
 use crate::change::Change;
 use left_right::Absorb;
-use sb_record::{Key, Record, Trail};
+use sb_emit::sb_record::{Key, Record, Trail};
 use std::alloc::{AllocError, Global};
 use std::collections::BTreeMap;
 
