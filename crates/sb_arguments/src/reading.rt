@@ -6,7 +6,7 @@ ghost use Rattle.sb_words.specs.Texts.{texts};
 ghost use Rattle.sb_words.specs.Words.{Asked, IsCommand, IsNoCommand, IsValid, asked_of};
 
 use crate::clapped::read_by_clap;
-use sb_record::NoMemory;
+use sb_words::sb_record::NoMemory;
 use sb_words::{Request, command_of};
 use std::alloc::Global;
 

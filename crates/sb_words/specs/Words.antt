@@ -1,7 +1,7 @@
 -- The words that ask for something.
 use Rattle.std.specs.Prelude.{◌≡◌, ◌≢◌, ◌≤◌, ℕ, false, List, [], ◌∷◌, IsTrue, decimal, codes}
 use Rattle.sb_generator.specs.declared.pattern.TheConstants.{MAX_RECORDS}
-use Rattle.sb_record.specs.Words.{is_word}
+use Rattle.sb_window.specs.records.Words.{is_word}
 use Rattle.sb_window.specs.declared.windows.TheConstants.{MAX_SIZE}
 use Rattle.sb_words.specs.declared.options.Options.{Options}
 use Rattle.sb_words.specs.declared.request.Request.{Request}

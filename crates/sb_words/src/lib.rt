@@ -42,3 +42,9 @@ pub use options::{
 };
 pub use request::{Request, command_of, read_amount};
 pub use setting::{Setting, read_count};
+
+// What the crates above name of the crates below.
+pub use sb_bundle;
+pub use sb_generator;
+pub use sb_window;
+pub use sb_window::sb_record;
