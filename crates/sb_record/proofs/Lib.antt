@@ -13,6 +13,7 @@ pub mod Firsts
 pub mod Different
 pub mod Earlier
 pub mod InputLemmas
+pub mod ShortNumbers
 pub mod FrontLines
 pub mod PlainTexts
 pub mod FrontAccepts

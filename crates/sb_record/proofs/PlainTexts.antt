@@ -1,5 +1,5 @@
 -- The text of a record or of a watermark is short, and each of its bytes is visible, so that none of them ends a line.
-use Rattle.std.proofs.Common.{◌≡◌, ℕ, suc, pos, negsuc, ℤ, ◌+◌, ◌<◌, ◌≤◌, ◌^◌, ◌++◌, List, [], ◌∷◌, length, sym, ap, subst, ◌∙◌, arith, length-append, true}
+use Rattle.std.proofs.Common.{◌≡◌, ℕ, suc, pos, negsuc, ℤ, ◌<◌, ◌≤◌, ◌^◌, ◌++◌, List, [], ◌∷◌, length, sym, subst, arith, length-append, true}
 use Rattle.std.proofs.lemmas.Bool.Decides.{nat_tests}
 use Rattle.std.proofs.lemmas.Fmt.{decimal_is_IsNumeral, length-decimal-le, length_signed_le}
 use Rattle.std.proofs.lemmas.Str.Parse.{digit_from_value}

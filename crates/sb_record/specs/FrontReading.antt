@@ -4,19 +4,30 @@ use Rattle.sb_record.specs.declared.item.TheConstants.{MAX_TIME}
 use Rattle.sb_record.specs.declared.item.Stream.{Stream}
 use Rattle.sb_record.specs.declared.item.Item.{Item}
 use Rattle.sb_record.specs.declared.item.Item.TheVariants.{Rec, Mark, Skip, Late}
+use Rattle.sb_record.specs.declared.front.FrontLine.{FrontLine}
+use Rattle.sb_record.specs.declared.key.Key.TheVariants.{Number}
 use Rattle.sb_record.specs.declared.key.Keys.{Keys}
+use Rattle.sb_record.specs.declared.usual.UsualRecord.{UsualRecord}
 use Rattle.sb_record.specs.Progress.{Progress}
 use Rattle.sb_record.specs.Reading.{◌>>=◌, number_at, byte_at, key_at, signed_at, between}
 use Rattle.sb_record.specs.Streams.{uses}
 use Rattle.sb_record.specs.Intake.{mark_of}
 use Rattle.sb_record.specs.Fronts.{line_feed}
 
+-- whether the stream is one of the pipeline's and the time is not below the stream's last watermark
+abbrev pub is_in_time : Progress → Stream → ℕ → Bool
+is_in_time p s t = uses p.streams s && nat_le (mark_of p s) t
+
 -- whether the item's stream is one of the pipeline's and its time is not below the stream's last watermark
 abbrev pub is_timely : Progress → Item → Bool
-is_timely p (Rec s r) = uses p.streams s && nat_le (mark_of p s) r.time
-is_timely p (Mark s t) = uses p.streams s && nat_le (mark_of p s) t
+is_timely p (Rec s r) = is_in_time p s r.time
+is_timely p (Mark s t) = is_in_time p s t
 is_timely p Skip = true
 is_timely p (Late n t m) = true
+
+-- the line of a record in the usual form
+abbrev pub usual_line : UsualRecord → FrontLine
+usual_line r = record { item = Rec r.stream (record { time = r.time; key = Number r.number; value = r.value }); len = r.len }
 
 -- the item, where a line feed follows it, and what follows that
 abbrev pub before_line_feed : Item → List ℕ → Option (Item × List ℕ)

@@ -1,7 +1,7 @@
 //! The tests that the lines of an input pass, in their order.
 
 ghost use Rattle.std.specs.Prelude.{◌≡◌, ◌≤◌, ◌<◌, ◌↔◌, length, Some, OnErr, IfOk, IfSome, IfNone};
-ghost use Rattle.sb_record.specs.FrontReading.{is_timely as spec_is_timely};
+ghost use Rattle.sb_record.specs.FrontReading.{is_in_time as spec_is_in_time, is_timely as spec_is_timely, usual_line};
 ghost use Rattle.sb_record.specs.Fronts.{IsAcceptedFront};
 ghost use Rattle.sb_record.specs.Intake as spec;
 ghost use Rattle.sb_record.specs.Streams as streams_spec;
@@ -10,6 +10,7 @@ use crate::front::{FrontLine, read_front};
 use crate::item::{Item, Stream, Streams};
 use crate::key::Keys;
 use crate::line::{Malformed, read_line};
+use crate::usual::{UsualRecord, read_usual};
 use std::marker::Model;
 
 /// The most lines that an input may have, comments included.
@@ -142,19 +143,43 @@ impl Intake {
 
     /// Tests the line that these bytes begin with, where it is a record or a watermark and its line feed is at hand,
     /// and gives it if it is accepted: it is then counted and its watermark kept, as by [`Intake::accept`]. Where it
-    /// gives none, nothing changes. It needs no search for the end of the line, and looks at a byte again only where it
-    /// ends a number or stands in a key that is a word.
+    /// gives none, nothing changes. It needs no search for the end of the line. A record whose key is a number is read
+    /// in one pass, if none of its numbers has more than 18 digits or begins among the last 18 bytes.
     pub fn accept_front(&mut self, bytes: &[u8]) -> Option<FrontLine>
         ensures exact { (f : FrontLine) → (result ≡ Some f) ↔ IsAcceptedFront self.old f.item f.len bytes.now }
         ensures some { IfSome result (λ f. self.new ≡ spec.after f.item self.old) }
         ensures none { IfNone result (self.new ≡ self.old) }
         ensures room { IfSome result (λ _. self.old.lines < MAX_LINES) }
     {
+        if let Some(record) = self.usual(bytes) {
+            let front = record.line();
+            self.keep(&front.item);
+            return Some(front);
+        }
         let Some(front) = self.front(bytes) else {
             return None;
         };
         self.keep(&front.item);
         Some(front)
+    }
+
+    /// The record in the usual form that these bytes begin with, where it is accepted.
+    #[inline(always)]
+    fn usual(&self, bytes: &[u8]) -> Option<UsualRecord>
+        ensures exact { IfSome result (λ r.
+            (f : FrontLine) → (Some (usual_line r) ≡ Some f) ↔ IsAcceptedFront self.now f.item f.len bytes.now) }
+        ensures room { IfSome result (λ _. self.now.lines < MAX_LINES) }
+    {
+        if self.before >= MAX_LINES {
+            return None;
+        }
+        let Some(record) = read_usual(self.keys, bytes) else {
+            return None;
+        };
+        if self.is_in_time(record.stream, record.time) {
+            return Some(record);
+        }
+        None
     }
 
     /// The line that these bytes begin with, where it is one that is accepted.
@@ -175,6 +200,7 @@ impl Intake {
     }
 
     /// Counts the next line, which is accepted and gives this item, and keeps its watermark.
+    #[inline(always)]
     fn keep(&mut self, item: &Item)
         requires { self.old.lines < MAX_LINES }
         ensures { self.new ≡ spec.after item.now self.old }
@@ -192,10 +218,17 @@ impl Intake {
         ensures { result ≡ spec_is_timely self.now item.now }
     {
         match item {
-            Item::Rec(stream, record) => self.uses(*stream) && self.last(*stream) <= record.time,
-            Item::Mark(stream, time) => self.uses(*stream) && self.last(*stream) <= *time,
+            Item::Rec(stream, record) => self.is_in_time(*stream, record.time),
+            Item::Mark(stream, time) => self.is_in_time(*stream, *time),
             Item::Skip | Item::Late { .. } => true,
         }
+    }
+
+    /// Whether the stream is one of the pipeline's and the time is not below the stream's last watermark.
+    fn is_in_time(&self, stream: Stream, time: u64) -> bool
+        ensures { result ≡ spec_is_in_time self.now stream time }
+    {
+        self.uses(stream) && self.last(stream) <= time
     }
 
     /// The item of the next line, or the first test that it fails.

@@ -19,6 +19,7 @@ mod row;
 mod sequence;
 mod text;
 mod trail;
+mod usual;
 
 pub use element::KeptRec;
 pub use front::FrontLine;

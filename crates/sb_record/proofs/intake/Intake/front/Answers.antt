@@ -1,4 +1,4 @@
-use Rattle.std.proofs.Common.{◌≡◌, ◌↔◌, ◌<◌, ◌≤◌, Bool, true, false, rules, arith, Some, None, Option, sym, ap, subst, ◌∙◌}
+use Rattle.std.proofs.Common.{◌≡◌, ◌↔◌, ◌<◌, ◌≤◌, true, false, rules, arith, Some, None, Option, ap, subst}
 use Rattle.sb_record.specs.declared.front.FrontLine.{FrontLine}
 use Rattle.sb_record.specs.declared.intake.TheConstants.{MAX_LINES}
 use Rattle.sb_record.specs.declared.key.Keys.{Keys}
