@@ -1,5 +1,5 @@
 -- A reader whose bytes at hand begin with a line goes on.
-use Rattle.std.proofs.Common.{◌≡◌, ℕ, ◌<◌, List, [], length, Option, Some, None, refl, arith}
+use Rattle.std.proofs.Common.{◌≡◌, ℕ, ◌<◌, List, Option, Some, None, refl, arith}
 use Rattle.sb_outside.specs.AtHand.{BeginsWithLine, unless_halted}
 use Rattle.sb_outside.specs.declared.lines.Halt.{Halt}
 

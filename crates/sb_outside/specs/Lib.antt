@@ -1,5 +1,6 @@
 pub mod Lines
 pub mod Sources
+pub mod Comments
 pub mod Sinks
 pub mod Folders
 pub mod Readings

@@ -2,7 +2,8 @@
 
 ghost use Rattle.std.specs.Prelude.{◌≡◌, ◌<◌, ◌∷◌, [], ℕ, List, Ok, Option, length, ⊤};
 ghost use Rattle.std.specs.Io.{ReadsAtMost};
-ghost use Rattle.std.specs.Io.KnownBytes.{ReadConsumes};
+ghost use Rattle.std.specs.Io.KnownBytes.{Consumes, ReadConsumes};
+ghost use Rattle.sb_outside.specs.Comments.{comment_lines};
 ghost use Rattle.sb_outside.specs.Sources.{SourceCause};
 
 use std::error::Error;
@@ -47,6 +48,18 @@ pub trait Source: Send {
         ensures cause { SourceCause (faults self.old) (faults self.new) result }
         ensures end { result ≡ Ok 0 → has_ended self.new }
         ensures name { name self.new ≡ name self.old };
+
+    /// Takes off comments that stand at the front of what is left, lines `#`, where the source knows of them without
+    /// reading, and answers how many. So a reader that counts lines need not read them. It is to call this before its
+    /// first read. A source that knows of none answers 0, and gives its comments as any other bytes.
+    fn take_comments(&mut self) -> u32
+        ensures comments { Consumes (left self.old) (left self.new) (comment_lines result) }
+        ensures unfailed { faults self.new ≡ faults self.old }
+        ensures end { has_ended self.old → has_ended self.new }
+        ensures name { name self.new ≡ name self.old }
+    {
+        0
+    }
 }
 
 impl<S: Source> Source for &mut S {
@@ -60,5 +73,9 @@ impl<S: Source> Source for &mut S {
 
     fn read(&mut self, buf: &mut [u8]) -> Result<usize, SourceFault> {
         Source::read(&mut **self, buf)
+    }
+
+    fn take_comments(&mut self) -> u32 {
+        Source::take_comments(&mut **self)
     }
 }

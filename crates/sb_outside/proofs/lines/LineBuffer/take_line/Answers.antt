@@ -1,8 +1,7 @@
-use Rattle.std.proofs.Common.{◌≡◌, ◌∙◌, ◌+◌, ◌≤◌, ℕ, List, None, Option, length, take, drop, ap, arith}
+use Rattle.std.proofs.Common.{◌≡◌, ◌∙◌, ◌+◌, ◌≤◌, ℕ, List, length, take, drop, ap, arith}
 use Rattle.std.specs.List.{slice_range}
 use Rattle.sb_outside.specs.Buffers.{pending_bytes}
 use Rattle.sb_outside.specs.Readings.{Held}
-use Rattle.sb_outside.specs.declared.lines.Halt.{Halt}
 use Rattle.sb_outside.proofs.AtHand.{goes_on_with}
 use Rattle.sb_outside.proofs.Searches.{line_part}
 use Rattle.sb_outside.proofs.lines.LineBuffer.take_line.Goals as goal
