@@ -42,7 +42,7 @@ wrote_part a b c items k i text at is h n =
         ∙ sym (text-append (take (k + 1) items) (drop (k + 1) items))
         ∙ ap items_text (take-append-drop (k + 1) items)
 
-past : (items : List Item) (k : ℕ) → slice_get items k ≡ None → length items ≤ k
+pub past : (items : List Item) (k : ℕ) → slice_get items k ≡ None → length items ≤ k
 past items k h = elim (slice_get_cases items k).1 [
   | inl some ↦ let e : ◌≡◌ {A = Option Item} None (Some some.0) = sym h ∙ some.2 in absurd (cc e)
   | inr none ↦ none.0

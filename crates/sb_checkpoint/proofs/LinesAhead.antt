@@ -1,14 +1,16 @@
 -- Lines that are given before the bytes of a source, piece by piece.
-use Rattle.std.proofs.Common.{◌≡◌, ◌≤◌, ℕ, ◌+◌, List, [], ◌∷◌, ◌++◌, Option, Some, None, Result, Ok, Err, length, take, drop, refl, sym, ap, subst, ◌∙◌, append_assoc, length-append, arith, inl, inr}
+use Rattle.std.proofs.Common.{◌≡◌, ◌≤◌, ◌<◌, ℕ, zero, suc, ◌+◌, ◌-◌, List, [], ◌∷◌, ◌++◌, Option, Some, None, Result, Ok, Err, length, take, drop, refl, sym, ap, subst, ◌∙◌, append_assoc, length-append, arith, inl, inr}
 use Rattle.std.specs.List.{slice_get}
 use Rattle.std.specs.Io.KnownBytes.{Consumes, ReadConsumes, prepend_known}
 use Rattle.std.proofs.Math.Seq.{take-append_seam}
 use Rattle.std.proofs.KnownBytes.{Consumes-kept, Consumes-nil, Consumes-trans}
-use Rattle.std.proofs.lemmas.List.{take-append-drop, drop-drop, drop_more, length-drop}
+use Rattle.std.proofs.lemmas.List.{take-append-drop, drop-drop, drop_all, drop_more, length-drop}
 use Rattle.std.proofs.lemmas.Option.{slice_get_within, get_or_from_slice_get}
 use Rattle.sb_pipeline.specs.records.declared.item.Item.{Item}
-use Rattle.sb_checkpoint.specs.Ahead.{AllReadOrNoneOfTheSource, Lines, bytes, name_behind}
+use Rattle.sb_outside.specs.Comments.{comment_lines}
+use Rattle.sb_checkpoint.specs.Ahead.{AllReadOrNoneOfTheSource, Lines, IsLineAt, bytes, items_left, name_behind}
 use Rattle.sb_checkpoint.specs.Texts.{item_text, with_end, items_text}
+use Rattle.sb_checkpoint.proofs.ItemTexts.{past}
 
 take-length : {X : Type 0} (n : ℕ) (l : List X) → n ≤ length l → length (take n l) ≡ n
 take-length n l le = omega (arith, le, ap length (take-append-drop n l), length-append (take n l) (drop n l), length-drop n l)
@@ -20,9 +22,33 @@ given_of_line line from count copy more is le =
     let front : take count (copy ++ more) ≡ copy = ap (λ n. take n (copy ++ more)) (sym long) ∙ take-append_seam copy more in
     sym (ap (λ l. l ++ drop (from + count) line) (front ∙ is) ∙ ap (λ l. take count (drop from line) ++ l) (sym (drop-drop count from line)) ∙ take-append-drop count (drop from line))
 
--- the next line comes to hand
-pub text_from : (items : List Item) (k : ℕ) (i : Item) → slice_get items k ≡ Some i → items_text (drop k items) ≡ with_end (item_text i) ++ items_text (drop (k + 1) items)
+-- comments are taken off the front
+pub comments_off : (n comments place : ℕ) (items : List Item) → n ≤ comments → items_text (items_left comments place items) ≡ comment_lines n ++ items_text (items_left (comments - n) place items)
+comments_off zero comments place items le = let same : comments ≡ comments - 0 = omega arith in ap (λ k. items_text (items_left k place items)) same
+comments_off (suc n) zero place items le = absurd (omega (arith, le))
+comments_off (suc n) (suc comments) place items le =
+    let same : comments - n ≡ suc comments - suc n = omega arith in
+    ap (λ l. 35 ∷ 10 ∷ l) (comments_off n comments place items (omega (arith, le)) ∙ ap (λ k. comment_lines n ++ items_text (items_left k place items)) same)
+
+-- the next line: a comment, or that of an item behind the comments, if one is left
+pub comment_next : (comments place : ℕ) (items : List Item) (text : List ℕ) → 0 < comments → text ≡ 35 ∷ 10 ∷ []
+    → items_text (items_left comments place items) ≡ text ++ items_text (items_left (comments - 1) place items)
+comment_next comments place items text some is = comments_off 1 comments place items (omega (arith, some)) ∙ ap (λ l. l ++ items_text (items_left (comments - 1) place items)) (sym is)
+
+text_from : (items : List Item) (k : ℕ) (i : Item) → slice_get items k ≡ Some i → items_text (drop k items) ≡ with_end (item_text i) ++ items_text (drop (k + 1) items)
 text_from items k i h = ap items_text (drop_more items k i (slice_get_within items k i h) ∙ ap (λ x. x ∷ drop (k + 1) items) (get_or_from_slice_get items k i i h))
+
+pub item_next : (comments place : ℕ) (items : List Item) (text : List ℕ) → comments ≡ 0 → IsLineAt items place text
+    → items_text (items_left comments place items) ≡ text ++ items_text (items_left comments (place + 1) items)
+item_next comments place items text none line =
+    subst (λ n. items_text (items_left n place items) ≡ text ++ items_text (items_left n (place + 1) items)) (sym none)
+    (text_from items place line.item line.at ∙ ap (λ l. l ++ items_text (drop (place + 1) items)) (sym line.is))
+
+pub item_within : (items : List Item) (place : ℕ) (text : List ℕ) → IsLineAt items place text → place < length items
+item_within items place text line = slice_get_within items place line.item line.at
+
+pub none_next : (comments place : ℕ) (items : List Item) → comments ≡ 0 → slice_get items place ≡ None → items_text (items_left comments place items) ≡ []
+none_next comments place items none over = subst (λ n. items_text (items_left n place items) ≡ []) (sym none) (ap items_text (drop_all place items (past items place over)))
 
 -- a line is given, and then those behind it
 pub given_of_all : (old mid new : Lines) (piece : List ℕ) → bytes old ≡ bytes mid → mid.at_hand ≡ piece ++ new.at_hand → new.behind ≡ mid.behind → bytes old ≡ piece ++ bytes new
@@ -68,6 +94,16 @@ source_read old new left now next r buf over before read =
     let (bytes, given) = so_far old left now before in
     let (more, all) = with_read left now next bytes r buf given read in
     inl (over, more, all)
+
+-- lines are taken off the front
+pub taken_off : (old front new : List ℕ) (left : Option (List ℕ)) → old ≡ front ++ new → Consumes (prepend_known old left) (prepend_known new left) front
+taken_off old front new None is = tt
+taken_off old front new (Some l) is = ap (λ xs. xs ++ l) is ∙ append_assoc front new l
+
+-- and nothing is read of the source
+pub unread_by_taking : (old front new : List ℕ) (left now : Option (List ℕ)) → old ≡ front ++ new → AllReadOrNoneOfTheSource old left now → AllReadOrNoneOfTheSource new left now
+unread_by_taking old front new left now is (inl all) = inl ((none_of_both front new (sym is ∙ all.0)).1, all.1, all.2)
+unread_by_taking old front new left now is (inr unread) = inr unread
 
 -- ---- names
 parts_same : (xs ys m n : List ℕ) → length xs ≡ length ys → xs ++ m ≡ ys ++ n → (xs ≡ ys) × (m ≡ n)

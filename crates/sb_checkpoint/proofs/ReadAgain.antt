@@ -25,7 +25,7 @@ use Rattle.sb_pipeline.proofs.records.Elements.{All-join, All-passed, All-flat_m
 use Rattle.sb_pipeline.specs.Shapes.{Shape, streams_of}
 use Rattle.sb_checkpoint.specs.Reach.{reach, is_within}
 use Rattle.sb_checkpoint.specs.Texts.{item_text}
-use Rattle.sb_checkpoint.specs.Checkpoints.{is_kept, low_of, kept_of, mark_item, saved_items, resumed_items}
+use Rattle.sb_checkpoint.specs.Checkpoints.{is_kept, low_of, kept_of, mark_item, mark_items, saved_items, resumed_items}
 use Rattle.sb_checkpoint.specs.Laws.{accepted_in, ResumedLinesAreAccepted}
 use Rattle.sb_checkpoint.proofs.Resuming.{last_marks}
 use Rattle.sb_checkpoint.proofs.Runs.{join-assoc, IsInTime, tested-in_time, length-resumed}
@@ -130,9 +130,20 @@ takes streams late keys (u ∷ us) base all timely few =
     ∙ ap (λ l. record { items = l; refused = None }) (join-assoc base (u ∷ []) us)
 
 -- ---- the lines of a checkpoint
-pub skips-timely : (p : Progress) (n : ℕ) → AreTimely p (replicate n Skip)
-skips-timely p zero = tt
-skips-timely p (suc n) = (tt, skips-timely (after Skip p) n)
+-- how many lines stand before them says nothing of whether items are in time
+timely-behind : (n : ℕ) (p : Progress) (us : List Item) → AreTimely p us → AreTimely (record p { lines = n }) us
+timely-behind n p [] h = tt
+timely-behind n p (Rec A r ∷ us) h = (h.0, timely-behind (n + 1) (after (Rec A r) p) us h.1)
+timely-behind n p (Rec B r ∷ us) h = (h.0, timely-behind (n + 1) (after (Rec B r) p) us h.1)
+timely-behind n p (Mark A t ∷ us) h = (h.0, timely-behind (n + 1) (after (Mark A t) p) us h.1)
+timely-behind n p (Mark B t ∷ us) h = (h.0, timely-behind (n + 1) (after (Mark B t) p) us h.1)
+timely-behind n p (Skip ∷ us) h = (tt, timely-behind (n + 1) (after Skip p) us h.1)
+timely-behind n p (Late l t m ∷ us) h = (tt, timely-behind (n + 1) (after (Late l t m) p) us h.1)
+
+-- so they may stand behind comments
+pub skips-before : (n : ℕ) (p : Progress) (us : List Item) → AreTimely p us → AreTimely p (replicate n Skip ++ us)
+skips-before zero p us h = h
+skips-before (suc n) p us h = (tt, skips-before n (after Skip p) us (timely-behind (p.lines + 1) p us h))
 
 -- records of kept items, before the first watermark
 kept-timely : (p : Progress) (n w : ℕ) (items rest : List Item) → p.mark_a ≡ 0 → p.mark_b ≡ 0 → AllByRecursion (IsSound p.streams p.keys) items
@@ -179,19 +190,19 @@ mark-fit streams keys s items all =
 abbrev IsUsed : Streams → Stream → ℕ → Type 0
 IsUsed streams s t = eqb t 0 ≡ false → uses streams s ≡ true
 
-b-timely : (q : Progress) (t n : ℕ) → q.mark_b ≡ 0 → IsUsed q.streams B t → AreTimely q (mark_item B t ++ replicate n Skip)
-b-timely q t n b h = by_case (eqb t 0) refl
+b-timely : (q : Progress) (t : ℕ) → q.mark_b ≡ 0 → IsUsed q.streams B t → AreTimely q (mark_item B t)
+b-timely q t b h = by_case (eqb t 0) refl
   where
-    by_case : (c : Bool) → eqb t 0 ≡ c → AreTimely q (cond c [] (Mark B t ∷ []) ++ replicate n Skip)
-    by_case true e = skips-timely q n
-    by_case false e = ((h e, omega (arith, b)), skips-timely (after (Mark B t) q) n)
+    by_case : (c : Bool) → eqb t 0 ≡ c → AreTimely q (cond c [] (Mark B t ∷ []))
+    by_case true e = tt
+    by_case false e = ((h e, omega (arith, b)), tt)
 
-a-timely : (q : Progress) (t u n : ℕ) → q.mark_a ≡ 0 → q.mark_b ≡ 0 → IsUsed q.streams A t → IsUsed q.streams B u → AreTimely q (mark_item A t ++ (mark_item B u ++ replicate n Skip))
-a-timely q t u n a b h k = by_case (eqb t 0) refl
+a-timely : (q : Progress) (t u : ℕ) → q.mark_a ≡ 0 → q.mark_b ≡ 0 → IsUsed q.streams A t → IsUsed q.streams B u → AreTimely q (mark_items t u)
+a-timely q t u a b h k = by_case (eqb t 0) refl
   where
-    by_case : (c : Bool) → eqb t 0 ≡ c → AreTimely q (cond c [] (Mark A t ∷ []) ++ (mark_item B u ++ replicate n Skip))
-    by_case true e = b-timely q u n b k
-    by_case false e = ((h e, omega (arith, a)), b-timely (after (Mark A t) q) u n b k)
+    by_case : (c : Bool) → eqb t 0 ≡ c → AreTimely q (cond c [] (Mark A t ∷ []) ++ mark_item B u)
+    by_case true e = b-timely q u b k
+    by_case false e = ((h e, omega (arith, a)), b-timely (after (Mark A t) q) u b k)
 
 module _ (streams : Streams) (keys : Keys) where
   pub mark-used : (s : Stream) (t : ℕ) → IsFitMark streams keys s t → IsUsed streams s t
@@ -228,7 +239,7 @@ saved-fit plan items all =
 
 pub resumed-fit : (plan : Shape) (items : List Item) → AllByRecursion (IsSound (streams_of plan) plan.keys) items → AllByRecursion (IsFit (streams_of plan) plan.keys) (resumed_items plan items)
 resumed-fit plan items all =
-    All-join (IsFit (streams_of plan) plan.keys) (saved_items plan items) (replicate (length items - length (saved_items plan items)) Skip) (saved-fit plan items all) (skips-fit (streams_of plan) plan.keys (length items - length (saved_items plan items)))
+    All-join (IsFit (streams_of plan) plan.keys) (replicate (length items - length (saved_items plan items)) Skip) (saved_items plan items) (skips-fit (streams_of plan) plan.keys (length items - length (saved_items plan items))) (saved-fit plan items all)
 
 resumed-takes : (plan : Shape) (items : List Item) → AllByRecursion (IsSound (streams_of plan) plan.keys) items → length items ≤ 4294967295
     → accepted_in plan (map item_text (resumed_items plan items)) ≡ record { items = resumed_items plan items; refused = None }
@@ -246,9 +257,6 @@ resumed-takes plan items all few = takes streams plan.late keys (resumed_items p
     b : ℕ
     b = last_watermark B items
 
-    n : ℕ
-    n = length items - length (saved_items plan items)
-
     fit-a : IsFitMark streams keys A a
     fit-a = mark-fit streams keys A items all
 
@@ -258,14 +266,14 @@ resumed-takes plan items all few = takes streams plan.late keys (resumed_items p
     fits : AllByRecursion (IsFit streams keys) (resumed_items plan items)
     fits = resumed-fit plan items all
 
-    in_order : kept_of plan items ++ (mark_item A a ++ (mark_item B b ++ replicate n Skip)) ≡ resumed_items plan items
-    in_order = ap (λ l. kept_of plan items ++ l) (sym (join-assoc (mark_item A a) (mark_item B b) (replicate n Skip))) ∙ sym (join-assoc (kept_of plan items) (last_marks items) (replicate n Skip))
+    first : Progress
+    first = progress_of streams plan.late keys []
 
-    timely : AreTimely (progress_of streams plan.late keys []) (resumed_items plan items)
+    timely : AreTimely first (resumed_items plan items)
     timely =
-        subst (AreTimely (progress_of streams plan.late keys [])) in_order
-        (kept-timely (progress_of streams plan.late keys []) (reach plan) (low_of plan items) items (mark_item A a ++ (mark_item B b ++ replicate n Skip)) refl refl all
-        (λ q same za zb. a-timely q a b n za zb (subst (λ s. IsUsed s A a) (sym same) (mark-used streams keys A a fit-a)) (subst (λ s. IsUsed s B b) (sym same) (mark-used streams keys B b fit-b))))
+        skips-before (length items - length (saved_items plan items)) first (saved_items plan items)
+        (kept-timely first (reach plan) (low_of plan items) items (last_marks items) refl refl all
+        (λ q same za zb. a-timely q a b za zb (subst (λ s. IsUsed s A a) (sym same) (mark-used streams keys A a fit-a)) (subst (λ s. IsUsed s B b) (sym same) (mark-used streams keys B b fit-b))))
 
 pub resumed-accepted : ResumedLinesAreAccepted
 resumed-accepted plan lines =

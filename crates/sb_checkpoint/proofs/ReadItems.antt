@@ -32,7 +32,7 @@ use Rattle.sb_checkpoint.specs.Texts.{item_text, items_text, end_text, may_follo
 use Rattle.sb_checkpoint.specs.Checkpoints.{low_of, with_comments}
 use Rattle.sb_checkpoint.specs.Laws.{accepted_in, Accepts, ReadItemsAreAccepted}
 use Rattle.sb_checkpoint.proofs.LinesOfTexts.{own-lines}
-use Rattle.sb_checkpoint.proofs.ReadAgain.{IsFit, AreTimely, takes, skips-timely, skips-fit}
+use Rattle.sb_checkpoint.proofs.ReadAgain.{IsFit, AreTimely, takes, skips-before, skips-fit}
 use Rattle.sb_checkpoint.proofs.Runs.{join-assoc, IsInTime, length-skips}
 use Rattle.sb_checkpoint.proofs.SoFar.{both}
 
@@ -102,11 +102,11 @@ module _ (plan : Shape) (low : ℕ) where
   stand-fit [] base h = tt
   stand-fit (u ∷ us) base h = (h.0, stand-fit us (base ++ u ∷ []) h.2)
 
-  stand-timely : (late : LatePolicy) (n : ℕ) (us base : List Item) → Stand base us → AreTimely (progress_of (streams_of plan) late plan.keys base) (us ++ replicate n Skip)
-  stand-timely late n [] base h = skips-timely (progress_of (streams_of plan) late plan.keys base) n
-  stand-timely late n (u ∷ us) base h = (
+  stand-timely : (late : LatePolicy) (us base : List Item) → Stand base us → AreTimely (progress_of (streams_of plan) late plan.keys base) us
+  stand-timely late [] base h = tt
+  stand-timely late (u ∷ us) base h = (
     may-in_time late base u h.1,
-    subst (λ p. AreTimely p (us ++ replicate n Skip)) (progress-more (streams_of plan) late plan.keys base u) (stand-timely late n us (base ++ u ∷ []) h.2),
+    subst (λ p. AreTimely p us) (progress-more (streams_of plan) late plan.keys base u) (stand-timely late us (base ++ u ∷ []) h.2),
   )
 
 -- the items that were read behind these
@@ -173,12 +173,13 @@ read-accepted plan parts count low items is = (own, bytes)
         (leb-true (length items) count lines.0, leb-true count 4294967295 most.0)
 
     fits : AllByRecursion (IsFit streams plan.keys) (with_comments count items)
-    fits = All-join (IsFit streams plan.keys) items (replicate (count - length items) Skip) (stand-fit plan low items [] stand) (skips-fit streams plan.keys (count - length items))
+    fits = All-join (IsFit streams plan.keys) (replicate (count - length items) Skip) items (skips-fit streams plan.keys (count - length items)) (stand-fit plan low items [] stand)
 
     own : Accepts plan (map item_text (with_comments count items)) (with_comments count items)
     own =
-        takes streams plan.late plan.keys (with_comments count items) [] fits (stand-timely plan low plan.late (count - length items) items [] stand)
-        (omega (arith, few.0, few.1, length-append items (replicate (count - length items) Skip), length-skips (count - length items)))
+        takes streams plan.late plan.keys (with_comments count items) [] fits
+        (skips-before (count - length items) (progress_of streams plan.late plan.keys []) items (stand-timely plan low plan.late items [] stand))
+        (omega (arith, few.0, few.1, length-append (replicate (count - length items) Skip) items, length-skips (count - length items)))
 
     bytes : Accepts plan (lines false (items_text (with_comments count items))) (with_comments count items)
     bytes = ap (accepted_in plan) (own-lines streams plan.keys (with_comments count items) fits) ∙ own

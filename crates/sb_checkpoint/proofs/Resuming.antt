@@ -92,11 +92,11 @@ records-skips B (suc n) = records-skips B n
 
 -- the records that a resumed run begins with are those that are kept
 pub records-resumed : (plan : Shape) (s : Stream) (items : List Item) → records_of s (resumed_items plan items) ≡ within (reach plan) (low_of plan items) (records_of s items)
-records-resumed plan s items =
-    records-append s (saved_items plan items) (replicate (length items - length (saved_items plan items)) Skip)
-    ∙ (λ i. saved i ++ records-skips s (length items - length (saved_items plan items)) i)
-    ∙ append-nil _
+records-resumed plan s items = records-append s (replicate n Skip) (saved_items plan items) ∙ (λ i. records-skips s n i ++ saved i)
   where
+    n : ℕ
+    n = length items - length (saved_items plan items)
+
     marks : records_of s (last_marks items) ≡ []
     marks =
         records-append s (mark_item A (last_watermark A items)) (mark_item B (last_watermark B items))

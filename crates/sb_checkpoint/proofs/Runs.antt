@@ -100,9 +100,8 @@ last_watermark-resumed plan s items = ap (last_or 0) all ∙ last-if_some (last_
 
     all : flat_map (watermark_in s) (resumed_items plan items) ≡ if_some (last_watermark s items)
     all =
-        flat_map-append (watermark_in s) (saved_items plan items) (replicate (length items - length (saved_items plan items)) Skip)
-        ∙ (λ i. saved i ++ watermarks-skips s (length items - length (saved_items plan items)) i)
-        ∙ append-nil _
+        flat_map-append (watermark_in s) (replicate (length items - length (saved_items plan items)) Skip) (saved_items plan items)
+        ∙ (λ i. watermarks-skips s (length items - length (saved_items plan items)) i ++ saved i)
 
 -- ---- the number of lines
 pub length-skips : (n : ℕ) → length (replicate n Skip) ≡ n
@@ -141,7 +140,7 @@ length_saved plan items =
 
 pub length-resumed : (plan : Shape) (items : List Item) → length (resumed_items plan items) ≡ length items
 length-resumed plan items =
-    omega (arith, length-append (saved_items plan items) (replicate (length items - length (saved_items plan items)) Skip), length-skips (length items - length (saved_items plan items)), length_saved plan items)
+    omega (arith, length-append (replicate (length items - length (saved_items plan items)) Skip) (saved_items plan items), length-skips (length items - length (saved_items plan items)), length_saved plan items)
 
 pub progress-resumed : (plan : Shape) (items : List Item) → progress_in plan items ≡ progress_in plan (resumed_items plan items)
 progress-resumed plan items =
@@ -175,8 +174,8 @@ dropped-skips (suc n) = dropped-skips n
 
 pub dropped-resumed : (plan : Shape) (items : List Item) → dropped_of (resumed_items plan items) ≡ []
 dropped-resumed plan items =
-    dropped-append (saved_items plan items) (replicate (length items - length (saved_items plan items)) Skip)
-    ∙ (λ i. saved i ++ dropped-skips (length items - length (saved_items plan items)) i)
+    dropped-append (replicate (length items - length (saved_items plan items)) Skip) (saved_items plan items)
+    ∙ (λ i. dropped-skips (length items - length (saved_items plan items)) i ++ saved i)
   where
     marks : dropped_of (last_marks items) ≡ []
     marks =

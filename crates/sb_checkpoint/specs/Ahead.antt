@@ -1,7 +1,8 @@
 -- Lines that are given before the bytes of a source.
-use Rattle.std.specs.Prelude.{◌≡◌, ◌⊎◌, ℕ, ◌+◌, List, [], ◌∷◌, ◌++◌, Option, None, Some, length, slice_get}
+use Rattle.std.specs.Prelude.{◌≡◌, ◌⊎◌, ℕ, ◌+◌, List, [], ◌∷◌, ◌++◌, Option, None, Some, drop, length, replicate, slice_get}
 use Rattle.std.specs.Io.KnownBytes.{Consumes}
 use Rattle.sb_pipeline.specs.records.declared.item.Item.{Item}
+use Rattle.sb_pipeline.specs.records.declared.item.Item.TheVariants.{Skip}
 use Rattle.sb_checkpoint.specs.Texts.{item_text, with_end}
 
 -- the bytes of the line at hand that are left, and those of the lines behind it
@@ -18,6 +19,10 @@ pub record IsLineAt (items : List Item) (place : ℕ) (text : List ℕ) : Type 0
   pub item : Item
   pub at : slice_get items place ≡ Some item
   pub is : text ≡ with_end (item_text item)
+
+-- so many comments, and then the items from this place on
+abbrev pub items_left : ℕ → ℕ → List Item → List Item
+items_left comments place items = replicate comments Skip ++ drop place items
 
 -- lines, the source whose bytes come behind them, and what it was at first
 pub record Before (S : Type 0) : Type 0 where

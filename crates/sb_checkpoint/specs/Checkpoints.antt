@@ -37,11 +37,11 @@ mark_items a b = mark_item A a ++ mark_item B b
 abbrev pub saved_items : Shape → List Item → List Item
 saved_items plan items = kept_of plan items ++ mark_items (last_watermark A items) (last_watermark B items)
 
--- the items, and behind them comments until there are so many items
+-- the items, and before them comments until there are so many items
 abbrev pub with_comments : ℕ → List Item → List Item
-with_comments lines items = items ++ replicate (lines - length items) Skip
+with_comments lines items = replicate (lines - length items) Skip ++ items
 
--- what a resumed run reads in place of the items: those of the checkpoint, and a comment for each line more
+-- what a resumed run reads in place of the items: a comment for each line more, and those of the checkpoint
 abbrev pub resumed_items : Shape → List Item → List Item
 resumed_items plan items = with_comments (length items) (saved_items plan items)
 

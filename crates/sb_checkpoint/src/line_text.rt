@@ -67,18 +67,23 @@ fn mark_line(stream: Stream, mark: u64) -> LineText
     text
 }
 
-/// The line of an item. That of a comment is `#`, and so is that of a late record that was dropped.
+/// The line of a comment: `#`.
+pub(crate) fn comment_line() -> LineText
+    ensures { result ≡ 35 ∷ 10 ∷ [] }
+{
+    let mut text = LineText::new();
+    text.push(b"#\n");
+    text
+}
+
+/// The line of an item. That of a late record that was dropped is a comment.
 pub(crate) fn item_line(item: &Item) -> LineText
     ensures { result ≡ spec.with_end (spec.item_text item.now) }
 {
     match item {
         Item::Rec(stream, record) => record_line(*stream, record),
         Item::Mark(stream, mark) => mark_line(*stream, *mark),
-        Item::Skip | Item::Late { .. } => {
-            let mut text = LineText::new();
-            text.push(b"#\n");
-            text
-        }
+        Item::Skip | Item::Late { .. } => comment_line(),
     }
 }
 

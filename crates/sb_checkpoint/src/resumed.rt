@@ -12,9 +12,9 @@ use sb_outside::{Source, SourceFault};
 use std::marker::Model;
 use std::snapshot::Snapshot;
 
-/// The lines of a checkpoint's items, then a comment `#` for each line more that its input had, then the bytes of a
-/// source. So the lines of the source have the numbers that they have in the whole input. It counts the faults of the
-/// source, and reads nothing of it before all lines were given.
+/// A comment `#` for each line that the input of a checkpoint had beyond its items, then the lines of these items, then
+/// the bytes of a source. So the lines of the source have the numbers that they have in the whole input. It counts the
+/// faults of the source, and reads nothing of it before all lines were given. The comments can be taken at once.
 #[derive(Drop)]
 pub struct Resumed<S: Source> {
     ahead: Ahead,
@@ -76,5 +76,9 @@ impl<S: Source> Source for Resumed<S> {
             0 => self.source.read(buf),
             count => Ok(count),
         }
+    }
+
+    fn take_comments(&mut self) -> u32 {
+        self.ahead.take_comments()
     }
 }
