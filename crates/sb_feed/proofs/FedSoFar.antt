@@ -1,19 +1,19 @@
 -- How far the feeding of an input has come.
 use Rattle.std.proofs.Common.{◌≡◌, ◌≤◌, ◌<◌, ◌+◌, ℕ, true, List, [], ◌∷◌, ◌++◌, Option, Some, None, sym, ap, subst, ◌∙◌, append_assoc, append-nil, arith}
-use Rattle.std.specs.Io.KnownBytes.{IsAtEnd}
+use Rattle.std.specs.Io.KnownBytes.{Consumes, IsAtEnd}
 use Rattle.std.proofs.lemmas.List.Concat.{flat_map-append}
 use Rattle.sb_base.specs.records.declared.item.Dropped.{Dropped}
 use Rattle.sb_base.specs.records.declared.item.Record.{Record}
 use Rattle.sb_base.specs.records.declared.item.Item.{Item}
 use Rattle.sb_base.specs.records.declared.item.Stream.{Stream}
-use Rattle.sb_base.specs.records.declared.item.Stream.TheVariants.{A, B}
 use Rattle.sb_base.specs.records.declared.item.TheConstants.{END_MARK}
 use Rattle.sb_base.specs.records.declared.intake.Stop.{Stop}
 use Rattle.sb_base.specs.records.declared.intake.TheConstants.{MAX_LINES}
 use Rattle.sb_base.specs.records.Progress.{Progress}
-use Rattle.sb_base.specs.records.Intake.{answer_to}
+use Rattle.sb_base.specs.records.Intake.{answer_to, first_progress}
 use Rattle.sb_base.specs.records.Inputs.{Accepted}
-use Rattle.sb_base.specs.records.Streams.{dropped_in, dropped_of, last_watermark, records_of}
+use Rattle.sb_base.specs.records.Streams.{dropped_in, dropped_of, last_or, last_watermark, records_of}
+use Rattle.sb_outside.specs.Comments.{comment_lines}
 use Rattle.sb_outside.specs.Lines.{lines}
 use Rattle.sb_outside.specs.declared.lines.Halt.{Halt}
 use Rattle.sb_outside.specs.declared.lines.Halt.TheVariants as halt
@@ -31,14 +31,14 @@ use Rattle.sb_feed.specs.InputFeeds.{FeedsAll, FeedsSome}
 use Rattle.sb_feed.specs.Reads.{IsGoing, TakesItem, StopsReading}
 use Rattle.sb_feed.specs.TapLists.{LeavesThoseThatStay}
 use Rattle.sb_feed.specs.Takes.{MayEnd, MayTake, Takes, Fails}
+use Rattle.sb_feed.proofs.CommentsInFront.{fed_comments, no_watermark, none_dropped, read_comments, said_by_skips, skips}
 use Rattle.sb_feed.proofs.FirstRows.{fed_covers, rows_are_first, rows_same}
 use Rattle.sb_feed.proofs.GivesInTurn.{AddsUp, taps_behind, wrote_behind}
 use Rattle.sb_feed.proofs.InputEnds.{no_end_records, same_records}
-use Rattle.sb_feed.proofs.ItemSteps.{fed_nothing}
-use Rattle.sb_feed.proofs.LaterItems.{GoesOnTo, accepted_goes_on, following, goes_on_behind, goes_on_without, mark_within, no_more, said_by, starting, tested_is_timely}
+use Rattle.sb_feed.proofs.LaterItems.{GoesOnTo, accepted_goes_on, following, goes_on_behind, goes_on_without, mark_within, no_more, starting, tested_is_timely}
 use Rattle.sb_feed.proofs.OfferedRows.{both_offered, none_offered}
 use Rattle.sb_feed.proofs.RowsApart.{apart_later}
-use Rattle.sb_feed.proofs.ReadSoFar.{ReadSoFar, read_more, read_nothing, reading_stops}
+use Rattle.sb_feed.proofs.ReadSoFar.{ReadSoFar, read_more, reading_stops}
 use Rattle.sb_feed.proofs.ReadSteps.{ended_by, may_end as nothing_may_come}
 
 -- what lies around an engine: where its lines come from, where its rows go, and where late records are listed
@@ -90,24 +90,22 @@ module _ {S O : Type 0} (left_of : S → Option (List ℕ)) (faults_of : S → �
     pub marks : (s : Stream) → last_watermark s items ≤ END_MARK
 
 module _ {S O : Type 0} (left_of : S → Option (List ℕ)) (faults_of : S → ℕ) (after part : O → List Record → O → Type 0) (laws : AddsUp after part) (plan : Shape) (size : ℕ) (some : 1 ≤ size) where
-  pub nothing_fed_yet : (stands : Fed → List Record → Type 0) (start : Around S O) (held : Held) (p : Progress) (c : Cutters) → held ≡ record { at_hand = []; line = []; halt = None } → p ≡ said_by plan [] → c ≡ new_cutters size → stands nothing_fed []
-      → FedSoFar left_of faults_of after plan size stands start start held p c
-  nothing_fed_yet stands start held p c is_held is_p is_c stand = record {
-    items = [];
+  -- comments in front were taken
+  pub comments_fed : (stands : Fed → List Record → Type 0) (start : Around S O) (source : S) (n : ℕ) (held : Held) (p : Progress) (c : Cutters) → n ≤ MAX_LINES → Consumes (left_of start.source) (left_of source) (comment_lines n) → faults_of source ≡ faults_of start.source
+      → held ≡ record { at_hand = []; line = []; halt = None } → p ≡ first_progress (streams_of plan) n plan.late plan.keys → c ≡ new_cutters size → stands nothing_fed []
+      → FedSoFar left_of faults_of after plan size stands start (record start { source = source }) held p c
+  comments_fed stands start source n held p c few given same is_held is_p is_c stand = record {
+    items = skips n;
     f = nothing_fed;
     rows = [];
-    read = read_nothing plan (left_of start.source) held p (faults_of start.source) is_held is_p;
-    fed = subst (IsFedBy size [] nothing_fed) (sym is_c) (fed_nothing size some);
+    read = read_comments plan (left_of start.source) (left_of source) held p n (faults_of start.source) (faults_of source) few given same is_held (is_p ∙ said_by_skips plan n);
+    fed = subst (IsFedBy size (skips n) nothing_fed) (sym is_c) (fed_comments size n some);
     stand = stand;
     wrote = laws.after_none start.out;
     offered = none_offered start.taps;
-    listed = sym (append-nil start.dropped);
-    marks = zero_marks;
+    listed = sym (ap (λ l. start.dropped ++ l) (none_dropped n) ∙ append-nil start.dropped);
+    marks = λ s. let none = ap (last_or 0) (no_watermark s n) in omega (arith, none);
   }
-    where
-      zero_marks : (s : Stream) → last_watermark s [] ≤ END_MARK
-      zero_marks A = omega arith
-      zero_marks B = omega arith
 
   -- an engine of the same plan, whose bundles have the same size
   module _ (plan2 : Shape) (size2 : ℕ) (same_plan : plan2 ≡ plan) (same_size : size2 ≡ size) (stands : Fed → List Record → Type 0) (start now : Around S O) (held : Held) (p : Progress) (c : Cutters) (h : FedSoFar left_of faults_of after plan size stands start now held p c) where

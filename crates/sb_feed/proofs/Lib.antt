@@ -11,6 +11,7 @@ pub mod GivesInTurn
 pub mod ItemTakes
 pub mod RowsSoFar
 pub mod InputEnds
+pub mod CommentsInFront
 pub mod FedSoFar
 pub use Rattle.sb_outside.proofs as outside
 pub use Rattle.sb_base.proofs as base

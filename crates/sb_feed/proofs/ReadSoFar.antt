@@ -45,7 +45,7 @@ after-lines Skip p = refl
 after-lines (Late n t m) p = refl
 
 -- the lines behind an accepted one are tested after its item too
-accepted-more : (plan : Shape) (items : List Item) (line : List ℕ) (rest : List (List ℕ)) (i : Item) → answer_to (said_by plan items) line ≡ Ok i
+pub accepted-more : (plan : Shape) (items : List Item) (line : List ℕ) (rest : List (List ℕ)) (i : Item) → answer_to (said_by plan items) line ≡ Ok i
     → following plan items (line ∷ rest) ≡ following plan (items ++ i ∷ []) rest
 accepted-more plan items line rest i ok = ap (λ r. accepted_if r items (λ more. following plan more rest)) ok
 

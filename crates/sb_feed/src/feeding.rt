@@ -18,7 +18,7 @@ use std::alloc::Global;
 
 /// Feeds the lines of an input to an engine that was fed nothing yet, and answers where reading stopped. What the
 /// engine gives is written and offered, and the late records that the plan drops go to the end of `dropped`.
-/// `size` is the most records of a bundle.
+/// `size` is the most records of a bundle. Comments in front that the source can take off are counted, and not read.
 ///
 /// # Errors
 ///
@@ -49,7 +49,8 @@ pub fn feed<E: Engine, S: Source, R: RowOut>(
     ensures cause { GiveCause (R.row_state out.old) (R.row_state out.new) result }
 {
     let plan = engine.plan();
-    let mut intake = Intake::new(plan.streams(), 0, plan.late(), plan.keys());
+    let comments = u64::from(input.take_comments());
+    let mut intake = Intake::new(plan.streams(), comments, plan.late(), plan.keys());
     let mut cutters = Cutters::new(alloc, size);
     let mut lines = LineBuffer::new();
     'items: loop {

@@ -1,9 +1,10 @@
-use Rattle.std.proofs.Common.{[], ◌∙◌, ap, arith, refl, sym}
+use Rattle.std.proofs.Common.{[], ◌∙◌, ◌≤◌, ap, arith, refl, sym}
+use Rattle.sb_base.specs.records.declared.intake.TheConstants.{MAX_LINES}
 use Rattle.sb_base.specs.records.Intake.{first_progress}
 use Rattle.sb_outside.specs.Readings.{Held}
 use Rattle.sb_base.specs.pipeline.Shapes.{Shape, streams_of}
 use Rattle.sb_feed.specs.Feeds.{nothing_fed}
-use Rattle.sb_feed.proofs.FedSoFar.{all_fed, end_fails, fed_more, item_fails, may_end, may_take, nothing_fed_yet}
+use Rattle.sb_feed.proofs.FedSoFar.{all_fed, comments_fed, end_fails, fed_more, item_fails, may_end, may_take}
 use Rattle.sb_feed.proofs.GiveLaws.{cause_of_none, cause_then}
 use Rattle.sb_feed.proofs.GivesInTurn.{AddsUp}
 use Rattle.sb_feed.proofs.RowsSoFar.{so_far_by}
@@ -14,19 +15,23 @@ items-init g c =
     let laws = g.met.R.RowOut g.world.𝓛 g.world.𝓜 g.world.𝓡 ((λ s x. x), (λ x. x), (λ x. x), λ x. x) in
     let adds_up : AddsUp g.R.RowOut.after g.R.RowOut.part = record { after_none = laws.after_none; after_more = laws.after_more; part_later = laws.part_later; part_of_all = laws.part_of_all } in
     let is = c.plan-plan.ensures in
+    let few : c.from-comments.result ≤ MAX_LINES = let most = c.take_comments.type_inv in let same = c.from-comments.ensures in omega (arith, most, same) in
     record {
-      fed = nothing_fed_yet g.S.Source.left g.S.Source.faults g.R.RowOut.after g.R.RowOut.part adds_up (g.E.Engine.plan c.args.engine.now) c.args.size c.requires.some
+      fed = comments_fed g.S.Source.left g.S.Source.faults g.R.RowOut.after g.R.RowOut.part adds_up (g.E.Engine.plan c.args.engine.now) c.args.size c.requires.some
           (g.E.Engine.stands c.args.engine.now)
           (record { source = c.args.input.now; out = c.args.out.now; taps = _; dropped = c.args.dropped.now.items })
-          c.new-lines.result c.new-intake.result c.new-cutters.result c.new-lines.ensures
-          (c.new-intake.ensures ∙ (λ i. first_progress ((c.streams.ensures.value ∙ ap streams_of is) i) 0 ((c.late.ensures ∙ ap (λ (p : Shape). p.late) is) i) ((c.keys.ensures ∙ ap (λ (p : Shape). p.keys) is) i)))
+          c.take_comments.new.self c.from-comments.result
+          c.new-lines.result c.new-intake.result c.new-cutters.result
+          few (rw c.from-comments.ensures c.take_comments.ensures.comments) c.take_comments.ensures.unfailed
+          c.new-lines.ensures
+          (c.new-intake.ensures ∙ (λ i. first_progress ((c.streams.ensures.value ∙ ap streams_of is) i) c.from-comments.result ((c.late.ensures ∙ ap (λ (p : Shape). p.late) is) i) ((c.keys.ensures ∙ ap (λ (p : Shape). p.keys) is) i)))
           c.new-cutters.ensures c.requires.begins;
       same = g.met.E.Engine.same_here c.args.engine.now nothing_fed [] c.requires.begins;
       cause = cause_of_none (g.R.RowOut.row_state c.args.out.now) _ (λ e. cc e);
       fewer = omega arith;
       ends = λ e. absurd (cc (sym (ap (λ (l : Held). l.halt) c.new-lines.ensures), e));
-      name = refl;
-      room = let none = ap (λ p. p.lines) c.new-intake.ensures in omega (arith, none);
+      name = c.take_comments.ensures.name;
+      room = let all = ap (λ p. p.lines) c.new-intake.ensures in omega (arith, all, few);
     }
 
 pub take_item-requires-clause-may : goal.take_item-requires-clause-may
