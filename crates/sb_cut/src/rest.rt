@@ -19,10 +19,11 @@ use std::sync::Wait;
 use std::thread::Threads;
 use std::time::Clock;
 
-/// Runs a plan over the rest of an input, which is what the source has: it reads the lines of the checkpoint of the
-/// first part, then a comment for each line more that this had, and then the rest. So lines have the numbers that they
-/// have in the whole input. The output should leave out the rows below the low watermark of the checkpoint, which the
-/// run over the first part has written. The late records of the rest that the plan drops go to the end of `dropped`.
+/// Runs a plan over the rest of an input, which is what the source has, behind the lines of the checkpoint of the first
+/// part. Before these it has a comment for each line more that the first part had, which is counted and not read. So
+/// lines have the numbers that they have in the whole input. The output should leave out the rows below the low
+/// watermark of the checkpoint, which the run over the first part has written. The late records of the rest that the
+/// plan drops go to the end of `dropped`.
 ///
 /// Whether the call returns is not said: workers wait for one another.
 pub fn run_rest<W: Threads + Wait + Clock + Sync, S: Source, R: RowOut>(

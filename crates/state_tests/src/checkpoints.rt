@@ -113,8 +113,10 @@ fn bytes_of<S: Source>(alloc: Global, source: &mut S, piece: usize) -> Result<Ve
     Ok(bytes)
 }
 
-/// Whether what was kept, of so many lines, and then the rest, read in pieces of at most so many bytes, is this.
-fn comes_as(alloc: Global, lines: u64, piece: usize, want: &[u8]) -> Result<bool, AllocError>
+const KEPT_AND_REST: &[u8] = b"r,a,3,1,5\nr,a,12,1,4\nw,a,10\nr,a,13,1,1";
+
+/// What was kept of so many lines, and then the rest.
+fn resumed(alloc: Global, lines: u64) -> Result<Resumed<MemSource>, AllocError>
     requires { 3 ≤ lines }
 {
     let rest = source_of(alloc, b"r,a,13,1,1", Vec::new(alloc))?;
@@ -126,16 +128,33 @@ fn comes_as(alloc: Global, lines: u64, piece: usize, want: &[u8]) -> Result<bool
         mark_a: 10,
         mark_b: 0,
     };
-    let mut source = Resumed::new(checkpoint, rest);
+    Ok(Resumed::new(checkpoint, rest))
+}
+
+/// Whether what was kept, of so many lines, and then the rest, read in pieces of at most so many bytes, is this.
+fn comes_as(alloc: Global, lines: u64, piece: usize, want: &[u8]) -> Result<bool, AllocError>
+    requires { 3 ≤ lines }
+{
+    let mut source = resumed(alloc, lines)?;
     let bytes = bytes_of(alloc, &mut source, piece)?;
     Ok(bytes.as_slice() == want)
+}
+
+/// Whether so many comments are taken of so many lines, and none is left.
+fn are_taken(alloc: Global, lines: u64, count: u32) -> Result<bool, AllocError>
+    requires { 3 ≤ lines }
+{
+    let mut source = resumed(alloc, lines)?;
+    let taken = source.take_comments();
+    let bytes = bytes_of(alloc, &mut source, 16)?;
+    Ok(taken == count && bytes.as_slice() == KEPT_AND_REST)
 }
 
 #[test]
 fn what_was_kept_comes_before_the_rest(rt: HostRuntime) {
     let cases: [(u64, &[u8]); 2] = [
-        (3, b"r,a,3,1,5\nr,a,12,1,4\nw,a,10\nr,a,13,1,1"),
-        (5, b"r,a,3,1,5\nr,a,12,1,4\nw,a,10\n#\n#\nr,a,13,1,1"),
+        (3, KEPT_AND_REST),
+        (5, b"#\n#\nr,a,3,1,5\nr,a,12,1,4\nw,a,10\nr,a,13,1,1"),
     ];
     for (lines, want) in cases {
         for piece in [1, 7, 16] {
@@ -144,6 +163,14 @@ fn what_was_kept_comes_before_the_rest(rt: HostRuntime) {
                 "{lines} lines in pieces of {piece}"
             );
         }
+    }
+}
+
+#[test]
+fn all_comments_are_taken_at_once(rt: HostRuntime) {
+    let cases: [(u64, u32); 3] = [(3, 0), (5, 2), (4_294_967_295, 4_294_967_292)];
+    for (lines, count) in cases {
+        assert!(rt; are_taken(rt.alloc(), lines, count) == Ok(true), "{lines} lines");
     }
 }
 
