@@ -17,7 +17,7 @@ pub record Ring : Type 0 where
   pub names : Names
   pub heap : Global
 
-abbrev pub ring_at : {Rule : Type 0} → End Fed Global Rule → Ring
+abbrev pub ring_at : {Value Rule : Type 0} → End Value Global Rule → Ring
 ring_at end = record { words = end.words; places = end.slots; names = end.names; heap = end.heap }
 
 -- the ring of each end

@@ -12,6 +12,7 @@ pub mod Flowing
 pub mod InletPops
 pub mod MergedItems
 pub mod Passes
+pub mod PoppedSoFar
 pub mod Returned
 pub mod Settings
 pub mod Settling
@@ -21,6 +22,7 @@ pub mod Standing
 pub mod Starting
 pub mod TakenItems
 pub mod Through
+pub mod Tied
 pub use Rattle.sb_feeds.proofs.outside
 pub use Rattle.sb_worker.proofs.diary
 pub use Rattle.sb_feeds.proofs.base

@@ -7,6 +7,7 @@ pub mod EngineLaws
 pub mod Files
 pub mod Pops
 pub mod FilesFed
+pub mod InputPops
 pub mod FilesRead
 pub mod FilesEnding
 pub mod TwoEnds

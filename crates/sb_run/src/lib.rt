@@ -4,6 +4,7 @@
 mod alone;
 mod ending;
 mod files;
+mod input;
 pub mod laws;
 mod one_hand;
 mod run_end;

@@ -4,5 +4,6 @@ pub(crate) mod feeder;
 pub(crate) mod feeding;
 pub(crate) mod handing;
 pub(crate) mod helping;
+pub(crate) mod joining;
 pub(crate) mod pace;
 pub(crate) mod working;

@@ -20,7 +20,7 @@ const LONG_MICROS: u64 = 500;
 const LEFT_EPOCHS: u32 = 64;
 
 /// What the feeder knows of its epochs.
-#[derive(Drop)]
+#[derive(Clone, Copy, Drop)]
 pub(crate) struct Pace {
     /// How many records came since the last watermark.
     records: usize,

@@ -31,8 +31,12 @@ pub(crate) fn take_out<W: Wait>(rt: &W, cascade: &Cascade, pass: &mut CascadePas
     cascade.drain(rt, pass)
 }
 
-// A step of the feeder as a worker. It fails if this worker or another found no memory.
-fn step_too<W: Wait, G: Gate>(
+/// A step of the feeder as a worker.
+///
+/// # Errors
+///
+/// This worker or another found no memory.
+pub(crate) fn step_too<W: Wait, G: Gate>(
     rt: &W,
     alloc: Global,
     cascade: &Cascade,

@@ -1,7 +1,7 @@
 use denote.Param.Send.{arg_send, mut_send, param_send}
 use Rattle.std.proofs.Crossing.{Vec-send}
 use Rattle.sb_worker.proofs.Crossing.{Bound-lent, Cascade-lent, Five-send, Heap-lent, Mut-lent, Pass-send}
-use Rattle.sb_run.proofs.together.work.Goals as goal
+use Rattle.sb_run.proofs.shared.joining.feed_beside_helpers.Goals as goal
 
 pub join_mut-requires-send-F : goal.join_mut-requires-send-F
 join_mut-requires-send-F g c κs within =

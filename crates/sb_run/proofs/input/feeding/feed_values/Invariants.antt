@@ -1,0 +1,20 @@
+use Rattle.std.proofs.Common.{◌≡◌, ◌≤◌, Ok, length, map}
+use Rattle.sb_worker.specs.cascade.Calls.{plan_of, setting_of}
+use Rattle.sb_feeds.specs.one_feed.GiveCauses.{GiveCause}
+use Rattle.sb_feeds.specs.InputEnds.{ring_in, values_received}
+use Rattle.sb_run.specs.Feeders.{HasFed, IsStill}
+use Rattle.sb_run.proofs.PoppedSoFar.{PoppedSoFar}
+use Rattle.sb_run.proofs.input.feeding.feed_values.Given as goal
+
+abbrev pub invariant-loop : goal.invariant-loop
+invariant-loop g l =
+    record {
+      fed : PoppedSoFar g.R.RowOut.after (plan_of l.cascade) (setting_of l.cascade).bundle (HasFed l.cascade l.pass)
+          (record { out = l.fn.out; taps = map (λ t. (goal.Tap-dyn g (t.vtable, t.value)).tap_state t.value) l.fn.taps.items; dropped = l.fn.dropped.items })
+          (record { out = l.out; taps = map (λ t. (goal.Tap-dyn g (t.vtable, t.value)).tap_state t.value) l.taps.items; dropped = l.dropped.items })
+          (values_received l.inward) l.cutters;
+      ring : ring_in l.inward ≡ ring_in l.fn.inward;
+      same : IsStill l.cascade l.fn.pass l.pass;
+      cause : GiveCause {T = Unit {0}} (g.R.RowOut.row_state l.fn.out) (g.R.RowOut.row_state l.out) (Ok tt);
+      fewer : length l.taps.items ≤ length l.fn.taps.items;
+    }

@@ -1,0 +1,370 @@
+//! Feeding what comes out of the ring of an input to a shared cascade.
+
+ghost use Rattle.std.specs.Prelude.{◌≡◌, ◌≤◌, ◌<◌, ◌^◌, ◌++◌, ◌∷◌, ◌+◌, [], false, List, map, length, OnOk, OnErr, IfOk};
+ghost use Rattle.sb_feeds.specs.base.records.declared.item.Item.{Item as AnItem};
+ghost use Rattle.sb_feeds.specs.base.records.declared.item.Record.{Record as ARecord};
+ghost use Rattle.sb_feeds.specs.base.records.Streams.{dropped_in};
+ghost use Rattle.sb_feeds.specs.base.pipeline.Shapes.{streams_of};
+ghost use Rattle.sb_worker.specs.cascade.Calls.{plan_of, setting_of};
+ghost use Rattle.sb_feeds.specs.one_feed.FedByItems.{end_items};
+ghost use Rattle.sb_feeds.specs.one_feed.Feeds.{Fed, nothing_fed};
+ghost use Rattle.sb_feeds.specs.one_feed.GiveCauses.{GiveCause};
+ghost use Rattle.sb_feeds.specs.one_feed.Gives.{Gives};
+ghost use Rattle.sb_feeds.specs.one_feed.Takes.{MayEnd, MayTake, TakesOrFails};
+ghost use Rattle.sb_feeds.specs.InputFed.{values_of};
+ghost use Rattle.sb_feeds.specs.InputEnds.{ring_in, values_received};
+ghost use Rattle.sb_run.specs.Feeders.{HasFed, IsStill};
+ghost use Rattle.sb_run.specs.InputPops.{FeedsPopped};
+
+use crate::shared::feeder::Feeder;
+use crate::shared::feeding::{end_work, reason_of};
+use crate::shared::pace::Pace;
+use crate::shared::working::{step_too, take_out};
+use sb_feeds::sb_base::{Dropped, Item, MAX_BUNDLE, MAX_LINES, NoMemory, Stop};
+use sb_feeds::sb_emit::{RowOut, Tap};
+use sb_feeds::sb_feed::{Cutters, GiveStop, end_input, give_out, take_item};
+use sb_feeds::{InputFed, InputIn, Patience, Signals};
+use sb_worker::sb_cascade::{Cascade, CascadePass};
+use sb_worker::sb_hand::Did;
+use sb_worker::sb_work::Gate;
+use std::alloc::Global;
+use std::sync::Wait;
+use std::time::Clock;
+
+// Takes an item: a late record that is dropped is listed.
+fn take<W: Wait + Clock, G: Gate, R: RowOut>(
+    rt: &W,
+    alloc: Global,
+    cascade: &Cascade,
+    pass: &mut CascadePass,
+    gate: &G,
+    pace: &mut Pace,
+    cutters: &mut Cutters,
+    item: Item,
+    out: &mut R,
+    taps: &mut Vec<Box<dyn Tap>>,
+    dropped: &mut Vec<Dropped>,
+) -> Result<(), GiveStop>
+    requires may { (items : List AnItem) × (f : Fed) × (rows : List ARecord)
+        × MayTake (HasFed cascade.now pass.old) (plan_of cascade.now) (setting_of cascade.now).bundle
+        cutters.old item items f rows }
+    requires few { length taps.old.items < 2 ^ 32 }
+    ensures same { IsStill cascade.now pass.old pass.new }
+    ensures takes { (items : List AnItem) (f : Fed) (rows : List ARecord)
+        → MayTake (HasFed cascade.now pass.old) (plan_of cascade.now) (setting_of cascade.now).bundle
+        cutters.old item items f rows
+        → TakesOrFails (plan_of cascade.now) (setting_of cascade.now).bundle (HasFed cascade.now pass.new)
+        R.after R.part out.old out.new
+        (map (λ t. tap_state t) taps.old.items) (map (λ t. tap_state t) taps.new.items)
+        (items ++ item ∷ []) cutters.new rows result }
+    ensures kept { OnOk result (dropped.new.items ≡ dropped.old.items ++ dropped_in item) }
+    ensures same_list { OnErr result (dropped.new.items ≡ dropped.old.items) }
+    ensures fewer { OnOk result (length taps.new.items ≤ length taps.old.items) }
+    ensures cause { GiveCause (R.row_state out.old) (R.row_state out.new) result }
+{
+    let mut engine = Feeder {
+        rt,
+        alloc,
+        cascade,
+        pass,
+        gate,
+        pace: *pace,
+    };
+    let taken = take_item(&mut engine, cutters, item, out, taps, dropped);
+    *pace = engine.pace;
+    taken
+}
+
+// Takes the end of the input, if reading stopped there.
+fn end<W: Wait + Clock, G: Gate, R: RowOut>(
+    rt: &W,
+    alloc: Global,
+    cascade: &Cascade,
+    pass: &mut CascadePass,
+    gate: &G,
+    pace: Pace,
+    cutters: &mut Cutters,
+    stop: Stop,
+    out: &mut R,
+    taps: &mut Vec<Box<dyn Tap>>,
+) -> Result<Stop, GiveStop>
+    requires may { (items : List AnItem) × (f : Fed) × (rows : List ARecord)
+        × MayEnd (HasFed cascade.now pass.old) (setting_of cascade.now).bundle cutters.old (MAX_LINES + 1)
+        items f rows }
+    requires few { length taps.old.items < 2 ^ 32 }
+    ensures same { IsStill cascade.now pass.old pass.new }
+    ensures takes { (items : List AnItem) (f : Fed) (rows : List ARecord)
+        → MayEnd (HasFed cascade.now pass.old) (setting_of cascade.now).bundle cutters.old (MAX_LINES + 1) items f rows
+        → TakesOrFails (plan_of cascade.now) (setting_of cascade.now).bundle (HasFed cascade.now pass.new)
+        R.after R.part out.old out.new
+        (map (λ t. tap_state t) taps.old.items) (map (λ t. tap_state t) taps.new.items)
+        (items ++ end_items (streams_of (plan_of cascade.now)) stop) cutters.new rows result }
+    ensures stop { IfOk result (λ given. given ≡ stop) }
+    ensures fewer { OnOk result (length taps.new.items ≤ length taps.old.items) }
+    ensures cause { GiveCause (R.row_state out.old) (R.row_state out.new) result }
+{
+    let mut engine = Feeder {
+        rt,
+        alloc,
+        cascade,
+        pass,
+        gate,
+        pace,
+    };
+    match end_input(&mut engine, cutters, stop, out, taps) {
+        Ok(()) => Ok(stop),
+        Err(why) => Err(why),
+    }
+}
+
+// Gives out the rows that lie ready.
+fn give_ready<W: Wait, R: RowOut>(
+    rt: &W,
+    cascade: &Cascade,
+    pass: &mut CascadePass,
+    out: &mut R,
+    taps: &mut Vec<Box<dyn Tap>>,
+) -> Result<(), GiveStop>
+    requires feeder { (f : Fed) × (rows : List ARecord) × HasFed cascade.now pass.old f rows }
+    requires few { length taps.old.items < 2 ^ 32 }
+    ensures same { IsStill cascade.now pass.old pass.new }
+    ensures gives { (f : Fed) (rows : List ARecord) → HasFed cascade.now pass.old f rows
+        → Gives (plan_of cascade.now) (HasFed cascade.now pass.new f) R.after R.part out.old out.new
+        (map (λ t. tap_state t) taps.old.items) (map (λ t. tap_state t) taps.new.items) f rows result }
+    ensures fewer { OnOk result (length taps.new.items ≤ length taps.old.items) }
+    ensures cause { GiveCause (R.row_state out.old) (R.row_state out.new) result }
+{
+    let rows = take_out(rt, cascade, pass);
+    give_out(&rows, out, taps)
+}
+
+// Nothing came: the feeder works as the others do. If there is nothing to do for a while, it gives out the rows that
+// lie ready, and sleeps until something comes.
+fn idle<W: Wait, G: Gate, R: RowOut>(
+    rt: &W,
+    alloc: Global,
+    cascade: &Cascade,
+    pass: &mut CascadePass,
+    gate: &G,
+    inward: &mut InputIn,
+    signals: &Signals,
+    patience: &mut Patience,
+    out: &mut R,
+    taps: &mut Vec<Box<dyn Tap>>,
+) -> Result<(), GiveStop>
+    requires feeder { (f : Fed) × (rows : List ARecord) × HasFed cascade.now pass.old f rows }
+    requires few { length taps.old.items < 2 ^ 32 }
+    ensures ring { ring_in inward.new ≡ ring_in inward.old }
+    ensures none { values_received inward.new ≡ values_received inward.old }
+    ensures same { IsStill cascade.now pass.old pass.new }
+    ensures gives { (f : Fed) (rows : List ARecord) → HasFed cascade.now pass.old f rows
+        → Gives (plan_of cascade.now) (HasFed cascade.now pass.new f) R.after R.part out.old out.new
+        (map (λ t. tap_state t) taps.old.items) (map (λ t. tap_state t) taps.new.items) f rows result }
+    ensures fewer { OnOk result (length taps.new.items ≤ length taps.old.items) }
+    ensures cause { GiveCause (R.row_state out.old) (R.row_state out.new) result }
+{
+    match step_too(rt, alloc, cascade, pass, gate) {
+        Ok(Did::Bundle | Did::Closing) => {
+            patience.renew();
+            Ok(())
+        }
+        Ok(Did::Nothing) => {
+            if !patience.is_spent() {
+                patience.pause();
+                return Ok(());
+            }
+            match give_ready(rt, cascade, pass, out, taps) {
+                Ok(()) => {
+                    inward.rest(rt, signals);
+                    Ok(())
+                }
+                Err(why) => Err(why),
+            }
+        }
+        Err(NoMemory) => Err(GiveStop::Memory),
+    }
+}
+
+// Feeds what comes out of the ring up to the stop, and answers where reading stopped.
+fn feed_values<W: Wait + Clock, G: Gate, R: RowOut>(
+    rt: &W,
+    alloc: Global,
+    cascade: &Cascade,
+    pass: &mut CascadePass,
+    gate: &G,
+    size: u32,
+    inward: &mut InputIn,
+    signals: &Signals,
+    out: &mut R,
+    taps: &mut Vec<Box<dyn Tap>>,
+    dropped: &mut Vec<Dropped>,
+) -> Result<Stop, GiveStop>
+    requires begins { HasFed cascade.now pass.old nothing_fed [] }
+    requires nothing { values_received inward.old ≡ values_of (streams_of (plan_of cascade.now)) [] }
+    requires size { (setting_of cascade.now).bundle ≡ size }
+    requires some { 1 ≤ size }
+    requires most { size ≤ MAX_BUNDLE }
+    requires few { length taps.old.items < 2 ^ 32 }
+    ensures ring { ring_in inward.new ≡ ring_in inward.old }
+    ensures same { IsStill cascade.now pass.old pass.new }
+    ensures feeds { FeedsPopped (plan_of cascade.now) (setting_of cascade.now).bundle (values_received inward.new)
+        (HasFed cascade.now pass.new) R.after R.part out.old out.new
+        (map (λ t. tap_state t) taps.old.items) (map (λ t. tap_state t) taps.new.items)
+        dropped.old.items dropped.new.items result }
+    ensures fewer { OnOk result (length taps.new.items ≤ length taps.old.items) }
+    ensures cause { GiveCause (R.row_state out.old) (R.row_state out.new) result }
+{
+    let mut cutters = Cutters::new(alloc, size);
+    let mut pace = Pace::new();
+    let mut patience = Patience::new();
+    for _ in rt.forever() {
+        match inward.pop() {
+            Some(InputFed::Item(item)) => {
+                patience.renew();
+                match take(
+                    rt,
+                    alloc,
+                    cascade,
+                    pass,
+                    gate,
+                    &mut pace,
+                    &mut cutters,
+                    item,
+                    out,
+                    taps,
+                    dropped,
+                ) {
+                    Ok(()) => {}
+                    Err(why) => return Err(why),
+                }
+            }
+            Some(InputFed::Stop(stop)) => {
+                return end(
+                    rt,
+                    alloc,
+                    cascade,
+                    pass,
+                    gate,
+                    pace,
+                    &mut cutters,
+                    stop,
+                    out,
+                    taps,
+                );
+            }
+            Some(InputFed::Begin(_)) => unreachable!(),
+            None => match idle(
+                rt,
+                alloc,
+                cascade,
+                pass,
+                gate,
+                inward,
+                signals,
+                &mut patience,
+                out,
+                taps,
+            ) {
+                Ok(()) => {}
+                Err(why) => return Err(why),
+            },
+        }
+    }
+    unreachable!()
+}
+
+// The feeder's work over what a reader sends that has begun.
+fn feed_begun<W: Wait + Clock, G: Gate, R: RowOut>(
+    rt: &W,
+    alloc: Global,
+    cascade: &Cascade,
+    pass: &mut CascadePass,
+    gate: &G,
+    size: u32,
+    inward: &mut InputIn,
+    signals: &Signals,
+    out: &mut R,
+    taps: &mut Vec<Box<dyn Tap>>,
+    dropped: &mut Vec<Dropped>,
+) -> Result<Stop, GiveStop>
+    requires begins { HasFed cascade.now pass.old nothing_fed [] }
+    requires nothing { values_received inward.old ≡ values_of (streams_of (plan_of cascade.now)) [] }
+    requires size { (setting_of cascade.now).bundle ≡ size }
+    requires some { 1 ≤ size }
+    requires most { size ≤ MAX_BUNDLE }
+    requires few { length taps.old.items < 2 ^ 32 }
+    ensures ring { ring_in inward.new ≡ ring_in inward.old }
+    ensures same { IsStill cascade.now pass.old pass.new }
+    ensures feeds { FeedsPopped (plan_of cascade.now) (setting_of cascade.now).bundle (values_received inward.new)
+        (HasFed cascade.now pass.new) R.after R.part out.old out.new
+        (map (λ t. tap_state t) taps.old.items) (map (λ t. tap_state t) taps.new.items)
+        dropped.old.items dropped.new.items result }
+    ensures fewer { OnOk result (length taps.new.items ≤ length taps.old.items) }
+    ensures cause { GiveCause (R.row_state out.old) (R.row_state out.new) result }
+{
+    let stop = match feed_values(
+        rt, alloc, cascade, pass, gate, size, inward, signals, out, taps, dropped,
+    ) {
+        Ok(stop) => stop,
+        Err(why) => {
+            signals.end();
+            cascade.stop(pass, reason_of(why));
+            return Err(why);
+        }
+    };
+    match end_work(rt, alloc, cascade, pass, gate) {
+        Ok(()) => Ok(stop),
+        Err(NoMemory) => Err(GiveStop::Memory),
+    }
+}
+
+/// The feeder's work: it feeds what comes out of the ring of an input to a cascade that was fed nothing yet, steps
+/// until nothing is left to do, says in the state word that the run ends, and answers where reading stopped. The rows
+/// that lie ready as a watermark comes, as a lane is full, or where nothing comes for a while, are written and offered,
+/// and the late records that the plan drops go to the end of `dropped`. `size` is the most records of a bundle.
+///
+/// False, and the answer says no more, if the reader has not begun for about a second: then it is given up, and nothing
+/// was done.
+///
+/// # Errors
+///
+/// The first failure to write or to offer rows, or want of memory, of this worker or another. Nothing more is then
+/// written or offered, and the reader ends behind its read.
+pub(crate) fn feed_popped<W: Wait + Clock, G: Gate, R: RowOut>(
+    rt: &W,
+    alloc: Global,
+    cascade: &Cascade,
+    pass: &mut CascadePass,
+    gate: &G,
+    size: u32,
+    inward: &mut InputIn,
+    signals: &Signals,
+    out: &mut R,
+    taps: &mut Vec<Box<dyn Tap>>,
+    dropped: &mut Vec<Dropped>,
+) -> (bool, Result<Stop, GiveStop>)
+    requires begins { HasFed cascade.now pass.old nothing_fed [] }
+    requires nothing { values_received inward.old ≡ values_of (streams_of (plan_of cascade.now)) [] }
+    requires size { (setting_of cascade.now).bundle ≡ size }
+    requires some { 1 ≤ size }
+    requires most { size ≤ MAX_BUNDLE }
+    requires few { length taps.old.items < 2 ^ 32 }
+    ensures ring { ring_in inward.new ≡ ring_in inward.old }
+    ensures same { IsStill cascade.now pass.old pass.new }
+    ensures left { result.0 ≡ false → (pass.new ≡ pass.old) × (out.new ≡ out.old) × (taps.new ≡ taps.old)
+        × (dropped.new ≡ dropped.old) }
+    ensures feeds { FeedsPopped (plan_of cascade.now) (setting_of cascade.now).bundle (values_received inward.new)
+        (HasFed cascade.now pass.new) R.after R.part out.old out.new
+        (map (λ t. tap_state t) taps.old.items) (map (λ t. tap_state t) taps.new.items)
+        dropped.old.items dropped.new.items result.1 }
+    ensures fewer { OnOk result.1 (length taps.new.items ≤ length taps.old.items) }
+    ensures cause { GiveCause (R.row_state out.old) (R.row_state out.new) result.1 }
+{
+    if !signals.has_begun(rt) {
+        return (false, Err(GiveStop::Memory));
+    }
+    let fed = feed_begun(
+        rt, alloc, cascade, pass, gate, size, inward, signals, out, taps, dropped,
+    );
+    (true, fed)
+}
