@@ -14,7 +14,7 @@ use Rattle.sb_run.proofs.files.reading.Files.TheSendSync as files_crossing
 pub Files-send : IsSend (as_row (option.the_field files.the_row))
 Files-send = search (sendable, files_crossing.the_send) depth 20
 
-captured : (Ts : List RattleType) → AllSend Ts → FieldsHave IsSend (parts Ts)
+pub captured : (Ts : List RattleType) → AllSend Ts → FieldsHave IsSend (parts Ts)
 captured [] all = tt
 captured (T ∷ Ts) all = (as_row_send (row_field T) all.0, captured Ts all.1)
 

@@ -10,6 +10,7 @@ pub mod FilesOpened
 pub mod FilesSoFar
 pub mod Flowing
 pub mod InletPops
+pub mod InputCrossing
 pub mod MergedItems
 pub mod Passes
 pub mod PoppedSoFar

@@ -1,5 +1,5 @@
 -- How far the feeding of what comes out of the ring of an input has come.
-use Rattle.std.proofs.Common.{◌≡◌, ◌≤◌, ◌<◌, ◌+◌, ℕ, List, [], ◌∷◌, ◌++◌, length, Some, None, Result, Ok, Err, refl, sym, ap, subst, ◌∙◌, append_assoc, append-nil, length-append, arith}
+use Rattle.std.proofs.Common.{◌≡◌, ◌≤◌, ◌<◌, ◌+◌, ℕ, List, [], ◌∷◌, ◌++◌, length, Some, None, Result, Ok, Err, sym, ap, subst, ◌∙◌, append_assoc, append-nil, length-append, arith}
 use Rattle.std.specs.Prelude.{IfOk}
 use Rattle.std.proofs.lemmas.List.Concat.{flat_map-append}
 use Rattle.sb_feeds.specs.base.records.declared.intake.Stop.{Stop}
@@ -239,12 +239,22 @@ module _ {O : Type 0} (after part : O → List Record → O → Type 0) (laws : 
       popped_ended later so_later d (Err why) same fails = popped_end_fails why fails
 
   -- nothing was done
-  pub popped_none : (stands : Fed → List Record → Type 0) (so : (f : Fed) (rows : List Record) → stands f rows → AreRowsSoFar plan f rows) (o : O) (taps : List TapState) (dropped : List Dropped) (values : List InputFed)
-      → values ≡ values_of (streams_of plan) [] → stands nothing_fed [] → FeedsInPart plan values after part o o taps taps dropped dropped give.Memory
-  popped_none stands so o taps dropped values none stand =
-      let start : AroundInput O = record { out = o; taps = taps; dropped = dropped } in
-      let h = nothing_popped stands start values size (new_cutters size) refl refl none stand in
-      popped_stops stands so start start values (new_cutters size) h stands so start values refl refl give.Memory (stops_none after part laws plan o taps nothing_fed [] (so nothing_fed [] stand))
+  pub popped_none : (o : O) (taps : List TapState) (dropped : List Dropped) (values : List InputFed) → values ≡ values_of (streams_of plan) [] → AreRowsSoFar plan nothing_fed []
+      → FeedsInPart plan values after part o o taps taps dropped dropped give.Memory
+  popped_none o taps dropped values none so = record {
+    items = [];
+    stop = None;
+    came = none;
+    f = nothing_fed;
+    covers = fed_covers size [] nothing_fed (new_cutters size) (fed_nothing size some);
+    rows = [];
+    so_far = so;
+    wrote = laws.part_of_all o o [] [] (laws.after_none o);
+    at = tt;
+    late = [];
+    first_late = all_dropped [];
+    listed = sym (append-nil dropped);
+  }
 
 -- ---- behind the loop
 module _ {O : Type 0} (after part : O → List Record → O → Type 0) (laws : AddsUp after part) (plan : Shape) (size : ℕ) (values : List InputFed) (stands : Fed → List Record → Type 0)

@@ -95,7 +95,7 @@ ends {O = O} plan sizes h0 h left left' after part o p taps taps' dropped droppe
     (λ unspent. same.settings unspent ∙ new.settings) given
 
 -- ---- the end of a run that had no hand
-nothing_given : (left : Option (List ℕ)) → Given left left
+pub nothing_given : (left : Option (List ℕ)) → Given left left
 nothing_given left = record { bytes = []; were_left = Consumes-nil left; ended = false; at_end = λ e. cc e }
 
 pub ends_none : {O : Type 0} (plan : Shape) (sizes : Sizes) (left : Option (List ℕ)) (after part : O → List Record → O → Type 0)

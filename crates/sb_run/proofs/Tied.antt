@@ -20,13 +20,15 @@ use Rattle.sb_feeds.specs.emit.Taps.{TapState}
 use Rattle.sb_feeds.specs.outside.Lines.{lines}
 use Rattle.sb_feeds.specs.outside.Sources.{Rose}
 use Rattle.sb_feeds.specs.one_feed.declared.give.GiveStop.{GiveStop}
-use Rattle.sb_feeds.specs.one_feed.Due.{AreFirstDropped, AreFirstRows, streams_in}
+use Rattle.sb_feeds.specs.one_feed.declared.give.GiveStop.TheVariants as give
+use Rattle.sb_feeds.specs.one_feed.Due.{AreFirstDropped, AreFirstRows, rows_below, streams_in}
 use Rattle.sb_feeds.specs.one_feed.FedByItems.{Covers, IsFedBy, end_items}
 use Rattle.sb_feeds.specs.one_feed.Feeds.{AreRowsSoFar, Fed}
 use Rattle.sb_feeds.specs.one_feed.Given.{Given, items_of, stop_at}
 use Rattle.sb_feeds.specs.one_feed.InputFeeds.{Feeds, FeedsAll, FeedsSome}
 use Rattle.sb_feeds.specs.one_feed.Reads.{FaultCause}
 use Rattle.sb_feeds.proofs.one_feed.FirstRows.{rows_are_first, rows_same}
+use Rattle.sb_feeds.proofs.one_feed.GivesInTurn.{AddsUp}
 use Rattle.sb_feeds.proofs.one_feed.InputEnds.{same_records}
 use Rattle.sb_feeds.proofs.one_feed.LaterItems.{GoesOnTo, accepted_goes_on, following, no_more, said_by}
 use Rattle.sb_feeds.specs.declared.input.fed.InputFed.{InputFed}
@@ -35,6 +37,7 @@ use Rattle.sb_feeds.specs.InputFed.{IsReadOf, ReadCause, stop_among, values_of, 
 use Rattle.sb_feeds.proofs.InputValues.{stop_behind}
 use Rattle.sb_run.specs.InputPops.{FeedsInPart, FeedsPopped, FeedsToStop, items_with, values_with}
 use Rattle.sb_run.specs.RunEnds.{MayHaveFailed, SharedFeedCause}
+use Rattle.sb_run.proofs.Starting.{nothing_given}
 
 -- ---- the first of the accepted items
 none_longer : (items more : List Item) (i : Item) → items ≡ items ++ i ∷ more → ⊥
@@ -178,3 +181,27 @@ module _ (plan : Shape) (left left' : Option (List ℕ)) (before now : ℕ) (sen
     pub input_ended : (ended : Type 0) (result : Result Stop GiveStop) → FeedsPopped plan size received stands after part o p taps taps' dropped dropped' result → (stop ≡ Some stop_is.End → ended) → result ≡ Ok stop_is.End → ended
     input_ended ended (Ok at) e there is = let same : at ≡ stop_is.End = cc is in there (stop_came e.items at e.came ∙ ap Some same)
     input_ended ended (Err why) e there is = absurd (cc is)
+
+-- ---- nothing was fed, for want of memory
+pub feeds_none : {O : Type 0} (after part : O → List Record → O → Type 0) (laws : AddsUp after part) (plan : Shape) (left : Option (List ℕ)) (o : O) (taps : List TapState) (dropped : List Dropped)
+    → FeedsSome plan left left after part o o taps taps dropped dropped give.Memory
+feeds_none after part laws plan left o taps dropped = record {
+  given = nothing_given left;
+  rows = [];
+  first = record { rest = rows_below END_MARK plan (items_of plan (nothing_given left)); are = refl };
+  wrote = laws.part_of_all o o [] [] (laws.after_none o);
+  at = tt;
+  late = [];
+  first_late = record { rest = dropped_of (items_of plan (nothing_given left)); are = refl };
+  listed = sym (append-nil dropped);
+}
+
+-- what was fed later was fed from the beginning on, if nothing came before it
+pub feeds_from : {O : Type 0} (plan : Shape) (size : ℕ) (left left1 left' : Option (List ℕ)) (stands : Fed → List Record → Type 0) (after part : O → List Record → O → Type 0) (o o1 p : O)
+    (taps taps1 taps' : List TapState) (dropped dropped1 dropped' : List Dropped) (result : Result Stop GiveStop) → left1 ≡ left → o1 ≡ o → taps1 ≡ taps → dropped1 ≡ dropped
+    → Feeds plan size left1 left' stands after part o1 p taps1 taps' dropped1 dropped' result → Feeds plan size left left' stands after part o p taps taps' dropped dropped' result
+feeds_from plan size left left1 left' stands after part o o1 p taps taps1 taps' dropped dropped1 dropped' result same_left same_out same_taps same_dropped e =
+    subst (λ l. Feeds plan size l left' stands after part o p taps taps' dropped dropped' result) same_left
+    (subst (λ x. Feeds plan size left1 left' stands after part x p taps taps' dropped dropped' result) same_out
+    (subst (λ t. Feeds plan size left1 left' stands after part o1 p t taps' dropped dropped' result) same_taps
+    (subst (λ d. Feeds plan size left1 left' stands after part o1 p taps1 taps' d dropped' result) same_dropped e)))
