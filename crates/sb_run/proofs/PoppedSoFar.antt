@@ -10,7 +10,6 @@ use Rattle.sb_feeds.specs.base.records.declared.item.Record.{Record}
 use Rattle.sb_feeds.specs.base.records.declared.item.Stream.{Stream}
 use Rattle.sb_feeds.specs.base.records.declared.item.Stream.TheVariants.{A, B}
 use Rattle.sb_feeds.specs.base.records.declared.item.TheConstants.{END_MARK}
-use Rattle.sb_feeds.specs.base.records.declared.item.Streams.{Streams}
 use Rattle.sb_feeds.specs.base.records.Streams.{dropped_in, dropped_of, last_watermark}
 use Rattle.sb_feeds.specs.base.pipeline.Shapes.{Shape, streams_of}
 use Rattle.sb_feeds.specs.emit.Outputs.{AreApart}
@@ -35,7 +34,7 @@ use Rattle.sb_feeds.proofs.one_feed.RowsApart.{apart_later, apart_so_far}
 use Rattle.sb_feeds.specs.declared.input.fed.InputFed.{InputFed}
 use Rattle.sb_feeds.specs.declared.input.fed.InputFed.TheVariants as fed
 use Rattle.sb_feeds.specs.InputFed.{MayFollow, values_of}
-use Rattle.sb_feeds.proofs.InputValues.{following_item, no_second_begin, values_more}
+use Rattle.sb_feeds.proofs.InputValues.{following_item, values_more}
 use Rattle.sb_run.specs.InputPops.{FeedsInPart, FeedsPopped, FeedsToStop}
 use Rattle.sb_run.proofs.Sharing.{gives_as}
 
@@ -176,10 +175,6 @@ module _ {O : Type 0} (after part : O → List Record → O → Type 0) (laws : 
           first_late = first_dropped h.items (i ∷ []);
           listed = kept ∙ h.listed;
         }
-
-    -- the streams do not come again
-    pub popped_no_begin : (others : Streams) → MayFollow values (fed.Begin others) → ⊥
-    popped_no_begin others follows = no_second_begin (streams_of plan) h.items values h.came others follows
 
     -- the stop
     pub popped_may_end : MayEnd stands size c (MAX_LINES + 1) h.items h.f h.rows

@@ -34,7 +34,7 @@ use Rattle.sb_feeds.proofs.one_feed.LaterItems.{GoesOnTo, accepted_goes_on, foll
 use Rattle.sb_feeds.specs.declared.input.fed.InputFed.{InputFed}
 use Rattle.sb_feeds.specs.declared.input.fed.InputFed.TheVariants as fed
 use Rattle.sb_feeds.specs.InputFed.{IsReadOf, ReadCause, stop_among, values_of, values_of_given, values_of_items}
-use Rattle.sb_feeds.proofs.InputValues.{stop_behind}
+use Rattle.sb_feeds.proofs.InputValues.{first_of_all, no_stop_yet, stop_behind}
 use Rattle.sb_run.specs.InputPops.{FeedsInPart, FeedsPopped, FeedsToStop, items_with, values_with}
 use Rattle.sb_run.specs.RunEnds.{MayHaveFailed, SharedFeedCause}
 use Rattle.sb_run.proofs.Starting.{nothing_given}
@@ -130,7 +130,7 @@ module _ (plan : Shape) (left left' : Option (List ℕ)) (before now : ℕ) (sen
         [],
         sym same ∙ sym (append-nil items),
         subst (λ l. AreFirstRows plan l rows) same
-        (record { rest = first.rest; are = rows_same END_MARK plan (streams_in items) (streams_in all) (λ s. sym (same_records (streams_of plan) at items s)) ∙ first.are }),
+            (record { rest = first.rest; are = rows_same END_MARK plan (streams_in items) (streams_in all) (λ s. sym (same_records (streams_of plan) at items s)) ∙ first.are }),
       )
 
   late_first : (items later : List Item) (late : List Dropped) → items_of plan read.given ≡ items ++ later → AreFirstDropped items late → AreFirstDropped (items_of plan read.given) late
@@ -165,6 +165,11 @@ module _ (plan : Shape) (left left' : Option (List ℕ)) (before now : ℕ) (sen
           first_late = late_first e.items later e.late is e.first_late;
           listed = e.listed;
         }
+
+    -- also where the size of bundles is named otherwise
+    pub input_fed_as : (bundle : ℕ) → bundle ≡ size → (result : Result Stop GiveStop) → FeedsPopped plan bundle received stands after part o p taps taps' dropped dropped' result
+        → Feeds plan size left left' stands after part o p taps taps' dropped dropped' result
+    input_fed_as bundle same result e = input_fed result (subst (λ n. FeedsPopped plan n received stands after part o p taps taps' dropped dropped' result) same e)
 
     -- a fault of the source is told by its own stop
     pub input_cause : (result : Result Stop GiveStop) → FeedsPopped plan size received stands after part o p taps taps' dropped dropped' result → SharedFeedCause before now result
@@ -205,3 +210,12 @@ feeds_from plan size left left1 left' stands after part o o1 p taps taps1 taps' 
     (subst (λ x. Feeds plan size left1 left' stands after part x p taps taps' dropped dropped' result) same_out
     (subst (λ t. Feeds plan size left1 left' stands after part o1 p t taps' dropped dropped' result) same_taps
     (subst (λ d. Feeds plan size left1 left' stands after part o1 p taps1 taps' d dropped' result) same_dropped e)))
+
+-- nothing was read
+pub unread : (plan : Shape) (left : Option (List ℕ)) (faults : ℕ) (values : List InputFed) → values ≡ values_of (streams_of plan) [] → IsReadOf plan left left faults faults values None
+unread plan left faults values none = record {
+  given = nothing_given left;
+  first = first_of_all (streams_of plan) [] values none (items_of plan (nothing_given left)) (items_of plan (nothing_given left)) (stop_at plan (nothing_given left)) refl;
+  stopped = no_stop_yet (streams_of plan) [] values none;
+  cause = inl refl;
+}

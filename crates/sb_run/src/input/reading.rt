@@ -91,8 +91,6 @@ pub(crate) fn read_and_help<W: Threads + Wait + Clock + Sync, S: Source, G: Gate
     if !signals.begin() {
         return (true, false, None);
     }
-    let (clear, stop) = help_and_read(
-        rt, alloc, cascade, gate, helpers, input, outward, signals,
-    );
+    let (clear, stop) = help_and_read(rt, alloc, cascade, gate, helpers, input, outward, signals);
     (clear, true, stop)
 }

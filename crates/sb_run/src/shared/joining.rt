@@ -26,7 +26,12 @@ use std::time::Clock;
 
 /// The feeder reads and feeds the input, and the helpers help, until all have ended. False with a helper that found no
 /// memory.
-pub(crate) fn feed_beside_helpers<W: Threads + Wait + Clock + Sync, S: Source, R: RowOut, G: Gate + Sync>(
+pub(crate) fn feed_beside_helpers<
+    W: Threads + Wait + Clock + Sync,
+    S: Source,
+    R: RowOut,
+    G: Gate + Sync,
+>(
     rt: &W,
     alloc: Global,
     cascade: &Cascade,

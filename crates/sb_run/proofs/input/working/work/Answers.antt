@@ -1,12 +1,11 @@
-use Rattle.std.proofs.Common.{◌∙◌, ap, refl, subst, sym}
+use Rattle.std.proofs.Common.{refl}
 use Rattle.sb_worker.specs.cascade.Calls.{plan_of, setting_of}
 use Rattle.sb_feeds.proofs.one_feed.GivesInTurn.{AddsUp}
 use Rattle.sb_feeds.proofs.one_feed.GiveLaws.{cause_of_none}
 use Rattle.sb_feeds.specs.InputEnds.{values_received, values_sent}
 use Rattle.sb_run.specs.EngineLaws.{still_here}
 use Rattle.sb_run.specs.Feeders.{HasFed}
-use Rattle.sb_run.specs.InputPops.{FeedsPopped}
-use Rattle.sb_run.proofs.Tied.{feeds_from, feeds_none, input_cause, input_ended, input_fed}
+use Rattle.sb_run.proofs.Tied.{feeds_none, input_cause, input_ended, input_fed_as}
 use Rattle.sb_run.proofs.input.working.work.Goals as goal
 
 -- there was no memory for the ring
@@ -27,12 +26,10 @@ pub returns-clause-feeds : goal.returns-clause-feeds
 returns-clause-feeds g c =
     let plan = plan_of c.args.cascade.now in
     let apart = c.work_apart-clear.ensures in
-    input_fed plan (g.S.Source.left c.args.input.now) (g.S.Source.left c.work_apart-clear.new.input) (g.S.Source.faults c.args.input.now) (g.S.Source.faults c.work_apart-clear.new.input)
+    input_fed_as plan (g.S.Source.left c.args.input.now) (g.S.Source.left c.work_apart-clear.new.input) (g.S.Source.faults c.args.input.now) (g.S.Source.faults c.work_apart-clear.new.input)
     (values_sent c.work_apart-clear.new.outward) (values_received c.work_apart-clear.new.inward) c.work_apart-clear.result.0.2 apart.read c.tie.ensures
     c.args.size (HasFed c.args.cascade.now c.work_apart-clear.new.pass) g.R.RowOut.after g.R.RowOut.part c.args.out.now c.work_apart-clear.new.out _ _ c.args.dropped.now.items c.work_apart-clear.new.dropped.items
-    c.work_apart-clear.result.1.1
-    (subst (λ n. FeedsPopped plan n (values_received c.work_apart-clear.new.inward) (HasFed c.args.cascade.now c.work_apart-clear.new.pass) g.R.RowOut.after g.R.RowOut.part c.args.out.now c.work_apart-clear.new.out _ _
-    c.args.dropped.now.items c.work_apart-clear.new.dropped.items c.work_apart-clear.result.1.1) c.requires.size apart.feeds)
+    (setting_of c.args.cascade.now).bundle c.requires.size c.work_apart-clear.result.1.1 apart.feeds
 
 pub returns-clause-source : goal.returns-clause-source
 returns-clause-source g c =

@@ -1,4 +1,4 @@
-use denote.Param.Send.{arg_send, mut_send, param_send}
+use denote.Param.Send.{arg_send, given_send, mut_send, param_send}
 use Rattle.std.proofs.Crossing.{Vec-send}
 use Rattle.sb_worker.proofs.Crossing.{Bound-lent, Cascade-lent, Heap-lent, Mut-lent, Pass-send}
 use Rattle.sb_run.proofs.InputCrossing.{Eight-send, Out-send, Signals-lent}
@@ -6,4 +6,4 @@ use Rattle.sb_run.proofs.input.working.work_apart.Goals as goal
 
 pub join_mut-requires-send-F : goal.join_mut-requires-send-F
 join_mut-requires-send-F g c κs within =
-    search (param_send, arg_send, mut_send, Vec-send, Eight-send, Out-send, Signals-lent, Bound-lent, Heap-lent, Cascade-lent, Mut-lent, Pass-send, c.type_bounds.sync-W, c.type_bounds.sync-G, c.type_bounds.send-S) depth 20
+    search (param_send, arg_send, given_send, mut_send, Vec-send, Eight-send, Out-send, Signals-lent, Bound-lent, Heap-lent, Cascade-lent, Mut-lent, Pass-send, c.type_bounds.sync-W, c.type_bounds.sync-G, c.type_bounds.send-S) depth 20
