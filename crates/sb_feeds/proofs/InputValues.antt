@@ -67,9 +67,9 @@ module _ (streams : Streams) (items : List Item) (values : List InputFed) (are :
   first_of_all later all stop is = (
     values_of_items later ++ fed.Stop stop ∷ [],
     ap (λ l. l ++ (values_of_items later ++ fed.Stop stop ∷ [])) are
-    ∙ ap (λ l. fed.Begin streams ∷ l)
-    (sym (append_assoc (values_of_items items) (values_of_items later) (fed.Stop stop ∷ []))
-    ∙ ap (λ l. l ++ fed.Stop stop ∷ []) (sym (values_append items later) ∙ ap values_of_items (sym is))),
+        ∙ ap (λ l. fed.Begin streams ∷ l)
+        (sym (append_assoc (values_of_items items) (values_of_items later) (fed.Stop stop ∷ []))
+        ∙ ap (λ l. l ++ fed.Stop stop ∷ []) (sym (values_append items later) ∙ ap values_of_items (sym is))),
   )
 
 -- the stop behind items

@@ -95,7 +95,7 @@ module _ {S : Type 0} (left_of : S → Option (List ℕ)) (plan : Shape) (left :
             first = (
               [],
               append-nil values' ∙ all ∙ ap (λ l. values_of (streams_of plan) l ++ fed.Stop stop ∷ []) are
-              ∙ ap (λ s. values_of (streams_of plan) (items_of plan given) ++ fed.Stop s ∷ []) stopped,
+                  ∙ ap (λ s. values_of (streams_of plan) (items_of plan given) ++ fed.Stop s ∷ []) stopped,
             );
             stopped = ap stop_among all ∙ stop_behind (streams_of plan) t.items stop [];
             cause = since faults faults' faults2 stop t.read.no_fault cause;
