@@ -59,7 +59,7 @@ pub same_records : (streams : Streams) (stop : Stop) (items : List Item) (s : St
 same_records streams stop items s = flat_map-append (record_in s) items (end_items streams stop) ∙ ap (λ l. records_of s items ++ l) (no_end_records streams stop s) ∙ append-nil (records_of s items)
 
 module _ (plan : Shape) (items : List Item) (s : Stream) (marks : (s : Stream) → last_watermark s items ≤ END_MARK) where
-  end_within : (u : Stream) → last_watermark u (items ++ end_item (streams_of plan) s) ≤ END_MARK
+  pub end_within : (u : Stream) → last_watermark u (items ++ end_item (streams_of plan) s) ≤ END_MARK
   end_within u = by_use (uses (streams_of plan) s) refl
     where
       by_use : (used : Bool) → uses (streams_of plan) s ≡ used → last_watermark u (items ++ ending used s) ≤ END_MARK
@@ -73,7 +73,7 @@ module _ (plan : Shape) (items : List Item) (s : Stream) (marks : (s : Stream) �
       by_use true is = mark_rises plan items (item.Mark s END_MARK) u (is, marks s, omega arith)
       by_use false is = subst (λ l. last_watermark u items ≤ last_watermark u l) (sym (append-nil items)) (omega arith)
 
-  end_covered : (f : Fed) → Covers items f → Covers (items ++ end_item (streams_of plan) s) f
+  pub end_covered : (f : Fed) → Covers items f → Covers (items ++ end_item (streams_of plan) s) f
   end_covered f c = record {
     rest = c.rest;
     are = λ u. c.are u ∙ sym (flat_map-append (record_in u) items (end_item (streams_of plan) s) ∙ ap (λ l. records_of u items ++ l) (no_records (streams_of plan) s u) ∙ append-nil (records_of u items));
@@ -81,7 +81,7 @@ module _ (plan : Shape) (items : List Item) (s : Stream) (marks : (s : Stream) �
     floors = λ u. let a = c.floors u in let b = end_rises u in omega (arith, a, b);
   }
 
-few_with_end : (streams : Streams) (s : Stream) (items : List Item) → length (items ++ end_item streams s) ≤ length items + 1
+pub few_with_end : (streams : Streams) (s : Stream) (items : List Item) → length (items ++ end_item streams s) ≤ length items + 1
 few_with_end streams s items = by_use (uses streams s)
   where
     by_use : (used : Bool) → length (items ++ ending used s) ≤ length items + 1

@@ -35,11 +35,11 @@ takes_by : {O T : Type 0} (plan : Shape) (size : ℕ) (stands : Fed → List Rec
 takes_by plan size stands after part o p a b items c f before (Ok x) fed g = record { f = f; fed = fed; gives = g }
 takes_by plan size stands after part o p a b items c f before (Err why) fed g = record { f = f; covers = fed_covers size items f c fed; stops = g }
 
-from_floor : (plan : Shape) (size : ℕ) (items : List Item) (f : Fed) (c : Cutters) (s : Stream) (r : Record) → IsFedBy size items f c → IsTimely (streams_of plan) items (item.Rec s r) → IsFrom (cutter_of c s).floor r
+pub from_floor : (plan : Shape) (size : ℕ) (items : List Item) (f : Fed) (c : Cutters) (s : Stream) (r : Record) → IsFedBy size items f c → IsTimely (streams_of plan) items (item.Rec s r) → IsFrom (cutter_of c s).floor r
 from_floor plan size items f c s r fed t = subst (λ x. IsFrom x r) (sym (floor_is size items f c s fed)) t.1
 
 -- one record more is covered, although it was not fed
-with_one : (plan : Shape) (items : List Item) (s : Stream) (r : Record) (f : Fed) → Covers items f → IsTimely (streams_of plan) items (item.Rec s r) → Covers (items ++ item.Rec s r ∷ []) f
+pub with_one : (plan : Shape) (items : List Item) (s : Stream) (r : Record) (f : Fed) → Covers items f → IsTimely (streams_of plan) items (item.Rec s r) → Covers (items ++ item.Rec s r ∷ []) f
 with_one plan items s r f covers t = record {
   rest = λ u. covers.rest u ++ records_of u (item.Rec s r ∷ []);
   are = λ u. sym (append_assoc (records_of_feed f u) (covers.rest u) (records_of u (item.Rec s r ∷ []))) ∙ ap (λ l. l ++ records_of u (item.Rec s r ∷ [])) (covers.are u) ∙ sym (flat_map-append (record_in u) items (item.Rec s r ∷ []));

@@ -16,7 +16,7 @@ use sb_emit::{RowOut, Tap};
 /// # Errors
 ///
 /// Those of [`give_out`], and `Memory`. Then nothing is known of the engine.
-pub(crate) fn arrive<E: Engine, R: RowOut>(
+pub fn arrive<E: Engine, R: RowOut>(
     engine: &mut E,
     stream: Stream,
     bundle: Bundle,
@@ -47,7 +47,7 @@ pub(crate) fn arrive<E: Engine, R: RowOut>(
 /// # Errors
 ///
 /// Those of [`give_out`], and `Memory`. Then nothing is known of the engine.
-pub(crate) fn seal<E: Engine, R: RowOut>(
+pub fn seal<E: Engine, R: RowOut>(
     engine: &mut E,
     stream: Stream,
     mark: u64,

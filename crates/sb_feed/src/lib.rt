@@ -3,8 +3,9 @@
 //!
 //! [`feed`] feeds the lines of an input to any [`Engine`]. It does so item by item: [`next_item`] gives them one at a
 //! time, [`take_item`] feeds one, for which [`Cutters`] cut the records of each stream into bundles and
-//! [`keep_dropped`] lists a late record that the plan drops, and [`end_input`] feeds the end. [`give_out`] writes the
-//! rows that come out, and offers them. The crate's definitions say what feeding does as a whole.
+//! [`keep_dropped`] lists a late record that the plan drops, and [`end_input`] feeds the end. What a cutter gives comes to
+//! the engine by [`arrive`], and a watermark by [`seal`]. [`give_out`] writes the rows that come out, and offers them.
+//! The crate's definitions say what feeding does as a whole.
 #![tactic(auto)]
 
 mod coming;
@@ -17,6 +18,7 @@ mod give;
 mod reading;
 mod taking;
 
+pub use coming::{arrive, seal};
 pub use cutters::Cutters;
 pub use dropping::keep_dropped;
 pub use ending::{end_input, uses};

@@ -1,9 +1,11 @@
 -- What contracts see of the ends of the ring of an input.
-use Rattle.std.specs.Prelude.{List}
+use Rattle.std.specs.Prelude.{ℕ, List, [], ◌∷◌}
 use Rattle.rtrb.specs.Ring.{received, sent}
+use Rattle.sb_feed.specs.base.records.declared.item.Streams.{Streams}
 use Rattle.sb_feeds.specs.declared.input.ends.InputIn.{InputIn}
 use Rattle.sb_feeds.specs.declared.input.ends.InputOut.{InputOut}
 use Rattle.sb_feeds.specs.declared.input.fed.InputFed.{InputFed}
+use Rattle.sb_feeds.specs.declared.input.fed.InputFed.TheVariants.{Begin}
 use Rattle.sb_feeds.specs.Ends.{Ring, ring_at}
 
 -- the ring of each end
@@ -20,3 +22,7 @@ values_sent out = sent out.producer
 -- all that was received, oldest first
 abbrev pub values_received : InputIn → List InputFed
 values_received inward = received inward.consumer
+
+-- the values of a new ring: nothing but what is read
+abbrev pub begun_values : Streams → ℕ → List InputFed
+begun_values streams size = Begin streams size ∷ []

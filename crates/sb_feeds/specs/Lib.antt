@@ -2,6 +2,7 @@ pub mod Fed
 pub mod Ends
 pub mod InputFed
 pub mod InputEnds
+pub mod InputSends
 pub mod Laws
 pub use Rattle.sb_feed.specs.outside
 pub use Rattle.sb_feed.specs.emit

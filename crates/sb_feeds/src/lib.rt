@@ -1,13 +1,15 @@
-//! The items of a record file, or of any input, which reach the engine's feeder through a ring.
+//! The items of a record file, or the bundles of any input, which reach the engine's feeder through a ring.
 //!
 //! A thread reads a file by [`feed`]: each item that is accepted goes into the ring, and then why reading stopped.
 //! The feeder takes them out by [`FeedIn::pop`], which never waits. Once the thread has ended, both ends are in one
 //! hand again, and [`FeedIn::tie`] says that what was taken out are the first of what the file fed, in their order,
 //! and all of it if the stop was among them.
 //!
-//! A thread reads an input by [`feed_input`], which does the same, but ends early once the feeder says by [`Signals`]
-//! that it needs nothing more. Of each item that the feeder takes out by [`InputIn::pop`] it knows at once that it is in
-//! time, and by [`InputIn::tie`] in the end that what it took out are the first of what the input gave.
+//! A thread reads an input by [`feed_input`]: it cuts the items into bundles, and these go into the ring with the
+//! watermarks that seal their epochs, and then why reading stopped. It ends early once the feeder says by [`Signals`]
+//! that it needs nothing more. Of each value that the feeder takes out by [`InputIn::pop`] it knows at once that an
+//! engine may be fed it, by [`take_value`], and by [`InputIn::tie`] in the end that what it took out are the first of
+//! what the input gave.
 //!
 //! No contract says how soon a value that one thread put in is seen by the other.
 #![tactic(auto)]
@@ -25,10 +27,11 @@ pub use fed::{Fed, FeedStop};
 pub use feeding::feed;
 pub use input::ends::{InputIn, InputOut};
 pub use input::fed::InputFed;
-pub use input::feeding::feed_input;
 pub use input::patience::Patience;
 pub use input::ring::{INPUT_PLACES, input_pair};
+pub use input::sending::feed_input;
 pub use input::signals::Signals;
+pub use input::taking::take_value;
 pub use ring::{RING_PLACES, feed_pair};
 
 // What the crates above name of the crates below.

@@ -7,6 +7,9 @@ use denote.RattleType.{RattleType}
 use denote.Ref.{NamedLft}
 use denote.Struct.Field.{shr_ref_field}
 use denote.Struct.Tuple.{TupleAt, type_at}
+use denote.Builtin.{u32}
+use Rattle.sb_feeds.specs.base.records.contracts.item.Dropped as dropped_row
+use Rattle.sb_feeds.proofs.base.records.item.Dropped.TheSendSync as dropped_crossing
 use Rattle.sb_feeds.specs.contracts.input.ends.InputOut as outward
 use Rattle.sb_feeds.proofs.input.ends.InputOut.TheSendSync as outward_crossing
 use Rattle.sb_feeds.specs.contracts.input.signals.Signals as signals
@@ -19,8 +22,14 @@ Out-send = outward_crossing.the_send
 pub Signals-lent : (ℓ : NamedLft) → IsSend (shr_ref_field ℓ signals.the_row tt).row
 Signals-lent ℓ = search (sendable, signals_crossing.the_sync) depth 20
 
-pub Eight-send : (ν : Sym) (A B C D E F G H : RattleType) → IsSend A → IsSend B → IsSend C → IsSend D → IsSend E → IsSend F → IsSend G → IsSend H
-    → IsSend (TupleAt ν (A ∷ B ∷ C ∷ D ∷ E ∷ F ∷ G ∷ H ∷ []))
-Eight-send ν A B C D E F G H a b c d e f g h =
-    declared_send (type_at ν (A ∷ B ∷ C ∷ D ∷ E ∷ F ∷ G ∷ H ∷ []))
-    (captured (A ∷ B ∷ C ∷ D ∷ E ∷ F ∷ G ∷ H ∷ []) (a, (b, (c, (d, (e, (f, (g, (h, tt)))))))))
+pub Size-lent : (ℓ : NamedLft) → IsSend (shr_ref_field ℓ u32 tt).row
+Size-lent ℓ = search sendable depth 20
+
+pub Dropped-send : IsSend dropped_row.the_row
+Dropped-send = dropped_crossing.the_send
+
+pub Ten-send : (ν : Sym) (A B C D E F G H I J : RattleType) → IsSend A → IsSend B → IsSend C → IsSend D → IsSend E → IsSend F → IsSend G → IsSend H → IsSend I → IsSend J
+    → IsSend (TupleAt ν (A ∷ B ∷ C ∷ D ∷ E ∷ F ∷ G ∷ H ∷ I ∷ J ∷ []))
+Ten-send ν A B C D E F G H I J a b c d e f g h i j =
+    declared_send (type_at ν (A ∷ B ∷ C ∷ D ∷ E ∷ F ∷ G ∷ H ∷ I ∷ J ∷ []))
+    (captured (A ∷ B ∷ C ∷ D ∷ E ∷ F ∷ G ∷ H ∷ I ∷ J ∷ []) (a, (b, (c, (d, (e, (f, (g, (h, (i, (j, tt)))))))))))

@@ -1,14 +1,19 @@
 //! What an input feeds.
 
-use sb_feed::sb_base::{Item, Stop, Streams};
+use sb_feed::sb_base::{Bundle, Stop, Stream, Streams};
 
 /// A value that an input feeds.
-#[derive(Clone, Copy, Debug, PartialEq, Eq, Drop)]
+#[derive(Drop)]
 pub enum InputFed {
-    /// Which streams are read. It is the first value of each ring, and is taken out where the ring is made.
-    Begin(Streams),
-    /// What an accepted line gives.
-    Item(Item),
-    /// Reading stopped. Nothing follows.
+    /// Which streams are read, and the most records of a bundle. It is the first value of each ring, and is taken out
+    /// where the ring is made.
+    Begin(Streams, u32),
+    /// A bundle of a stream, of the epoch behind the watermarks of the stream that were sent.
+    Bundle(Stream, Bundle),
+    /// A watermark of a stream: it seals the epoch.
+    Mark(Stream, u64),
+    /// Reading stopped, and all that comes before was sent. Nothing follows.
     Stop(Stop),
+    /// The reader found no memory. Nothing follows.
+    NoMemory,
 }

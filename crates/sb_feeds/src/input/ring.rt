@@ -3,8 +3,8 @@
 ghost use Rattle.std.specs.Prelude.{◌≡◌, ◌<◌, ◌++◌, ◌∷◌, [], IfOk, IfSome, IfNone};
 ghost use mathlib.Core.List.{IsPrefix};
 ghost use Rattle.rtrb.specs.Ring.{SameProducer, known_free, sent};
-ghost use Rattle.sb_feeds.specs.InputFed.{MayFollow, values_of};
-ghost use Rattle.sb_feeds.specs.InputEnds.{ring_in, ring_out, values_received, values_sent};
+ghost use Rattle.sb_feeds.specs.InputFed.{MayFollow};
+ghost use Rattle.sb_feeds.specs.InputEnds.{begun_values, ring_in, ring_out, values_received, values_sent};
 
 use crate::input::ends::{InputFeeding, InputIn, InputOut};
 use crate::input::fed::InputFed;
@@ -15,8 +15,8 @@ use std::alloc::Global;
 use std::sync::Wait;
 
 /// How many values wait in the ring of an input at most: so many that a reader that sleeps for a while before a full
-/// ring is back before it is empty.
-pub const INPUT_PLACES: usize = 4_096;
+/// ring is back before it is empty, and so few that their bundles take little memory.
+pub const INPUT_PLACES: usize = 128;
 
 // Sends a value, where a place is known to be free. It names what a full ring hands back, since without that the prover
 // cannot name the value's types.
@@ -34,19 +34,24 @@ fn put(producer: &mut Producer<InputFed, Global, InputFeeding>, next: InputFed)
     unreachable!()
 }
 
-/// The two ends of a new ring of [`INPUT_PLACES`] places, for an input of these streams. Only making it takes memory.
+/// The two ends of a new ring of [`INPUT_PLACES`] places, for an input of these streams and bundles of at most so many
+/// records. Only making it takes memory.
 ///
 /// # Errors
 ///
 /// There was no memory for the ring.
-pub fn input_pair(alloc: Global, streams: Streams) -> Result<(InputOut, InputIn), NoMemory>
+pub fn input_pair(
+    alloc: Global,
+    streams: Streams,
+    size: u32,
+) -> Result<(InputOut, InputIn), NoMemory>
     ensures ring { IfOk result (λ r. ring_in r.1 ≡ ring_out r.0) }
-    ensures nothing_sent { IfOk result (λ r. values_sent r.0 ≡ values_of streams []) }
-    ensures nothing_received { IfOk result (λ r. values_received r.1 ≡ values_of streams []) }
+    ensures nothing_sent { IfOk result (λ r. values_sent r.0 ≡ begun_values streams size) }
+    ensures nothing_received { IfOk result (λ r. values_received r.1 ≡ begun_values streams size) }
 {
     match RingBuffer::with_protocol::<Global, InputFeeding>(alloc, INPUT_PLACES) {
         Ok((mut producer, mut consumer)) => {
-            put(&mut producer, InputFed::Begin(streams));
+            put(&mut producer, InputFed::Begin(streams, size));
             consumer.slots_beside(&mut producer);
             consumer.pop_known();
             Ok((InputOut { producer }, InputIn { consumer }))

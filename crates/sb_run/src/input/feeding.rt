@@ -1,18 +1,14 @@
 //! Feeding what comes out of the ring of an input to a shared cascade.
 
-ghost use Rattle.std.specs.Prelude.{◌≡◌, ◌≤◌, ◌<◌, ◌^◌, ◌++◌, ◌∷◌, ◌+◌, [], false, List, map, length, OnOk, OnErr, IfOk};
-ghost use Rattle.sb_feeds.specs.base.records.declared.item.Item.{Item as AnItem};
+ghost use Rattle.std.specs.Prelude.{◌≡◌, ◌≤◌, ◌<◌, ◌^◌, [], false, List, map, length, OnOk};
 ghost use Rattle.sb_feeds.specs.base.records.declared.item.Record.{Record as ARecord};
-ghost use Rattle.sb_feeds.specs.base.records.Streams.{dropped_in};
 ghost use Rattle.sb_feeds.specs.base.pipeline.Shapes.{streams_of};
 ghost use Rattle.sb_worker.specs.cascade.Calls.{plan_of, setting_of};
-ghost use Rattle.sb_feeds.specs.one_feed.FedByItems.{end_items};
 ghost use Rattle.sb_feeds.specs.one_feed.Feeds.{Fed, nothing_fed};
 ghost use Rattle.sb_feeds.specs.one_feed.GiveCauses.{GiveCause};
 ghost use Rattle.sb_feeds.specs.one_feed.Gives.{Gives};
-ghost use Rattle.sb_feeds.specs.one_feed.Takes.{MayEnd, MayTake, TakesOrFails};
-ghost use Rattle.sb_feeds.specs.InputFed.{values_of};
-ghost use Rattle.sb_feeds.specs.InputEnds.{ring_in, values_received};
+ghost use Rattle.sb_feeds.specs.InputFed.{MayCome, fed_with};
+ghost use Rattle.sb_feeds.specs.InputEnds.{begun_values, ring_in, values_received};
 ghost use Rattle.sb_run.specs.Feeders.{HasFed, IsStill};
 ghost use Rattle.sb_run.specs.InputPops.{FeedsPopped};
 
@@ -20,10 +16,10 @@ use crate::shared::feeder::Feeder;
 use crate::shared::feeding::{end_work, reason_of};
 use crate::shared::pace::Pace;
 use crate::shared::working::{step_too, take_out};
-use sb_feeds::sb_base::{Dropped, Item, MAX_BUNDLE, MAX_LINES, NoMemory, Stop};
+use sb_feeds::sb_base::{NoMemory, Stop};
 use sb_feeds::sb_emit::{RowOut, Tap};
-use sb_feeds::sb_feed::{Cutters, GiveStop, end_input, give_out, take_item};
-use sb_feeds::{InputFed, InputIn, Patience, Signals};
+use sb_feeds::sb_feed::{GiveStop, give_out};
+use sb_feeds::{InputFed, InputIn, Patience, Signals, take_value};
 use sb_worker::sb_cascade::{Cascade, CascadePass};
 use sb_worker::sb_hand::Did;
 use sb_worker::sb_work::Gate;
@@ -31,7 +27,7 @@ use std::alloc::Global;
 use std::sync::Wait;
 use std::time::Clock;
 
-// Takes an item: a late record that is dropped is listed.
+// Takes a value that came. The rows that come out then are given out.
 fn take<W: Wait + Clock, G: Gate, R: RowOut>(
     rt: &W,
     alloc: Global,
@@ -39,26 +35,18 @@ fn take<W: Wait + Clock, G: Gate, R: RowOut>(
     pass: &mut CascadePass,
     gate: &G,
     pace: &mut Pace,
-    cutters: &mut Cutters,
-    item: Item,
+    next: InputFed,
     out: &mut R,
     taps: &mut Vec<Box<dyn Tap>>,
-    dropped: &mut Vec<Dropped>,
 ) -> Result<(), GiveStop>
-    requires may { (items : List AnItem) × (f : Fed) × (rows : List ARecord)
-        × MayTake (HasFed cascade.now pass.old) (plan_of cascade.now) (setting_of cascade.now).bundle
-        cutters.old item items f rows }
+    requires may { (f : Fed) × (rows : List ARecord) × HasFed cascade.now pass.old f rows
+        × MayCome (plan_of cascade.now) (setting_of cascade.now).bundle f next }
     requires few { length taps.old.items < 2 ^ 32 }
     ensures same { IsStill cascade.now pass.old pass.new }
-    ensures takes { (items : List AnItem) (f : Fed) (rows : List ARecord)
-        → MayTake (HasFed cascade.now pass.old) (plan_of cascade.now) (setting_of cascade.now).bundle
-        cutters.old item items f rows
-        → TakesOrFails (plan_of cascade.now) (setting_of cascade.now).bundle (HasFed cascade.now pass.new)
-        R.after R.part out.old out.new
-        (map (λ t. tap_state t) taps.old.items) (map (λ t. tap_state t) taps.new.items)
-        (items ++ item ∷ []) cutters.new rows result }
-    ensures kept { OnOk result (dropped.new.items ≡ dropped.old.items ++ dropped_in item) }
-    ensures same_list { OnErr result (dropped.new.items ≡ dropped.old.items) }
+    ensures gives { (f : Fed) (rows : List ARecord) → HasFed cascade.now pass.old f rows
+        → MayCome (plan_of cascade.now) (setting_of cascade.now).bundle f next
+        → Gives (plan_of cascade.now) (HasFed cascade.now pass.new (fed_with next f)) R.after R.part out.old out.new
+        (map (λ t. tap_state t) taps.old.items) (map (λ t. tap_state t) taps.new.items) (fed_with next f) rows result }
     ensures fewer { OnOk result (length taps.new.items ≤ length taps.old.items) }
     ensures cause { GiveCause (R.row_state out.old) (R.row_state out.new) result }
 {
@@ -70,51 +58,9 @@ fn take<W: Wait + Clock, G: Gate, R: RowOut>(
         gate,
         pace: *pace,
     };
-    let taken = take_item(&mut engine, cutters, item, out, taps, dropped);
+    let taken = take_value(&mut engine, next, out, taps);
     *pace = engine.pace;
     taken
-}
-
-// Takes the end of the input, if reading stopped there.
-fn end<W: Wait + Clock, G: Gate, R: RowOut>(
-    rt: &W,
-    alloc: Global,
-    cascade: &Cascade,
-    pass: &mut CascadePass,
-    gate: &G,
-    pace: Pace,
-    cutters: &mut Cutters,
-    stop: Stop,
-    out: &mut R,
-    taps: &mut Vec<Box<dyn Tap>>,
-) -> Result<Stop, GiveStop>
-    requires may { (items : List AnItem) × (f : Fed) × (rows : List ARecord)
-        × MayEnd (HasFed cascade.now pass.old) (setting_of cascade.now).bundle cutters.old (MAX_LINES + 1)
-        items f rows }
-    requires few { length taps.old.items < 2 ^ 32 }
-    ensures same { IsStill cascade.now pass.old pass.new }
-    ensures takes { (items : List AnItem) (f : Fed) (rows : List ARecord)
-        → MayEnd (HasFed cascade.now pass.old) (setting_of cascade.now).bundle cutters.old (MAX_LINES + 1) items f rows
-        → TakesOrFails (plan_of cascade.now) (setting_of cascade.now).bundle (HasFed cascade.now pass.new)
-        R.after R.part out.old out.new
-        (map (λ t. tap_state t) taps.old.items) (map (λ t. tap_state t) taps.new.items)
-        (items ++ end_items (streams_of (plan_of cascade.now)) stop) cutters.new rows result }
-    ensures stop { IfOk result (λ given. given ≡ stop) }
-    ensures fewer { OnOk result (length taps.new.items ≤ length taps.old.items) }
-    ensures cause { GiveCause (R.row_state out.old) (R.row_state out.new) result }
-{
-    let mut engine = Feeder {
-        rt,
-        alloc,
-        cascade,
-        pass,
-        gate,
-        pace,
-    };
-    match end_input(&mut engine, cutters, stop, out, taps) {
-        Ok(()) => Ok(stop),
-        Err(why) => Err(why),
-    }
 }
 
 // Gives out the rows that lie ready.
@@ -192,67 +138,36 @@ fn feed_values<W: Wait + Clock, G: Gate, R: RowOut>(
     cascade: &Cascade,
     pass: &mut CascadePass,
     gate: &G,
-    size: u32,
     inward: &mut InputIn,
     signals: &Signals,
     out: &mut R,
     taps: &mut Vec<Box<dyn Tap>>,
-    dropped: &mut Vec<Dropped>,
 ) -> Result<Stop, GiveStop>
     requires begins { HasFed cascade.now pass.old nothing_fed [] }
-    requires nothing { values_received inward.old ≡ values_of (streams_of (plan_of cascade.now)) [] }
-    requires size { (setting_of cascade.now).bundle ≡ size }
-    requires some { 1 ≤ size }
-    requires most { size ≤ MAX_BUNDLE }
+    requires nothing { values_received inward.old
+        ≡ begun_values (streams_of (plan_of cascade.now)) (setting_of cascade.now).bundle }
     requires few { length taps.old.items < 2 ^ 32 }
     ensures ring { ring_in inward.new ≡ ring_in inward.old }
     ensures same { IsStill cascade.now pass.old pass.new }
     ensures feeds { FeedsPopped (plan_of cascade.now) (setting_of cascade.now).bundle (values_received inward.new)
         (HasFed cascade.now pass.new) R.after R.part out.old out.new
-        (map (λ t. tap_state t) taps.old.items) (map (λ t. tap_state t) taps.new.items)
-        dropped.old.items dropped.new.items result }
+        (map (λ t. tap_state t) taps.old.items) (map (λ t. tap_state t) taps.new.items) result }
     ensures fewer { OnOk result (length taps.new.items ≤ length taps.old.items) }
     ensures cause { GiveCause (R.row_state out.old) (R.row_state out.new) result }
 {
-    let mut cutters = Cutters::new(alloc, size);
     let mut pace = Pace::new();
     let mut patience = Patience::new();
     for _ in rt.forever() {
         match inward.pop() {
-            Some(InputFed::Item(item)) => {
+            Some(InputFed::Stop(stop)) => return Ok(stop),
+            Some(InputFed::NoMemory) => return Err(GiveStop::Memory),
+            Some(next) => {
                 patience.renew();
-                match take(
-                    rt,
-                    alloc,
-                    cascade,
-                    pass,
-                    gate,
-                    &mut pace,
-                    &mut cutters,
-                    item,
-                    out,
-                    taps,
-                    dropped,
-                ) {
+                match take(rt, alloc, cascade, pass, gate, &mut pace, next, out, taps) {
                     Ok(()) => {}
                     Err(why) => return Err(why),
                 }
             }
-            Some(InputFed::Stop(stop)) => {
-                return end(
-                    rt,
-                    alloc,
-                    cascade,
-                    pass,
-                    gate,
-                    pace,
-                    &mut cutters,
-                    stop,
-                    out,
-                    taps,
-                );
-            }
-            Some(InputFed::Begin(_)) => unreachable!(),
             None => match idle(
                 rt,
                 alloc,
@@ -280,31 +195,24 @@ fn feed_begun<W: Wait + Clock, G: Gate, R: RowOut>(
     cascade: &Cascade,
     pass: &mut CascadePass,
     gate: &G,
-    size: u32,
     inward: &mut InputIn,
     signals: &Signals,
     out: &mut R,
     taps: &mut Vec<Box<dyn Tap>>,
-    dropped: &mut Vec<Dropped>,
 ) -> Result<Stop, GiveStop>
     requires begins { HasFed cascade.now pass.old nothing_fed [] }
-    requires nothing { values_received inward.old ≡ values_of (streams_of (plan_of cascade.now)) [] }
-    requires size { (setting_of cascade.now).bundle ≡ size }
-    requires some { 1 ≤ size }
-    requires most { size ≤ MAX_BUNDLE }
+    requires nothing { values_received inward.old
+        ≡ begun_values (streams_of (plan_of cascade.now)) (setting_of cascade.now).bundle }
     requires few { length taps.old.items < 2 ^ 32 }
     ensures ring { ring_in inward.new ≡ ring_in inward.old }
     ensures same { IsStill cascade.now pass.old pass.new }
     ensures feeds { FeedsPopped (plan_of cascade.now) (setting_of cascade.now).bundle (values_received inward.new)
         (HasFed cascade.now pass.new) R.after R.part out.old out.new
-        (map (λ t. tap_state t) taps.old.items) (map (λ t. tap_state t) taps.new.items)
-        dropped.old.items dropped.new.items result }
+        (map (λ t. tap_state t) taps.old.items) (map (λ t. tap_state t) taps.new.items) result }
     ensures fewer { OnOk result (length taps.new.items ≤ length taps.old.items) }
     ensures cause { GiveCause (R.row_state out.old) (R.row_state out.new) result }
 {
-    let stop = match feed_values(
-        rt, alloc, cascade, pass, gate, size, inward, signals, out, taps, dropped,
-    ) {
+    let stop = match feed_values(rt, alloc, cascade, pass, gate, inward, signals, out, taps) {
         Ok(stop) => stop,
         Err(why) => {
             signals.end();
@@ -320,8 +228,7 @@ fn feed_begun<W: Wait + Clock, G: Gate, R: RowOut>(
 
 /// The feeder's work: it feeds what comes out of the ring of an input to a cascade that was fed nothing yet, steps
 /// until nothing is left to do, says in the state word that the run ends, and answers where reading stopped. The rows
-/// that lie ready as a watermark comes, as a lane is full, or where nothing comes for a while, are written and offered,
-/// and the late records that the plan drops go to the end of `dropped`. `size` is the most records of a bundle.
+/// that lie ready as a watermark comes, as a lane is full, or where nothing comes for a while, are written and offered.
 ///
 /// False, and the answer says no more, if the reader has not begun for about a second: then it is given up, and nothing
 /// was done.
@@ -336,35 +243,27 @@ pub(crate) fn feed_popped<W: Wait + Clock, G: Gate, R: RowOut>(
     cascade: &Cascade,
     pass: &mut CascadePass,
     gate: &G,
-    size: u32,
     inward: &mut InputIn,
     signals: &Signals,
     out: &mut R,
     taps: &mut Vec<Box<dyn Tap>>,
-    dropped: &mut Vec<Dropped>,
 ) -> (bool, Result<Stop, GiveStop>)
     requires begins { HasFed cascade.now pass.old nothing_fed [] }
-    requires nothing { values_received inward.old ≡ values_of (streams_of (plan_of cascade.now)) [] }
-    requires size { (setting_of cascade.now).bundle ≡ size }
-    requires some { 1 ≤ size }
-    requires most { size ≤ MAX_BUNDLE }
+    requires nothing { values_received inward.old
+        ≡ begun_values (streams_of (plan_of cascade.now)) (setting_of cascade.now).bundle }
     requires few { length taps.old.items < 2 ^ 32 }
     ensures ring { ring_in inward.new ≡ ring_in inward.old }
     ensures same { IsStill cascade.now pass.old pass.new }
-    ensures left { result.0 ≡ false → (pass.new ≡ pass.old) × (out.new ≡ out.old) × (taps.new ≡ taps.old)
-        × (dropped.new ≡ dropped.old) }
+    ensures left { result.0 ≡ false → (pass.new ≡ pass.old) × (out.new ≡ out.old) × (taps.new ≡ taps.old) }
     ensures feeds { FeedsPopped (plan_of cascade.now) (setting_of cascade.now).bundle (values_received inward.new)
         (HasFed cascade.now pass.new) R.after R.part out.old out.new
-        (map (λ t. tap_state t) taps.old.items) (map (λ t. tap_state t) taps.new.items)
-        dropped.old.items dropped.new.items result.1 }
+        (map (λ t. tap_state t) taps.old.items) (map (λ t. tap_state t) taps.new.items) result.1 }
     ensures fewer { OnOk result.1 (length taps.new.items ≤ length taps.old.items) }
     ensures cause { GiveCause (R.row_state out.old) (R.row_state out.new) result.1 }
 {
     if !signals.has_begun(rt) {
         return (false, Err(GiveStop::Memory));
     }
-    let fed = feed_begun(
-        rt, alloc, cascade, pass, gate, size, inward, signals, out, taps, dropped,
-    );
+    let fed = feed_begun(rt, alloc, cascade, pass, gate, inward, signals, out, taps);
     (true, fed)
 }

@@ -1,16 +1,16 @@
 //! The thread that reads an input.
 
-ghost use Rattle.std.specs.Prelude.{◌≡◌, [], true, false, length, Some};
+ghost use Rattle.std.specs.Prelude.{◌≡◌, ◌≤◌, true, false, length, Some};
 ghost use Rattle.std.specs.List.{AllByRecursion};
 ghost use Rattle.std.specs.Thread.{IsSync};
 ghost use Rattle.sb_feeds.specs.base.pipeline.Shapes.{streams_of};
-ghost use Rattle.sb_feeds.specs.InputFed.{IsReadOf, values_of};
-ghost use Rattle.sb_feeds.specs.InputEnds.{ring_out, values_sent};
+ghost use Rattle.sb_feeds.specs.InputFed.{IsReadOf};
+ghost use Rattle.sb_feeds.specs.InputEnds.{begun_values, ring_out, values_sent};
 ghost use Rattle.sb_worker.specs.cascade.Calls.{plan_of};
 ghost use Rattle.sb_worker.specs.Helping.{IsHelper};
 
 use crate::shared::helping::help_all;
-use sb_feeds::sb_base::Stop;
+use sb_feeds::sb_base::{Dropped, MAX_BUNDLE, Stop};
 use sb_feeds::sb_outside::Source;
 use sb_feeds::{InputOut, Signals, feed_input};
 use sb_worker::sb_cascade::{Cascade, CascadePass};
@@ -28,17 +28,21 @@ fn help_and_read<W: Threads + Wait + Clock + Sync, S: Source, G: Gate + Sync>(
     cascade: &Cascade,
     gate: &G,
     helpers: &mut Vec<CascadePass>,
+    size: u32,
     input: &mut S,
+    dropped: &mut Vec<Dropped>,
     outward: &mut InputOut,
     signals: &Signals,
 ) -> (bool, Option<Stop>)
     requires helpers { AllByRecursion (IsHelper cascade.now) helpers.old.items }
-    requires new { values_sent outward.old ≡ values_of (streams_of (plan_of cascade.now)) [] }
+    requires new { values_sent outward.old ≡ begun_values (streams_of (plan_of cascade.now)) size }
+    requires some { 1 ≤ size }
+    requires most { size ≤ MAX_BUNDLE }
     ensures back { result.0 ≡ true → AllByRecursion (IsHelper cascade.now) helpers.new.items
         × (length helpers.new.items ≡ length helpers.old.items) }
     ensures ring { ring_out outward.new ≡ ring_out outward.old }
-    ensures read { IsReadOf (plan_of cascade.now) (S.left input.old) (S.left input.new) (S.faults input.old)
-        (S.faults input.new) (values_sent outward.new) result.1 }
+    ensures read { IsReadOf (plan_of cascade.now) size (S.left input.old) (S.left input.new) (S.faults input.old)
+        (S.faults input.new) (values_sent outward.new) dropped.old.items dropped.new.items result.1 }
     ensures end { result.1 ≡ Some Stop.End → S.has_ended input.new }
     ensures name { S.name input.new ≡ S.name input.old }
 {
@@ -51,19 +55,33 @@ fn help_and_read<W: Threads + Wait + Clock + Sync, S: Source, G: Gate + Sync>(
                 × (length helpers.exit.now.items ≡ length helpers.entry.now.items) }
         { help_all(rt, alloc, cascade, gate, helpers) },
         &mut || -> Option<Stop>
-            requires new { values_sent outward.now ≡ values_of (streams_of (plan_of cascade.now)) [] }
+            requires new { values_sent outward.now ≡ begun_values (streams_of (plan_of cascade.now)) size }
+            requires some { 1 ≤ size }
+            requires most { size ≤ MAX_BUNDLE }
             ensures ring { ring_out outward.exit.now ≡ ring_out outward.entry.now }
-            ensures read { IsReadOf (plan_of cascade.entry.now) (S.left input.entry.now) (S.left input.exit.now)
-                (S.faults input.entry.now) (S.faults input.exit.now) (values_sent outward.exit.now) result }
+            ensures read { IsReadOf (plan_of cascade.entry.now) size (S.left input.entry.now) (S.left input.exit.now)
+                (S.faults input.entry.now) (S.faults input.exit.now) (values_sent outward.exit.now)
+                dropped.entry.now.items dropped.exit.now.items result }
             ensures end { result ≡ Some Stop.End → S.has_ended input.exit.now }
             ensures name { S.name input.exit.now ≡ S.name input.entry.now }
-        { feed_input(rt, cascade.plan(), input, outward, signals) },
+        {
+            feed_input(
+                rt,
+                alloc,
+                cascade.plan(),
+                size,
+                input,
+                dropped,
+                outward,
+                signals,
+            )
+        },
     )
 }
 
-/// Beside the feeder: the input is read into the ring, and the helpers help until the run ends. False with a helper
-/// that found no memory. Then whether the reader has begun, since the feeder may have given it up, and the stop that it
-/// has sent, if it sent one.
+/// Beside the feeder: the input is read and goes into the ring in bundles, and the helpers help until the run ends. The
+/// late records that the plan drops go to the end of `dropped`. False with a helper that found no memory. Then whether
+/// the reader has begun, since the feeder may have given it up, and the stop that it has sent, if it sent one.
 ///
 /// The helpers come second where no second thread can be made: they end with the run, but the feeder waits for the
 /// input.
@@ -73,24 +91,30 @@ pub(crate) fn read_and_help<W: Threads + Wait + Clock + Sync, S: Source, G: Gate
     cascade: &Cascade,
     gate: &G,
     helpers: &mut Vec<CascadePass>,
+    size: u32,
     input: &mut S,
+    dropped: &mut Vec<Dropped>,
     outward: &mut InputOut,
     signals: &Signals,
 ) -> (bool, bool, Option<Stop>)
     requires helpers { AllByRecursion (IsHelper cascade.now) helpers.old.items }
-    requires new { values_sent outward.old ≡ values_of (streams_of (plan_of cascade.now)) [] }
+    requires new { values_sent outward.old ≡ begun_values (streams_of (plan_of cascade.now)) size }
+    requires some { 1 ≤ size }
+    requires most { size ≤ MAX_BUNDLE }
     ensures back { result.0 ≡ true → AllByRecursion (IsHelper cascade.now) helpers.new.items
         × (length helpers.new.items ≡ length helpers.old.items) }
-    ensures unread { result.1 ≡ false → input.new ≡ input.old }
+    ensures unread { result.1 ≡ false → (input.new ≡ input.old) × (dropped.new ≡ dropped.old) }
     ensures ring { ring_out outward.new ≡ ring_out outward.old }
-    ensures read { IsReadOf (plan_of cascade.now) (S.left input.old) (S.left input.new) (S.faults input.old)
-        (S.faults input.new) (values_sent outward.new) result.2 }
+    ensures read { IsReadOf (plan_of cascade.now) size (S.left input.old) (S.left input.new) (S.faults input.old)
+        (S.faults input.new) (values_sent outward.new) dropped.old.items dropped.new.items result.2 }
     ensures end { result.2 ≡ Some Stop.End → S.has_ended input.new }
     ensures name { S.name input.new ≡ S.name input.old }
 {
     if !signals.begin() {
         return (true, false, None);
     }
-    let (clear, stop) = help_and_read(rt, alloc, cascade, gate, helpers, input, outward, signals);
+    let (clear, stop) = help_and_read(
+        rt, alloc, cascade, gate, helpers, size, input, dropped, outward, signals,
+    );
     (clear, true, stop)
 }

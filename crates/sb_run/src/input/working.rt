@@ -4,8 +4,8 @@ ghost use Rattle.std.specs.Prelude.{◌≡◌, ◌≤◌, ◌<◌, ◌^◌, [], 
 ghost use Rattle.std.specs.List.{AllByRecursion};
 ghost use Rattle.std.specs.Thread.{IsSync};
 ghost use Rattle.sb_feeds.specs.base.pipeline.Shapes.{streams_of};
-ghost use Rattle.sb_feeds.specs.InputFed.{IsReadOf, values_of};
-ghost use Rattle.sb_feeds.specs.InputEnds.{ring_in, ring_out, values_received, values_sent};
+ghost use Rattle.sb_feeds.specs.InputFed.{IsReadOf};
+ghost use Rattle.sb_feeds.specs.InputEnds.{begun_values, ring_in, ring_out, values_received, values_sent};
 ghost use Rattle.sb_worker.specs.cascade.Calls.{plan_of, setting_of};
 ghost use Rattle.sb_feeds.specs.one_feed.Feeds.{nothing_fed};
 ghost use Rattle.sb_feeds.specs.one_feed.GiveCauses.{GiveCause};
@@ -49,8 +49,8 @@ fn work_apart<W: Threads + Wait + Clock + Sync, S: Source, R: RowOut, G: Gate + 
     gate: &G,
 ) -> ((bool, bool, Option<Stop>), (bool, Result<Stop, GiveStop>))
     requires begins { HasFed cascade.now pass.old nothing_fed [] }
-    requires sent { values_sent outward.old ≡ values_of (streams_of (plan_of cascade.now)) [] }
-    requires received { values_received inward.old ≡ values_of (streams_of (plan_of cascade.now)) [] }
+    requires sent { values_sent outward.old ≡ begun_values (streams_of (plan_of cascade.now)) size }
+    requires received { values_received inward.old ≡ begun_values (streams_of (plan_of cascade.now)) size }
     requires helpers { AllByRecursion (IsHelper cascade.now) helpers.old.items }
     requires size { (setting_of cascade.now).bundle ≡ size }
     requires some { 1 ≤ size }
@@ -58,20 +58,18 @@ fn work_apart<W: Threads + Wait + Clock + Sync, S: Source, R: RowOut, G: Gate + 
     requires few { length taps.old.items < 2 ^ 32 }
     ensures back { result.0.0 ≡ true → AllByRecursion (IsHelper cascade.now) helpers.new.items
         × (length helpers.new.items ≡ length helpers.old.items) }
-    ensures unread { result.0.1 ≡ false → input.new ≡ input.old }
+    ensures unread { result.0.1 ≡ false → (input.new ≡ input.old) × (dropped.new ≡ dropped.old) }
     ensures ring_out { ring_out outward.new ≡ ring_out outward.old }
-    ensures read { IsReadOf (plan_of cascade.now) (S.left input.old) (S.left input.new) (S.faults input.old)
-        (S.faults input.new) (values_sent outward.new) result.0.2 }
+    ensures read { IsReadOf (plan_of cascade.now) size (S.left input.old) (S.left input.new) (S.faults input.old)
+        (S.faults input.new) (values_sent outward.new) dropped.old.items dropped.new.items result.0.2 }
     ensures end { result.0.2 ≡ Some Stop.End → S.has_ended input.new }
     ensures name { S.name input.new ≡ S.name input.old }
     ensures ring_in { ring_in inward.new ≡ ring_in inward.old }
     ensures same { IsStill cascade.now pass.old pass.new }
-    ensures left { result.1.0 ≡ false → (pass.new ≡ pass.old) × (out.new ≡ out.old) × (taps.new ≡ taps.old)
-        × (dropped.new ≡ dropped.old) }
+    ensures left { result.1.0 ≡ false → (pass.new ≡ pass.old) × (out.new ≡ out.old) × (taps.new ≡ taps.old) }
     ensures feeds { FeedsPopped (plan_of cascade.now) (setting_of cascade.now).bundle (values_received inward.new)
         (HasFed cascade.now pass.new) R.after R.part out.old out.new
-        (map (λ t. tap_state t) taps.old.items) (map (λ t. tap_state t) taps.new.items)
-        dropped.old.items dropped.new.items result.1.1 }
+        (map (λ t. tap_state t) taps.old.items) (map (λ t. tap_state t) taps.new.items) result.1.1 }
     ensures fewer { OnOk result.1.1 (length taps.new.items ≤ length taps.old.items) }
     ensures cause { GiveCause (R.row_state out.old) (R.row_state out.new) result.1.1 }
 {
@@ -79,40 +77,41 @@ fn work_apart<W: Threads + Wait + Clock + Sync, S: Source, R: RowOut, G: Gate + 
         rt,
         &mut || -> (bool, bool, Option<Stop>)
             requires helpers { AllByRecursion (IsHelper cascade.now) helpers.now.items }
-            requires sent { values_sent outward.now ≡ values_of (streams_of (plan_of cascade.now)) [] }
+            requires sent { values_sent outward.now ≡ begun_values (streams_of (plan_of cascade.now)) size }
+            requires some { 1 ≤ size }
+            requires most { size ≤ MAX_BUNDLE }
             requires row { IsSync W.row × IsSync G.row }
             ensures back { result.0 ≡ true → AllByRecursion (IsHelper cascade.entry.now) helpers.exit.now.items
                 × (length helpers.exit.now.items ≡ length helpers.entry.now.items) }
-            ensures unread { result.1 ≡ false → input.exit.now ≡ input.entry.now }
+            ensures unread { result.1 ≡ false → (input.exit.now ≡ input.entry.now)
+                × (dropped.exit.now ≡ dropped.entry.now) }
             ensures ring { ring_out outward.exit.now ≡ ring_out outward.entry.now }
-            ensures read { IsReadOf (plan_of cascade.entry.now) (S.left input.entry.now) (S.left input.exit.now)
-                (S.faults input.entry.now) (S.faults input.exit.now) (values_sent outward.exit.now) result.2 }
+            ensures read { IsReadOf (plan_of cascade.entry.now) size (S.left input.entry.now) (S.left input.exit.now)
+                (S.faults input.entry.now) (S.faults input.exit.now) (values_sent outward.exit.now)
+                dropped.entry.now.items dropped.exit.now.items result.2 }
             ensures end { result.2 ≡ Some Stop.End → S.has_ended input.exit.now }
             ensures name { S.name input.exit.now ≡ S.name input.entry.now }
-        { read_and_help(rt, alloc, cascade, gate, helpers, input, outward, signals) },
+        {
+            read_and_help(
+                rt, alloc, cascade, gate, helpers, size, input, dropped, outward, signals,
+            )
+        },
         &mut || -> (bool, Result<Stop, GiveStop>)
             requires begins { HasFed cascade.now pass.now nothing_fed [] }
-            requires received { values_received inward.now ≡ values_of (streams_of (plan_of cascade.now)) [] }
-            requires size { (setting_of cascade.now).bundle ≡ size }
-            requires some { 1 ≤ size }
-            requires most { size ≤ MAX_BUNDLE }
+            requires received { values_received inward.now
+                ≡ begun_values (streams_of (plan_of cascade.now)) (setting_of cascade.now).bundle }
             requires few { length taps.now.items < 2 ^ 32 }
             ensures ring { ring_in inward.exit.now ≡ ring_in inward.entry.now }
             ensures same { IsStill cascade.entry.now pass.entry.now pass.exit.now }
             ensures left { result.0 ≡ false → (pass.exit.now ≡ pass.entry.now) × (out.exit.now ≡ out.entry.now)
-                × (taps.exit.now ≡ taps.entry.now) × (dropped.exit.now ≡ dropped.entry.now) }
+                × (taps.exit.now ≡ taps.entry.now) }
             ensures feeds { FeedsPopped (plan_of cascade.entry.now) (setting_of cascade.entry.now).bundle
                 (values_received inward.exit.now) (HasFed cascade.entry.now pass.exit.now)
                 R.after R.part out.entry.now out.exit.now
-                (map (λ t. tap_state t) taps.entry.now.items) (map (λ t. tap_state t) taps.exit.now.items)
-                dropped.entry.now.items dropped.exit.now.items result.1 }
+                (map (λ t. tap_state t) taps.entry.now.items) (map (λ t. tap_state t) taps.exit.now.items) result.1 }
             ensures fewer { OnOk result.1 (length taps.exit.now.items ≤ length taps.entry.now.items) }
             ensures cause { GiveCause (R.row_state out.entry.now) (R.row_state out.exit.now) result.1 }
-        {
-            feed_popped(
-                rt, alloc, cascade, pass, gate, size, inward, signals, out, taps, dropped,
-            )
-        },
+        { feed_popped(rt, alloc, cascade, pass, gate, inward, signals, out, taps) },
     )
 }
 
@@ -152,7 +151,7 @@ pub(crate) fn work<W: Threads + Wait + Clock + Sync, S: Source, R: RowOut, G: Ga
     ensures name { S.name input.new ≡ S.name input.old }
     ensures cause { GiveCause (R.row_state out.old) (R.row_state out.new) result.1 }
 {
-    let Ok((mut outward, mut inward)) = input_pair(alloc, cascade.plan().streams()) else {
+    let Ok((mut outward, mut inward)) = input_pair(alloc, cascade.plan().streams(), size) else {
         return (true, Err(GiveStop::Memory));
     };
     let signals = Signals::new();

@@ -1,4 +1,3 @@
-use Rattle.std.proofs.Common.{◌≤◌, subst, sym}
 use Rattle.sb_worker.specs.cascade.Calls.{plan_of, setting_of}
 use Rattle.sb_feeds.proofs.one_feed.GivesInTurn.{AddsUp}
 use Rattle.sb_feeds.proofs.one_feed.GiveLaws.{cause_of_none}
@@ -14,8 +13,8 @@ pub returns-then-not-has_begun-clause-feeds : goal.returns-then-not-has_begun-cl
 returns-then-not-has_begun-clause-feeds g c =
     let laws = g.met.R.RowOut g.world.𝓛 g.world.𝓜 g.world.𝓡 ((λ s x. x), (λ x. x), (λ x. x), λ x. x) in
     let adds_up : AddsUp g.R.RowOut.after g.R.RowOut.part = record { after_none = laws.after_none; after_more = laws.after_more; part_later = laws.part_later; part_of_all = laws.part_of_all } in
-    popped_none g.R.RowOut.after g.R.RowOut.part adds_up (plan_of c.args.cascade.now) (setting_of c.args.cascade.now).bundle (subst (λ n. 1 ≤ n) (sym c.requires.size) c.requires.some)
-    c.args.out.now _ c.args.dropped.now.items (values_received c.args.inward.now) c.requires.nothing c.requires.begins.so_far
+    popped_none g.R.RowOut.after g.R.RowOut.part adds_up (plan_of c.args.cascade.now) (setting_of c.args.cascade.now).bundle
+    c.args.out.now _ (values_received c.args.inward.now) c.requires.nothing c.requires.begins.so_far
 
 pub returns-then-not-has_begun-clause-cause : goal.returns-then-not-has_begun-clause-cause
 returns-then-not-has_begun-clause-cause g c = cause_of_none (g.R.RowOut.row_state c.args.out.now) _ (λ e. cc e)

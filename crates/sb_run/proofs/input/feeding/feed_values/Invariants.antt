@@ -10,9 +10,9 @@ abbrev pub invariant-loop : goal.invariant-loop
 invariant-loop g l =
     record {
       fed : PoppedSoFar g.R.RowOut.after (plan_of l.cascade) (setting_of l.cascade).bundle (HasFed l.cascade l.pass)
-          (record { out = l.fn.out; taps = map (λ t. (goal.Tap-dyn g (t.vtable, t.value)).tap_state t.value) l.fn.taps.items; dropped = l.fn.dropped.items })
-          (record { out = l.out; taps = map (λ t. (goal.Tap-dyn g (t.vtable, t.value)).tap_state t.value) l.taps.items; dropped = l.dropped.items })
-          (values_received l.inward) l.cutters;
+          (record { out = l.fn.out; taps = map (λ t. (goal.Tap-dyn g (t.vtable, t.value)).tap_state t.value) l.fn.taps.items })
+          (record { out = l.out; taps = map (λ t. (goal.Tap-dyn g (t.vtable, t.value)).tap_state t.value) l.taps.items })
+          (values_received l.inward);
       ring : ring_in l.inward ≡ ring_in l.fn.inward;
       same : IsStill l.cascade l.fn.pass l.pass;
       cause : GiveCause {T = Unit {0}} (g.R.RowOut.row_state l.fn.out) (g.R.RowOut.row_state l.out) (Ok tt);

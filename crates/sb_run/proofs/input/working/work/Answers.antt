@@ -1,11 +1,10 @@
-use Rattle.std.proofs.Common.{refl}
 use Rattle.sb_worker.specs.cascade.Calls.{plan_of, setting_of}
 use Rattle.sb_feeds.proofs.one_feed.GivesInTurn.{AddsUp}
 use Rattle.sb_feeds.proofs.one_feed.GiveLaws.{cause_of_none}
 use Rattle.sb_feeds.specs.InputEnds.{values_received, values_sent}
 use Rattle.sb_run.specs.EngineLaws.{still_here}
 use Rattle.sb_run.specs.Feeders.{HasFed}
-use Rattle.sb_run.proofs.Tied.{feeds_none, input_cause, input_ended, input_fed_as}
+use Rattle.sb_run.proofs.Tied.{feeds_none, input_cause, input_ended, input_fed, popped_sized}
 use Rattle.sb_run.proofs.input.working.work.Goals as goal
 
 -- there was no memory for the ring
@@ -26,23 +25,26 @@ pub returns-clause-feeds : goal.returns-clause-feeds
 returns-clause-feeds g c =
     let plan = plan_of c.args.cascade.now in
     let apart = c.work_apart-clear.ensures in
-    input_fed_as plan (g.S.Source.left c.args.input.now) (g.S.Source.left c.work_apart-clear.new.input) (g.S.Source.faults c.args.input.now) (g.S.Source.faults c.work_apart-clear.new.input)
-    (values_sent c.work_apart-clear.new.outward) (values_received c.work_apart-clear.new.inward) c.work_apart-clear.result.0.2 apart.read c.tie.ensures
-    c.args.size (HasFed c.args.cascade.now c.work_apart-clear.new.pass) g.R.RowOut.after g.R.RowOut.part c.args.out.now c.work_apart-clear.new.out _ _ c.args.dropped.now.items c.work_apart-clear.new.dropped.items
-    (setting_of c.args.cascade.now).bundle c.requires.size c.work_apart-clear.result.1.1 apart.feeds
+    input_fed plan c.args.size (g.S.Source.left c.args.input.now) (g.S.Source.left c.work_apart-clear.new.input) (g.S.Source.faults c.args.input.now) (g.S.Source.faults c.work_apart-clear.new.input)
+    (values_sent c.work_apart-clear.new.outward) (values_received c.work_apart-clear.new.inward) c.args.dropped.now.items c.work_apart-clear.new.dropped.items c.work_apart-clear.result.0.2 apart.read c.tie.ensures
+    (HasFed c.args.cascade.now c.work_apart-clear.new.pass) g.R.RowOut.after g.R.RowOut.part c.args.out.now c.work_apart-clear.new.out _ _ c.work_apart-clear.result.1.1
+    (popped_sized plan (setting_of c.args.cascade.now).bundle c.args.size (values_received c.work_apart-clear.new.inward) (HasFed c.args.cascade.now c.work_apart-clear.new.pass) g.R.RowOut.after g.R.RowOut.part c.args.out.now c.work_apart-clear.new.out _ _ c.work_apart-clear.result.1.1 c.requires.size apart.feeds)
 
 pub returns-clause-source : goal.returns-clause-source
 returns-clause-source g c =
+    let plan = plan_of c.args.cascade.now in
     let apart = c.work_apart-clear.ensures in
-    input_cause (plan_of c.args.cascade.now) (g.S.Source.left c.args.input.now) (g.S.Source.left c.work_apart-clear.new.input) (g.S.Source.faults c.args.input.now) (g.S.Source.faults c.work_apart-clear.new.input)
-    (values_sent c.work_apart-clear.new.outward) (values_received c.work_apart-clear.new.inward) c.work_apart-clear.result.0.2 apart.read c.tie.ensures
-    (setting_of c.args.cascade.now).bundle (HasFed c.args.cascade.now c.work_apart-clear.new.pass) g.R.RowOut.after g.R.RowOut.part c.args.out.now c.work_apart-clear.new.out _ _ c.args.dropped.now.items c.work_apart-clear.new.dropped.items
-    c.work_apart-clear.result.1.1 apart.feeds
+    input_cause plan c.args.size (g.S.Source.left c.args.input.now) (g.S.Source.left c.work_apart-clear.new.input) (g.S.Source.faults c.args.input.now) (g.S.Source.faults c.work_apart-clear.new.input)
+    (values_sent c.work_apart-clear.new.outward) (values_received c.work_apart-clear.new.inward) c.args.dropped.now.items c.work_apart-clear.new.dropped.items c.work_apart-clear.result.0.2 apart.read c.tie.ensures
+    (HasFed c.args.cascade.now c.work_apart-clear.new.pass) g.R.RowOut.after g.R.RowOut.part c.args.out.now c.work_apart-clear.new.out _ _ c.work_apart-clear.result.1.1
+    (popped_sized plan (setting_of c.args.cascade.now).bundle c.args.size (values_received c.work_apart-clear.new.inward) (HasFed c.args.cascade.now c.work_apart-clear.new.pass) g.R.RowOut.after g.R.RowOut.part c.args.out.now c.work_apart-clear.new.out _ _ c.work_apart-clear.result.1.1 c.requires.size apart.feeds)
 
 pub returns-clause-end : goal.returns-clause-end
 returns-clause-end g c =
+    let plan = plan_of c.args.cascade.now in
     let apart = c.work_apart-clear.ensures in
-    input_ended (plan_of c.args.cascade.now) (g.S.Source.left c.args.input.now) (g.S.Source.left c.work_apart-clear.new.input) (g.S.Source.faults c.args.input.now) (g.S.Source.faults c.work_apart-clear.new.input)
-    (values_sent c.work_apart-clear.new.outward) (values_received c.work_apart-clear.new.inward) c.work_apart-clear.result.0.2 apart.read c.tie.ensures
-    (setting_of c.args.cascade.now).bundle (HasFed c.args.cascade.now c.work_apart-clear.new.pass) g.R.RowOut.after g.R.RowOut.part c.args.out.now c.work_apart-clear.new.out _ _ c.args.dropped.now.items c.work_apart-clear.new.dropped.items
-    (g.S.Source.has_ended c.work_apart-clear.new.input) c.work_apart-clear.result.1.1 apart.feeds apart.end
+    input_ended plan c.args.size (g.S.Source.left c.args.input.now) (g.S.Source.left c.work_apart-clear.new.input) (g.S.Source.faults c.args.input.now) (g.S.Source.faults c.work_apart-clear.new.input)
+    (values_sent c.work_apart-clear.new.outward) (values_received c.work_apart-clear.new.inward) c.args.dropped.now.items c.work_apart-clear.new.dropped.items c.work_apart-clear.result.0.2 apart.read c.tie.ensures
+    (HasFed c.args.cascade.now c.work_apart-clear.new.pass) g.R.RowOut.after g.R.RowOut.part c.args.out.now c.work_apart-clear.new.out _ _
+    (g.S.Source.has_ended c.work_apart-clear.new.input) c.work_apart-clear.result.1.1
+    (popped_sized plan (setting_of c.args.cascade.now).bundle c.args.size (values_received c.work_apart-clear.new.inward) (HasFed c.args.cascade.now c.work_apart-clear.new.pass) g.R.RowOut.after g.R.RowOut.part c.args.out.now c.work_apart-clear.new.out _ _ c.work_apart-clear.result.1.1 c.requires.size apart.feeds) apart.end

@@ -1,6 +1,6 @@
 use Rattle.std.proofs.Common.{◌≡◌}
 use Rattle.rtrb.specs.Ring.{SameProducer, sent}
-use Rattle.sb_feeds.proofs.input.feeding.send.Given as goal
+use Rattle.sb_feeds.proofs.input.sending.send.Given as goal
 
 abbrev pub invariant-loop : goal.invariant-loop
 invariant-loop g l = record {
