@@ -3,8 +3,8 @@
 # over it would pass the other tests. It takes ../streambox, or the program that STREAMBOX names by an absolute path:
 # STREAMBOX=/usr/local/bin/streambox tests/workers.sh
 #
-# Threads: a run by one worker has one thread. One by N has N, or one more, which began those of the helpers and waits for
-# them. Runs are looked at while their input is held open, and `work` while it works. The number has to be right at ten
+# Threads: a run by one worker has one thread. One by N has N and one that reads, or one more, which began those of the
+# helpers and waits for them. Runs are looked at while their input is held open, and `work` while it works. The number has to be right at ten
 # looks in a row, and has to come to be so in 20 seconds, or as many as PATIENCE says. So a slow machine is no failure, and
 # a number on the way to another is not taken for it.
 #
@@ -60,7 +60,7 @@ stays_right() {
   local look
   for ((look = 0; look < looks; look++)); do
     count_threads
-    ((threads == $1 || threads == $1 + ($1 > 1))) || return
+    if (($1 == 1)); then ((threads == 1)) || return; else ((threads == $1 + 1 || threads == $1 + 2)) || return; fi
     sleep 0.01
   done
 }
