@@ -170,7 +170,10 @@ fn what_was_kept_comes_before_the_rest(rt: HostRuntime) {
 fn all_comments_are_taken_at_once(rt: HostRuntime) {
     let cases: [(u64, u32); 3] = [(3, 0), (5, 2), (4_294_967_295, 4_294_967_292)];
     for (lines, count) in cases {
-        assert!(rt; are_taken(rt.alloc(), lines, count) == Ok(true), "{lines} lines");
+        assert!(rt;
+            are_taken(rt.alloc(), lines, count) == Ok(true),
+            "{lines} lines"
+        );
     }
 }
 
