@@ -1,7 +1,7 @@
 -- What reads an input and helps, in one closure, may be sent to a thread.
 use mathlib.Core.List.{[], ◌∷◌}
 use mir.Syntax.{Sym}
-use denote.Param.Send.{IsSend, sendable}
+use denote.Param.Send.{IsSend, IsSync, sendable}
 use denote.Param.SendFields.{declared_send}
 use denote.RattleType.{RattleType}
 use denote.Ref.{NamedLft}
@@ -14,6 +14,8 @@ use Rattle.sb_feeds.specs.contracts.input.ends.InputOut as outward
 use Rattle.sb_feeds.proofs.input.ends.InputOut.TheSendSync as outward_crossing
 use Rattle.sb_feeds.specs.contracts.input.signals.Signals as signals
 use Rattle.sb_feeds.proofs.input.signals.Signals.TheSendSync as signals_crossing
+use Rattle.sb_run.specs.contracts.input.ahead.Ahead as ahead
+use Rattle.sb_run.proofs.input.ahead.Ahead.TheSendSync as ahead_crossing
 use Rattle.sb_run.proofs.FilesCrossing.{captured}
 
 pub Out-send : IsSend outward.the_row
@@ -33,3 +35,9 @@ pub Ten-send : (ν : Sym) (A B C D E F G H I J : RattleType) → IsSend A → Is
 Ten-send ν A B C D E F G H I J a b c d e f g h i j =
     declared_send (type_at ν (A ∷ B ∷ C ∷ D ∷ E ∷ F ∷ G ∷ H ∷ I ∷ J ∷ []))
     (captured (A ∷ B ∷ C ∷ D ∷ E ∷ F ∷ G ∷ H ∷ I ∷ J ∷ []) (a, (b, (c, (d, (e, (f, (g, (h, (i, (j, tt)))))))))))
+
+pub Ahead-sync : (α : NamedLft) (R : RattleType) → IsSync R → IsSync (ahead.the_row α R)
+Ahead-sync α R shared = ahead_crossing.the_sync α R shared
+
+pub Ahead-lent : (ℓ α : NamedLft) (R : RattleType) → IsSync R → IsSend (shr_ref_field ℓ (ahead.the_row α R) tt).row
+Ahead-lent ℓ α R shared = search (sendable, Ahead-sync) depth 20

@@ -1,5 +1,7 @@
-//! A run over an input that a thread of its own reads and parses: the feeder takes the items out of a ring.
+//! A run over an input that a thread of its own reads and cuts into bundles: the feeder takes bundles and watermarks out
+//! of a ring.
 
-mod feeding;
+mod ahead;
+pub(crate) mod feeding;
 mod reading;
 pub(crate) mod working;

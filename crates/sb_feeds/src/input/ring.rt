@@ -13,10 +13,15 @@ use rtrb::{Producer, PushError, RingBuffer};
 use sb_feed::sb_base::{NoMemory, Streams};
 use std::alloc::Global;
 use std::sync::Wait;
+use std::thread;
+use std::time::{Clock, Duration};
 
 /// How many values wait in the ring of an input at most: so many that a reader that sleeps for a while before a full
 /// ring is back before it is empty, and so few that their bundles take little memory.
 pub const INPUT_PLACES: usize = 128;
+
+/// How many microseconds a feeder sleeps that takes nothing out for now: about as many as a bundle takes.
+pub const NAP_MICROS: u64 = 50;
 
 // Sends a value, where a place is known to be free. It names what a full ring hands back, since without that the prover
 // cannot name the value's types.
@@ -74,16 +79,21 @@ impl InputIn {
         }
     }
 
-    /// Sleeps until a value comes, or for two milliseconds. It may also return at once.
-    pub fn rest<W: Wait>(&mut self, rt: &W, signals: &Signals)
+    /// Sleeps until a value comes, or for two milliseconds. If one is in the ring, which the feeder does not take yet, it
+    /// sleeps for [`NAP_MICROS`].
+    pub fn rest<W: Wait + Clock>(&mut self, rt: &W, signals: &Signals)
         ensures ring { ring_in self.new ≡ ring_in self.old }
         ensures same { values_received self.new ≡ values_received self.old }
     {
         signals.set_resting(true);
-        if self.consumer.is_empty() {
+        let is_empty = self.consumer.is_empty();
+        if is_empty {
             signals.rest(rt);
         }
         signals.set_resting(false);
+        if !is_empty {
+            thread::sleep(rt, Duration::from_micros(NAP_MICROS));
+        }
     }
 
     /// Compares what was received with what was sent, once the sending end is back: the values received are the first

@@ -1,17 +1,18 @@
 //! Feeding what comes out of the ring of an input to a shared cascade.
 
-ghost use Rattle.std.specs.Prelude.{◌≡◌, ◌≤◌, ◌<◌, ◌^◌, [], false, List, map, length, OnOk};
+ghost use Rattle.std.specs.Prelude.{◌≡◌, ◌≤◌, ◌<◌, ◌^◌, ◌++◌, ◌∷◌, [], false, List, map, length, OnOk, IfNone, IfSome};
 ghost use Rattle.sb_feeds.specs.base.records.declared.item.Record.{Record as ARecord};
 ghost use Rattle.sb_feeds.specs.base.pipeline.Shapes.{streams_of};
 ghost use Rattle.sb_worker.specs.cascade.Calls.{plan_of, setting_of};
 ghost use Rattle.sb_feeds.specs.one_feed.Feeds.{Fed, nothing_fed};
 ghost use Rattle.sb_feeds.specs.one_feed.GiveCauses.{GiveCause};
 ghost use Rattle.sb_feeds.specs.one_feed.Gives.{Gives};
-ghost use Rattle.sb_feeds.specs.InputFed.{MayCome, fed_with};
+ghost use Rattle.sb_feeds.specs.InputFed.{MayCome, MayFollow, fed_with};
 ghost use Rattle.sb_feeds.specs.InputEnds.{begun_values, ring_in, values_received};
 ghost use Rattle.sb_run.specs.Feeders.{HasFed, IsStill};
 ghost use Rattle.sb_run.specs.InputPops.{FeedsPopped};
 
+use crate::input::ahead::Ahead;
 use crate::shared::feeder::Feeder;
 use crate::shared::feeding::{end_work, reason_of};
 use crate::shared::pace::Pace;
@@ -84,9 +85,22 @@ fn give_ready<W: Wait, R: RowOut>(
     give_out(&rows, out, taps)
 }
 
-// Nothing came: the feeder works as the others do. If there is nothing to do for a while, it gives out the rows that
-// lie ready, and sleeps until something comes.
-fn idle<W: Wait, G: Gate, R: RowOut>(
+// The next value that came, unless too many of the bundles that came before wait.
+fn pop<G: Gate>(inward: &mut InputIn, gate: &Ahead<'_, G>, brought: u64) -> Option<InputFed>
+    ensures ring { ring_in inward.new ≡ ring_in inward.old }
+    ensures some { IfSome result (λ next. values_received inward.new ≡ values_received inward.old ++ next ∷ []) }
+    ensures follows { IfSome result (λ next. MayFollow (values_received inward.old) next) }
+    ensures none { IfNone result (values_received inward.new ≡ values_received inward.old) }
+{
+    if gate.is_far(brought) {
+        return None;
+    }
+    inward.pop()
+}
+
+// Nothing came, or enough: the feeder works as the others do. If there is nothing to do for a while, it gives out the
+// rows that lie ready, and sleeps until something comes.
+fn idle<W: Wait + Clock, G: Gate, R: RowOut>(
     rt: &W,
     alloc: Global,
     cascade: &Cascade,
@@ -137,7 +151,7 @@ fn feed_values<W: Wait + Clock, G: Gate, R: RowOut>(
     alloc: Global,
     cascade: &Cascade,
     pass: &mut CascadePass,
-    gate: &G,
+    gate: &Ahead<'_, G>,
     inward: &mut InputIn,
     signals: &Signals,
     out: &mut R,
@@ -157,12 +171,16 @@ fn feed_values<W: Wait + Clock, G: Gate, R: RowOut>(
 {
     let mut pace = Pace::new();
     let mut patience = Patience::new();
+    let mut brought = 0_u64;
     for _ in rt.forever() {
-        match inward.pop() {
+        match pop(inward, gate, brought) {
             Some(InputFed::Stop(stop)) => return Ok(stop),
             Some(InputFed::NoMemory) => return Err(GiveStop::Memory),
             Some(next) => {
                 patience.renew();
+                if matches!(&next, InputFed::Bundle(_, _)) {
+                    brought = brought.wrapping_add(1);
+                }
                 match take(rt, alloc, cascade, pass, gate, &mut pace, next, out, taps) {
                     Ok(()) => {}
                     Err(why) => return Err(why),
@@ -194,7 +212,7 @@ fn feed_begun<W: Wait + Clock, G: Gate, R: RowOut>(
     alloc: Global,
     cascade: &Cascade,
     pass: &mut CascadePass,
-    gate: &G,
+    gate: &Ahead<'_, G>,
     inward: &mut InputIn,
     signals: &Signals,
     out: &mut R,
@@ -242,7 +260,7 @@ pub(crate) fn feed_popped<W: Wait + Clock, G: Gate, R: RowOut>(
     alloc: Global,
     cascade: &Cascade,
     pass: &mut CascadePass,
-    gate: &G,
+    gate: &Ahead<'_, G>,
     inward: &mut InputIn,
     signals: &Signals,
     out: &mut R,

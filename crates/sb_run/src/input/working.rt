@@ -15,6 +15,7 @@ ghost use Rattle.sb_run.specs.InputPops.{FeedsPopped};
 ghost use Rattle.sb_run.specs.RunEnds.{SharedFeedCause};
 ghost use Rattle.sb_worker.specs.Helping.{IsFirst, IsHelper};
 
+use crate::input::ahead::Ahead;
 use crate::input::feeding::feed_popped;
 use crate::input::reading::read_and_help;
 use crate::shared::joining::feed_beside_helpers;
@@ -46,7 +47,7 @@ fn work_apart<W: Threads + Wait + Clock + Sync, S: Source, R: RowOut, G: Gate + 
     out: &mut R,
     taps: &mut Vec<Box<dyn Tap>>,
     dropped: &mut Vec<Dropped>,
-    gate: &G,
+    gate: &Ahead<'_, G>,
 ) -> ((bool, bool, Option<Stop>), (bool, Result<Stop, GiveStop>))
     requires begins { HasFed cascade.now pass.old nothing_fed [] }
     requires sent { values_sent outward.old ≡ begun_values (streams_of (plan_of cascade.now)) size }
@@ -155,6 +156,7 @@ pub(crate) fn work<W: Threads + Wait + Clock + Sync, S: Source, R: RowOut, G: Ga
         return (true, Err(GiveStop::Memory));
     };
     let signals = Signals::new();
+    let ahead = Ahead::new(gate, cascade.plan(), helpers.len());
     let ((clear, has_begun, _), (is_fed, fed)) = work_apart(
         rt,
         alloc,
@@ -169,7 +171,7 @@ pub(crate) fn work<W: Threads + Wait + Clock + Sync, S: Source, R: RowOut, G: Ga
         out,
         taps,
         dropped,
-        gate,
+        &ahead,
     );
     inward.tie(outward);
     if clear && !has_begun && !is_fed {

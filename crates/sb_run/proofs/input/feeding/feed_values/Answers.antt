@@ -33,7 +33,7 @@ returns-in-Some-Stop-clause-feeds g c =
     (record { out = c.args.out.now; taps = _ })
     (record { out = c.loop.out; taps = _ })
     (values_received c.loop.inward) h
-    c.in-Some-Stop.stop (values_received c.pop.new.self) (subst (λ x. values_received c.pop.new.self ≡ values_received c.loop.inward ++ x ∷ []) c.in-Some-Stop.field-0-is c.in-Some-Stop.ensures.some)
+    c.in-Some-Stop.stop (values_received c.pop.new.inward) (subst (λ x. values_received c.pop.new.inward ≡ values_received c.loop.inward ++ x ∷ []) c.in-Some-Stop.field-0-is c.in-Some-Stop.ensures.some)
 
 pub returns-in-Some-NoMemory-clause-feeds : goal.returns-in-Some-NoMemory-clause-feeds
 returns-in-Some-NoMemory-clause-feeds g c =
@@ -45,7 +45,7 @@ returns-in-Some-NoMemory-clause-feeds g c =
     (record { out = c.args.out.now; taps = _ })
     (record { out = c.loop.out; taps = _ })
     (values_received c.loop.inward) h
-    (values_received c.pop.new.self) (subst (λ x. values_received c.pop.new.self ≡ values_received c.loop.inward ++ x ∷ []) c.in-Some-NoMemory.field-0-is c.in-Some-NoMemory.ensures.some)
+    (values_received c.pop.new.inward) (subst (λ x. values_received c.pop.new.inward ≡ values_received c.loop.inward ++ x ∷ []) c.in-Some-NoMemory.field-0-is c.in-Some-NoMemory.ensures.some)
 
 pub take-requires-clause-may : goal.take-requires-clause-may
 take-requires-clause-may g c κs within =
@@ -76,7 +76,7 @@ loop-preserved-in-Ok g c =
           (record { out = c.loop.out; taps = _ })
           (values_received c.loop.inward) h
           c.in-Some-pop.next c.in-Some-pop.ensures.follows
-          (record { out = c.take.new.out; taps = _ }) (values_received c.pop.new.self) c.in-Some-pop.ensures.some
+          (record { out = c.take.new.out; taps = _ }) (values_received c.pop.new.inward) c.in-Some-pop.ensures.some
           (HasFed c.args.cascade.now c.take.new.pass) (λ f rows x. x.so_far)
           (c.in-Ok.ensures.gives (fed_by h.popped) h.rows h.stand (value_may_come g.R.RowOut.after g.R.RowOut.part adds_up (plan_of c.args.cascade.now) (setting_of c.args.cascade.now).bundle
           (HasFed c.args.cascade.now c.loop.pass) (λ f rows x. x.so_far)
@@ -101,7 +101,7 @@ returns-in-Err-clause-feeds g c =
     (record { out = c.loop.out; taps = _ })
     (values_received c.loop.inward) h
     c.in-Some-pop.next c.in-Some-pop.ensures.follows
-    (record { out = c.take.new.out; taps = _ }) (values_received c.pop.new.self) c.in-Some-pop.ensures.some
+    (record { out = c.take.new.out; taps = _ }) (values_received c.pop.new.inward) c.in-Some-pop.ensures.some
     c.in-Err.why (c.in-Err.ensures.gives (fed_by h.popped) h.rows h.stand (value_may_come g.R.RowOut.after g.R.RowOut.part adds_up (plan_of c.args.cascade.now) (setting_of c.args.cascade.now).bundle
     (HasFed c.args.cascade.now c.loop.pass) (λ f rows x. x.so_far)
     (record { out = c.args.out.now; taps = _ })
