@@ -1,11 +1,22 @@
 //! How an end of a ring waits for the other one.
 
 use crossbeam_utils::Backoff;
+use std::cmp::min;
+use std::thread;
+use std::time::{Clock, Duration};
+
+/// How many microseconds an end sleeps first: fewer than a full ring lasts.
+const FIRST_MICROS: u64 = 50;
+
+/// How many it sleeps at most, where the other end stands still.
+const MOST_MICROS: u64 = 800;
 
 /// How often in a row there was nothing to do.
 #[derive(Drop)]
 pub struct Patience {
     backoff: Backoff,
+    /// How many microseconds the next sleep takes.
+    micros: u64,
 }
 
 impl Patience {
@@ -13,12 +24,14 @@ impl Patience {
     pub fn new() -> Patience {
         Patience {
             backoff: Backoff::new(),
+            micros: FIRST_MICROS,
         }
     }
 
     /// There was something to do again.
     pub fn renew(&mut self) {
         self.backoff.reset();
+        self.micros = FIRST_MICROS;
     }
 
     /// Whether there was nothing to do for some microseconds, so that it is time to sleep.
@@ -29,5 +42,15 @@ impl Patience {
     /// There was nothing to do: it looks away for a moment, and then leaves the processor to others.
     pub fn pause(&mut self) {
         self.backoff.snooze();
+    }
+
+    /// The same, and once it is time to sleep it does, each time for twice as long as before.
+    pub fn wait(&mut self, clock: &impl Clock) {
+        if !self.is_spent() {
+            self.pause();
+            return;
+        }
+        thread::sleep(clock, Duration::from_micros(self.micros));
+        self.micros = min(self.micros.saturating_add(self.micros), MOST_MICROS);
     }
 }

@@ -28,11 +28,7 @@ use sb_feed::sb_outside::{LineBuffer, Source};
 use sb_feed::{Cutters, keep_dropped, next_item, uses};
 use std::alloc::Global;
 use std::sync::Wait;
-use std::thread;
-use std::time::{Clock, Duration};
-
-/// How many microseconds the reader sleeps while the ring is full: fewer than a full ring lasts.
-const FULL_MICROS: u64 = 50;
+use std::time::Clock;
 
 /// How sending went.
 #[derive(Clone, Copy, Debug, PartialEq, Eq)]
@@ -70,11 +66,7 @@ fn send<W: Wait + Clock>(
         if signals.is_over() {
             return Sending::Over;
         }
-        if patience.is_spent() {
-            thread::sleep(rt, Duration::from_micros(FULL_MICROS));
-        } else {
-            patience.pause();
-        }
+        patience.wait(rt);
     }
     unreachable!()
 }
@@ -89,7 +81,8 @@ fn send_record<W: Wait + Clock>(
     next: Record,
 ) -> Sending
     requires may { (plan : Shape) × (size : ℕ) × (items : List AnItem) × (f : Fed) × (rows : List ARecord)
-        × MayTake (HasSent plan size (sent producer.old)) plan size cutters.old (item_spec.Rec stream next) items f rows }
+        × MayTake (HasSent plan size (sent producer.old)) plan size cutters.old (item_spec.Rec stream next)
+        items f rows }
     ensures ring { SameProducer producer.old producer.new }
     ensures sends { (plan : Shape) (size : ℕ) (items : List AnItem) (f : Fed) (rows : List ARecord)
         → MayTake (HasSent plan size (sent producer.old)) plan size cutters.old (item_spec.Rec stream next) items f rows
@@ -112,10 +105,12 @@ fn send_mark<W: Wait + Clock>(
     mark: u64,
 ) -> Sending
     requires may { (plan : Shape) × (size : ℕ) × (items : List AnItem) × (f : Fed) × (rows : List ARecord)
-        × MayTake (HasSent plan size (sent producer.old)) plan size cutters.old (item_spec.Mark stream mark) items f rows }
+        × MayTake (HasSent plan size (sent producer.old)) plan size cutters.old (item_spec.Mark stream mark)
+        items f rows }
     ensures ring { SameProducer producer.old producer.new }
     ensures sends { (plan : Shape) (size : ℕ) (items : List AnItem) (f : Fed) (rows : List ARecord)
-        → MayTake (HasSent plan size (sent producer.old)) plan size cutters.old (item_spec.Mark stream mark) items f rows
+        → MayTake (HasSent plan size (sent producer.old)) plan size cutters.old (item_spec.Mark stream mark)
+        items f rows
         → Sends plan size (items ++ item_spec.Mark stream mark ∷ []) (sent producer.new) cutters.new result }
 {
     match cutters.mark(stream, mark) {
@@ -226,7 +221,8 @@ fn send_stop<W: Wait + Clock>(
     ensures sends { (plan : Shape) (size : ℕ) (items : List AnItem) (f : Fed) (rows : List ARecord)
         → streams ≡ streams_of plan
         → MayEnd (HasSent plan size (sent producer.old)) size cutters.old (MAX_LINES + 1) items f rows
-        → EndsSending plan size (items ++ end_items (streams_of plan) stop) stop (sent producer.new) cutters.new result }
+        → EndsSending plan size (items ++ end_items (streams_of plan) stop) stop (sent producer.new) cutters.new
+        result }
 {
     match send_end(rt, producer, signals, cutters, streams, stop) {
         Sending::Done => send(rt, producer, InputFed::Stop(stop), signals),
@@ -243,7 +239,8 @@ fn send_stop<W: Wait + Clock>(
 /// `dropped`. Comments in front that the source can take off are counted, and not read. It waits while the ring is
 /// full.
 ///
-/// It ends without an answer once the feeder needs nothing more, or if there is no memory, of which it tells the feeder.
+/// It ends without an answer once the feeder needs nothing more, or if there is no memory, of which it tells the
+/// feeder.
 pub fn feed_input<W: Wait + Clock, S: Source>(
     rt: &W,
     alloc: Global,
@@ -258,8 +255,8 @@ pub fn feed_input<W: Wait + Clock, S: Source>(
     requires some { 1 ≤ size }
     requires most { size ≤ MAX_BUNDLE }
     ensures ring { ring_out out.new ≡ ring_out out.old }
-    ensures read { IsReadOf plan.now size (S.left input.old) (S.left input.new) (S.faults input.old) (S.faults input.new)
-        (values_sent out.new) dropped.old.items dropped.new.items result }
+    ensures read { IsReadOf plan.now size (S.left input.old) (S.left input.new) (S.faults input.old)
+        (S.faults input.new) (values_sent out.new) dropped.old.items dropped.new.items result }
     ensures end { result ≡ Some Stop.End → S.has_ended input.new }
     ensures name { S.name input.new ≡ S.name input.old }
 {
