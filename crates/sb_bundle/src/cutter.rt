@@ -19,6 +19,8 @@ pub struct Cutter {
     epoch: u64,
     floor: u64,
     held: Vec<Record>,
+    /// How many records the last bundle had: the next is given room for as many at once.
+    room: usize,
 }
 
 impl Model for Cutter {
@@ -54,6 +56,7 @@ impl Cutter {
             epoch: 0,
             floor: 0,
             held: Vec::new(alloc),
+            room: 0,
         }
     }
 
@@ -79,8 +82,17 @@ impl Cutter {
         self.held.len()
     }
 
+    // Room for a bundle like the last one. If there is no memory for so many records, it is asked for as they come.
+    #[inline(never)]
+    fn make_room(&mut self)
+        ensures { self.new ≡ self.old }
+    {
+        let _ = self.held.reserve_exact(self.room);
+    }
+
     /// Takes the next record, whose time is not below the floor. Where it fills a bundle, this is given, and nothing is
     /// held. Where memory is wanting, the record is not taken.
+    #[inline(always)]
     pub fn push(&mut self, next: Record) -> Result<Option<Bundle>, NoMemory>
         requires { self.old.floor ≤ next.time }
         ensures given { IfOk result (λ given. given ≡ spec.given_with next self.old) }
@@ -88,6 +100,9 @@ impl Cutter {
         ensures sound { IfOk result (λ given. IfSome given (IsBundleOf self.old)) }
         ensures err { OnErr result (self.new ≡ self.old) }
     {
+        if self.held.is_empty() {
+            self.make_room();
+        }
         let Ok(()) = self.held.push(Record { ..next }) else {
             return Err(NoMemory);
         };
@@ -95,6 +110,7 @@ impl Cutter {
             return Ok(None);
         }
         let records = mem::replace(&mut self.held, Vec::new(self.alloc));
+        self.room = records.len();
         Ok(Some(Bundle {
             number: 0,
             epoch: self.epoch,
@@ -119,6 +135,7 @@ impl Cutter {
         if rest.is_empty() {
             return None;
         }
+        self.room = rest.len();
         Some(Bundle {
             number: 0,
             epoch,

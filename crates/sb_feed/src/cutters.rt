@@ -34,6 +34,7 @@ impl Cutters {
     /// # Errors
     ///
     /// [`NoMemory`]; then the record is not taken.
+    #[inline(always)]
     pub fn push(&mut self, stream: Stream, next: Record) -> Result<Option<Bundle>, NoMemory>
         requires { (cutter_of self.old stream).floor ≤ next.time }
         ensures given { IfOk result (λ given. given ≡ given_with next (cutter_of self.old stream)) }

@@ -14,6 +14,7 @@ use sb_outside::{LineBuffer, Source, Step};
 ///
 /// Where reading stops: at the end of the input, at a line that is refused, or because the source failed. `Fault` only
 /// if the source's count of faults rose in this call.
+#[inline(always)]
 pub fn next_item<S: Source>(
     source: &mut S,
     lines: &mut LineBuffer,
@@ -40,6 +41,7 @@ pub fn next_item<S: Source>(
 }
 
 // The same of a line whose end is looked for before it is read.
+#[inline(never)]
 fn line_item<S: Source>(
     source: &mut S,
     lines: &mut LineBuffer,

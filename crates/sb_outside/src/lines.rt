@@ -116,6 +116,7 @@ impl LineBuffer {
     }
 
     /// The bytes at hand, which begin with the next line. There are none once the reader stands.
+    #[inline(always)]
     pub fn at_hand(&self) -> &[u8]
         ensures { result.now ≡ to_read self.now }
     {
@@ -127,6 +128,7 @@ impl LineBuffer {
 
     /// Goes to the next line where it is known: so many of the bytes at hand are a line, and an LF
     /// stands behind them. It looks for nothing and reads nothing.
+    #[inline(always)]
     pub fn take_line(&mut self, len: usize)
         requires { BeginsWithLine len (to_read self.old) }
         ensures { self.new ≡ record {

@@ -145,6 +145,7 @@ impl Intake {
     /// and gives it if it is accepted: it is then counted and its watermark kept, as by [`Intake::accept`]. Where it
     /// gives none, nothing changes. It needs no search for the end of the line. A record whose key is a number is read
     /// in one pass, if none of its numbers has more than 18 digits or begins among the last 18 bytes.
+    #[inline(always)]
     pub fn accept_front(&mut self, bytes: &[u8]) -> Option<FrontLine>
         ensures exact { (f : FrontLine) → (result ≡ Some f) ↔ IsAcceptedFront self.old f.item f.len bytes.now }
         ensures some { IfSome result (λ f. self.new ≡ spec.after f.item self.old) }
