@@ -61,6 +61,12 @@ impl Numbered {
         ((end ^ key) >> 32) as usize % SLOTS
     }
 
+    // What panes are put in order by: the end, and then the key.
+    #[inline(always)]
+    fn rank(&self) -> u128 {
+        (u128::from(self.end) << 64) | u128::from(self.key)
+    }
+
     // Its pane.
     fn window(&self) -> KeyedWindow
         ensures { result ≡ (numbered_entry self.now).0 }
@@ -168,7 +174,7 @@ fn join_at(agg: Agg, numbers: &mut Vec<Numbered>, at: usize, entry: &Numbered) -
 fn sort_numbers(numbers: &mut Vec<Numbered>)
     ensures { IsReordered numbers.new.items numbers.old.items }
 {
-    numbers.sort_unstable_by(|one, other| one.end.cmp(&other.end).then(one.key.cmp(&other.key)));
+    numbers.sort_unstable_by_key(Numbered::rank);
 }
 
 // The same.

@@ -27,7 +27,7 @@ pub(crate) fn rows_of(
     ensures ordered { IsRun partials }
 {
     let mut entries = partials.into_entries();
-    let mut rows = Vec::new(alloc);
+    let mut rows = Vec::with_capacity(alloc, entries.len())?;
     'windows: while let Some((window, partial)) = entries.pop_front() {
         partial.push_rows(alloc, agg, &window, &mut rows)?;
     }

@@ -76,7 +76,7 @@ fn joined(
         ≡ placed_value (λ vs. map (λ v. (side, v)) vs) placed.now q) }
 {
     let joiner = SideJoiner { alloc };
-    let mut run = Run::new(alloc);
+    let mut run = Run::with_room(alloc, placed.len())?;
     for entry in placed {
         let window = KeyedWindow { ..entry.0 };
         let value = SideValues::of_one(alloc, side, entry.1);

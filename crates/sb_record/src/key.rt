@@ -114,6 +114,7 @@ impl PartialEq for Word {
 
     ghost laws = { partial_equiv_from_equiv (eq_by_cmp_equiv nat_list_cmp_total) };
 
+    #[inline(never)]
     fn eq(&self, other: &Word) -> bool {
         self.bytes == other.bytes
     }
@@ -142,6 +143,7 @@ impl Ord for Word {
 
     ghost matches_eq = { λ v w. refl };
 
+    #[inline(never)]
     fn cmp(&self, other: &Word) -> Ordering {
         self.bytes.cmp(&other.bytes)
     }
@@ -159,6 +161,7 @@ impl PartialEq for Key {
 
     ghost laws = { partial_equiv_from_equiv (eq_by_cmp_equiv key_cmp_total) };
 
+    #[inline(always)]
     fn eq(&self, other: &Key) -> bool {
         match (self, other) {
             (Key::Number(a), Key::Number(b)) => a == b,
@@ -191,6 +194,7 @@ impl Ord for Key {
 
     ghost matches_eq = { λ a b. refl };
 
+    #[inline(always)]
     fn cmp(&self, other: &Key) -> Ordering {
         match (self, other) {
             (Key::Number(a), Key::Number(b)) => a.cmp(b),

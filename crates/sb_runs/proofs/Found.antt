@@ -95,15 +95,19 @@ less Less h = refl
 less Equal h = cc
 less Greater h = cc
 
+-- a list that is known by its last entry
+pub whole-by-last : {V : Type 0} (xs : List (KeyedWindow × V)) (count : ℕ) (last : KeyedWindow × V) → count ≡ length xs → 0 < count → last ≡ get_or xs (count - 1) last → xs ≡ take (count - 1) xs ++ last ∷ []
+whole-by-last xs count last long some last_is =
+    let all : count - 1 + 1 ≡ length xs = omega arith in
+    let inside : count - 1 < length xs = omega arith in
+    sym (take-length xs) ∙ ap (λ n. take n xs) (sym all) ∙ take_more xs (count - 1) last inside ∙ ap (λ x. take (count - 1) xs ++ x ∷ []) (sym last_is)
+
 -- the same of lists that are known by their ends
 pub run-behind : {V : Type 0} (xs ys : List (KeyedWindow × V)) (count : ℕ) (last first : KeyedWindow × V) → count ≡ length xs → 0 < count → last ≡ get_or xs (count - 1) last → first ≡ get_or ys 0 first → 0 < length ys
     → IsTrue (is_lt (keyed_window_cmp last.0 first.0)) → IsRun xs → IsRun ys → IsRun (xs ++ ys)
 run-behind xs [] count last first long some last_is first_is some_behind before run other = absurd (omega arith)
 run-behind {V} xs (y ∷ ys) count last first long some last_is first_is some_behind before run other =
-    let all : count - 1 + 1 ≡ length xs = omega arith in
-    let inside : count - 1 < length xs = omega arith in
-    let whole : xs ≡ take (count - 1) xs ++ last ∷ [] =
-    sym (take-length xs) ∙ ap (λ n. take n xs) (sym all) ∙ take_more xs (count - 1) last inside ∙ ap (λ x. take (count - 1) xs ++ x ∷ []) (sym last_is) in
+    let whole : xs ≡ take (count - 1) xs ++ last ∷ [] = whole-by-last xs count last long some last_is in
     subst (λ (l : List (KeyedWindow × V)). IsRun (l ++ y ∷ ys)) (sym whole)
     (run-both (take (count - 1) xs) last y ys (ap (λ (e : KeyedWindow × V). keyed_window_cmp last.0 e.0) (sym first_is) ∙ less (keyed_window_cmp last.0 first.0) before)
     (subst (λ (l : List (KeyedWindow × V)). IsRun l) whole run) other)

@@ -1,5 +1,5 @@
 -- A run that is cut at a mark.
-use Rattle.std.proofs.Common.{◌≡◌, ℕ, ◌+◌, ◌≤◌, ◌<◌, Bool, true, false, not, cond, List, [], ◌∷◌, ◌++◌, length, take, drop, Some, None, append_assoc, sym, subst, refl, ap, ◌∙◌, arith}
+use Rattle.std.proofs.Common.{◌≡◌, ℕ, ◌+◌, ◌-◌, ◌≤◌, ◌<◌, Bool, true, false, not, cond, List, [], ◌∷◌, ◌++◌, length, take, drop, get_or, Some, None, append_assoc, sym, subst, refl, ap, ◌∙◌, arith}
 use Rattle.std.specs.Prelude.{nat_lt}
 use Rattle.std.specs.List.{AllByRecursion}
 use Rattle.std.specs.Map.{keys_of}
@@ -15,7 +15,7 @@ use Rattle.sb_window.specs.Windows.{keyed_window_cmp}
 use Rattle.sb_window.proofs.Rows.{exact_keyed_windows}
 use Rattle.sb_runs.specs.Merges.{begins_by}
 use Rattle.sb_runs.specs.Runs.{IsRun, found}
-use Rattle.sb_runs.proofs.Found.{run-first, run-left, run-right}
+use Rattle.sb_runs.proofs.Found.{all-right, run-first, run-left, run-rest, run-right, whole-by-last}
 
 -- what is taken off ends by the mark, and stood before the rest
 pub record Splitting {V : Type 0} (mark : ℕ) (whole closed others : List (KeyedWindow × V)) : Type 0 where
@@ -30,6 +30,20 @@ ends-rise a b h = by_case (nat_cmp a.end b.end) refl h
     by_case Less e h = let k : a.end < b.end = ranked a.end b.end Less (sym e) in omega (arith, k)
     by_case Equal e h = let k : a.end ≡ b.end = ranked a.end b.end Equal (sym e) in omega (arith, k)
     by_case Greater e h = cc
+
+-- where the last window of a run ends by the mark, all do
+pub all-low : {V : Type 0} (mark : ℕ) (xs : List (KeyedWindow × V)) (e : KeyedWindow × V) → e.0.end ≤ mark → IsRun (xs ++ e ∷ []) → AllByRecursion (λ f. f.0.end ≤ mark) (xs ++ e ∷ [])
+all-low mark [] e low run = (low, tt)
+all-low mark (x ∷ xs) e low run =
+    let before : keyed_window_cmp x.0 e.0 ≡ Less = (all-right (λ k. keyed_window_cmp x.0 k ≡ Less) xs (e ∷ []) (run-first x (xs ++ e ∷ []) run)).0 in
+    let rises : x.0.end ≤ e.0.end = ends-rise x.0 e.0 before in
+    (omega (arith, low, rises), all-low mark xs e low (run-rest x (xs ++ e ∷ []) run))
+
+pub all-low-by-last : {V : Type 0} (mark : ℕ) (xs : List (KeyedWindow × V)) (count : ℕ) (last : KeyedWindow × V) → count ≡ length xs → 0 < count → last ≡ get_or xs (count - 1) last → last.0.end ≤ mark
+    → IsRun xs → AllByRecursion (λ f. f.0.end ≤ mark) xs
+all-low-by-last {V} mark xs count last long some last_is low run =
+    let whole : xs ≡ take (count - 1) xs ++ last ∷ [] = whole-by-last xs count last long some last_is in
+    subst (λ (l : List (KeyedWindow × V)). AllByRecursion (λ f. f.0.end ≤ mark) l) (sym whole) (all-low mark (take (count - 1) xs) last low (subst (λ (l : List (KeyedWindow × V)). IsRun l) whole run))
 
 -- a window that is one that ends by the mark
 is_low : (mark : ℕ) (k : KeyedWindow) → k.end ≤ mark → (q : KeyedWindow) → keyed_window_cmp q k ≡ Equal → nat_lt mark q.end ≡ false

@@ -1,6 +1,6 @@
 //! Sorted runs: for each of some keyed windows a value, in the windows' order.
 
-ghost use Rattle.std.specs.Prelude.{◌≡◌, ◌∷◌, ◌++◌, [], ◌+◌, ◌^◌, ◌<◌, length, take, drop, nat_lt, None, if◌then◌else◌, IsTrue, OnOk, IfOk};
+ghost use Rattle.std.specs.Prelude.{◌≡◌, ◌∷◌, ◌++◌, [], ◌+◌, ◌^◌, ◌<◌, ◌≤◌, length, take, drop, nat_lt, None, if◌then◌else◌, true, IsTrue, OnOk, IfOk};
 ghost use Rattle.std.specs.List.{AllByRecursion};
 ghost use Rattle.std.specs.Ordering.{is_lt};
 ghost use Rattle.sb_window.specs.declared.keyed_window.KeyedWindow.{KeyedWindow as Window};
@@ -11,7 +11,7 @@ ghost use Rattle.sb_runs.specs.Runs.{IsRun, found, shifted_by};
 
 use crate::joiner::Joiner;
 use sb_window::KeyedWindow;
-use sb_window::sb_record::{Key, NoMemory};
+use sb_window::sb_record::NoMemory;
 use std::alloc::Global;
 use std::cmp::Ordering;
 use std::collections::VecDeque;
@@ -147,7 +147,8 @@ impl<V: Drop> Run<V> {
         Ok(Run { entries })
     }
 
-    /// Cuts the run into the entries of the keyed windows that end by the mark, and the others.
+    /// Cuts the run into the entries of the keyed windows that end by the mark, and the others. If all of them do, none
+    /// is moved.
     ///
     /// # Errors
     ///
@@ -158,8 +159,11 @@ impl<V: Drop> Run<V> {
         ensures opened { IfOk result (λ parts. (q : Window) → found parts.1 q
             ≡ (if nat_lt mark q.end then found self q else None)) }
     {
+        if ends_by(&self.entries, mark) {
+            return Ok((self, Run::new(alloc)));
+        }
         let mut open = self.entries;
-        let mut closed = VecDeque::new(alloc);
+        let mut closed = VecDeque::with_capacity(alloc, count_closed(&open, mark))?;
         'entries: while is_first_closed(&open, mark) {
             move_first(&mut open, &mut closed)?;
         }
@@ -265,17 +269,22 @@ fn is_behind<V>(entries: &VecDeque<(KeyedWindow, V)>, window: &KeyedWindow) -> b
     }
 }
 
-// Whether a keyed window is before another: that of two numbers is told at once.
+// How two keyed windows compare: by end, then key.
+#[inline(always)]
+fn compare(one: &KeyedWindow, other: &KeyedWindow) -> Ordering
+    ensures { result ≡ keyed_window_cmp one.now other.now }
+{
+    if one.end != other.end {
+        return one.end.cmp(&other.end);
+    }
+    one.key.cmp(&other.key)
+}
+
+// Whether a keyed window is before another.
 fn is_less(one: &KeyedWindow, other: &KeyedWindow) -> bool
     ensures { result ≡ is_lt (keyed_window_cmp one.now other.now) }
 {
-    if one.end != other.end {
-        return one.end < other.end;
-    }
-    match (&one.key, &other.key) {
-        (Key::Number(key), Key::Number(later)) => key < later,
-        (key, later) => key.cmp(later).is_lt(),
-    }
+    compare(one, other).is_lt()
 }
 
 // How the first windows compare, if there are both.
@@ -287,7 +296,7 @@ fn compare_firsts<V>(
 {
     let one = ones.front()?;
     let other = others.front()?;
-    Some(one.0.cmp(&other.0))
+    Some(compare(&one.0, &other.0))
 }
 
 // Joins the first entries, if there are both, and adds what they give.
@@ -331,4 +340,20 @@ fn is_first_closed<V>(entries: &VecDeque<(KeyedWindow, V)>, mark: u64) -> bool
         Some(first) => first.0.end <= mark,
         None => false,
     }
+}
+
+// Whether there are entries, and the windows of all of them end by the mark.
+fn ends_by<V>(entries: &VecDeque<(KeyedWindow, V)>, mark: u64) -> bool
+    requires { IsRun entries.now.items }
+    ensures { result ≡ true → AllByRecursion (λ e. e.0.end ≤ mark) entries.now.items }
+{
+    match entries.back() {
+        Some(last) => last.0.end <= mark,
+        None => false,
+    }
+}
+
+// How many entries have windows that end by the mark. It says how much room to ask for, and nothing depends on it.
+fn count_closed<V>(entries: &VecDeque<(KeyedWindow, V)>, mark: u64) -> usize {
+    entries.partition_point(|entry| entry.0.end <= mark)
 }
