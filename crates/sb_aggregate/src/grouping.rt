@@ -108,7 +108,7 @@ impl Grouping for Aggregate {
             agg: self.agg,
         };
         let closed = self.partials.close(self.alloc, &joiner, mark)?;
-        let rows = rows_of(self.alloc, self.agg, closed)?;
+        let rows = rows_of(&joiner, closed)?;
         self.closed = mark;
         self.spent = false;
         Ok(rows)

@@ -3,33 +3,29 @@
 ghost use Rattle.std.specs.Prelude.{◌≡◌, OnOk, IfOk};
 ghost use Rattle.sb_runs.specs.records.Records.{sorted_records};
 ghost use Rattle.sb_runs.specs.window.Gatherings.{rows_of_entries};
-ghost use Rattle.sb_aggregate.specs.Partials.{final_values};
-ghost use Rattle.sb_runs.specs.Runs.{IsRun};
+ghost use Rattle.sb_aggregate.specs.Partials.{final_values, join_values};
+ghost use Rattle.sb_runs.specs.Merged.{merged};
 
-use crate::aggregate::Agg;
-use crate::partial::Partial;
-use sb_runs::Run;
+use crate::partial::{Partial, PartialJoiner};
+use sb_runs::Closed;
 use sb_runs::sb_record::{NoMemory, Record};
-use std::alloc::Global;
 
-/// The rows of partial values, in order.
+/// The rows of what closed, in order.
 ///
 /// # Errors
 ///
 /// [`NoMemory`].
 pub(crate) fn rows_of(
-    alloc: Global,
-    agg: Agg,
-    partials: Run<Partial>,
+    joiner: &PartialJoiner,
+    closed: Closed<Partial>,
 ) -> Result<Vec<Record>, NoMemory>
-    ensures rows { IfOk result
-        (λ rows. rows.items ≡ sorted_records (rows_of_entries (final_values agg) partials)) }
-    ensures ordered { IsRun partials }
+    ensures { IfOk result (λ rows. rows.items ≡ sorted_records (rows_of_entries (final_values joiner.now.agg)
+        (merged (join_values joiner.now.agg) closed.0 closed.1))) }
 {
-    let mut entries = partials.into_entries();
-    let mut rows = Vec::with_capacity(alloc, entries.len())?;
-    'windows: while let Some((window, partial)) = entries.pop_front() {
-        partial.push_rows(alloc, agg, &window, &mut rows)?;
+    let mut left = closed;
+    let mut rows = Vec::with_capacity(joiner.alloc, left.most())?;
+    'windows: while let Some((window, partial)) = left.next(joiner)? {
+        partial.push_rows(joiner.alloc, joiner.agg, &window, &mut rows)?;
     }
     sort_rows(&mut rows)?;
     Ok(rows)

@@ -159,7 +159,7 @@ impl Grouping for JoinKept {
         self.is_spent = true;
         let joiner = SideJoiner { alloc: self.alloc };
         let closed = self.values.close(self.alloc, &joiner, mark)?;
-        let rows = rows_of(self.alloc, self.combine, closed)?;
+        let rows = rows_of(&joiner, self.combine, closed)?;
         self.closed = mark;
         self.is_spent = false;
         Ok(rows)

@@ -1,39 +1,38 @@
 //! The rows of the windows that close.
 
 ghost use Rattle.std.specs.Prelude.{◌≡◌, ◌-◌, ◌++◌, map, OnOk, IfOk};
-ghost use Rattle.sb_runs.specs.Runs.{IsRun};
+ghost use Rattle.sb_runs.specs.Merged.{merged};
 ghost use Rattle.sb_runs.specs.records.Records.{sorted_records};
 ghost use Rattle.sb_runs.specs.records.Reorderings.{IsReordered};
 ghost use Rattle.sb_runs.specs.window.Gatherings.{rows_of_entries};
 ghost use Rattle.sb_join.specs.Entries.{combined_values};
 
 use crate::join::{Combine, pair_values};
-use crate::side_values::SideValues;
-use sb_runs::Run;
+use crate::side_values::{SideJoiner, SideValues};
+use sb_runs::Closed;
 use sb_runs::sb_record::{NoMemory, Record};
 use sb_runs::sb_window::KeyedWindow;
-use std::alloc::Global;
 
-/// The rows of all pairs of keyed windows, in order.
+/// The rows of all pairs of the keyed windows that closed, in order.
 ///
 /// # Errors
 ///
 /// [`NoMemory`].
 pub(crate) fn rows_of(
-    alloc: Global,
+    joiner: &SideJoiner,
     combine: Combine,
-    values: Run<SideValues>,
+    closed: Closed<SideValues>,
 ) -> Result<Vec<Record>, NoMemory>
-    ensures rows { IfOk result
-        (λ rows. rows.items ≡ sorted_records (rows_of_entries (combined_values combine) values)) }
-    ensures ordered { IsRun values }
+    ensures { IfOk result (λ rows. rows.items ≡ sorted_records (rows_of_entries (combined_values combine)
+        (merged (λ v w. v ++ w) closed.0 closed.1))) }
 {
-    let mut entries = values.into_entries();
-    let mut rows = Vec::new(alloc);
+    let alloc = joiner.alloc;
+    let mut waiting = closed;
+    let mut rows = Vec::with_capacity(alloc, waiting.most())?;
     let mut left = Vec::new(alloc);
     let mut right = Vec::new(alloc);
     let mut pairs = Vec::new(alloc);
-    'windows: while let Some((window, both)) = entries.pop_front() {
+    'windows: while let Some((window, both)) = waiting.next(joiner)? {
         pair_up(combine, &both, &mut left, &mut right, &mut pairs)?;
         push_rows(&window, &pairs, &mut rows)?;
     }

@@ -1,5 +1,5 @@
 -- What a run has for a keyed window, and what stays a run.
-use Rattle.std.proofs.Common.{◌≡◌, ℕ, ◌+◌, ◌-◌, ◌<◌, IsTrue, cond, List, [], ◌∷◌, ◌++◌, length, take, get_or, Some, None, append_assoc, sym, subst, refl, ap, ◌∙◌, arith}
+use Rattle.std.proofs.Common.{◌≡◌, ℕ, zero, suc, ◌+◌, ◌-◌, ◌<◌, IsTrue, cond, List, [], ◌∷◌, ◌++◌, length, take, drop, get_or, Some, None, append_assoc, sym, subst, refl, ap, ◌∙◌, arith}
 use Rattle.std.specs.List.{AllByRecursion}
 use Rattle.std.specs.List.Sorted.{IsStrictlySortedBy}
 use Rattle.std.specs.BTreeMap.{is_at}
@@ -60,6 +60,11 @@ run-right (x ∷ xs) ys run = run-right xs ys (run-rest x (xs ++ ys) run)
 pub run-left : {V : Type 0} (xs ys : List (KeyedWindow × V)) → IsRun (xs ++ ys) → IsRun xs
 run-left [] ys run = run-none
 run-left (x ∷ xs) ys run = run-cons x xs (all-left (λ k. keyed_window_cmp x.0 k ≡ Less) xs ys (run-first x (xs ++ ys) run)) (run-left xs ys (run-rest x (xs ++ ys) run))
+
+pub run-drop : {V : Type 0} (n : ℕ) (es : List (KeyedWindow × V)) → IsRun es → IsRun (drop n es)
+run-drop zero es run = run
+run-drop (suc n) [] run = run
+run-drop (suc n) (e ∷ es) run = run-drop n es (run-rest e es run)
 
 -- an entry that stands between others and an entry behind these
 pub run-put : {V : Type 0} (e f : KeyedWindow × V) (xs ys zs : List (KeyedWindow × V)) → keyed_window_cmp e.0 f.0 ≡ Less → IsRun (xs ++ e ∷ ys) → IsRun (xs ++ f ∷ zs) → IsRun (xs ++ e ∷ f ∷ zs)

@@ -1,5 +1,6 @@
 pub mod Runs
 pub mod Placed
+pub mod Merged
 pub mod Merges
 pub use Rattle.sb_window.specs.records
 pub use Rattle.sb_window.specs as window

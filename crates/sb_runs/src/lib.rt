@@ -7,16 +7,19 @@
 //! the windows then.
 //!
 //! A node keeps [`Runs`]: it pushes each run that comes behind the others, and merges them when they are many. A
-//! closing takes off a prefix of each, merged, and looks at no window that stays open. Contracts see a run as a finite
-//! map, and runs as the map of all, where what they have for one keyed window is joined.
+//! closing takes off a prefix of each, and looks at no window that stays open. It gives them as [`Closed`]: what closed is
+//! merged as it is taken. Contracts see a run as a finite map, and runs as the map of all, where what they have for one
+//! keyed window is joined.
 #![tactic(auto)]
 
+mod closed;
 mod joiner;
 mod panes;
 mod placing;
 mod run;
 mod runs;
 
+pub use closed::Closed;
 pub use joiner::Joiner;
 pub use panes::spread;
 pub use placing::{place, sort_placed};

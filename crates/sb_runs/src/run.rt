@@ -6,9 +6,11 @@ ghost use Rattle.std.specs.Ordering.{is_lt};
 ghost use Rattle.sb_window.specs.declared.keyed_window.KeyedWindow.{KeyedWindow as Window};
 ghost use Rattle.sb_window.specs.Gatherings.{joined_value};
 ghost use Rattle.sb_window.specs.Windows.{keyed_window_cmp};
-ghost use Rattle.sb_runs.specs.Merges.{firsts_cmp, joined_firsts, begins_by};
+ghost use Rattle.sb_runs.specs.Merged.{merged};
+ghost use Rattle.sb_runs.specs.Merges.{firsts_cmp, begins_by};
 ghost use Rattle.sb_runs.specs.Runs.{IsRun, found, shifted_by};
 
+use crate::closed::Closed;
 use crate::joiner::Joiner;
 use sb_window::KeyedWindow;
 use sb_window::sb_record::NoMemory;
@@ -118,7 +120,7 @@ impl<V: Drop> Run<V> {
             entries.append(&mut behind)?;
             return Ok(Run { entries });
         }
-        let entries = merge(alloc, joiner, self.entries, later.entries)?;
+        let entries = merge(alloc, joiner, self, later)?;
         Ok(Run { entries })
     }
 
@@ -213,7 +215,7 @@ fn with_entry<V: Drop, J: Joiner<Value = V>>(
             all.push_back((last, held))?;
             let mut one = VecDeque::new(alloc);
             one.push_back((window, value))?;
-            merge(alloc, joiner, all, one)
+            merge(alloc, joiner, Run { entries: all }, Run { entries: one })
         }
     }
 }
@@ -222,27 +224,16 @@ fn with_entry<V: Drop, J: Joiner<Value = V>>(
 fn merge<V: Drop, J: Joiner<Value = V>>(
     alloc: Global,
     joiner: &J,
-    earlier: VecDeque<(KeyedWindow, V)>,
-    later: VecDeque<(KeyedWindow, V)>,
+    earlier: Run<V>,
+    later: Run<V>,
 ) -> Result<VecDeque<(KeyedWindow, V)>, NoMemory>
-    requires earlier { IsRun earlier.items }
-    requires later { IsRun later.items }
-    ensures run { IfOk result (λ all. IsRun all.items) }
-    ensures joined { IfOk result (λ all. (q : Window) → found all.items q
-        ≡ joined_value (J.joined joiner.now) (found earlier.items q) (found later.items q)) }
+    ensures { IfOk result (λ all. all.items ≡ merged (J.joined joiner.now) earlier later) }
 {
-    let mut ones = earlier;
-    let mut others = later;
-    let mut all = VecDeque::with_capacity(alloc, ones.len().saturating_add(others.len()))?;
-    'entries: while let Some(order) = compare_firsts(&ones, &others) {
-        match order {
-            Ordering::Less => move_first(&mut ones, &mut all)?,
-            Ordering::Equal => join_firsts(joiner, &mut ones, &mut others, &mut all)?,
-            Ordering::Greater => move_first(&mut others, &mut all)?,
-        }
+    let mut both = Closed::new(earlier, later);
+    let mut all = VecDeque::with_capacity(alloc, both.most())?;
+    'entries: while let Some(entry) = both.next(joiner)? {
+        all.push_back(entry)?;
     }
-    all.append(&mut ones)?;
-    all.append(&mut others)?;
     Ok(all)
 }
 
@@ -287,8 +278,9 @@ fn is_less(one: &KeyedWindow, other: &KeyedWindow) -> bool
     compare(one, other).is_lt()
 }
 
-// How the first windows compare, if there are both.
-fn compare_firsts<V>(
+/// How the first windows compare, if there are both.
+#[inline(always)]
+pub(crate) fn compare_firsts<V>(
     ones: &VecDeque<(KeyedWindow, V)>,
     others: &VecDeque<(KeyedWindow, V)>,
 ) -> Option<Ordering>
@@ -297,28 +289,6 @@ fn compare_firsts<V>(
     let one = ones.front()?;
     let other = others.front()?;
     Some(compare(&one.0, &other.0))
-}
-
-// Joins the first entries, if there are both, and adds what they give.
-fn join_firsts<V: Drop, J: Joiner<Value = V>>(
-    joiner: &J,
-    ones: &mut VecDeque<(KeyedWindow, V)>,
-    others: &mut VecDeque<(KeyedWindow, V)>,
-    all: &mut VecDeque<(KeyedWindow, V)>,
-) -> Result<(), NoMemory>
-    ensures ones { OnOk result (ones.new.items ≡ drop 1 ones.old.items) }
-    ensures others { OnOk result (others.new.items ≡ drop 1 others.old.items) }
-    ensures all { OnOk result (all.new.items
-        ≡ all.old.items ++ joined_firsts (J.joined joiner.now) ones.old.items others.old.items) }
-{
-    let one = ones.pop_front();
-    let other = others.pop_front();
-    if let (Some((window, value)), Some((_, later))) = (one, other) {
-        let mut value = value;
-        joiner.join(&mut value, later)?;
-        all.push_back((window, value))?;
-    }
-    Ok(())
 }
 
 // Moves the first element, if there is one, to the end of others.

@@ -4,9 +4,11 @@ ghost use Rattle.std.specs.Prelude.{◌≡◌, ◌+◌, ◌<◌, ◌≤◌, ◌+
 ghost use Rattle.std.specs.Option.{option_to_list};
 ghost use Rattle.sb_window.specs.declared.keyed_window.KeyedWindow.{KeyedWindow as Window};
 ghost use Rattle.sb_window.specs.Gatherings.{joined_value};
+ghost use Rattle.sb_runs.specs.Merged.{merged};
 ghost use Rattle.sb_runs.specs.Merges.{with_run};
-ghost use Rattle.sb_runs.specs.Runs.{found, found_in, IsAssociative};
+ghost use Rattle.sb_runs.specs.Runs.{found, found_in, IsAssociative, IsRun};
 
+use crate::closed::Closed;
 use crate::joiner::Joiner;
 use crate::run::Run;
 use sb_window::sb_record::NoMemory;
@@ -72,7 +74,7 @@ impl<V: Drop> Runs<V> {
         Ok(())
     }
 
-    /// Takes off what the runs have for the keyed windows that end by the mark, as one run.
+    /// Takes off what the runs have for the keyed windows that end by the mark.
     ///
     /// # Errors
     ///
@@ -82,9 +84,10 @@ impl<V: Drop> Runs<V> {
         alloc: Global,
         joiner: &J,
         mark: u64,
-    ) -> Result<Run<V>, NoMemory>
+    ) -> Result<Closed<V>, NoMemory>
         requires { IsAssociative (J.joined joiner.now) }
-        ensures closed { IfOk result (λ run. (q : Window) → found run q
+        ensures run { IfOk result (λ both. IsRun (merged (J.joined joiner.now) both.0 both.1)) }
+        ensures closed { IfOk result (λ both. (q : Window) → found (merged (J.joined joiner.now) both.0 both.1) q
             ≡ (if nat_lt mark q.end then None else found_in (J.joined joiner.now) self.old q)) }
         ensures opened { OnOk result ((q : Window) → found_in (J.joined joiner.now) self.new q
             ≡ (if nat_lt mark q.end then found_in (J.joined joiner.now) self.old q else None)) }
@@ -92,7 +95,8 @@ impl<V: Drop> Runs<V> {
         let runs = std::mem::replace(&mut self.runs, VecDeque::new(alloc));
         let (closed, open) = split_all(alloc, joiner, runs, mark)?;
         self.runs = open;
-        into_one(alloc, joiner, closed)
+        let (first, last) = into_two(alloc, joiner, closed)?;
+        Ok(Closed::new(first, last))
     }
 }
 
@@ -111,6 +115,20 @@ fn fewer<V: Drop, J: Joiner<Value = V>>(
     if runs.len() < MOST_RUNS {
         return Ok(runs);
     }
+    stacked(alloc, joiner, runs)
+}
+
+// The runs on a stack, on which small ones are merged.
+fn stacked<V: Drop, J: Joiner<Value = V>>(
+    alloc: Global,
+    joiner: &J,
+    runs: VecDeque<Run<V>>,
+) -> Result<VecDeque<Run<V>>, NoMemory>
+    requires { IsAssociative (J.joined joiner.now) }
+    ensures same { IfOk result (λ stack. (q : Window) → found_in (J.joined joiner.now) stack.items q
+        ≡ found_in (J.joined joiner.now) runs.items q) }
+    ensures bound { IfOk result (λ stack. length stack.items ≤ MOST_STACKED) }
+{
     let mut rest = runs;
     let mut stack = VecDeque::new(alloc);
     'runs: while let Some(run) = rest.pop_front() {
@@ -166,7 +184,7 @@ fn keep<V: Drop>(runs: &mut VecDeque<Run<V>>, run: Run<V>) -> Result<(), NoMemor
     Ok(())
 }
 
-// Cuts each run at a mark: what closes, merged in part, and the others.
+// Cuts each run at a mark: what closes, and the others.
 fn split_all<V: Drop, J: Joiner<Value = V>>(
     alloc: Global,
     joiner: &J,
@@ -185,7 +203,7 @@ fn split_all<V: Drop, J: Joiner<Value = V>>(
     let mut open = VecDeque::new(alloc);
     'runs: while let Some(run) = rest.pop_front() {
         let (part, others) = run.split_at(alloc, mark)?;
-        stack_up(alloc, joiner, &mut closed, part)?;
+        keep(&mut closed, part)?;
         keep(&mut open, others)?;
     }
     Ok((closed, open))
@@ -210,4 +228,23 @@ pub(crate) fn into_one<V: Drop, J: Joiner<Value = V>>(
         all = last.merged(alloc, joiner, all)?;
     }
     Ok(all)
+}
+
+// The last run, and all before it as one.
+fn into_two<V: Drop, J: Joiner<Value = V>>(
+    alloc: Global,
+    joiner: &J,
+    runs: VecDeque<Run<V>>,
+) -> Result<(Run<V>, Run<V>), NoMemory>
+    requires { IsAssociative (J.joined joiner.now) }
+    ensures { IfOk result (λ both. (q : Window)
+        → joined_value (J.joined joiner.now) (found both.0 q) (found both.1 q)
+        ≡ found_in (J.joined joiner.now) runs.items q) }
+{
+    let mut rest = runs;
+    let Some(last) = rest.pop_back() else {
+        return Ok((Run::new(alloc), Run::new(alloc)));
+    };
+    let stack = stacked(alloc, joiner, rest)?;
+    Ok((into_one(alloc, joiner, stack)?, last))
 }

@@ -3,7 +3,7 @@ use Rattle.sb_window.specs.declared.keyed_window.KeyedWindow.{KeyedWindow}
 use Rattle.sb_window.specs.Gatherings.{joined_value}
 use Rattle.sb_runs.specs.declared.runs.TheConstants.{MOST_STACKED}
 use Rattle.sb_runs.specs.Runs.{found_in}
-use Rattle.sb_runs.proofs.runs.fewer.Given as goal
+use Rattle.sb_runs.proofs.runs.stacked.Given as goal
 
 abbrev pub invariant-runs : goal.invariant-runs
 invariant-runs g l = let join = g.J.Joiner.joined l.joiner in record {
