@@ -18,6 +18,7 @@ pub mod laws;
 mod part;
 mod partial;
 mod placing;
+mod ranking;
 mod rows;
 mod session;
 mod sorted_list;

@@ -15,6 +15,7 @@ ghost use Rattle.sb_runs.specs.Runs.{found};
 
 use crate::aggregate::Agg;
 use crate::partial::{Partial, PartialJoiner};
+use crate::ranking::sort_numbers;
 use sb_runs::Run;
 use sb_runs::sb_record::{Key, NoMemory};
 use sb_runs::sb_window::KeyedWindow;
@@ -63,7 +64,7 @@ impl Numbered {
 
     // What panes are put in order by: the end, and then the key.
     #[inline(always)]
-    fn rank(&self) -> u128 {
+    pub(crate) fn rank(&self) -> u128 {
         (u128::from(self.end) << 64) | u128::from(self.key)
     }
 
@@ -134,7 +135,7 @@ impl Placing {
         ensures { IfOk result
             (λ run. (q : Window) → found run q ≡ placed_value (partial_values (joining agg)) self.old q) }
     {
-        sort_numbers(&mut self.numbers);
+        sort_numbers(alloc, &mut self.numbers)?;
         sort_words(&mut self.words);
         let joiner = PartialJoiner { alloc, agg };
         let numbers = run_of_numbers(alloc, agg, &self.numbers)?;
@@ -171,13 +172,6 @@ fn join_at(agg: Agg, numbers: &mut Vec<Numbered>, at: usize, entry: &Numbered) -
 }
 
 // Puts values in the order of panes. Nothing but time depends on that order.
-fn sort_numbers(numbers: &mut Vec<Numbered>)
-    ensures { IsReordered numbers.new.items numbers.old.items }
-{
-    numbers.sort_unstable_by_key(Numbered::rank);
-}
-
-// The same.
 fn sort_words(words: &mut Vec<(KeyedWindow, i64)>)
     ensures { IsReordered words.new.items words.old.items }
 {

@@ -21,7 +21,7 @@ returns c =
     let first : (q : KeyedWindow) → found c.in_ok-numbers.numbers q ≡ placed_value made (map numbered_entry numbers) q = λ q.
     c.in_ok-numbers.ensures q
     ∙ ap (λ l. placed_value made (map numbered_entry l) q) c.deref.ensures.value
-    ∙ placed-reordered made ignores (map numbered_entry c.sort_numbers.new.numbers.items) (map numbered_entry numbers) (IsReordered-map numbered_entry c.sort_numbers.new.numbers.items numbers c.sort_numbers.ensures) q in
+    ∙ placed-reordered made ignores (map numbered_entry c.sort_numbers.new.numbers.items) (map numbered_entry numbers) (IsReordered-map numbered_entry c.sort_numbers.new.numbers.items numbers c.in_ok-sort_numbers.ensures) q in
     let others : (q : KeyedWindow) → found c.in_ok-words.words q ≡ placed_value made words q = λ q.
     c.in_ok-words.ensures q
     ∙ ap (λ l. placed_value made l q) c.deref-2.ensures.value
