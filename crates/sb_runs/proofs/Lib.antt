@@ -3,6 +3,7 @@ pub mod Merging
 pub mod Splitting
 pub mod FoundIn
 pub mod Shifting
+pub mod Doubling
 pub mod PaneEnds
 pub mod Placed
 pub mod Spreading

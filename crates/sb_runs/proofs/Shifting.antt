@@ -1,5 +1,5 @@
 -- A run whose windows end later.
-use Rattle.std.proofs.Common.{◌≡◌, ℕ, ◌+◌, ◌-◌, ◌*◌, ◌≤◌, ◌<◌, Bool, true, false, cond, List, [], ◌∷◌, ◌++◌, length, Some, None, sym, refl, ap, ◌∙◌, arith, add-zero, add-one, append-nil, subst}
+use Rattle.std.proofs.Common.{◌≡◌, ℕ, ◌+◌, ◌-◌, ◌≤◌, ◌<◌, Bool, true, false, cond, List, [], ◌∷◌, ◌++◌, length, Some, None, sym, refl, ap, ◌∙◌, arith, add-zero, append-nil, subst}
 use Rattle.std.specs.Prelude.{nat_lt}
 use Rattle.std.specs.List.{AllByRecursion}
 use Rattle.std.specs.Map.{keys_of}
@@ -8,7 +8,6 @@ use Rattle.std.specs.Cmp.{nat_cmp_is}
 use Rattle.std.specs.declared.cmp.Ordering.TheVariants.{Less}
 use Rattle.std.proofs.lemmas.Bool.{ltb-true, ltb-false}
 use Rattle.std.proofs.lemmas.Bool.Decides.{nat_tests}
-use Rattle.std.proofs.Math.Nat.{mul-le-mul_right, suc-mul}
 use Rattle.sb_window.specs.records.Keys.{key_cmp}
 use Rattle.sb_window.specs.declared.keyed_window.KeyedWindow.{KeyedWindow}
 use Rattle.sb_window.specs.Windows.{keyed_window_cmp}
@@ -41,13 +40,13 @@ shifted-run by (e ∷ es) run = run-cons (later_entry by e) (shifted_by by es) (
 too_early : (x y by : ℕ) → x < by → nat_cmp x (y + by) ≡ Less
 too_early x y by low = sym (nat_cmp_is x (y + by) Less (omega arith))
 
-found-too_early : {V : Type 0} (by : ℕ) (es : List (KeyedWindow × V)) (q : KeyedWindow) → q.end < by → found (shifted_by by es) q ≡ None
+pub found-too_early : {V : Type 0} (by : ℕ) (es : List (KeyedWindow × V)) (q : KeyedWindow) → q.end < by → found (shifted_by by es) q ≡ None
 found-too_early by [] q low = refl
 found-too_early by (e ∷ es) q low =
     ap (λ o. cond (is_eq (ordering_then o (key_cmp q.key e.0.key))) (Some e.1) (found (shifted_by by es) q)) (too_early q.end e.0.end by low)
     ∙ found-too_early by es q low
 
-found-later : {V : Type 0} (by : ℕ) (es : List (KeyedWindow × V)) (q : KeyedWindow) → by ≤ q.end → found (shifted_by by es) q ≡ found es (earlier by q)
+pub found-later : {V : Type 0} (by : ℕ) (es : List (KeyedWindow × V)) (q : KeyedWindow) → by ≤ q.end → found (shifted_by by es) q ≡ found es (earlier by q)
 found-later by [] q high = refl
 found-later by (e ∷ es) q high =
     (λ i. cond (is_eq (same i)) (Some e.1) (found-later by es q high i))
@@ -70,25 +69,6 @@ found-shifted {V} by es none q = by_case (nat_lt q.end by) refl
 pub shifted-zero : {V : Type 0} (es : List (KeyedWindow × V)) → shifted_by 0 es ≡ es
 shifted-zero [] = refl
 shifted-zero (e ∷ es) = λ i. (record { end = add-zero e.0.end i; key = e.0.key }, e.1) ∷ shifted-zero es i
-
-pub shifted-more : {V : Type 0} (step count : ℕ) (es : List (KeyedWindow × V)) → shifted_by step (shifted_by (count * step) es) ≡ shifted_by ((count + 1) * step) es
-shifted-more step count [] = refl
-shifted-more step count (e ∷ es) = λ i. (record { end = more i; key = e.0.key }, e.1) ∷ shifted-more step count es i
-  where
-    more : e.0.end + count * step + step ≡ e.0.end + (count + 1) * step
-    more = let k : (count + 1) * step ≡ count * step + step = ap (λ n. n * step) (add-one count) ∙ suc-mul count step in omega (arith, k)
-
--- ends that leave room for so many steps leave room for one after fewer
-pub room-more : {V : Type 0} (step bound few many : ℕ) → few < many → (es : List (KeyedWindow × V)) → AllByRecursion (λ e. e.0.end + many * step < bound) es → AllByRecursion (λ e. e.0.end + step < bound) (shifted_by (few * step) es)
-room-more step bound few many h [] room = tt
-room-more step bound few many h (e ∷ es) room = (one, room-more step bound few many h es room.1)
-  where
-    one : e.0.end + few * step + step < bound
-    one =
-        let next : few + 1 ≤ many = omega arith in
-        let all : (few + 1) * step ≤ many * step = mul-le-mul_right step next in
-        let k : (few + 1) * step ≡ few * step + step = ap (λ n. n * step) (add-one few) ∙ suc-mul few step in
-        omega (arith, all, k, room.0)
 
 -- ---- a run that was shifted entry by entry
 pub shifted-whole : {V : Type 0} (by : ℕ) (made left whole entries : List (KeyedWindow × V)) → length left ≡ 0 → made ++ shifted_by by left ≡ shifted_by by whole → entries ≡ whole → IsRun entries → IsRun made

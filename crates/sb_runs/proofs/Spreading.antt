@@ -152,13 +152,6 @@ ends-bounded {V} made windows l bound run has low = of_keys run (every low_key (
     of_keys [] all = tt
     of_keys (e ∷ es) all = (all.0, of_keys es all.1)
 
--- ---- runs that are spread step by step
--- the first runs are on a stack, and one more is joined to them
-pub spread-more : {V : Type 0} (join : V → V → V) (step count : ℕ) (run : List (KeyedWindow × V)) (now later : Option V) (q : KeyedWindow) → now ≡ spread_value join step count run q → later ≡ found (shifted_by (count * step) run) q
-    → joined_value join now later ≡ spread_value join step (count + 1) run q
-spread-more join step count run now later q some more =
-    let next : suc count ≡ count + 1 = omega arith in
-    (λ i. joined_value join (some i) (more i)) ∙ ap (λ n. spread_value join step n run q) next
-
+-- ---- runs that are spread to one window
 pub spread-first : {V : Type 0} (join : V → V → V) (step : ℕ) (run : List (KeyedWindow × V)) (q : KeyedWindow) → found run q ≡ spread_value join step 1 run q
 spread-first {V} join step run q = ap (λ (es : List (KeyedWindow × V)). found es q) (sym (shifted-zero run)) ∙ ap (λ n. found (shifted_by n run) q) (sym (zero-mul step))

@@ -137,12 +137,8 @@ fn stacked<V: Drop, J: Joiner<Value = V>>(
     Ok(stack)
 }
 
-/// Puts a run on a stack, after it is merged with the last ones, as long as these are small.
-///
-/// # Errors
-///
-/// [`NoMemory`]; what is on the stack is unknown then.
-pub(crate) fn stack_up<V: Drop, J: Joiner<Value = V>>(
+// Puts a run on a stack, after it is merged with the last ones, as long as these are small.
+fn stack_up<V: Drop, J: Joiner<Value = V>>(
     alloc: Global,
     joiner: &J,
     stack: &mut VecDeque<Run<V>>,
@@ -209,12 +205,8 @@ fn split_all<V: Drop, J: Joiner<Value = V>>(
     Ok((closed, open))
 }
 
-/// All runs of a stack as one.
-///
-/// # Errors
-///
-/// [`NoMemory`].
-pub(crate) fn into_one<V: Drop, J: Joiner<Value = V>>(
+// All runs of a stack as one.
+fn into_one<V: Drop, J: Joiner<Value = V>>(
     alloc: Global,
     joiner: &J,
     stack: VecDeque<Run<V>>,

@@ -1,54 +1,76 @@
-use Rattle.std.proofs.Common.{◌≡◌, ◌+◌, ◌-◌, ◌*◌, ◌<◌, ◌^◌, List, subst, sym, ap, ◌∙◌, arith}
-use Rattle.std.specs.List.{AllByRecursion}
-use Rattle.std.proofs.Math.Nat.{zero-mul}
+use Rattle.std.proofs.Common.{◌≡◌, ◌-◌, ◌*◌, ◌/◌, ◌≤◌, ◌^◌, sym, ap, ◌∙◌, arith}
 use Rattle.std.proofs.lemmas.Result.{IfOk-weaker}
-use Rattle.sb_window.specs.declared.keyed_window.KeyedWindow.{KeyedWindow}
 use Rattle.sb_window.specs.Gatherings.{joined_value}
-use Rattle.sb_runs.specs.Runs.{found, found_in, shifted_by, spread_value}
-use Rattle.sb_runs.proofs.Shifting.{shifted-zero, shifted-more, room-more}
-use Rattle.sb_runs.proofs.Spreading.{spread-first, spread-more}
+use Rattle.sb_window.proofs.Gathering.{joined_none}
+use Rattle.sb_runs.specs.Runs.{found, spread_value}
+use Rattle.sb_runs.proofs.Doubling.{spread-empty, spread-doubled, room-fewer, room-steps, room-doubled, first-step, two-steps, steps-fewer, half-steps, last-steps}
+use Rattle.sb_runs.proofs.Spreading.{spread-first}
 use Rattle.sb_runs.proofs.panes.spread.Goals as goal
+use Rattle.sb_runs.proofs.panes.spread.Goals.{then-count-eq1-via-then-count-eq1, then-count-eq1-via-else-count-eq1+then-len-eq0}
 
 pub returns-then-count-eq1 : goal.returns-then-count-eq1
 returns-then-count-eq1 g c q =
     let join = g.J.Joiner.joined c.args.joiner.now in
-    spread-first join c.args.every c.args.panes q ∙ ap (λ n. spread_value join c.args.every n c.args.panes q) (sym c.if-count-eq1.true)
+    let panes = c.args.panes in
+    elim c.then-count-eq1.branch [
+      | then-count-eq1-via-then-count-eq1 w ↦
+          spread-first join c.args.every panes q ∙ ap (λ n. spread_value join c.args.every n panes q) (sym w.if-count-eq1.true)
+      | then-count-eq1-via-else-count-eq1+then-len-eq0 w ↦
+          spread-empty join c.args.every c.args.count panes (sym w.len.ensures ∙ w.if-len-eq0.true) q
+    ]
 
-pub loop-init : goal.loop-init
-loop-init g c =
+pub doubled-init : goal.doubled-init
+doubled-init g c =
     let join = g.J.Joiner.joined c.args.joiner.now in
     let panes = c.args.panes in
     record {
-      run = sym (ap (λ n. shifted_by n panes) (zero-mul c.args.every) ∙ shifted-zero panes);
-      same = λ q. ap (λ rs. joined_value join (found_in join rs q) (found panes q)) c.new-stack.ensures.items ∙ spread-first join c.args.every panes q;
+      some = c.requires.some;
+      width = room-steps (c.args.count * c.args.every) (2 ^ 64) panes (λ none. c.if-len-eq0.false (c.len.ensures ∙ none)) c.requires.ends;
+      ends = room-fewer ((c.args.count - 1) * c.args.every) (c.args.count * c.args.every) (2 ^ 64) (steps-fewer c.args.count c.args.every) panes c.requires.ends;
+      same = λ q.
+          ap (λ es. joined_value join (spread_value join c.args.every c.args.count panes q) (found es q)) c.new-behind.ensures
+          ∙ joined_none join (spread_value join c.args.every c.args.count panes q);
     }
 
-pub shifted-requires : goal.shifted-requires
-shifted-requires g c =
-    subst (λ (es : List (KeyedWindow × g.row.V.Denot)). AllByRecursion (λ (e : KeyedWindow × g.row.V.Denot). e.0.end + c.args.every < 2 ^ 64) es) (sym c.loop.invariant.run)
-    (room-more c.args.every (2 ^ 64) (c.loop.counter - 1) c.args.count (omega arith) c.args.panes c.requires.ends)
+pub with_odd-requires-clause-width : goal.with_odd-requires-clause-width
+with_odd-requires-clause-width g c = c.doubled.invariant.width
 
-pub loop-preserved : goal.loop-preserved
-loop-preserved g c =
+pub with_odd-requires-clause-ends : goal.with_odd-requires-clause-ends
+with_odd-requires-clause-ends g c = c.doubled.invariant.ends
+
+pub doubled-requires : goal.doubled-requires
+doubled-requires g c =
+    room-fewer c.doubled.step ((c.doubled.rest - 1) * c.doubled.step) (2 ^ 64) (first-step c.doubled.rest c.doubled.step c.doubled-test.true) c.doubled.run c.doubled.invariant.ends
+
+pub overflow_mul-step : goal.overflow_mul-step
+overflow_mul-step g c = let all = two-steps c.doubled.rest c.doubled.step c.doubled-test.true in omega (arith, all, c.doubled.invariant.width)
+
+pub doubled-preserved : goal.doubled-preserved
+doubled-preserved g c =
     let join = g.J.Joiner.joined c.args.joiner.now in
-    let panes = c.args.panes in
-    let more : c.loop.counter - 1 + 1 ≡ c.loop.counter = omega arith in
-    let left : c.loop.counter ≡ c.loop.counter + 1 - 1 = omega arith in
-    let now : c.in_ok-later.later ≡ shifted_by (c.loop.counter * c.args.every) c.args.panes =
-    c.in_ok-later.ensures ∙ ap (shifted_by c.args.every) c.loop.invariant.run ∙ shifted-more c.args.every (c.loop.counter - 1) panes
-    ∙ ap (λ n. shifted_by (n * c.args.every) panes) more in
+    let step = c.doubled.step in
+    let rest = c.doubled.rest in
+    let more = c.doubled-test.true in
+    let both = c.in_ok-run.run' in
+    let half : rest / 2 * (step * 2) ≤ rest * step = half-steps rest step in
     record {
-      run = now ∙ ap (λ n. shifted_by (n * c.args.every) panes) left;
+      some = omega (arith, more);
+      width = omega (arith, half, c.doubled.invariant.width);
+      ends = room-doubled join step ((rest / 2 - 1) * (step * 2)) ((rest - 1) * step) (2 ^ 64) (last-steps rest step more) c.doubled.run both c.in_ok-run.ensures c.doubled.invariant.ends;
       same = λ q.
-          spread-more join c.args.every c.loop.counter panes (found_in join c.stack_up.new.stack.items q) (found c.in_ok-later.later q) q
-          (c.in_ok-stack_up.ensures.joined q ∙ c.loop.invariant.same q) (ap (λ es. found es q) now);
+          ap (λ o. joined_value join o (found c.in_ok-behind.behind q)) (spread-doubled join c.requires.groups step c.doubled.run both c.in_ok-run.ensures (rest / 2) q)
+          ∙ c.in_ok-behind.ensures q
+          ∙ c.doubled.invariant.same q;
     }
 
 pub returns : goal.returns
 returns g c =
     let join = g.J.Joiner.joined c.args.joiner.now in
-    let whole : c.loop.counter ≡ c.args.count = omega (arith, c.requires.some) in
-    IfOk-weaker c.into_one.result _ _
+    let one : 1 ≡ c.doubled.rest = omega (arith, c.doubled-test.false, c.doubled.invariant.some) in
+    IfOk-weaker c.merged.result _ _
     (λ run h q.
-    h q ∙ c.in_ok-stack_up-2.ensures.joined q ∙ c.loop.invariant.same q ∙ ap (λ n. spread_value join c.args.every n c.args.panes q) whole)
-    c.into_one.ensures
+    h q
+    ∙ ap (λ o. joined_value join o (found c.doubled.behind q))
+    (spread-first join c.doubled.step c.doubled.run q ∙ ap (λ n. spread_value join c.doubled.step n c.doubled.run q) one)
+    ∙ c.doubled.invariant.same q)
+    c.merged.ensures
