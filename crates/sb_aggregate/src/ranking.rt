@@ -1,8 +1,8 @@
 //! Values in the order of their panes.
 //!
-//! Numbers of eight bytes are sorted in half the time that entries of three take. So each value gets a rank, made of how
-//! far its pane ends behind the first one, of its key and of its place, if these fit into so few bits: the ranks are
-//! sorted, and the values fetched from their places. No contract says more than that the values are the same.
+//! What is sorted is moved often, so it is made small. Each value gets a rank of eight bytes, made of how far its pane
+//! ends behind the first one, of its key and of its place, if these fit into so few bits: the ranks are sorted, and the
+//! values fetched from their places. No contract says more than that the values are the same.
 
 ghost use Rattle.std.specs.Prelude.{◌≡◌, ◌<◌, ◌%◌, map, IfSome, IfOk, OnOk};
 ghost use Rattle.sb_runs.specs.records.Reorderings.{IsReordered};
