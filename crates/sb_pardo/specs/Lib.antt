@@ -2,6 +2,7 @@ pub mod KeyCode
 pub mod Tables
 pub mod Validity
 pub mod KeyNumbers
+pub mod ListedImages
 pub mod Outputs
 pub mod Laws
 pub mod TableFiles
