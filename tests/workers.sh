@@ -3,10 +3,10 @@
 # over it would pass the other tests. It takes ../streambox, or the program that STREAMBOX names by an absolute path:
 # STREAMBOX=/usr/local/bin/streambox tests/workers.sh
 #
-# Threads: a run by one worker has one thread. One by N has N and one that reads, or one more, which began those of the
-# helpers and waits for them. Runs are looked at while their input is held open, and `work` while it works. The number has to be right at ten
-# looks in a row, and has to come to be so in 20 seconds, or as many as PATIENCE says. So a slow machine is no failure, and
-# a number on the way to another is not taken for it.
+# Threads: a run by one worker has one thread. One by N has N, one that reads and one that prints, or one more, which
+# began those of the helpers and waits for them. Runs are looked at while their input is held open, and `work` while it
+# works. The number has to be right at ten looks in a row, and has to come to be so in 20 seconds, or as many as PATIENCE
+# says. So a slow machine is no failure, and a number on the way to another is not taken for it.
 #
 # Two bundles in hand at once: that a bundle is taken before another is finished does not say so, since it may wait on the
 # shelf. But the bundles here have places on the shelf together, and their lane is never full, so one worker finishes them
@@ -60,7 +60,7 @@ stays_right() {
   local look
   for ((look = 0; look < looks; look++)); do
     count_threads
-    if (($1 == 1)); then ((threads == 1)) || return; else ((threads == $1 + 1 || threads == $1 + 2)) || return; fi
+    if (($1 == 1)); then ((threads == 1)) || return; else ((threads == $1 + 2 || threads == $1 + 3)) || return; fi
     sleep 0.01
   done
 }

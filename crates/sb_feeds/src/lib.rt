@@ -11,6 +11,10 @@
 //! engine may be fed it, by [`take_value`], and by [`InputIn::tie`] in the end that what it took out are the first of
 //! what the input gave.
 //!
+//! The rows of a feeder may go through a ring, too: [`RowsSender`] is an output that sends them, and [`print_rows`]
+//! writes what comes out to the true output, in another thread. By [`RowsIn::tie`] it is known in the end that what came
+//! out are the first of what was sent.
+//!
 //! No contract says how soon a value that one thread put in is seen by the other.
 #![tactic(auto)]
 
@@ -21,6 +25,7 @@ mod file;
 mod input;
 pub mod laws;
 mod ring;
+mod rows;
 
 pub use ends::{FeedDone, FeedIn, FeedOut};
 pub use fed::{Fed, FeedStop};
@@ -33,6 +38,11 @@ pub use input::sending::feed_input;
 pub use input::signals::Signals;
 pub use input::taking::take_value;
 pub use ring::{RING_PLACES, feed_pair};
+pub use rows::ends::{RowsIn, RowsOut};
+pub use rows::fed::RowsFed;
+pub use rows::printing::print_rows;
+pub use rows::ring::{ROWS_PLACES, rows_pair};
+pub use rows::sending::RowsSender;
 
 // What the crates above name of the crates below.
 pub use sb_feed;

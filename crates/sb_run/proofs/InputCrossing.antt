@@ -41,3 +41,9 @@ Ahead-sync α R shared = ahead_crossing.the_sync α R shared
 
 pub Ahead-lent : (ℓ α : NamedLft) (R : RattleType) → IsSync R → IsSend (shr_ref_field ℓ (ahead.the_row α R) tt).row
 Ahead-lent ℓ α R shared = search (sendable, Ahead-sync) depth 20
+
+pub Eleven-send : (ν : Sym) (A B C D E F G H I J K : RattleType) → IsSend A → IsSend B → IsSend C → IsSend D → IsSend E → IsSend F → IsSend G → IsSend H → IsSend I → IsSend J → IsSend K
+    → IsSend (TupleAt ν (A ∷ B ∷ C ∷ D ∷ E ∷ F ∷ G ∷ H ∷ I ∷ J ∷ K ∷ []))
+Eleven-send ν A B C D E F G H I J K a b c d e f g h i j k =
+    declared_send (type_at ν (A ∷ B ∷ C ∷ D ∷ E ∷ F ∷ G ∷ H ∷ I ∷ J ∷ K ∷ []))
+    (captured (A ∷ B ∷ C ∷ D ∷ E ∷ F ∷ G ∷ H ∷ I ∷ J ∷ K ∷ []) (a, (b, (c, (d, (e, (f, (g, (h, (i, (j, (k, tt))))))))))))

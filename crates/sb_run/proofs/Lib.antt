@@ -11,6 +11,7 @@ pub mod FilesSoFar
 pub mod Flowing
 pub mod InletPops
 pub mod InputCrossing
+pub mod InputPrinted
 pub mod MergedItems
 pub mod Passes
 pub mod PoppedSoFar

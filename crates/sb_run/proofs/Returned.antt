@@ -121,7 +121,7 @@ module _ (c : Cascade) (p : CascadePass) (h : HandView) (back : GivesBack (setti
 
 -- ---- what was fed, and then worked off by one hand
 -- the rows that came out are the first of all, although the end was fed behind the items
-end-first : (plan : Shape) (size : ℕ) (items : List Item) (stop : Stop) (f : Fed) (c : Cutters) (rows : List Record)
+pub end-first : (plan : Shape) (size : ℕ) (items : List Item) (stop : Stop) (f : Fed) (c : Cutters) (rows : List Record)
     → IsFedBy size (items ++ end_items (streams_of plan) stop) f c → AreRowsSoFar plan f rows → AreFirstRows plan items rows
 end-first plan size items stop f c rows fed so =
     let all = items ++ end_items (streams_of plan) stop in

@@ -8,6 +8,7 @@ pub mod Files
 pub mod Pops
 pub mod FilesFed
 pub mod InputPops
+pub mod InputPrints
 pub mod FilesRead
 pub mod FilesEnding
 pub mod TwoEnds

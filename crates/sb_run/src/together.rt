@@ -5,7 +5,7 @@ ghost use Rattle.sb_run.specs.Feeders.{IsBegun};
 ghost use Rattle.sb_run.specs.RunEnds.{AreSizes, Ends, IsDone, OutputCause, SharedInputCause};
 
 use crate::ending::{early_end, end_of};
-use crate::input::working::work;
+use crate::input::printing::work_and_print;
 use crate::run_end::RunEnd;
 use crate::shared::handing::{come_back, split_all};
 use crate::sizes::Sizes;
@@ -55,9 +55,10 @@ pub(crate) fn begin(alloc: Global, plan: Plan, sizes: Sizes) -> Result<Begun, No
     })
 }
 
-/// Runs a plan over an input with `sizes.workers` workers: the caller's thread feeds, and the others help, each in a
-/// thread of its own if one can be made. The input is read in another thread. If none can be made for it, the feeder
-/// reads too.
+/// Runs a plan over an input with `sizes.workers` workers, one of which feeds, while the others help, each in a thread of
+/// its own if one can be made. The input is read in another thread, and what comes out is written and offered by the
+/// caller's. If no thread can be made for the feeder, the caller's thread feeds as well, and if none can be made for the
+/// reader, the feeder reads too.
 ///
 /// What is written, offered and dropped is what one worker writes, offers and drops. Rows come out as watermarks come,
 /// as a lane is full, or as nothing comes for a while, and at the end. The input may be read further than it was fed,
@@ -93,7 +94,7 @@ pub fn execute<W: Threads + Wait + Clock + Sync, S: Source, R: RowOut, G: Gate +
         mut pass,
         mut helpers,
     } = begun;
-    let (clear, fed) = work(
+    let (clear, fed) = work_and_print(
         rt,
         alloc,
         &cascade,

@@ -1,0 +1,67 @@
+//! Printing what comes through a ring of rows.
+
+ghost use Rattle.std.specs.Prelude.{◌≡◌, ◌≤◌, ◌<◌, ◌^◌, [], map, length};
+ghost use Rattle.sb_feed.specs.GiveCauses.{GiveCause};
+ghost use Rattle.sb_feeds.specs.RowsEnds.{row_ring_in, rows_received};
+ghost use Rattle.sb_feeds.specs.RowsSends.{Prints};
+
+use crate::input::patience::Patience;
+use crate::input::signals::Signals;
+use crate::rows::ends::RowsIn;
+use crate::rows::fed::RowsFed;
+use sb_feed::sb_emit::{RowOut, Tap};
+use sb_feed::{GiveStop, give_out};
+use std::sync::Wait;
+
+// Nothing came: it looks away for a moment, and after a while it sleeps until something comes.
+fn wait_for_rows<W: Wait>(rt: &W, inward: &mut RowsIn, signals: &Signals, patience: &mut Patience)
+    ensures ring { row_ring_in inward.new ≡ row_ring_in inward.old }
+    ensures same { rows_received inward.new ≡ rows_received inward.old }
+{
+    if patience.is_spent() {
+        inward.rest(rt, signals);
+    } else {
+        patience.pause();
+    }
+}
+
+/// Writes the rows that come out of a ring, and offers each of them to fewer than 2^32 taps, up to the end. It waits
+/// for what comes.
+///
+/// # Errors
+///
+/// The first refusal, of the output or of a tap. Nothing more is then taken out of the ring, and the sender is told.
+pub fn print_rows<W: Wait, R: RowOut>(
+    rt: &W,
+    inward: &mut RowsIn,
+    signals: &Signals,
+    out: &mut R,
+    taps: &mut Vec<Box<dyn Tap>>,
+) -> Result<(), GiveStop>
+    requires nothing { rows_received inward.old ≡ [] }
+    requires few { length taps.old.items < 2 ^ 32 }
+    ensures ring { row_ring_in inward.new ≡ row_ring_in inward.old }
+    ensures prints { Prints R.after R.part out.old (map (λ t. tap_state t) taps.old.items) (rows_received inward.new)
+        out.new (map (λ t. tap_state t) taps.new.items) result }
+    ensures fewer { length taps.new.items ≤ length taps.old.items }
+    ensures cause { GiveCause (R.row_state out.old) (R.row_state out.new) result }
+{
+    let mut patience = Patience::new();
+    for _ in rt.forever() {
+        match inward.pop() {
+            Some(RowsFed::Rows(rows)) => {
+                patience.renew();
+                match give_out(&rows, out, taps) {
+                    Ok(()) => {}
+                    Err(why) => {
+                        signals.end();
+                        return Err(why);
+                    }
+                }
+            }
+            Some(RowsFed::End) => return Ok(()),
+            None => wait_for_rows(rt, inward, signals, &mut patience),
+        }
+    }
+    unreachable!()
+}

@@ -1,0 +1,185 @@
+//! An output that sends its rows through a ring.
+
+ghost use Rattle.std.specs.Prelude.{◌≡◌, ◌≤◌, ◌++◌, ◌∷◌, [], true, false, Err};
+ghost use Rattle.rtrb.specs.Ring.{SameProducer, sent};
+ghost use Rattle.sb_feed.specs.outside.Sources.{Rose};
+ghost use Rattle.sb_feeds.specs.RowsFed.{IsTimely};
+ghost use Rattle.sb_feeds.specs.RowsSends.{EndsRows};
+
+use crate::input::patience::Patience;
+use crate::input::signals::Signals;
+use crate::rows::ends::{RowsFeeding, RowsOut};
+use crate::rows::fed::RowsFed;
+use crate::rows::ring::ROWS_PLACES;
+use rtrb::{Producer, PushError};
+use sb_feed::sb_base::Record;
+use sb_feed::sb_emit::RowOut;
+use sb_feed::sb_outside::SinkFault;
+use std::alloc::Global;
+use std::cmp::min;
+use std::sync::Wait;
+use std::time::Clock;
+
+/// How many rows a place of the ring stands for. Where more come together, the sender waits for so many places more. So
+/// the rows that wait to be printed take little memory, however many come together.
+const PLACE_ROWS: usize = 128;
+
+// How many places have to be free for so many rows.
+fn places_for(rows: usize) -> usize {
+    min(1 + rows / PLACE_ROWS, ROWS_PLACES)
+}
+
+// Whether so many places are free. It looks only if more than one has to be.
+fn has_room(producer: &mut Producer<RowsFed, Global, RowsFeeding>, places: usize) -> bool
+    ensures ring { SameProducer producer.old producer.new }
+    ensures same { sent producer.new ≡ sent producer.old }
+{
+    places <= 1 || places <= producer.slots()
+}
+
+// Sends a value once so many places are free, and waits until they are. False if the printer needs nothing more: then
+// it was not sent.
+fn send<W: Wait + Clock>(
+    rt: &W,
+    producer: &mut Producer<RowsFed, Global, RowsFeeding>,
+    next: RowsFed,
+    places: usize,
+    signals: &Signals,
+) -> bool
+    requires { IsTimely next }
+    ensures ring { SameProducer producer.old producer.new }
+    ensures sent { result ≡ true → sent producer.new ≡ sent producer.old ++ next ∷ [] }
+    ensures unsent { result ≡ false → sent producer.new ≡ sent producer.old }
+{
+    let mut next = next;
+    let mut patience = Patience::new();
+    for _ in rt.forever() {
+        if has_room(producer, places) {
+            match producer.push(next) {
+                Ok(()) => {
+                    signals.wake();
+                    return true;
+                }
+                Err(PushError::Full(back)) => next = back,
+            }
+        }
+        if signals.is_over() {
+            return false;
+        }
+        patience.wait(rt);
+    }
+    unreachable!()
+}
+
+/// An output whose rows go through a ring to the thread that prints them. Each call sends the rows that it is given
+/// together, and waits while the ring is full. Once the printer says by [`Signals`] that it needs nothing more, it
+/// refuses all.
+#[derive(Drop)]
+pub struct RowsSender<'a, W> {
+    rt: &'a W,
+    alloc: Global,
+    signals: &'a Signals,
+    faults: u64,
+    shortages: u64,
+    /// The end of the ring that it sends by.
+    pub out: RowsOut,
+}
+
+impl<'a, W: Wait + Clock> RowsSender<'a, W> {
+    pub fn new(rt: &'a W, alloc: Global, signals: &'a Signals, out: RowsOut) -> RowsSender<'a, W>
+        ensures { result.out ≡ out }
+    {
+        RowsSender {
+            rt,
+            alloc,
+            signals,
+            faults: 0,
+            shortages: 0,
+            out,
+        }
+    }
+
+    /// No more rows come: the printer ends behind those that were sent. It waits while the ring is full.
+    pub fn end(&mut self)
+        ensures { EndsRows self.old.out self.new.out }
+    {
+        send(
+            self.rt,
+            &mut self.out.producer,
+            RowsFed::End,
+            1,
+            self.signals,
+        );
+    }
+
+    /// The end of the ring that it has sent by.
+    pub fn into_out(self) -> RowsOut
+        ensures { result ≡ self.entry.out }
+    {
+        self.out
+    }
+
+    // The printer needs nothing more: it counts a fault.
+    fn refuse(&mut self) -> Result<(), SinkFault>
+        ensures refused { result ≡ Err SinkFault.Failed }
+        ensures never_falls { self.old.faults ≤ self.new.faults }
+        ensures counted { Rose self.old.faults self.new.faults }
+        ensures same_shortages { self.new.shortages ≡ self.old.shortages }
+        ensures same_out { self.new.out ≡ self.old.out }
+    {
+        self.faults = self.faults.saturating_add(1);
+        Err(SinkFault::Failed)
+    }
+}
+
+impl<'a, W: Wait + Clock + Sync> RowOut for RowsSender<'a, W> {
+    ghost use Rattle.std.specs.Prelude.{false};
+    ghost use Rattle.sb_feeds.specs.RowsLaws as rows_law;
+    ghost use Rattle.sb_feeds.specs.RowsSends.{AreSent, AreSentInPart};
+
+    ghost row_state = { λ o. record { faults = o.faults; shortages = o.shortages; refuses = false } };
+
+    ghost after = { λ o l p. AreSent o.out l p.out };
+
+    ghost part = { λ o l p. AreSentInPart o.out l p.out };
+
+    ghost after_none = { λ o. rows_law.after_none o.out };
+
+    ghost after_more = { λ o p q. rows_law.after_more o.out p.out q.out };
+
+    ghost part_later = { λ o p q. rows_law.part_later o.out p.out q.out };
+
+    ghost part_of_all = { λ o p. rows_law.part_of_all o.out p.out };
+
+    ghost part_of_more = { λ o p. rows_law.part_of_more o.out p.out };
+
+    fn rows(&mut self, rows: &[Record]) -> Result<(), SinkFault> {
+        if self.signals.is_over() {
+            return self.refuse();
+        }
+        if rows.is_empty() {
+            return Ok(());
+        }
+        let Ok(copied) = Vec::from_slice(self.alloc, rows) else {
+            self.shortages = self.shortages.saturating_add(1);
+            return Err(SinkFault::Memory);
+        };
+        if send(
+            self.rt,
+            &mut self.out.producer,
+            RowsFed::Rows(copied),
+            places_for(rows.len()),
+            self.signals,
+        ) {
+            return Ok(());
+        }
+        self.refuse()
+    }
+
+    fn finish(&mut self) -> Result<(), SinkFault> {
+        if self.signals.is_over() {
+            return self.refuse();
+        }
+        Ok(())
+    }
+}
