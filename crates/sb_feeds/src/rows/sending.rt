@@ -20,6 +20,10 @@ use std::cmp::min;
 use std::sync::Wait;
 use std::time::Clock;
 
+/// How many rows are sent before the printer is woken, if it sleeps: a wake takes longer than a few rows. Fewer wait
+/// until it wakes by itself, as it does after two milliseconds.
+const WAKE_ROWS: usize = 256;
+
 /// How many rows a place of the ring stands for. Where more come together, the sender waits for so many places more. So
 /// the rows that wait to be printed take little memory, however many come together.
 const PLACE_ROWS: usize = 128;
@@ -37,8 +41,8 @@ fn has_room(producer: &mut Producer<RowsFed, Global, RowsFeeding>, places: usize
     places <= 1 || places <= producer.slots()
 }
 
-// Sends a value once so many places are free, and waits until they are. False if the printer needs nothing more: then
-// it was not sent.
+// Sends a value once so many places are free, and waits until they are. The printer is woken only then. False if it
+// needs nothing more: then the value was not sent.
 fn send<W: Wait + Clock>(
     rt: &W,
     producer: &mut Producer<RowsFed, Global, RowsFeeding>,
@@ -56,19 +60,26 @@ fn send<W: Wait + Clock>(
     for _ in rt.forever() {
         if has_room(producer, places) {
             match producer.push(next) {
-                Ok(()) => {
-                    signals.wake();
-                    return true;
-                }
+                Ok(()) => return true,
                 Err(PushError::Full(back)) => next = back,
             }
         }
         if signals.is_over() {
             return false;
         }
+        signals.wake();
         patience.wait(rt);
     }
     unreachable!()
+}
+
+// Counts rows that were sent, and wakes the printer if there are many since it was woken last.
+fn wake_for(signals: &Signals, unseen: &mut usize, rows: usize) {
+    *unseen = unseen.saturating_add(rows);
+    if *unseen >= WAKE_ROWS {
+        signals.wake();
+        *unseen = 0;
+    }
 }
 
 /// An output whose rows go through a ring to the thread that prints them. Each call sends the rows that it is given
@@ -81,6 +92,8 @@ pub struct RowsSender<'a, W> {
     signals: &'a Signals,
     faults: u64,
     shortages: u64,
+    /// How many rows were sent since the printer was woken.
+    unseen: usize,
     /// The end of the ring that it sends by.
     pub out: RowsOut,
 }
@@ -95,6 +108,7 @@ impl<'a, W: Wait + Clock> RowsSender<'a, W> {
             signals,
             faults: 0,
             shortages: 0,
+            unseen: 0,
             out,
         }
     }
@@ -110,6 +124,7 @@ impl<'a, W: Wait + Clock> RowsSender<'a, W> {
             1,
             self.signals,
         );
+        self.signals.wake();
     }
 
     /// The end of the ring that it has sent by.
@@ -171,6 +186,7 @@ impl<'a, W: Wait + Clock + Sync> RowOut for RowsSender<'a, W> {
             places_for(rows.len()),
             self.signals,
         ) {
+            wake_for(self.signals, &mut self.unseen, rows.len());
             return Ok(());
         }
         self.refuse()
