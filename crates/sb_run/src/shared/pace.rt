@@ -1,16 +1,17 @@
 //! Whether the feeder works off what a watermark closes by itself, or leaves it to all workers.
 //!
 //! Workers that meet in every turn are slower than one of them, and a helper that has found nothing to do sleeps for a
-//! millisecond, in which one worker does many epochs of a few records. So the feeder works off a little epoch by
-//! itself, as one worker does, and tells the helpers that it does without them. Where that takes long, since the plan
-//! is heavy or much was left over, it leaves the next epochs to all.
+//! millisecond, in which one worker does many epochs of a few records, or some of a thousand. So the feeder works off a
+//! little epoch by itself, as one worker does, and tells the helpers that it does without them: beside it others still
+//! read and print. Where that takes long, since the plan is heavy or much was left over, it leaves the next epochs to
+//! all.
 
 use sb_worker::sb_cascade::Cascade;
 use std::io;
 use std::time::{Clock, Duration, Instant};
 
 /// From how many records on an epoch is left to all.
-const LITTLE_RECORDS: usize = 256;
+const LITTLE_RECORDS: usize = 2_048;
 
 /// How many microseconds the feeder works by itself at most before it leaves epochs to all: about as many as a helper
 /// sleeps.
