@@ -5,7 +5,7 @@ use std::cmp::min;
 use std::thread;
 use std::time::{Clock, Duration};
 
-/// How many microseconds an end sleeps first: fewer than a full ring lasts.
+/// How many microseconds an end sleeps first before a full ring: fewer than that lasts.
 const FIRST_MICROS: u64 = 50;
 
 /// How many it sleeps at most, where the other end stands still.
@@ -44,12 +44,9 @@ impl Patience {
         self.backoff.snooze();
     }
 
-    /// The same, and once it is time to sleep it does, each time for twice as long as before.
+    /// The ring is full: it sleeps, each time for twice as long as before. To look again and again would take the
+    /// places of the ring from the cache of the other end.
     pub fn wait(&mut self, clock: &impl Clock) {
-        if !self.is_spent() {
-            self.pause();
-            return;
-        }
         thread::sleep(clock, Duration::from_micros(self.micros));
         self.micros = min(self.micros.saturating_add(self.micros), MOST_MICROS);
     }

@@ -5,7 +5,6 @@ ghost use Rattle.sb_feed.specs.GiveCauses.{GiveCause};
 ghost use Rattle.sb_feeds.specs.RowsEnds.{row_ring_in, rows_received};
 ghost use Rattle.sb_feeds.specs.RowsSends.{Prints};
 
-use crate::input::patience::Patience;
 use crate::input::signals::Signals;
 use crate::rows::ends::RowsIn;
 use crate::rows::fed::RowsFed;
@@ -13,20 +12,8 @@ use sb_feed::sb_emit::{RowOut, Tap};
 use sb_feed::{GiveStop, give_out};
 use std::sync::Wait;
 
-// Nothing came: it looks away for a moment, and after a while it sleeps until something comes.
-fn wait_for_rows<W: Wait>(rt: &W, inward: &mut RowsIn, signals: &Signals, patience: &mut Patience)
-    ensures ring { row_ring_in inward.new ≡ row_ring_in inward.old }
-    ensures same { rows_received inward.new ≡ rows_received inward.old }
-{
-    if patience.is_spent() {
-        inward.rest(rt, signals);
-    } else {
-        patience.pause();
-    }
-}
-
-/// Writes the rows that come out of a ring, and offers each of them to fewer than 2^32 taps, up to the end. It waits
-/// for what comes.
+/// Writes the rows that come out of a ring, and offers each of them to fewer than 2^32 taps, up to the end. If nothing
+/// comes it sleeps.
 ///
 /// # Errors
 ///
@@ -46,21 +33,17 @@ pub fn print_rows<W: Wait, R: RowOut>(
     ensures fewer { length taps.new.items ≤ length taps.old.items }
     ensures cause { GiveCause (R.row_state out.old) (R.row_state out.new) result }
 {
-    let mut patience = Patience::new();
     for _ in rt.forever() {
         match inward.pop() {
-            Some(RowsFed::Rows(rows)) => {
-                patience.renew();
-                match give_out(&rows, out, taps) {
-                    Ok(()) => {}
-                    Err(why) => {
-                        signals.end();
-                        return Err(why);
-                    }
+            Some(RowsFed::Rows(rows)) => match give_out(&rows, out, taps) {
+                Ok(()) => {}
+                Err(why) => {
+                    signals.end();
+                    return Err(why);
                 }
-            }
+            },
             Some(RowsFed::End) => return Ok(()),
-            None => wait_for_rows(rt, inward, signals, &mut patience),
+            None => inward.rest(rt, signals),
         }
     }
     unreachable!()

@@ -22,7 +22,7 @@ use std::time::Clock;
 
 /// How many rows are sent before the printer is woken, if it sleeps: a wake takes longer than a few rows. Fewer wait
 /// until it wakes by itself, as it does after two milliseconds.
-const WAKE_ROWS: usize = 256;
+const WAKE_ROWS: usize = 1_024;
 
 /// How many rows a place of the ring stands for. Where more come together, the sender waits for so many places more. So
 /// the rows that wait to be printed take little memory, however many come together.

@@ -17,6 +17,10 @@ const LITTLE_RECORDS: usize = 2_048;
 /// sleeps.
 const LONG_MICROS: u64 = 500;
 
+/// How many epochs in a row have to take so long. One may do so because others had the processor, or because much was
+/// left over of those that were left to all.
+const LONG_EPOCHS: u32 = 3;
+
 /// How many epochs it leaves to all then, before it tries one by itself again.
 const LEFT_EPOCHS: u32 = 64;
 
@@ -25,6 +29,8 @@ const LEFT_EPOCHS: u32 = 64;
 pub(crate) struct Pace {
     /// How many records came since the last watermark.
     records: usize,
+    /// How many epochs in a row took long.
+    long: u32,
     /// How many of the next epochs it leaves to all.
     left: u32,
     /// Whether it has told the helpers that it wants help.
@@ -36,6 +42,7 @@ impl Pace {
     pub(crate) fn new() -> Pace {
         Pace {
             records: 0,
+            long: 0,
             left: 0,
             is_helped: true,
         }
@@ -45,6 +52,7 @@ impl Pace {
     pub(crate) fn leaving() -> Pace {
         Pace {
             records: 0,
+            long: 0,
             left: LEFT_EPOCHS,
             is_helped: true,
         }
@@ -74,18 +82,24 @@ impl Pace {
         is_own
     }
 
-    /// The feeder has worked an epoch off by itself since then. If it did not take long, it does without help.
+    /// The feeder has worked an epoch off by itself since then. Unless that and those before it took long, it does
+    /// without help.
     pub(crate) fn worked(
         &mut self,
         clock: &impl Clock,
         cascade: &Cascade,
         since: io::Result<Instant>,
     ) {
-        let is_long = is_long(clock, since);
-        if is_long {
+        self.long = if is_long(clock, since) {
+            self.long.saturating_add(1)
+        } else {
+            0
+        };
+        if self.long >= LONG_EPOCHS {
+            self.long = 0;
             self.left = LEFT_EPOCHS;
         }
-        self.tell(cascade, is_long);
+        self.tell(cascade, self.left > 0);
     }
 }
 
