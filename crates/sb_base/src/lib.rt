@@ -18,8 +18,8 @@ pub use sb_pipeline::sb_pardo::{
 pub use sb_pipeline::sb_record::{
     Dropped, END_MARK, Intake, Item, KeptRec, Key, Keys, LatePolicy, MAX_KEY, MAX_LINE_LENGTH,
     MAX_LINES, MAX_ROW_LENGTH, MAX_TIME, MAX_WORD_LENGTH, Malformed, NoMemory, Record, Refusal,
-    RowBuf, Sequence, Stop, Stream, Streams, TextBuf, Trail, Word, read_line, read_number,
-    row_bytes,
+    RowBuf, Sequence, Stop, Stream, Streams, TextBuf, Trail, UsualRecord, Word, read_line,
+    read_number, row_bytes,
 };
 pub use sb_pipeline::sb_window::{
     BadWindow, Ends, Grouping, KeyedWindow, MAX_SIZE, MAX_WINDOWS_OF_A_TIME, Windows,

@@ -2,6 +2,7 @@
 use Rattle.std.specs.Prelude.{ℕ, ℤ, Bool, true, ◌&&◌, ◌==◌, nat_le, if◌then◌else◌, List, [], ◌∷◌, Option, Some, None}
 use Rattle.sb_record.specs.declared.item.TheConstants.{MAX_TIME}
 use Rattle.sb_record.specs.declared.item.Stream.{Stream}
+use Rattle.sb_record.specs.declared.item.Record.{Record}
 use Rattle.sb_record.specs.declared.item.Item.{Item}
 use Rattle.sb_record.specs.declared.item.Item.TheVariants.{Rec, Mark, Skip, Late}
 use Rattle.sb_record.specs.declared.front.FrontLine.{FrontLine}
@@ -25,9 +26,13 @@ is_timely p (Mark s t) = is_in_time p s t
 is_timely p Skip = true
 is_timely p (Late n t m) = true
 
--- the line of a record in the usual form
+-- the record alone, of a record in the usual form
+abbrev pub usual_record : UsualRecord → Record
+usual_record r = record { time = r.time; key = Number r.number; value = r.value }
+
+-- its line
 abbrev pub usual_line : UsualRecord → FrontLine
-usual_line r = record { item = Rec r.stream (record { time = r.time; key = Number r.number; value = r.value }); len = r.len }
+usual_line r = record { item = Rec r.stream (usual_record r); len = r.len }
 
 -- the item, where a line feed follows it, and what follows that
 abbrev pub before_line_feed : Item → List ℕ → Option (Item × List ℕ)

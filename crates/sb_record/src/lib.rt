@@ -2,8 +2,8 @@
 //!
 //! An input is a list of lines. A line gives an [`Item`]: a record of a stream, a watermark of a stream, or nothing.
 //! The [`Key`] of a record is a number or a word.
-//! [`read_line`] reads one line, [`Intake`] tests the lines of an input in their order, also a [`FrontLine`] that bytes
-//! begin with, and [`row_bytes`] prints a row.
+//! [`read_line`] reads one line, [`Intake`] tests the lines of an input in their order, also a [`FrontLine`] or a
+//! [`UsualRecord`] that bytes begin with, and [`row_bytes`] prints a row.
 //! [`laws`] has the limits as numbers, and what every other crate rests on. Nothing in this crate allocates memory.
 #![tactic(auto)]
 
@@ -32,3 +32,4 @@ pub use row::{MAX_ROW_LENGTH, RowBuf, row_bytes};
 pub use sequence::Sequence;
 pub use text::TextBuf;
 pub use trail::Trail;
+pub use usual::UsualRecord;

@@ -5,40 +5,44 @@
 
 ghost use Rattle.std.specs.Prelude.{◌≡◌, ◌≤◌, ◌<◌, ◌^◌, ◌+◌, ◌∷◌, ◌↔◌, Some, IfSome, false};
 ghost use Rattle.std.specs.Char.{is_ascii_digit};
-ghost use Rattle.sb_record.specs.FrontReading.{usual_line};
+ghost use Rattle.sb_record.specs.FrontReading.{usual_line, usual_record as spec_usual_record};
 ghost use Rattle.sb_record.specs.Fronts.{IsFront};
 ghost use Rattle.sb_record.specs.Reading as spec;
 
 use crate::front::FrontLine;
-use crate::item::{Item, MAX_TIME, Record, Stream};
+use crate::item::{MAX_TIME, Record, Stream};
 use crate::key::{Key, Keys};
 use crate::line::{after, leading_field};
 
 /// How many bytes a short number takes at most, with the byte that ends it: it has up to 18 digits.
 const SHORT: usize = 19;
 
-/// A record in the usual form, in plain numbers: an [`Item`] is made of it once, at the end.
+/// A record whose key is a number, with the length of its line, in plain numbers: they take less time to move than an
+/// [`Item`](crate::Item).
 #[derive(Clone, Copy, Debug, PartialEq, Eq)]
-pub(crate) struct UsualRecord {
+pub struct UsualRecord {
+    /// The stream that it is of.
     pub stream: Stream,
+    /// Its time.
     pub time: u64,
     /// Its key.
     pub number: u64,
+    /// Its value.
     pub value: i64,
     /// How many bytes its line has, without the line feed.
     pub len: usize,
 }
 
 impl UsualRecord {
-    /// Its line.
+    /// The record alone.
     #[inline(always)]
-    pub fn line(self) -> FrontLine
-        ensures { result ≡ usual_line self }
+    pub fn record(self) -> Record
+        ensures { result ≡ spec_usual_record self }
     {
-        let (time, key, value) = (self.time, Key::Number(self.number), self.value);
-        FrontLine {
-            item: Item::Rec(self.stream, Record { time, key, value }),
-            len: self.len,
+        Record {
+            time: self.time,
+            key: Key::Number(self.number),
+            value: self.value,
         }
     }
 }
