@@ -89,6 +89,11 @@ module _ {S O : Type 0} (left_of : S → Option (List ℕ)) (faults_of : S → �
     pub listed : now.dropped ≡ start.dropped ++ dropped_of items
     pub marks : (s : Stream) → last_watermark s items ≤ END_MARK
 
+  -- nothing was read
+  pub fed_still : (stands : Fed → List Record → Type 0) (start now : Around S O) (held held' : Held) (p p' : Progress) (c : Cutters) → held' ≡ held → p' ≡ p → FedSoFar stands start now held p c → FedSoFar stands start now held' p' c
+  fed_still stands start now held held' p p' c same_held same_p h =
+      subst (λ (q : Progress). FedSoFar stands start now held' q c) (sym same_p) (subst (λ (x : Held). FedSoFar stands start now x p c) (sym same_held) h)
+
 module _ {S O : Type 0} (left_of : S → Option (List ℕ)) (faults_of : S → ℕ) (after part : O → List Record → O → Type 0) (laws : AddsUp after part) (plan : Shape) (size : ℕ) (some : 1 ≤ size) where
   -- comments in front were taken
   pub comments_fed : (stands : Fed → List Record → Type 0) (start : Around S O) (source : S) (n : ℕ) (held : Held) (p : Progress) (c : Cutters) → n ≤ MAX_LINES → Consumes (left_of start.source) (left_of source) (comment_lines n) → faults_of source ≡ faults_of start.source

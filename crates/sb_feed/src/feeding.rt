@@ -9,8 +9,8 @@ use crate::cutters::Cutters;
 use crate::ending::end_input;
 use crate::engine::Engine;
 use crate::give::GiveStop;
-use crate::reading::next_item;
-use crate::taking::take_item;
+use crate::reading::{next_other, next_usual};
+use crate::taking::{take_item, take_record};
 use sb_base::{Dropped, Intake, MAX_BUNDLE, Stop};
 use sb_emit::{RowOut, Tap};
 use sb_outside::{LineBuffer, Source};
@@ -54,7 +54,20 @@ pub fn feed<E: Engine, S: Source, R: RowOut>(
     let mut cutters = Cutters::new(alloc, size);
     let mut lines = LineBuffer::new();
     'items: loop {
-        match next_item(input, &mut lines, &mut intake) {
+        if let Some(usual) = next_usual(input, &mut lines, &mut intake) {
+            match take_record(
+                engine,
+                &mut cutters,
+                usual.stream,
+                usual.record(),
+                out,
+                taps,
+            ) {
+                Ok(()) => continue,
+                Err(why) => return Err(why),
+            }
+        }
+        match next_other(input, &mut lines, &mut intake) {
             Ok(item) => match take_item(engine, &mut cutters, item, out, taps, dropped) {
                 Ok(()) => {}
                 Err(why) => return Err(why),

@@ -18,8 +18,13 @@ use crate::give::GiveStop;
 use sb_base::{Dropped, Item, NoMemory, Record, Stream};
 use sb_emit::{RowOut, Tap};
 
-// Takes the next record of a stream: the bundle that it fills arrives.
-fn take_record<E: Engine, R: RowOut>(
+/// Takes the next record of a stream: the bundle that it fills arrives.
+///
+/// # Errors
+///
+/// Those of [`take_item`].
+#[inline(always)]
+pub(crate) fn take_record<E: Engine, R: RowOut>(
     engine: &mut E,
     cutters: &mut Cutters,
     stream: Stream,

@@ -7,7 +7,7 @@ use Rattle.sb_outside.specs.AtHand.{BeginsWithLine}
 use Rattle.sb_outside.specs.Readings.{Held, reading}
 use Rattle.sb_feed.specs.Reads.{TakesNext}
 use Rattle.sb_feed.proofs.FrontTakes.{front_begins, front_taken}
-use Rattle.sb_feed.proofs.reading.next_item.Goals as goal
+use Rattle.sb_feed.proofs.reading.next_other.Goals as goal
 
 pub take_line-requires : goal.take_line-requires
 take_line-requires g c =
