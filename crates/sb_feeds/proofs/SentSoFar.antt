@@ -273,6 +273,12 @@ module _ (plan : Shape) (size : ℕ) where
   ends_by items stop values values' c Over s more none = stop_unsent items c values values' s (none (λ e. cc e))
   ends_by items stop values values' c NoMemory s more none = stop_unsent items c values values' s (none (λ e. cc e))
 
+  -- sending that does not go on
+  pub in_part : (items : List Item) (values : List InputFed) (c : Cutters) (went : Sending) → (went ≡ Done → ⊥) → Sends plan size items values c went → AreSentInPart plan size items values
+  in_part items values c Done stops s = absurd (stops refl)
+  in_part items values c Over stops s = s
+  in_part items values c NoMemory stops s = s
+
   -- the want of memory was told, or not
   pub lack_told : (items : List Item) (values values' : List InputFed) (told : Sending) → AreSentInPart plan size items values → (told ≡ Done → values' ≡ values ++ fed.NoMemory ∷ []) → ((told ≡ Done → ⊥) → values' ≡ values) → AreSentInPart plan size items values'
   lack_told items values values' told s more none = by_answer told more none
@@ -293,6 +299,13 @@ pub record SentSoFar (plan : Shape) (size : ℕ) (left left' : Option (List ℕ)
   pub sent : AreSent plan size items values c
   pub listed : dropped' ≡ dropped ++ dropped_of items
   pub marks : (s : Stream) → last_watermark s items ≤ END_MARK
+
+-- nothing was read
+pub so_far_still : (plan : Shape) (size : ℕ) (left left' : Option (List ℕ)) (held held' : Held) (p p' : Progress) (c : Cutters) (faults faults' : ℕ) (values : List InputFed) (dropped dropped' : List Dropped) → held' ≡ held → p' ≡ p
+    → SentSoFar plan size left left' held p c faults faults' values dropped dropped' → SentSoFar plan size left left' held' p' c faults faults' values dropped dropped'
+so_far_still plan size left left' held held' p p' c faults faults' values dropped dropped' same_held same_p h =
+    subst (λ (q : Progress). SentSoFar plan size left left' held' q c faults faults' values dropped dropped') (sym same_p)
+    (subst (λ (x : Held). SentSoFar plan size left left' x p c faults faults' values dropped dropped') (sym same_held) h)
 
 -- comments in front were taken
 pub sent_comments : (plan : Shape) (size : ℕ) (left left' : Option (List ℕ)) (n : ℕ) (held : Held) (p : Progress) (c : Cutters) (faults faults' : ℕ) (values : List InputFed) (dropped : List Dropped) → 1 ≤ size → n ≤ MAX_LINES → Consumes left left' (comment_lines n) → faults' ≡ faults

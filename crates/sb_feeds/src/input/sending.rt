@@ -1,12 +1,13 @@
 //! Sending what an input feeds through a ring: a bundle once it is full or its epoch ends, and each watermark.
 
-ghost use Rattle.std.specs.Prelude.{◌≡◌, ◌≤◌, ◌<◌, ◌++◌, ◌∷◌, ◌+◌, [], ℕ, List, Some};
+ghost use Rattle.std.specs.Prelude.{◌≡◌, ◌≤◌, ◌<◌, ◌++◌, ◌∷◌, ◌+◌, ◌↔◌, [], ℕ, List, Some, true};
 ghost use Rattle.rtrb.specs.Ring.{SameProducer, sent};
 ghost use Rattle.sb_feed.specs.base.records.declared.item.Item.{Item as AnItem};
 ghost use Rattle.sb_feed.specs.base.records.declared.item.Item.TheVariants as item_spec;
 ghost use Rattle.sb_feed.specs.base.records.declared.item.Record.{Record as ARecord};
 ghost use Rattle.sb_feed.specs.base.records.Streams.{dropped_in};
 ghost use Rattle.sb_feed.specs.base.pipeline.Shapes.{Shape, streams_of};
+ghost use Rattle.sb_feed.specs.declared.cutters.Cutters.{Cutters as ACutters};
 ghost use Rattle.sb_feed.specs.FedByItems.{end_item, end_items};
 ghost use Rattle.sb_feed.specs.Feeds.{Fed};
 ghost use Rattle.sb_feed.specs.Takes.{MayEnd, MayTake};
@@ -25,7 +26,7 @@ use sb_feed::sb_base::{
     Stop, Stream, Streams,
 };
 use sb_feed::sb_outside::{LineBuffer, Source};
-use sb_feed::{Cutters, keep_dropped, next_item, uses};
+use sb_feed::{Cutters, keep_dropped, next_other, next_usual, uses};
 use std::alloc::Global;
 use std::sync::Wait;
 use std::time::Clock;
@@ -72,6 +73,7 @@ fn send<W: Wait + Clock>(
 }
 
 // Takes the next record of a stream: the bundle that it fills is sent.
+#[inline(always)]
 fn send_record<W: Wait + Clock>(
     rt: &W,
     producer: &mut Producer<InputFed, Global, InputFeeding>,
@@ -149,6 +151,31 @@ fn send_item<W: Wait + Clock>(
             Ok(()) => Sending::Done,
             Err(Lacking) => Sending::NoMemory,
         },
+    }
+}
+
+// Whether more is to be sent, where sending went like this. If there was no memory, the feeder is told.
+fn goes_on<W: Wait + Clock>(
+    rt: &W,
+    producer: &mut Producer<InputFed, Global, InputFeeding>,
+    signals: &Signals,
+    went: Sending,
+) -> bool
+    requires sends { (plan : Shape) × (size : ℕ) × (items : List AnItem) × (cutters : ACutters)
+        × Sends plan size items (sent producer.old) cutters went }
+    ensures exact { (result ≡ true) ↔ (went ≡ sending.Done) }
+    ensures ring { SameProducer producer.old producer.new }
+    ensures sends { (plan : Shape) (size : ℕ) (items : List AnItem) (cutters : ACutters)
+        → Sends plan size items (sent producer.old) cutters went
+        → Sends plan size items (sent producer.new) cutters went }
+{
+    match went {
+        Sending::Done => true,
+        Sending::Over => false,
+        Sending::NoMemory => {
+            send(rt, producer, InputFed::NoMemory, signals);
+            false
+        }
     }
 }
 
@@ -261,33 +288,32 @@ pub fn feed_input<W: Wait + Clock, S: Source>(
     ensures name { S.name input.new ≡ S.name input.old }
 {
     let comments = u64::from(input.take_comments());
-    let mut intake = Intake::new(plan.streams(), comments, plan.late(), plan.keys());
+    let streams = plan.streams();
+    let mut intake = Intake::new(streams, comments, plan.late(), plan.keys());
     let mut cutters = Cutters::new(alloc, size);
     let mut lines = LineBuffer::new();
     'items: loop {
         if signals.is_over() {
             return None;
         }
-        match next_item(input, &mut lines, &mut intake) {
+        if let Some(usual) = next_usual(input, &mut lines, &mut intake) {
+            let next = usual.record();
+            let stream = usual.stream;
+            let went = send_record(rt, &mut out.producer, signals, &mut cutters, stream, next);
+            if !goes_on(rt, &mut out.producer, signals, went) {
+                return None;
+            }
+            continue;
+        }
+        match next_other(input, &mut lines, &mut intake) {
             Ok(item) => {
-                match send_item(rt, &mut out.producer, signals, &mut cutters, item, dropped) {
-                    Sending::Done => {}
-                    Sending::Over => return None,
-                    Sending::NoMemory => {
-                        send(rt, &mut out.producer, InputFed::NoMemory, signals);
-                        return None;
-                    }
+                let went = send_item(rt, &mut out.producer, signals, &mut cutters, item, dropped);
+                if !goes_on(rt, &mut out.producer, signals, went) {
+                    return None;
                 }
             }
             Err(stop) => {
-                match send_stop(
-                    rt,
-                    &mut out.producer,
-                    signals,
-                    &mut cutters,
-                    plan.streams(),
-                    stop,
-                ) {
+                match send_stop(rt, &mut out.producer, signals, &mut cutters, streams, stop) {
                     Sending::Done => return Some(stop),
                     Sending::Over => return None,
                     Sending::NoMemory => return None,
