@@ -1,2 +1,3 @@
 pub mod Processing
+pub mod Receipts
 pub use Rattle.sb_base.specs as base

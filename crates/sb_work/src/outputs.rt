@@ -6,6 +6,7 @@ ghost use Rattle.sb_work.specs.Processing as spec;
 ghost use Rattle.sb_work.specs.Processing.{IsOutput};
 
 use crate::claim::Claim;
+use crate::receipt::Receipt;
 use sb_base::{
     AggPart, END_MARK, JoinPart, Kind, NoMemory, Plan, Record, Side, apply, join_part_of, part_of,
 };
@@ -31,34 +32,49 @@ pub enum Output {
     Part(Part),
 }
 
-/// Works out what becomes of a bundle at its node, by the plan. The bundle stays with the worker.
+/// Works out what becomes of a bundle at its node, by the plan. Of the claim a receipt is left: its records are moved
+/// to where they are wanted whole, at the sink and for sessions, and are dropped elsewhere.
 ///
 /// # Errors
 ///
-/// [`NoMemory`].
-pub fn process(alloc: Global, plan: &Plan, claim: &Claim) -> Result<Output, NoMemory>
-    requires node { claim.now.node ≤ length plan.now.steps }
-    requires times { All (λ r. r.time < END_MARK) claim.now.bundle.records }
-    ensures { IfOk result (λ output. IsOutput (operator_at (slice_get plan.now.steps claim.now.node))
-        claim.now.lane claim.now.bundle.records output) }
+/// [`NoMemory`]; then the records are dropped.
+pub fn process(alloc: Global, plan: &Plan, claim: Claim) -> Result<(Receipt, Output), NoMemory>
+    requires node { claim.node ≤ length plan.now.steps }
+    requires times { All (λ r. r.time < END_MARK) claim.bundle.records }
+    ensures kept { IfOk result (λ given. given.0 ≡ claim) }
+    ensures output { IfOk result (λ given. IsOutput (operator_at (slice_get plan.now.steps claim.node))
+        claim.lane claim.bundle.records given.1) }
 {
-    let records = claim.bundle.records.as_slice();
-    if claim.node == plan.transforms() {
-        return Ok(Output::Part(Part::Rows(copied(alloc, records)?)));
+    let receipt = Receipt::of(&claim);
+    let output = output_of(alloc, plan, claim)?;
+    Ok((receipt, output))
+}
+
+// What becomes of a bundle at its node.
+fn output_of(alloc: Global, plan: &Plan, claim: Claim) -> Result<Output, NoMemory>
+    requires node { claim.node ≤ length plan.now.steps }
+    requires times { All (λ r. r.time < END_MARK) claim.bundle.records }
+    ensures { IfOk result (λ output. IsOutput (operator_at (slice_get plan.now.steps claim.node))
+        claim.lane claim.bundle.records output) }
+{
+    let Claim { node, lane, bundle } = claim;
+    let records = bundle.records;
+    if node == plan.transforms() {
+        return Ok(Output::Part(Part::Rows(records.into_vec())));
     }
-    match plan.kind(claim.node) {
+    match plan.kind(node) {
         Kind::Do(op) => {
             let mut given = Vec::new(alloc);
-            apply(op, records, &mut given)?;
+            apply(op, records.as_slice(), &mut given)?;
             Ok(Output::Records(given))
         }
         Kind::Group(agg, windows) => {
-            let part = part_of(alloc, *agg, windows, records)?;
+            let part = part_of(alloc, *agg, windows, records.as_slice())?;
             Ok(Output::Part(Part::Agg(part)))
         }
-        Kind::Session(_, _) => Ok(Output::Part(Part::Rows(copied(alloc, records)?))),
+        Kind::Session(_, _) => Ok(Output::Part(Part::Rows(records.into_vec()))),
         Kind::Join(_, windows) => {
-            let part = join_part_of(alloc, windows, side_of(claim.lane), records)?;
+            let part = join_part_of(alloc, windows, side_of(lane), records.as_slice())?;
             Ok(Output::Part(Part::Join(part)))
         }
     }
@@ -69,10 +85,4 @@ fn side_of(lane: u32) -> Side
     ensures { result ≡ spec.side_of lane }
 {
     if lane == 0 { Side::Left } else { Side::Right }
-}
-
-fn copied(alloc: Global, records: &[Record]) -> Result<Vec<Record>, NoMemory>
-    ensures { IfOk result (λ copy. copy.items ≡ records.now) }
-{
-    Ok(Vec::from_slice(alloc, records)?)
 }
