@@ -15,7 +15,7 @@ ghost use Rattle.sb_hand.specs.Sets.{HasLane};
 use crate::events::{down_at, finish_at, finish_part, link_at, put_at, put_first, take_at};
 use sb_node::NodeState;
 use sb_node::sb_base::{Bundle, NoMemory, Plan, Record, Sequence};
-use sb_node::sb_work::{Claim, Output, process};
+use sb_node::sb_work::{Claim, Output, Receipt, process};
 use std::alloc::Global;
 
 /// What a transform of single records gives for a bundle goes below, to where the bundle's container is linked. If that
@@ -24,7 +24,7 @@ fn give(
     plan: &Plan,
     size: u32,
     nodes: &mut Vec<NodeState>,
-    claim: &Claim,
+    claim: &Receipt,
     given: Sequence<Record>,
 ) -> Result<(), NoMemory>
     requires { CanGive plan.now size claim.now given nodes.old.items }
@@ -34,19 +34,19 @@ fn give(
 {
     // For the proof: clauses alone speak of the size.
     let _ = size;
-    let below = plan.down(claim.node);
-    let epoch = claim.bundle.epoch;
+    let (node, epoch, floor) = (claim.node(), claim.epoch(), claim.floor());
+    let below = plan.down(node);
     let bundle = Bundle {
         number: 0,
         epoch,
-        floor: claim.bundle.floor,
+        floor,
         records: given,
     };
-    match down_at(nodes.as_slice(), claim.node, epoch) {
+    match down_at(nodes.as_slice(), node, epoch) {
         Some(place) => put_at(nodes, below, place, bundle),
         None => {
             let place = put_first(nodes, below, bundle)?;
-            link_at(nodes, claim.node, epoch, place);
+            link_at(nodes, node, epoch, place);
             Ok(())
         }
     }
@@ -57,7 +57,7 @@ fn deliver_given(
     plan: &Plan,
     size: u32,
     nodes: &mut Vec<NodeState>,
-    claim: &Claim,
+    claim: &Receipt,
     given: Sequence<Record>,
 ) -> Result<(), NoMemory>
     requires { CanGive plan.now size claim.now given nodes.old.items }
@@ -69,10 +69,10 @@ fn deliver_given(
     give(plan, size, nodes, claim, given)?;
     finish_at(
         nodes,
-        claim.node,
-        claim.lane,
-        claim.bundle.epoch,
-        claim.bundle.number,
+        claim.node(),
+        claim.lane(),
+        claim.epoch(),
+        claim.number(),
         length,
     )
 }
@@ -82,7 +82,7 @@ fn finish_empty(
     plan: &Plan,
     size: u32,
     nodes: &mut Vec<NodeState>,
-    claim: &Claim,
+    claim: &Receipt,
 ) -> Result<(), NoMemory>
     requires ready { IsReady plan.now size (work_of claim.now.node claim.now.lane claim.now.bundle false ∷ [])
         nodes.old.items }
@@ -98,10 +98,10 @@ fn finish_empty(
     let _ = plan.transforms();
     finish_at(
         nodes,
-        claim.node,
-        claim.lane,
-        claim.bundle.epoch,
-        claim.bundle.number,
+        claim.node(),
+        claim.lane(),
+        claim.epoch(),
+        claim.number(),
         0,
     )
 }
@@ -111,7 +111,7 @@ fn finish_bundle(
     plan: &Plan,
     size: u32,
     nodes: &mut Vec<NodeState>,
-    claim: &Claim,
+    claim: &Receipt,
     output: Output,
 ) -> Result<(), NoMemory>
     requires ready { IsReady plan.now size (work_of claim.now.node claim.now.lane claim.now.bundle false ∷ [])
@@ -153,6 +153,6 @@ pub(crate) fn work_off(
 {
     let bundle = take_at(nodes, node, lane)?;
     let claim = Claim { node, lane, bundle };
-    let output = process(alloc, plan, &claim)?;
+    let (claim, output) = process(alloc, plan, claim)?;
     finish_bundle(plan, size, nodes, &claim, output)
 }

@@ -21,7 +21,7 @@ ghost use Rattle.sb_hand.specs.Sets.{HasLane, Takes, Turns, Absorbs, BeginsAt, S
 ghost use Rattle.sb_node.specs.declared.state.NodeState.{NodeState as ANode};
 
 use sb_node::sb_base::{Bundle, Down, NoMemory};
-use sb_node::sb_work::{Claim, Part};
+use sb_node::sb_work::{Part, Receipt};
 use sb_node::{Closing, NodeState};
 
 /// Takes the first waiting bundle of a lane in which one waits.
@@ -162,7 +162,7 @@ pub(crate) fn end_at(
 /// A node takes its part of a bundle in, and the bundle is done with.
 pub(crate) fn finish_part(
     nodes: &mut Vec<NodeState>,
-    claim: &Claim,
+    claim: &Receipt,
     part: Part,
 ) -> Result<(), NoMemory>
     requires at { (at : LaneView) × HasLane claim.now.node claim.now.lane at nodes.old.items }
@@ -174,9 +174,9 @@ pub(crate) fn finish_part(
     ensures links { OnOk result
         (LaneGoes claim.now.node claim.now.lane LinksStay nodes.old.items nodes.new.items) }
 {
-    let own = &mut nodes[claim.node as usize];
+    let own = &mut nodes[claim.node() as usize];
     own.diary.reserve(1)?;
-    own.absorb(claim.lane, claim.bundle.epoch, claim.bundle.number, part)
+    own.absorb(claim.lane(), claim.epoch(), claim.number(), part)
 }
 
 /// The closing of the oldest container of a lane begins, where it can.
