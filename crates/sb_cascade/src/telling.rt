@@ -4,7 +4,7 @@ use sb_hand::sb_base::{Plan, Record, Sequence, Stream};
 use sb_hand::sb_core::Held;
 use sb_hand::sb_lane::NotYet;
 use sb_hand::sb_node::Closing;
-use sb_hand::sb_work::Claim;
+use sb_hand::sb_work::{Claim, Receipt};
 use std::collections::LinkedList;
 use std::snapshot::Snapshot;
 
@@ -29,12 +29,12 @@ pub enum Change {
     },
     /// What a transform of single records gives for a bundle was put below, to the container at a place.
     Deliver {
-        claim: Snapshot<Claim>,
+        claim: Snapshot<Receipt>,
         place: u64,
     },
     /// A bundle is done with. What it gives was delivered, or went into what the node keeps, or it gave nothing.
     Finish {
-        claim: Snapshot<Claim>,
+        claim: Snapshot<Receipt>,
         delivered: bool,
     },
     /// A closing began. At the sink nothing is passed below.

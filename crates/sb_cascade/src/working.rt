@@ -15,7 +15,7 @@ use crate::cascade::Cascade;
 use crate::pass::CascadePass;
 use crate::telling::Change;
 use sb_hand::sb_base::{Bundle, NoMemory, Record, Sequence};
-use sb_hand::sb_work::{Claim, Part};
+use sb_hand::sb_work::{Part, Receipt};
 use sb_turn::Reason;
 use std::snapshot::Snapshot;
 use std::sync::Wait;
@@ -26,12 +26,12 @@ impl Cascade {
     ///
     /// # Errors
     ///
-    /// [`NoMemory`]; then nothing has changed, and the records are dropped: processing the bundle gives them again.
+    /// [`NoMemory`]; then nothing has changed, but the records are dropped.
     pub fn deliver<R: Wait>(
         &self,
         rt: &R,
         pass: &mut CascadePass,
-        claim: &Claim,
+        claim: &Receipt,
         records: Vec<Record>,
     ) -> Result<(), NoMemory>
         requires pass { IsReady self.now pass.old × HasBundle claim.now false pass.old }
@@ -43,12 +43,13 @@ impl Cascade {
         ensures same { OnErr result (HasSame pass.old pass.new) }
         ensures tried { OnErr result (LeftBelow self.now claim.now.node (Is change.Nothing) pass.old pass.new) }
     {
-        let down = self.setting.plan.down(claim.node);
+        let (node, epoch, floor) = (claim.node(), claim.epoch(), claim.floor());
+        let down = self.setting.plan.down(node);
         let count = records.len() as u64;
         let bundle = Bundle {
             number: 0,
-            epoch: claim.bundle.epoch,
-            floor: claim.bundle.floor,
+            epoch,
+            floor,
             records: Sequence::new(records),
         };
         let mut guard = self.turns.enter(rt, down.node, &mut pass.seat);
@@ -82,7 +83,7 @@ impl Cascade {
         &self,
         rt: &R,
         pass: &mut CascadePass,
-        claim: Claim,
+        claim: Receipt,
         part: Option<Part>,
     ) -> Result<(), NoMemory>
         requires pass { IsReady self.now pass.old
@@ -109,7 +110,7 @@ impl Cascade {
     }
 
     /// A bundle of a transform of single records is done with.
-    fn finish_given<R: Wait>(&self, rt: &R, pass: &mut CascadePass, claim: Claim)
+    fn finish_given<R: Wait>(&self, rt: &R, pass: &mut CascadePass, claim: Receipt)
         requires pass { IsReady self.now pass.old
             × ((delivered : Bool) × HasBundle claim delivered pass.old
             × NeedsNoPart (operator_of (setting_of self.now) claim.node) claim.bundle.records delivered) }
@@ -120,8 +121,8 @@ impl Cascade {
     {
         let length = pass.delivered.unwrap_or(0);
         let link = pass.link;
-        let mut guard = self.turns.enter(rt, claim.node, &mut pass.seat);
-        let (lane, epoch, number) = (claim.lane, claim.bundle.epoch, claim.bundle.number);
+        let mut guard = self.turns.enter(rt, claim.node(), &mut pass.seat);
+        let (lane, epoch, number) = (claim.lane(), claim.epoch(), claim.number());
         guard.state.finish(lane, epoch, number, length, link);
         let change = Change::Finish {
             claim: Snapshot::of(&claim),
@@ -137,7 +138,7 @@ impl Cascade {
         &self,
         rt: &R,
         pass: &mut CascadePass,
-        claim: Claim,
+        claim: Receipt,
         part: Part,
     ) -> Result<(), NoMemory>
         requires pass { IsReady self.now pass.old × HasBundle claim false pass.old }
@@ -148,8 +149,8 @@ impl Cascade {
             × LeftBy claim.node (IsFinish claim false) pass.old pass.new) }
         ensures spent { OnErr result (HasSame pass.old pass.new × LeftSpent claim.node pass.old pass.new) }
     {
-        let mut guard = self.turns.enter(rt, claim.node, &mut pass.seat);
-        let (lane, epoch, number) = (claim.lane, claim.bundle.epoch, claim.bundle.number);
+        let mut guard = self.turns.enter(rt, claim.node(), &mut pass.seat);
+        let (lane, epoch, number) = (claim.lane(), claim.epoch(), claim.number());
         match guard.state.absorb(lane, epoch, number, part) {
             Ok(()) => {
                 let change = Change::Finish {

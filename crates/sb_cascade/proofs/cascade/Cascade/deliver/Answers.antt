@@ -32,7 +32,7 @@ put-requires-clause-lane g c =
     let x : SharedView = c.enter-guard.result.state in
     let same : about c.args.self.now.turns ≡ a = search rules in
     let f : IsFound a w d.node x = found_by a _ w d.node x same c.enter-guard.ensures.finds in
-    below_lane a w d.node x f c.args.claim.now.node d (below-down a.plan c.args.claim.now.node d c.down-down.ensures.down) refl
+    below_lane a w d.node x f c.args.claim.now.node d (below-down a.plan c.args.claim.now.node d (rw c.node-node.ensures at c.down-down.ensures.down)) refl
 
 pub put-requires-clause-order : goal.put-requires-clause-order
 put-requires-clause-order g c =
@@ -56,7 +56,7 @@ put-requires-clause-later g c =
     let out : held_by w ≡ work_of k false ∷ [] = ap as_list c.requires.pass.1.0 in
     let some : is_empty (delivery (operator_of a k.node) k.bundle.records) ≡ false =
     ap is_empty (sym c.requires.gives.given_is) ∙ not_empty c.args.records.items c.requires.gives.some in
-    work_order a w d.node x f k out d (below-down a.plan k.node d c.down-down.ensures.down) refl some
+    rw (c.epoch-epoch.ensures, c.floor-floor.ensures) (work_order a w d.node x f k out d (below-down a.plan k.node d (rw c.node-node.ensures at c.down-down.ensures.down)) refl some)
 
 pub leave-requires-clause-does : goal.leave-requires-clause-does
 leave-requires-clause-does g c =
@@ -71,9 +71,10 @@ leave-requires-clause-does g c =
     let y : SharedView = c.put.new.self in
     let same : about c.args.self.now.turns ≡ a = search rules in
     let f : IsFound a w d.node x = found_by a _ w d.node x same c.enter-guard.ensures.finds in
-    let under : below a.plan k.node ≡ Some d = below-down a.plan k.node d c.down-down.ensures.down in
+    let under : below a.plan k.node ≡ Some d = below-down a.plan k.node d (rw c.node-node.ensures at c.down-down.ensures.down) in
     let at = below_lane a w d.node x f k.node d under refl in
-    let put = c.in-Ok.ensures.puts at.0 at.1 in
+    let puts = rw (c.epoch-epoch.ensures, c.floor-floor.ensures) at c.in-Ok.ensures.puts in
+    let put = puts at.0 at.1 in
     let out : held_by w ≡ work_of k false ∷ [] = ap as_list c.requires.pass.1.0 in
     let same_records : c.new.result ≡ c.args.records.items = c.new.ensures in
     does_at a p.me.0.client w p.me.0.seen r.node d.node r.found.value x y (Deliver c.of-told.result c.in-Ok.place) turn.0
@@ -94,4 +95,4 @@ put-requires-clause-here g c =
     let same : about c.args.self.now.turns ≡ a = search rules in
     let f : IsFound a w d.node x = found_by a _ w d.node x same c.enter-guard.ensures.finds in
     let out : held_by w ≡ work_of k false ∷ [] = ap as_list c.requires.pass.1.0 in
-    work-link a w d x f k false out (below-down a.plan k.node d c.down-down.ensures.down) c.requires.gives.pardo c.args.pass.now.link (sym c.requires.pass.0.knows.link)
+    rw c.epoch-epoch.ensures (work-link a w d x f k false out (below-down a.plan k.node d (rw c.node-node.ensures at c.down-down.ensures.down)) c.requires.gives.pardo c.args.pass.now.link (sym c.requires.pass.0.knows.link))

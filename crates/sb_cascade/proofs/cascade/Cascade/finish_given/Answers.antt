@@ -31,10 +31,10 @@ finish-requires-clause-lane g c =
     let k = c.args.claim in
     let x : SharedView = c.enter-guard.result.state in
     let same : about c.args.self.now.turns ≡ a = search rules in
-    let f : IsFound a w k.node x = found_by a _ w k.node x same c.enter-guard.ensures.finds in
+    let f : IsFound a w k.node x = found_by a _ w k.node x same (rw c.node.ensures at c.enter-guard.ensures.finds) in
     let delivered : Bool = c.requires.pass.1.0 in
     let out : held_by w ≡ work_of k delivered ∷ [] = ap as_list c.requires.pass.1.1.0 in
-    out_here a w k.node x f k delivered out refl
+    rw (c.lane-lane.ensures, c.epoch-epoch.ensures, c.number-number.ensures) (out_here a w k.node x f k delivered out refl)
 
 pub finish-requires-clause-linked : goal.finish-requires-clause-linked
 finish-requires-clause-linked g c =
@@ -43,15 +43,15 @@ finish-requires-clause-linked g c =
     let k = c.args.claim in
     let x : SharedView = c.enter-guard.result.state in
     let same : about c.args.self.now.turns ≡ a = search rules in
-    let f : IsFound a w k.node x = found_by a _ w k.node x same c.enter-guard.ensures.finds in
+    let f : IsFound a w k.node x = found_by a _ w k.node x same (rw c.node.ensures at c.enter-guard.ensures.finds) in
     let delivered : Bool = c.requires.pass.1.0 in
     let out : held_by w ≡ work_of k delivered ∷ [] = ap as_list c.requires.pass.1.1.0 in
     let at = out_here a w k.node x f k delivered out refl in
-    anyway c.args.pass.now.link (lane_is_first a w k.node x f c.requires.pass.1.2.pardo k.lane at.0 at.1)
+    rw c.lane-lane.ensures (anyway c.args.pass.now.link (lane_is_first a w k.node x f c.requires.pass.1.2.pardo k.lane at.0 at.1))
 
 pub leave-requires-clause-does : goal.leave-requires-clause-does
 leave-requires-clause-does g c =
-    let turn = c.enter-guard.ensures.turn in
+    let turn = rw c.node.ensures at c.enter-guard.ensures.turn in
     let r = c.enter-guard.result in
     let p = c.enter-guard.new.pass in
     let a : Setting = c.args.self.now.setting in
@@ -60,25 +60,26 @@ leave-requires-clause-does g c =
     let x : SharedView = r.state in
     let y : SharedView = c.finish.new.self in
     let same : about c.args.self.now.turns ≡ a = search rules in
-    let f : IsFound a w k.node x = found_by a _ w k.node x same c.enter-guard.ensures.finds in
+    let f : IsFound a w k.node x = found_by a _ w k.node x same (rw c.node.ensures at c.enter-guard.ensures.finds) in
     let delivered : Bool = c.requires.pass.1.0 in
     let out : held_by w ≡ work_of k delivered ∷ [] = ap as_list c.requires.pass.1.1.0 in
     let at = out_here a w k.node x f k delivered out refl in
+    let finishes = rw (c.lane-lane.ensures, c.epoch-epoch.ensures, c.number-number.ensures) at c.finish.ensures in
     let given : Option ℕ = c.args.pass.now.delivered in
     let known : given ≡ given_count a (Some (work_of k delivered)) = c.requires.pass.0.knows.delivered ∙ ap (given_count a) c.requires.pass.1.1.0 in
     does_at a p.me.0.client w p.me.0.seen r.node k.node r.found.value x y (Finish c.of.result c.is_some.result) turn.0
     (knew c.args.pass.now.seat.me p.me _ _ _ _ turn.2.1) turn.1
     (does-so a w p.me.0.seen k.node x y (Finish c.of.result c.is_some.result) refl
     (finishes_given_told a w p.me.0.seen k.node x y c.of.result k c.of.ensures delivered c.is_some.result c.unwrap_or-length.result given at.0 _ refl c.requires.pass.1.2
-    known c.unwrap_or-length.ensures c.is_some.ensures (c.finish.ensures at.0 at.1) out)
+    known c.unwrap_or-length.ensures c.is_some.ensures (finishes at.0 at.1) out)
     (subst (λ (v : Claim). SetsLinks v.lane 0 (FinishesLinked v.bundle.epoch (link_left a k.node w)) x y) (sym c.of.ensures)
     (finish-sets a k.node w k.lane k.bundle.epoch at.0 _ _ x y c.requires.pass.1.2.pardo
     (subst (λ link. ChangesOwn (Turns k.lane at.0 (record (lane_of at.0) { conts = finish_first k.bundle.epoch k.bundle.number (conts_of at.0.containers) }) (FinishesLinked k.bundle.epoch link) (line.Finish k.lane k.bundle.number c.unwrap_or-length.result)) x y)
-    c.requires.pass.0.knows.link (c.finish.ensures at.0 at.1)) refl)))
+    c.requires.pass.0.knows.link (finishes at.0 at.1)) refl)))
 
 pub returns-clause-left : goal.returns-clause-left
 returns-clause-left g c =
-    let turn = c.enter-guard.ensures.turn in
+    let turn = rw c.node.ensures at c.enter-guard.ensures.turn in
     let r = c.enter-guard.result in
     let a : Setting = c.args.self.now.setting in
     let k = c.args.claim in
