@@ -10,7 +10,7 @@ ghost use Rattle.sb_cascade.specs.work.Processing.{IsOutput};
 ghost use Rattle.sb_worker.specs.Entries.{Does, Gains, Grows};
 
 use sb_cascade::sb_base::{NoMemory, Record};
-use sb_cascade::sb_work::{Claim, Gate, Output, process};
+use sb_cascade::sb_work::{Claim, Gate, Output, Receipt, process};
 use sb_cascade::{Cascade, CascadePass};
 use std::alloc::Global;
 use std::sync::Wait;
@@ -20,7 +20,7 @@ fn give<R: Wait>(
     rt: &R,
     cascade: &Cascade,
     pass: &mut CascadePass,
-    claim: &Claim,
+    claim: &Receipt,
     given: Vec<Record>,
 ) -> Result<(), NoMemory>
     requires pass { IsReady cascade.now pass.old × HasBundle claim.now false pass.old }
@@ -44,7 +44,7 @@ fn finish_bundle<R: Wait>(
     rt: &R,
     cascade: &Cascade,
     pass: &mut CascadePass,
-    claim: Claim,
+    claim: Receipt,
     output: Output,
 ) -> Result<(), NoMemory>
     requires pass { IsReady cascade.now pass.old × HasBundle claim false pass.old }
@@ -80,6 +80,6 @@ pub fn work_off<R: Wait, G: Gate>(
     ensures failed { OnErr result (Grows pass.old pass.new) }
 {
     gate.pass(claim.node, claim.lane, claim.bundle.number);
-    let output = process(alloc, cascade.plan(), &claim)?;
+    let (claim, output) = process(alloc, cascade.plan(), claim)?;
     finish_bundle(rt, cascade, pass, claim, output)
 }
