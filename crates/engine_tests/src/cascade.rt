@@ -88,7 +88,8 @@ fn work_off<R: Wait>(
     let Some(claim) = cascade.take(rt, pass, node) else {
         return Err("nothing waits".into());
     };
-    match process(alloc, cascade.plan(), &claim)? {
+    let (claim, output) = process(alloc, cascade.plan(), claim)?;
+    match output {
         Output::Part(part) => Ok(cascade.finish(rt, pass, claim, Some(part))?),
         Output::Records(_) => Err("it gathers no records".into()),
     }

@@ -44,11 +44,11 @@ fn claim(alloc: Global, node: u32, lane: u32, lines: &[Line]) -> Result<Claim, N
 }
 
 /// Takes in what becomes of a bundle, if there is such a lane and its times are in range.
-fn take(alloc: Global, plan: &Plan, kept: &mut Kept, claim: &Claim) -> Result<(), NoMemory>
-    requires node { claim.now.node ≤ length plan.now.steps }
-    requires made { IsMadeFor (operator_at (slice_get plan.now.steps claim.now.node)) kept.old }
+fn take(alloc: Global, plan: &Plan, kept: &mut Kept, claim: Claim) -> Result<(), NoMemory>
+    requires node { claim.node ≤ length plan.now.steps }
+    requires made { IsMadeFor (operator_at (slice_get plan.now.steps claim.node)) kept.old }
     requires closed { closed_mark kept.old ≡ 0 }
-    ensures made { OnOk result (IsMadeFor (operator_at (slice_get plan.now.steps claim.now.node)) kept.new) }
+    ensures made { OnOk result (IsMadeFor (operator_at (slice_get plan.now.steps claim.node)) kept.new) }
     ensures closed { OnOk result (closed_mark kept.new ≡ 0) }
 {
     let is_in_time = claim
@@ -60,7 +60,8 @@ fn take(alloc: Global, plan: &Plan, kept: &mut Kept, claim: &Claim) -> Result<()
     if !is_in_time || claim.lane >= plan.lanes(claim.node) {
         return Err(NoMemory);
     }
-    match process(alloc, plan, claim)? {
+    let (_, output) = process(alloc, plan, claim)?;
+    match output {
         Output::Records(_) => Ok(()),
         Output::Part(part) => kept.absorb(part),
     }
@@ -73,10 +74,10 @@ fn kept_of_two_bundles(alloc: Global, plan: &Plan, node: u32) -> Result<Kept, No
 {
     let mut kept = Kept::new(alloc, plan, node);
     let first = claim(alloc, node, 0, &[(3, 5), (7, 2), (12, 4)])?;
-    take(alloc, plan, &mut kept, &first)?;
+    take(alloc, plan, &mut kept, first)?;
     let last = plan.lanes(node).saturating_sub(1);
     let second = claim(alloc, node, last, &[(8, 1)])?;
-    take(alloc, plan, &mut kept, &second)?;
+    take(alloc, plan, &mut kept, second)?;
     Ok(kept)
 }
 

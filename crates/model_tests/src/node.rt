@@ -231,9 +231,9 @@ fn sealed_node(alloc: Global, kept: Kept, mark: u64) -> Result<NodeState, NoMemo
 }
 
 /// Takes in what becomes of a bundle on the only lane, if its times are in range.
-fn absorb(alloc: Global, plan: &Plan, node: &mut NodeState, claim: &Claim) -> Result<(), NoMemory>
-    requires node { claim.now.node ≤ length plan.now.steps }
-    requires made { IsMadeFor (operator_at (slice_get plan.now.steps claim.now.node)) node.old.kept }
+fn absorb(alloc: Global, plan: &Plan, node: &mut NodeState, claim: Claim) -> Result<(), NoMemory>
+    requires node { claim.node ≤ length plan.now.steps }
+    requires made { IsMadeFor (operator_at (slice_get plan.now.steps claim.node)) node.old.kept }
     requires closed { closed_mark node.old.kept ≡ 0 }
     ensures { OnOk result (closed_mark node.new.kept ≡ 0) }
 {
@@ -243,9 +243,10 @@ fn absorb(alloc: Global, plan: &Plan, node: &mut NodeState, claim: &Claim) -> Re
     if !has_one_lane(node) || !is_in_time || claim.lane != 0 {
         return Err(NoMemory);
     }
-    match process(alloc, plan, claim)? {
+    let (claim, output) = process(alloc, plan, claim)?;
+    match output {
         Output::Records(_) => Err(NoMemory),
-        Output::Part(part) => node.absorb(0, claim.bundle.epoch, claim.bundle.number, part),
+        Output::Part(part) => node.absorb(0, claim.epoch(), claim.number(), part),
     }
 }
 
@@ -282,7 +283,7 @@ fn a_closing_gives_rows(rt: HostRuntime) -> Result<(), Fail> {
     let plan = sum_plan(alloc, 10)?;
     let claim = claim(alloc)?;
     let mut node = sealed_node(alloc, Kept::new(alloc, &plan, 0), 10)?;
-    absorb(alloc, &plan, &mut node, &claim)?;
+    absorb(alloc, &plan, &mut node, claim)?;
     let closing = begin(&mut node, 0)?.ok_or("not closing")?;
     let row = Record {
         time: 9,

@@ -4,7 +4,7 @@ use crate::plans::{alone, expanded, join, joined};
 use sb_hand::sb_base::{
     Agg, Bundle, Combine, END_MARK, Key, Kind, NoMemory, Plan, Record, Sequence,
 };
-use sb_hand::sb_work::{Claim, Gate, OpenGate, Output, Part, process};
+use sb_hand::sb_work::{Claim, Gate, OpenGate, Output, Part, Receipt, process};
 use std::alloc::Global;
 use std::test::Fail;
 
@@ -19,16 +19,16 @@ fn claim(alloc: Global, node: u32, lane: u32) -> Result<Claim, Fail> {
         node,
         lane,
         bundle: Bundle {
-            number: 1,
-            epoch: 0,
-            floor: 0,
+            number: 4,
+            epoch: 2,
+            floor: 3,
             records: Sequence::new(vec![in alloc; record(3, 5), record(7, 2)]?),
         },
     })
 }
 
 /// What becomes of a bundle whose node and times are in range.
-fn processed(alloc: Global, plan: &Plan, claim: &Claim) -> Result<Output, NoMemory> {
+fn processed(alloc: Global, plan: &Plan, claim: Claim) -> Result<(Receipt, Output), NoMemory> {
     let is_in_time = claim
         .bundle
         .records
@@ -60,7 +60,7 @@ fn becomes(
     lane: u32,
     want: (&str, usize),
 ) -> Result<bool, Fail> {
-    let output = processed(alloc, plan, &claim(alloc, node, lane)?)?;
+    let (_, output) = processed(alloc, plan, claim(alloc, node, lane)?)?;
     Ok(told(&output) == want)
 }
 
@@ -88,5 +88,15 @@ fn bundles_of_a_join(rt: HostRuntime) -> Result<(), Fail> {
     let plan = joined(alloc, join(Combine::Add, 10)?)?.ok_or("no plan")?;
     assert!(rt; becomes(alloc, &plan, 0, 0, ("values of a side", 0))?);
     assert!(rt; becomes(alloc, &plan, 0, 1, ("values of a side", 0))?);
+    Ok(())
+}
+
+#[test]
+fn a_receipt_tells_of_its_bundle(rt: HostRuntime) -> Result<(), Fail> {
+    let alloc = rt.alloc();
+    let plan = joined(alloc, join(Combine::Add, 10)?)?.ok_or("no plan")?;
+    let (receipt, _) = processed(alloc, &plan, claim(alloc, 0, 1)?)?;
+    assert!(rt; (receipt.node(), receipt.lane()) == (0, 1));
+    assert!(rt; (receipt.number(), receipt.epoch(), receipt.floor()) == (4, 2, 3));
     Ok(())
 }
