@@ -22,7 +22,7 @@ const BEGIN_TURNS: u32 = 1_000;
 /// How many microseconds the receiver sleeps at most: then the feeder looks whether rows lie ready.
 const REST_MICROS: u64 = 2_000;
 
-/// Words that both threads share.
+/// Words that both threads share. The printer counts what it has printed: so the sender sees how much waits.
 #[derive(Drop)]
 pub struct Signals {
     /// How far the sender is.
@@ -31,6 +31,8 @@ pub struct Signals {
     is_resting: AtomicBool,
     /// Where it sleeps.
     bed: Parker,
+    /// How many rows the receiver has printed.
+    printed: AtomicU64,
 }
 
 impl Signals {
@@ -40,6 +42,7 @@ impl Signals {
             stage: AtomicU64::new(NOT_BEGUN),
             is_resting: AtomicBool::new(false),
             bed: Parker::new(),
+            printed: AtomicU64::new(0),
         }
     }
 
@@ -87,6 +90,16 @@ impl Signals {
         if self.is_resting.load(Ordering::SeqCst) {
             self.bed.unpark();
         }
+    }
+
+    /// The receiver has printed so many rows more.
+    pub fn count_printed(&self, rows: usize) {
+        self.printed.fetch_add(rows as u64, Ordering::SeqCst);
+    }
+
+    /// How many rows wait to be printed, where so many were sent.
+    pub fn unprinted(&self, sent: u64) -> u64 {
+        sent.saturating_sub(self.printed.load(Ordering::SeqCst))
     }
 
     /// The receiver says whether it is about to sleep. It looks once more whether a value came before it does.

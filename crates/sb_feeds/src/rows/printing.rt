@@ -36,7 +36,7 @@ pub fn print_rows<W: Wait, R: RowOut>(
     for _ in rt.forever() {
         match inward.pop() {
             Some(RowsFed::Rows(rows)) => match give_out(&rows, out, taps) {
-                Ok(()) => {}
+                Ok(()) => signals.count_printed(rows.len()),
                 Err(why) => {
                     signals.end();
                     return Err(why);

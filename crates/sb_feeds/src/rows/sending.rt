@@ -10,13 +10,11 @@ use crate::input::patience::Patience;
 use crate::input::signals::Signals;
 use crate::rows::ends::{RowsFeeding, RowsOut};
 use crate::rows::fed::RowsFed;
-use crate::rows::ring::ROWS_PLACES;
 use rtrb::{Producer, PushError};
 use sb_feed::sb_base::Record;
 use sb_feed::sb_emit::RowOut;
 use sb_feed::sb_outside::SinkFault;
 use std::alloc::Global;
-use std::cmp::min;
 use std::sync::Wait;
 use std::time::Clock;
 
@@ -24,30 +22,23 @@ use std::time::Clock;
 /// until it wakes by itself, as it does after two milliseconds.
 const WAKE_ROWS: usize = 1_024;
 
-/// How many rows a place of the ring stands for. Where more come together, the sender waits for so many places more. So
-/// the rows that wait to be printed take little memory, however many come together.
-const PLACE_ROWS: usize = 128;
+/// How many rows may wait to be printed: 1.5 MB. More of them wait only if they came together.
+const MOST_ROWS: u64 = 32_768;
 
-// How many places have to be free for so many rows.
-fn places_for(rows: usize) -> usize {
-    min(1 + rows / PLACE_ROWS, ROWS_PLACES)
+// Whether there is room for so many rows behind so many that were sent: no more wait than may, or nothing does.
+fn has_room(signals: &Signals, earlier: u64, rows: u64) -> bool {
+    let waiting = signals.unprinted(earlier);
+    waiting == 0 || waiting.saturating_add(rows) <= MOST_ROWS
 }
 
-// Whether so many places are free. It looks only if more than one has to be.
-fn has_room(producer: &mut Producer<RowsFed, Global, RowsFeeding>, places: usize) -> bool
-    ensures ring { SameProducer producer.old producer.new }
-    ensures same { sent producer.new ≡ sent producer.old }
-{
-    places <= 1 || places <= producer.slots()
-}
-
-// Sends a value once so many places are free, and waits until they are. The printer is woken only then. False if it
-// needs nothing more: then the value was not sent.
+// Sends a value of so many rows behind so many that were sent, once there is room for them. The printer is woken only
+// if it has to wait. False if it needs nothing more: then the value was not sent.
 fn send<W: Wait + Clock>(
     rt: &W,
     producer: &mut Producer<RowsFed, Global, RowsFeeding>,
     next: RowsFed,
-    places: usize,
+    rows: u64,
+    earlier: u64,
     signals: &Signals,
 ) -> bool
     requires { IsTimely next }
@@ -58,7 +49,7 @@ fn send<W: Wait + Clock>(
     let mut next = next;
     let mut patience = Patience::new();
     for _ in rt.forever() {
-        if has_room(producer, places) {
+        if has_room(signals, earlier, rows) {
             match producer.push(next) {
                 Ok(()) => return true,
                 Err(PushError::Full(back)) => next = back,
@@ -83,8 +74,8 @@ fn wake_for(signals: &Signals, unseen: &mut usize, rows: usize) {
 }
 
 /// An output whose rows go through a ring to the thread that prints them. Each call sends the rows that it is given
-/// together, and waits while the ring is full. Once the printer says by [`Signals`] that it needs nothing more, it
-/// refuses all.
+/// together, and waits while the ring is full or many rows wait. Once the printer says by [`Signals`] that it needs
+/// nothing more, it refuses all.
 #[derive(Drop)]
 pub struct RowsSender<'a, W> {
     rt: &'a W,
@@ -92,7 +83,9 @@ pub struct RowsSender<'a, W> {
     signals: &'a Signals,
     faults: u64,
     shortages: u64,
-    /// How many rows were sent since the printer was woken.
+    /// How many rows were sent.
+    sent: u64,
+    /// How many of them since the printer was woken.
     unseen: usize,
     /// The end of the ring that it sends by.
     pub out: RowsOut,
@@ -108,6 +101,7 @@ impl<'a, W: Wait + Clock> RowsSender<'a, W> {
             signals,
             faults: 0,
             shortages: 0,
+            sent: 0,
             unseen: 0,
             out,
         }
@@ -121,7 +115,8 @@ impl<'a, W: Wait + Clock> RowsSender<'a, W> {
             self.rt,
             &mut self.out.producer,
             RowsFed::End,
-            1,
+            0,
+            self.sent,
             self.signals,
         );
         self.signals.wake();
@@ -183,9 +178,11 @@ impl<'a, W: Wait + Clock + Sync> RowOut for RowsSender<'a, W> {
             self.rt,
             &mut self.out.producer,
             RowsFed::Rows(copied),
-            places_for(rows.len()),
+            rows.len() as u64,
+            self.sent,
             self.signals,
         ) {
+            self.sent = self.sent.saturating_add(rows.len() as u64);
             wake_for(self.signals, &mut self.unseen, rows.len());
             return Ok(());
         }
