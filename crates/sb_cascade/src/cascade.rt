@@ -15,6 +15,8 @@ use sb_hand::sb_base::Plan;
 use sb_hand::sb_node::NodeState;
 use sb_turn::{Guard, Pass, Turns};
 use std::alloc::Global;
+use std::sync::Wait;
+use std::time::Duration;
 
 /// The cascade that workers share.
 #[derive(Drop)]
@@ -37,7 +39,8 @@ impl Cascade {
         &self.setting.plan
     }
 
-    /// Says whether the feeder wants help. At first it does. No promise rests on it.
+    /// Says whether the feeder wants help, and if so calls the helpers that sleep. At first it does. No promise rests
+    /// on it.
     pub fn want_help(&self, is_wanted: bool) {
         self.turns.want_help(is_wanted);
     }
@@ -45,6 +48,16 @@ impl Cascade {
     /// Whether the feeder wants help, as it said last.
     pub fn is_help_wanted(&self) -> bool {
         self.turns.is_help_wanted()
+    }
+
+    /// How often helpers were called: where help came to be wanted, and where the state word was raised.
+    pub fn help_calls(&self) -> u64 {
+        self.turns.help_calls()
+    }
+
+    /// Sleeps until helpers are called, or for `most`. It doesn't if they were called since there were so many calls.
+    pub fn sleep_till_called<R: Wait>(&self, rt: &R, calls: u64, most: Duration) {
+        self.turns.sleep_till_called(rt, calls, most);
     }
 
     /// Leaves a turn: the state goes home, and the change is what was done.

@@ -11,7 +11,8 @@ use crate::reason::{Reason, number, reason_of};
 use crate::turns::{Pass, Turns};
 
 impl<K: Keep> Turns<K> {
-    /// Raises the state word to the reason, if it is lower. The caller owes that the rule allows this pass the reason.
+    /// Raises the state word to the reason, if it is lower, and calls the helpers that sleep. The caller owes that the
+    /// rule allows this pass the reason.
     pub fn stop(&self, pass: &mut Pass<K>, reason: Reason)
         requires pass { IsPassOf self.now pass.old × ((seat_view pass.old).active ≡ true) }
         requires rule { Raises (K.rule (about self.now)) pass.old.id (seat_view pass.old).client (number_of reason)
@@ -26,6 +27,7 @@ impl<K: Keep> Turns<K> {
         self.table
             .shared
             .fetch_max::<Stop<K>>(pass, 0, number(reason));
+        self.hints.call_all();
     }
 
     /// The state word, by one load. It is at least each number that the pass, or one that it joined, saw or raised.

@@ -16,11 +16,14 @@ use sb_cascade::sb_work::Gate;
 use sb_cascade::{Cascade, CascadePass};
 use std::alloc::Global;
 use std::sync::Wait;
-use std::thread;
-use std::time::{Clock, Duration};
+use std::time::Duration;
 
-/// How many milliseconds a helper sleeps that has found nothing to do for a while.
+/// How many milliseconds a helper sleeps at most that has found nothing to do for a while, though help is wanted: work
+/// may come in any turn, and only the feeder calls.
 const REST_MILLIS: u64 = 1;
+
+/// How many it sleeps at most while no help is wanted. It is called where that changes, and at the end.
+const LONG_REST_MILLIS: u64 = 10;
 
 /// How many bundles a helper works off before it looks for closings again: to look for one it waits for turns, and
 /// under them much of a heavy plan's work is done.
@@ -44,10 +47,21 @@ fn first_of(till_look: u32) -> First {
     }
 }
 
-/// Leaves the processor to others: the more often in a row, the longer, up to [`REST_MILLIS`].
-fn rest(clock: &impl Clock, backoff: &Backoff) {
+/// How many milliseconds a helper sleeps at most.
+fn rest_millis(cascade: &Cascade) -> u64 {
+    if cascade.is_help_wanted() {
+        REST_MILLIS
+    } else {
+        LONG_REST_MILLIS
+    }
+}
+
+/// Leaves the processor to others: the more often in a row, the longer, and then until it is called. It doesn't sleep
+/// if it was called since there were so many calls.
+fn rest<R: Wait>(rt: &R, cascade: &Cascade, calls: u64, backoff: &Backoff) {
     if backoff.is_completed() {
-        thread::sleep(clock, Duration::from_millis(REST_MILLIS));
+        let most = Duration::from_millis(rest_millis(cascade));
+        cascade.sleep_till_called(rt, calls, most);
     } else {
         backoff.snooze();
     }
@@ -109,9 +123,9 @@ fn help_step<R: Wait, G: Gate>(
 /// Steps until the state word says that the work ends, and gives the pass back: it comes back only if a load of the
 /// state word said so. Behind a closing it looks for the next one, else only after some bundles. None if no memory was
 /// found: then the state word says so, and the pass is dropped with what it has in hand. Between steps that find
-/// nothing to do it rests, and so while the feeder wants no help. It may wait for turns, and whether it ends is not
-/// said.
-pub fn help<R: Wait + Clock, G: Gate>(
+/// nothing to do it rests, and so while the feeder wants no help, which calls it where it does. It may wait for turns,
+/// and whether it ends is not said.
+pub fn help<R: Wait, G: Gate>(
     rt: &R,
     alloc: Global,
     cascade: &Cascade,
@@ -125,11 +139,12 @@ pub fn help<R: Wait + Clock, G: Gate>(
     let backoff = Backoff::new();
     let mut bundles = 0_u32;
     for _ in rt.forever() {
+        let calls = cascade.help_calls();
         match help_step(rt, alloc, cascade, &mut pass, gate, first_of(bundles)) {
             Ok(did) => {
                 bundles = till_look(bundles, did);
                 if did == Did::Nothing {
-                    rest(rt, &backoff);
+                    rest(rt, cascade, calls, &backoff);
                 } else {
                     backoff.reset();
                 }

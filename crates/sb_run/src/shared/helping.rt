@@ -13,10 +13,9 @@ use std::alloc::Global;
 use std::mem;
 use std::sync::Wait;
 use std::thread::{Threads, join};
-use std::time::Clock;
 
 // Each of the passes helps, in a thread of its own if one can be made. None if one of them found no memory.
-fn help_each<W: Threads + Wait + Clock + Sync, G: Gate + Sync>(
+fn help_each<W: Threads + Wait + Sync, G: Gate + Sync>(
     rt: &W,
     alloc: Global,
     cascade: &Cascade,
@@ -54,7 +53,7 @@ fn help_each<W: Threads + Wait + Clock + Sync, G: Gate + Sync>(
 
 /// Each of the passes helps until the run ends, in a thread of its own if one can be made. It takes no memory. False if
 /// one of them found none: then the passes are gone, with what they have in hand.
-pub(crate) fn help_all<W: Threads + Wait + Clock + Sync, G: Gate + Sync>(
+pub(crate) fn help_all<W: Threads + Wait + Sync, G: Gate + Sync>(
     rt: &W,
     alloc: Global,
     cascade: &Cascade,
