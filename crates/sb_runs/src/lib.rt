@@ -13,6 +13,7 @@
 #![tactic(auto)]
 
 mod closed;
+mod entries;
 mod joiner;
 mod panes;
 mod placing;
@@ -20,7 +21,7 @@ mod run;
 mod runs;
 
 pub use closed::Closed;
-pub use joiner::Joiner;
+pub use joiner::{Joiner, compare_windows, later_window};
 pub use panes::spread;
 pub use placing::{place, sort_placed};
 pub use run::Run;

@@ -20,13 +20,13 @@ use std::alloc::Global;
 /// # Errors
 ///
 /// [`NoMemory`].
-pub fn spread<V: Drop, J: Joiner<Value = V>>(
+pub fn spread<J: Joiner>(
     alloc: Global,
     joiner: &J,
-    panes: Run<V>,
+    panes: Run<J>,
     every: u64,
     count: u64,
-) -> Result<Run<V>, NoMemory>
+) -> Result<Run<J>, NoMemory>
     requires groups { IsAssociative (J.joined joiner.now) }
     requires some { 1 ≤ count }
     requires ends { AllByRecursion (λ e. e.0.end + count * every < 2 ^ 64) panes }
@@ -50,14 +50,14 @@ pub fn spread<V: Drop, J: Joiner<Value = V>>(
 }
 
 // What stands behind. If a run is to be spread to an odd number of windows, its last shift comes before that.
-fn with_odd<V: Drop, J: Joiner<Value = V>>(
+fn with_odd<J: Joiner>(
     alloc: Global,
     joiner: &J,
-    run: &Run<V>,
+    run: &Run<J>,
     step: u64,
     count: u64,
-    behind: Run<V>,
-) -> Result<Run<V>, NoMemory>
+    behind: Run<J>,
+) -> Result<Run<J>, NoMemory>
     requires groups { IsAssociative (J.joined joiner.now) }
     requires some { 1 ≤ count }
     requires width { count * step < 2 ^ 64 }
@@ -76,12 +76,7 @@ fn with_odd<V: Drop, J: Joiner<Value = V>>(
 }
 
 // The run, joined with itself one step later.
-fn doubled<V: Drop, J: Joiner<Value = V>>(
-    alloc: Global,
-    joiner: &J,
-    run: Run<V>,
-    step: u64,
-) -> Result<Run<V>, NoMemory>
+fn doubled<J: Joiner>(alloc: Global, joiner: &J, run: Run<J>, step: u64) -> Result<Run<J>, NoMemory>
     requires { AllByRecursion (λ e. e.0.end + step < 2 ^ 64) run }
     ensures { IfOk result (λ both. (q : Window) → found both q
         ≡ joined_value (J.joined joiner.now) (found run q) (found (shifted_by step run) q)) }

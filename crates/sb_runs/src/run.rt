@@ -1,18 +1,16 @@
 //! Sorted runs: for each of some keyed windows a value, in the windows' order.
 
-ghost use Rattle.std.specs.Prelude.{◌≡◌, ◌∷◌, ◌++◌, [], ◌+◌, ◌^◌, ◌<◌, ◌≤◌, length, take, drop, nat_lt, None, if◌then◌else◌, true, IsTrue, OnOk, IfOk};
+ghost use Rattle.std.specs.Prelude.{◌≡◌, ◌∷◌, ◌++◌, [], ◌+◌, ◌^◌, ◌<◌, ◌≤◌, length, map, take, drop, nat_lt, None, if◌then◌else◌, true, IsTrue, OnOk, IfOk};
 ghost use Rattle.std.specs.List.{AllByRecursion};
-ghost use Rattle.std.specs.Ordering.{is_lt};
 ghost use Rattle.sb_window.specs.declared.keyed_window.KeyedWindow.{KeyedWindow as Window};
 ghost use Rattle.sb_window.specs.Gatherings.{joined_value};
-ghost use Rattle.sb_window.specs.Windows.{keyed_window_cmp};
 ghost use Rattle.sb_runs.specs.Merged.{merged};
-ghost use Rattle.sb_runs.specs.Merges.{firsts_cmp, begins_by};
+ghost use Rattle.sb_runs.specs.Merges.{begins_by};
 ghost use Rattle.sb_runs.specs.Runs.{IsRun, found, shifted_by};
 
 use crate::closed::Closed;
+use crate::entries::Entries;
 use crate::joiner::Joiner;
-use sb_window::KeyedWindow;
 use sb_window::sb_record::NoMemory;
 use std::alloc::Global;
 use std::cmp::Ordering;
@@ -21,32 +19,30 @@ use std::marker::Model;
 
 /// A value for each of some keyed windows, in the windows' order. Contracts see it as the list of these entries, which
 /// is a finite map.
-///
-/// It is a deque, since the least windows are closed first: what stays is not moved then.
 #[derive(Drop)]
-pub struct Run<V> {
-    entries: VecDeque<(KeyedWindow, V)>,
+pub struct Run<J: Joiner> {
+    entries: Entries<J>,
 }
 
-impl<V> Model for Run<V> {
+impl<J: Joiner> Model for Run<J> {
     ghost use Rattle.std.specs.Prelude.{List};
     ghost use Rattle.sb_window.specs.declared.keyed_window.KeyedWindow.{KeyedWindow as Window};
     ghost use Rattle.sb_runs.specs.Runs.{IsRun};
 
-    ghost Value = { List (Window × V) };
+    ghost Value = { List (Window × J.Value) };
 
-    ghost view = { λ r. r.entries.items };
+    ghost view = { λ r. r.entries };
 
-    ghost invariant = { λ r. IsRun r.entries.items };
+    ghost invariant = { λ r. IsRun r.entries };
 }
 
-impl<V: Drop> Run<V> {
+impl<J: Joiner> Run<J> {
     /// The run without entries. It takes no memory.
-    pub fn new(alloc: Global) -> Run<V>
+    pub fn new(alloc: Global) -> Run<J>
         ensures { result ≡ [] }
     {
         Run {
-            entries: VecDeque::new(alloc),
+            entries: Entries::new(alloc),
         }
     }
 
@@ -55,12 +51,22 @@ impl<V: Drop> Run<V> {
     /// # Errors
     ///
     /// [`NoMemory`].
-    pub fn with_room(alloc: Global, room: usize) -> Result<Run<V>, NoMemory>
+    pub fn with_room(alloc: Global, room: usize) -> Result<Run<J>, NoMemory>
         ensures { IfOk result (λ run. run ≡ []) }
     {
         Ok(Run {
-            entries: VecDeque::with_capacity(alloc, room)?,
+            entries: Entries::with_room(alloc, room)?,
         })
+    }
+
+    /// The run of these entries, whose windows rise.
+    pub fn of_kept(kept: VecDeque<J::Entry>) -> Run<J>
+        requires { IsRun (map J.seen kept.items) }
+        ensures { result ≡ map J.seen kept.items }
+    {
+        Run {
+            entries: Entries::of_kept(kept),
+        }
     }
 
     /// How many entries there are.
@@ -70,27 +76,21 @@ impl<V: Drop> Run<V> {
         self.entries.len()
     }
 
-    /// Joins a value at a keyed window. Nothing is moved if the window is behind all windows of the run.
+    /// Joins an entry. No other is moved if its window is the last of the run, or behind it.
     ///
     /// # Errors
     ///
     /// [`NoMemory`]; what the run has is unknown then.
-    pub fn add<J: Joiner<Value = V>>(
-        &mut self,
-        alloc: Global,
-        joiner: &J,
-        window: KeyedWindow,
-        value: V,
-    ) -> Result<(), NoMemory>
+    pub fn add(&mut self, alloc: Global, joiner: &J, entry: J::Entry) -> Result<(), NoMemory>
         ensures { OnOk result ((q : Window) → found self.new q
-            ≡ joined_value (J.joined joiner.now) (found self.old q) (found ((window, value) ∷ []) q)) }
+            ≡ joined_value (J.joined joiner.now) (found self.old q) (found (J.seen entry ∷ []) q)) }
     {
-        if is_behind(&self.entries, &window) {
-            self.entries.push_back((window, value))?;
+        if is_behind(&self.entries, &entry) {
+            self.entries.push(entry)?;
             return Ok(());
         }
-        let entries = std::mem::replace(&mut self.entries, VecDeque::new(alloc));
-        self.entries = with_entry(alloc, joiner, entries, window, value)?;
+        let entries = std::mem::replace(&mut self.entries, Entries::new(alloc));
+        self.entries = with_entry(alloc, joiner, entries, entry)?;
         Ok(())
     }
 
@@ -100,12 +100,7 @@ impl<V: Drop> Run<V> {
     /// # Errors
     ///
     /// [`NoMemory`].
-    pub fn merged<J: Joiner<Value = V>>(
-        self,
-        alloc: Global,
-        joiner: &J,
-        later: Run<V>,
-    ) -> Result<Run<V>, NoMemory>
+    pub fn merged(self, alloc: Global, joiner: &J, later: Run<J>) -> Result<Run<J>, NoMemory>
         ensures { IfOk result (λ run. (q : Window) → found run q
             ≡ joined_value (J.joined joiner.now) (found self q) (found later q)) }
     {
@@ -116,8 +111,7 @@ impl<V: Drop> Run<V> {
             return Ok(self);
         }
         if is_before(&self.entries, &later.entries) {
-            let (mut entries, mut behind) = (self.entries, later.entries);
-            entries.append(&mut behind)?;
+            let entries = self.entries.followed_by(later.entries)?;
             return Ok(Run { entries });
         }
         let entries = merge(alloc, joiner, self, later)?;
@@ -129,23 +123,11 @@ impl<V: Drop> Run<V> {
     /// # Errors
     ///
     /// [`NoMemory`].
-    pub fn shifted<J: Joiner<Value = V>>(
-        &self,
-        alloc: Global,
-        joiner: &J,
-        by: u64,
-    ) -> Result<Run<V>, NoMemory>
+    pub fn shifted(&self, alloc: Global, joiner: &J, by: u64) -> Result<Run<J>, NoMemory>
         requires { AllByRecursion (λ e. e.0.end + by < 2 ^ 64) self.now }
         ensures { IfOk result (λ run. run ≡ shifted_by by self.now) }
     {
-        let mut entries = VecDeque::with_capacity(alloc, self.entries.len())?;
-        for (window, value) in self.entries.iter() {
-            let window = KeyedWindow {
-                end: window.end + by,
-                key: window.key,
-            };
-            entries.push_back((window, joiner.copy(value)?))?;
-        }
+        let entries = self.entries.later(alloc, joiner, by)?;
         Ok(Run { entries })
     }
 
@@ -155,7 +137,7 @@ impl<V: Drop> Run<V> {
     /// # Errors
     ///
     /// [`NoMemory`].
-    pub fn split_at(self, alloc: Global, mark: u64) -> Result<(Run<V>, Run<V>), NoMemory>
+    pub fn split_at(self, alloc: Global, mark: u64) -> Result<(Run<J>, Run<J>), NoMemory>
         ensures closed { IfOk result (λ parts. (q : Window) → found parts.0 q
             ≡ (if nat_lt mark q.end then None else found self q)) }
         ensures opened { IfOk result (λ parts. (q : Window) → found parts.1 q
@@ -165,165 +147,135 @@ impl<V: Drop> Run<V> {
             return Ok((self, Run::new(alloc)));
         }
         let mut open = self.entries;
-        let mut closed = VecDeque::with_capacity(alloc, count_closed(&open, mark))?;
+        let mut closed = Entries::with_room(alloc, open.count_closed(mark))?;
         'entries: while is_first_closed(&open, mark) {
             move_first(&mut open, &mut closed)?;
         }
         Ok((Run { entries: closed }, Run { entries: open }))
     }
 
+    /// The entries as they are kept, in the windows' order.
+    pub fn into_kept(self) -> VecDeque<J::Entry>
+        ensures items { map J.seen result.items ≡ self }
+        ensures ordered { IsRun self }
+    {
+        self.entries.into_kept()
+    }
+
     /// The entries, in the windows' order.
-    pub fn into_entries(self) -> VecDeque<(KeyedWindow, V)>
-        ensures items { result.items ≡ self }
+    pub(crate) fn into_entries(self) -> Entries<J>
+        ensures items { result ≡ self }
         ensures ordered { IsRun self }
     {
         self.entries
     }
 }
 
-// Joins a value at a keyed window.
-fn with_entry<V: Drop, J: Joiner<Value = V>>(
+// Joins an entry to others.
+fn with_entry<J: Joiner>(
     alloc: Global,
     joiner: &J,
-    entries: VecDeque<(KeyedWindow, V)>,
-    window: KeyedWindow,
-    value: V,
-) -> Result<VecDeque<(KeyedWindow, V)>, NoMemory>
-    requires { IsRun entries.items }
-    ensures run { IfOk result (λ all. IsRun all.items) }
-    ensures joined { IfOk result (λ all. (q : Window) → found all.items q
-        ≡ joined_value (J.joined joiner.now) (found entries.items q) (found ((window, value) ∷ []) q)) }
+    entries: Entries<J>,
+    entry: J::Entry,
+) -> Result<Entries<J>, NoMemory>
+    requires { IsRun entries }
+    ensures run { IfOk result (λ all. IsRun all) }
+    ensures joined { IfOk result (λ all. (q : Window) → found all q
+        ≡ joined_value (J.joined joiner.now) (found entries q) (found (J.seen entry ∷ []) q)) }
 {
     let mut all = entries;
-    let Some((last, held)) = all.pop_back() else {
-        all.push_back((window, value))?;
+    let Some(mut last) = all.pop_last() else {
+        all.push(entry)?;
         return Ok(all);
     };
-    match last.cmp(&window) {
+    match J::compare(&last, &entry) {
         Ordering::Less => {
-            all.push_back((last, held))?;
-            all.push_back((window, value))?;
+            all.push(last)?;
+            all.push(entry)?;
             Ok(all)
         }
         Ordering::Equal => {
-            let mut held = held;
-            joiner.join(&mut held, value)?;
-            all.push_back((last, held))?;
+            joiner.join(&mut last, entry)?;
+            all.push(last)?;
             Ok(all)
         }
         Ordering::Greater => {
-            all.push_back((last, held))?;
-            let mut one = VecDeque::new(alloc);
-            one.push_back((window, value))?;
+            all.push(last)?;
+            let mut one = Entries::new(alloc);
+            one.push(entry)?;
             merge(alloc, joiner, Run { entries: all }, Run { entries: one })
         }
     }
 }
 
 // The entries of two runs as one, where those of the same keyed window are joined.
-fn merge<V: Drop, J: Joiner<Value = V>>(
+fn merge<J: Joiner>(
     alloc: Global,
     joiner: &J,
-    earlier: Run<V>,
-    later: Run<V>,
-) -> Result<VecDeque<(KeyedWindow, V)>, NoMemory>
-    ensures { IfOk result (λ all. all.items ≡ merged (J.joined joiner.now) earlier later) }
+    earlier: Run<J>,
+    later: Run<J>,
+) -> Result<Entries<J>, NoMemory>
+    ensures { IfOk result (λ all. all ≡ merged (J.joined joiner.now) earlier later) }
 {
     let mut both = Closed::new(earlier, later);
-    let mut all = VecDeque::with_capacity(alloc, both.most())?;
+    let mut all = Entries::with_room(alloc, both.most())?;
     'entries: while let Some(entry) = both.next(joiner)? {
-        all.push_back(entry)?;
+        all.push(entry)?;
     }
     Ok(all)
 }
 
 // Whether the windows of a run are before those of another.
-fn is_before<V>(ones: &VecDeque<(KeyedWindow, V)>, others: &VecDeque<(KeyedWindow, V)>) -> bool
-    requires ones { IsRun ones.now.items }
-    requires others { IsRun others.now.items }
-    ensures { IsTrue result → IsRun (ones.now.items ++ others.now.items) }
+fn is_before<J: Joiner>(ones: &Entries<J>, others: &Entries<J>) -> bool
+    requires ones { IsRun ones.now }
+    requires others { IsRun others.now }
+    ensures { IsTrue result → IsRun (ones.now ++ others.now) }
 {
-    match (ones.back(), others.front()) {
-        (Some(one), Some(other)) => one.0.cmp(&other.0).is_lt(),
+    match (ones.last(), others.first()) {
+        (Some(one), Some(other)) => J::compare(one, other).is_lt(),
         _ => false,
     }
 }
 
-// Whether a keyed window is behind all windows of a run.
-fn is_behind<V>(entries: &VecDeque<(KeyedWindow, V)>, window: &KeyedWindow) -> bool
-    requires { IsRun entries.now.items }
-    ensures { IsTrue result → (value : V) → IsRun (entries.now.items ++ (window.now, value) ∷ []) }
+// Whether the window of an entry is behind all windows of a run.
+fn is_behind<J: Joiner>(entries: &Entries<J>, entry: &J::Entry) -> bool
+    requires { IsRun entries.now }
+    ensures { IsTrue result → IsRun (entries.now ++ J.seen entry.now ∷ []) }
 {
-    match entries.back() {
-        Some(last) => is_less(&last.0, window),
+    match entries.last() {
+        Some(last) => J::compare(last, entry).is_lt(),
         None => true,
     }
 }
 
-// How two keyed windows compare: by end, then key.
-#[inline(always)]
-fn compare(one: &KeyedWindow, other: &KeyedWindow) -> Ordering
-    ensures { result ≡ keyed_window_cmp one.now other.now }
+// Moves the first entry, if there is one, to the end of others.
+fn move_first<J: Joiner>(from: &mut Entries<J>, into: &mut Entries<J>) -> Result<(), NoMemory>
+    ensures from { OnOk result (from.new ≡ drop 1 from.old) }
+    ensures into { OnOk result (into.new ≡ into.old ++ take 1 from.old) }
 {
-    if one.end != other.end {
-        return one.end.cmp(&other.end);
-    }
-    one.key.cmp(&other.key)
-}
-
-// Whether a keyed window is before another.
-fn is_less(one: &KeyedWindow, other: &KeyedWindow) -> bool
-    ensures { result ≡ is_lt (keyed_window_cmp one.now other.now) }
-{
-    compare(one, other).is_lt()
-}
-
-/// How the first windows compare, if there are both.
-#[inline(always)]
-pub(crate) fn compare_firsts<V>(
-    ones: &VecDeque<(KeyedWindow, V)>,
-    others: &VecDeque<(KeyedWindow, V)>,
-) -> Option<Ordering>
-    ensures { result ≡ firsts_cmp ones.now.items others.now.items }
-{
-    let one = ones.front()?;
-    let other = others.front()?;
-    Some(compare(&one.0, &other.0))
-}
-
-// Moves the first element, if there is one, to the end of others.
-fn move_first<X: Drop>(from: &mut VecDeque<X>, into: &mut VecDeque<X>) -> Result<(), NoMemory>
-    ensures from { OnOk result (from.new.items ≡ drop 1 from.old.items) }
-    ensures into { OnOk result (into.new.items ≡ into.old.items ++ take 1 from.old.items) }
-{
-    if let Some(first) = from.pop_front() {
-        into.push_back(first)?;
+    if let Some(first) = from.pop_first() {
+        into.push(first)?;
     }
     Ok(())
 }
 
 // Whether there is a first window, and it ends by the mark.
-fn is_first_closed<V>(entries: &VecDeque<(KeyedWindow, V)>, mark: u64) -> bool
-    ensures { result ≡ begins_by mark entries.now.items }
+fn is_first_closed<J: Joiner>(entries: &Entries<J>, mark: u64) -> bool
+    ensures { result ≡ begins_by mark entries.now }
 {
-    match entries.front() {
-        Some(first) => first.0.end <= mark,
+    match entries.first() {
+        Some(first) => J::end(first) <= mark,
         None => false,
     }
 }
 
 // Whether there are entries, and the windows of all of them end by the mark.
-fn ends_by<V>(entries: &VecDeque<(KeyedWindow, V)>, mark: u64) -> bool
-    requires { IsRun entries.now.items }
-    ensures { result ≡ true → AllByRecursion (λ e. e.0.end ≤ mark) entries.now.items }
+fn ends_by<J: Joiner>(entries: &Entries<J>, mark: u64) -> bool
+    requires { IsRun entries.now }
+    ensures { result ≡ true → AllByRecursion (λ e. e.0.end ≤ mark) entries.now }
 {
-    match entries.back() {
-        Some(last) => last.0.end <= mark,
+    match entries.last() {
+        Some(last) => J::end(last) <= mark,
         None => false,
     }
-}
-
-// How many entries have windows that end by the mark. It says how much room to ask for, and nothing depends on it.
-fn count_closed<V>(entries: &VecDeque<(KeyedWindow, V)>, mark: u64) -> usize {
-    entries.partition_point(|entry| entry.0.end <= mark)
 }

@@ -26,25 +26,25 @@ const MOST_STACKED: usize = 32;
 /// Runs, the first part that came first. Contracts see them as the list of the runs, which stands for the finite map of
 /// all: what the runs have for a keyed window, joined.
 #[derive(Drop)]
-pub struct Runs<V> {
-    runs: VecDeque<Run<V>>,
+pub struct Runs<J: Joiner> {
+    runs: VecDeque<Run<J>>,
 }
 
-impl<V> Model for Runs<V> {
+impl<J: Joiner> Model for Runs<J> {
     ghost use Rattle.std.specs.Prelude.{List, length, ◌≤◌};
     ghost use Rattle.sb_window.specs.declared.keyed_window.KeyedWindow.{KeyedWindow as Window};
     ghost use Rattle.sb_runs.specs.declared.runs.TheConstants.{MOST_RUNS};
 
-    ghost Value = { List (List (Window × V)) };
+    ghost Value = { List (List (Window × J.Value)) };
 
     ghost view = { λ r. r.runs.items };
 
     ghost invariant = { λ r. length r.runs.items ≤ MOST_RUNS };
 }
 
-impl<V: Drop> Runs<V> {
+impl<J: Joiner> Runs<J> {
     /// No runs. It takes no memory.
-    pub fn new(alloc: Global) -> Runs<V>
+    pub fn new(alloc: Global) -> Runs<J>
         ensures { result ≡ [] }
     {
         Runs {
@@ -52,17 +52,19 @@ impl<V: Drop> Runs<V> {
         }
     }
 
+    /// The runs, that of the first part first.
+    pub fn into_list(self) -> VecDeque<Run<J>>
+        ensures { result.items ≡ self }
+    {
+        self.runs
+    }
+
     /// Adds a run, whose values come after those of the others.
     ///
     /// # Errors
     ///
     /// [`NoMemory`]; what is kept is unknown then.
-    pub fn push<J: Joiner<Value = V>>(
-        &mut self,
-        alloc: Global,
-        joiner: &J,
-        run: Run<V>,
-    ) -> Result<(), NoMemory>
+    pub fn push(&mut self, alloc: Global, joiner: &J, run: Run<J>) -> Result<(), NoMemory>
         requires { IsAssociative (J.joined joiner.now) }
         ensures { OnOk result ((q : Window) → found_in (J.joined joiner.now) self.new q
             ≡ joined_value (J.joined joiner.now) (found_in (J.joined joiner.now) self.old q) (found run q)) }
@@ -79,12 +81,7 @@ impl<V: Drop> Runs<V> {
     /// # Errors
     ///
     /// [`NoMemory`]; what is kept is unknown then.
-    pub fn close<J: Joiner<Value = V>>(
-        &mut self,
-        alloc: Global,
-        joiner: &J,
-        mark: u64,
-    ) -> Result<Closed<V>, NoMemory>
+    pub fn close(&mut self, alloc: Global, joiner: &J, mark: u64) -> Result<Closed<J>, NoMemory>
         requires { IsAssociative (J.joined joiner.now) }
         ensures run { IfOk result (λ both. IsRun (merged (J.joined joiner.now) both.0 both.1)) }
         ensures closed { IfOk result (λ both. (q : Window) → found (merged (J.joined joiner.now) both.0 both.1) q
@@ -101,11 +98,11 @@ impl<V: Drop> Runs<V> {
 }
 
 // The runs, merged if there are as many as may be.
-fn fewer<V: Drop, J: Joiner<Value = V>>(
+fn fewer<J: Joiner>(
     alloc: Global,
     joiner: &J,
-    runs: VecDeque<Run<V>>,
-) -> Result<VecDeque<Run<V>>, NoMemory>
+    runs: VecDeque<Run<J>>,
+) -> Result<VecDeque<Run<J>>, NoMemory>
     requires groups { IsAssociative (J.joined joiner.now) }
     requires bound { length runs.items ≤ MOST_RUNS }
     ensures same { IfOk result (λ few. (q : Window) → found_in (J.joined joiner.now) few.items q
@@ -119,11 +116,11 @@ fn fewer<V: Drop, J: Joiner<Value = V>>(
 }
 
 // The runs on a stack, on which small ones are merged.
-fn stacked<V: Drop, J: Joiner<Value = V>>(
+fn stacked<J: Joiner>(
     alloc: Global,
     joiner: &J,
-    runs: VecDeque<Run<V>>,
-) -> Result<VecDeque<Run<V>>, NoMemory>
+    runs: VecDeque<Run<J>>,
+) -> Result<VecDeque<Run<J>>, NoMemory>
     requires { IsAssociative (J.joined joiner.now) }
     ensures same { IfOk result (λ stack. (q : Window) → found_in (J.joined joiner.now) stack.items q
         ≡ found_in (J.joined joiner.now) runs.items q) }
@@ -138,11 +135,11 @@ fn stacked<V: Drop, J: Joiner<Value = V>>(
 }
 
 // Puts a run on a stack, after it is merged with the last ones, as long as these are small.
-fn stack_up<V: Drop, J: Joiner<Value = V>>(
+fn stack_up<J: Joiner>(
     alloc: Global,
     joiner: &J,
-    stack: &mut VecDeque<Run<V>>,
-    run: Run<V>,
+    stack: &mut VecDeque<Run<J>>,
+    run: Run<J>,
 ) -> Result<(), NoMemory>
     requires { IsAssociative (J.joined joiner.now) }
     ensures joined { OnOk result ((q : Window) → found_in (J.joined joiner.now) stack.new.items q
@@ -157,7 +154,7 @@ fn stack_up<V: Drop, J: Joiner<Value = V>>(
 }
 
 // Takes off the last run if it has less than twice as many entries as one that comes, or if there are too many runs.
-fn pop_small<V: Drop>(stack: &mut VecDeque<Run<V>>, coming: usize) -> Option<Run<V>>
+fn pop_small<J: Joiner>(stack: &mut VecDeque<Run<J>>, coming: usize) -> Option<Run<J>>
     ensures items { stack.old.items ≡ stack.new.items ++ option_to_list result }
     ensures room { IfNone result (length stack.new.items < MOST_STACKED) }
 {
@@ -170,7 +167,7 @@ fn pop_small<V: Drop>(stack: &mut VecDeque<Run<V>>, coming: usize) -> Option<Run
 }
 
 // Adds a run, if it has entries.
-fn keep<V: Drop>(runs: &mut VecDeque<Run<V>>, run: Run<V>) -> Result<(), NoMemory>
+fn keep<J: Joiner>(runs: &mut VecDeque<Run<J>>, run: Run<J>) -> Result<(), NoMemory>
     ensures items { OnOk result (runs.new.items ≡ with_run runs.old.items run) }
     ensures bound { OnOk result (length runs.new.items ≤ length runs.old.items + 1) }
 {
@@ -181,12 +178,12 @@ fn keep<V: Drop>(runs: &mut VecDeque<Run<V>>, run: Run<V>) -> Result<(), NoMemor
 }
 
 // Cuts each run at a mark: what closes, and the others.
-fn split_all<V: Drop, J: Joiner<Value = V>>(
+fn split_all<J: Joiner>(
     alloc: Global,
     joiner: &J,
-    runs: VecDeque<Run<V>>,
+    runs: VecDeque<Run<J>>,
     mark: u64,
-) -> Result<(VecDeque<Run<V>>, VecDeque<Run<V>>), NoMemory>
+) -> Result<(VecDeque<Run<J>>, VecDeque<Run<J>>), NoMemory>
     requires { IsAssociative (J.joined joiner.now) }
     ensures closed { IfOk result (λ parts. (q : Window) → found_in (J.joined joiner.now) parts.0.items q
         ≡ (if nat_lt mark q.end then None else found_in (J.joined joiner.now) runs.items q)) }
@@ -206,11 +203,11 @@ fn split_all<V: Drop, J: Joiner<Value = V>>(
 }
 
 // All runs of a stack as one.
-fn into_one<V: Drop, J: Joiner<Value = V>>(
+fn into_one<J: Joiner>(
     alloc: Global,
     joiner: &J,
-    stack: VecDeque<Run<V>>,
-) -> Result<Run<V>, NoMemory>
+    stack: VecDeque<Run<J>>,
+) -> Result<Run<J>, NoMemory>
     requires { IsAssociative (J.joined joiner.now) }
     ensures { IfOk result (λ run. (q : Window) → found run q ≡ found_in (J.joined joiner.now) stack.items q) }
 {
@@ -223,11 +220,11 @@ fn into_one<V: Drop, J: Joiner<Value = V>>(
 }
 
 // The last run, and all before it as one.
-fn into_two<V: Drop, J: Joiner<Value = V>>(
+fn into_two<J: Joiner>(
     alloc: Global,
     joiner: &J,
-    runs: VecDeque<Run<V>>,
-) -> Result<(Run<V>, Run<V>), NoMemory>
+    runs: VecDeque<Run<J>>,
+) -> Result<(Run<J>, Run<J>), NoMemory>
     requires { IsAssociative (J.joined joiner.now) }
     ensures { IfOk result (λ both. (q : Window)
         → joined_value (J.joined joiner.now) (found both.0 q) (found both.1 q)

@@ -1,4 +1,4 @@
-use Rattle.std.proofs.Common.{◌≡◌, [], ◌++◌, append-nil, sym, ap, ◌∙◌}
+use Rattle.std.proofs.Common.{◌≡◌, [], ◌++◌, map, append-nil, sym, ap, ◌∙◌}
 use Rattle.std.specs.Option.{option_to_list}
 use Rattle.sb_runs.specs.Merged.{merged}
 use Rattle.sb_runs.proofs.Merging.{none-left}
@@ -8,5 +8,5 @@ pub returns : goal.returns
 returns g c =
     let join = g.J.Joiner.joined c.args.joiner.now in
     let rest = merged join c.entries.both.0 c.entries.both.1 in
-    let none : rest ≡ [] = none-left rest (sym c.in_ok-entry.ensures.first ∙ ap option_to_list c.in_default.is) in
-    sym (append-nil c.entries.all.items) ∙ ap (λ l. c.entries.all.items ++ l) (sym none) ∙ c.entries.invariant ∙ ap (λ p. merged join p.0 p.1) c.new-both.ensures.both
+    let none : rest ≡ [] = none-left rest (sym c.in_ok-entry.ensures.first ∙ ap (λ o. map g.J.Joiner.seen (option_to_list o)) c.in_default.is) in
+    sym (append-nil c.entries.all) ∙ ap (λ l. c.entries.all ++ l) (sym none) ∙ c.entries.invariant ∙ ap (λ p. merged join p.0 p.1) c.new-both.ensures.both

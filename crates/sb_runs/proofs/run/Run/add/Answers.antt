@@ -7,16 +7,16 @@ use Rattle.sb_runs.proofs.run.Run.add.Goals as goal
 
 pub invariant_of-self-then-is_behind : goal.invariant_of-self-then-is_behind
 invariant_of-self-then-is_behind g c =
-    subst (λ (es : List (KeyedWindow × g.row.V.Denot)). IsRun es) (sym c.in_ok-push_back.ensures.items) (c.if-is_behind.ensures refl c.args.value)
+    subst (λ (es : List (KeyedWindow × g.row.J-Value.Denot)). IsRun es) (sym c.in_ok-push.ensures.added) (c.if-is_behind.ensures refl)
 
 pub returns-then-is_behind : goal.returns-then-is_behind
 returns-then-is_behind g c q =
     let join = g.J.Joiner.joined c.args.joiner.now in
-    let e : KeyedWindow × g.row.V.Denot = (c.args.window, c.args.value) in
-    ap (λ es. found es q) c.in_ok-push_back.ensures.items
-    ∙ sym (found-apart join c.self.inside.entries.items (e ∷ []) (c.if-is_behind.ensures refl c.args.value) q)
-    ∙ ap (λ (es : List (KeyedWindow × g.row.V.Denot)). joined_value join (found es q) (found (e ∷ []) q)) c.self.view_is
+    let e = g.J.Joiner.seen c.args.entry in
+    ap (λ (es : List (KeyedWindow × g.row.J-Value.Denot)). found es q) c.in_ok-push.ensures.added
+    ∙ sym (found-apart join c.self.inside.entries (e ∷ []) (c.if-is_behind.ensures refl) q)
+    ∙ ap (λ (es : List (KeyedWindow × g.row.J-Value.Denot)). joined_value join (found es q) (found (e ∷ []) q)) c.self.view_is
 
 pub invariant_of-self-in_err-self-inside : goal.invariant_of-self-in_err-self-inside
 invariant_of-self-in_err-self-inside g c =
-    rw c.replace-entries.ensures.after (subst (λ (es : List (KeyedWindow × g.row.V.Denot)). IsRun es) (sym c.new.ensures.items) run-none)
+    rw c.replace-entries.ensures.after (subst (λ (es : List (KeyedWindow × g.row.J-Value.Denot)). IsRun es) (sym c.new.ensures) run-none)

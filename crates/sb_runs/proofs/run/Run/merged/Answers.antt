@@ -9,17 +9,17 @@ use Rattle.sb_runs.proofs.run.Run.merged.Goals as goal
 pub returns-then-is_before : goal.returns-then-is_before
 returns-then-is_before g c q =
     let join = g.J.Joiner.joined c.args.joiner.now in
-    ap (λ es. found es q) c.in_ok-append.ensures.items
-    ∙ sym (found-apart join c.self.inside.entries.items c.later.inside.entries.items (c.if-is_before.ensures refl) q)
+    ap (λ es. found es q) c.in_ok-entries.ensures
+    ∙ sym (found-apart join c.self.inside.entries c.later.inside.entries (c.if-is_before.ensures refl) q)
     ∙ (λ i. joined_value join (found (c.self.view_is i) q) (found (c.later.view_is i) q))
 
 pub invariant_of-result-2 : goal.invariant_of-result-2
 invariant_of-result-2 g c =
     let join = g.J.Joiner.joined c.args.joiner.now in
-    subst (λ (l : List (KeyedWindow × g.row.V.Denot)). IsRun l) (sym c.in_ok-entries.ensures) (merged-is-run join c.args.self c.args.later (subst (λ (l : List (KeyedWindow × g.row.V.Denot)). IsRun l) c.self.view_is c.self.invariant) (subst (λ (l : List (KeyedWindow × g.row.V.Denot)). IsRun l) c.later.view_is c.later.invariant))
+    subst (λ (l : List (KeyedWindow × g.row.J-Value.Denot)). IsRun l) (sym c.in_ok-entries-2.ensures) (merged-is-run join c.args.self c.args.later (subst (λ (l : List (KeyedWindow × g.row.J-Value.Denot)). IsRun l) c.self.view_is c.self.invariant) (subst (λ (l : List (KeyedWindow × g.row.J-Value.Denot)). IsRun l) c.later.view_is c.later.invariant))
 
 pub returns : goal.returns
 returns g c q =
     let join = g.J.Joiner.joined c.args.joiner.now in
-    ap (λ es. found es q) c.in_ok-entries.ensures
-    ∙ merged-has join c.args.self c.args.later (subst (λ (l : List (KeyedWindow × g.row.V.Denot)). IsRun l) c.self.view_is c.self.invariant) (subst (λ (l : List (KeyedWindow × g.row.V.Denot)). IsRun l) c.later.view_is c.later.invariant) q
+    ap (λ es. found es q) c.in_ok-entries-2.ensures
+    ∙ merged-has join c.args.self c.args.later (subst (λ (l : List (KeyedWindow × g.row.J-Value.Denot)). IsRun l) c.self.view_is c.self.invariant) (subst (λ (l : List (KeyedWindow × g.row.J-Value.Denot)). IsRun l) c.later.view_is c.later.invariant) q

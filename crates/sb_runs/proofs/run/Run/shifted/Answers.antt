@@ -1,8 +1,9 @@
-use Rattle.std.specs.VecDeque.Iter.{deque_iter_rest}
-use Rattle.sb_runs.proofs.Shifting.{shifted-whole}
+use Rattle.std.proofs.Common.{List, sym, subst}
+use Rattle.sb_window.specs.declared.keyed_window.KeyedWindow.{KeyedWindow}
+use Rattle.sb_runs.specs.Runs.{IsRun}
+use Rattle.sb_runs.proofs.Shifting.{shifted-run}
 use Rattle.sb_runs.proofs.run.Run.shifted.Goals as goal
 
 pub invariant_of-result : goal.invariant_of-result
 invariant_of-result g c =
-    shifted-whole c.args.by c.loop-window.entries.items (deque_iter_rest c.loop-window.window-iterator) c.args.self.now c.self.inside.entries.items c.in-None.ensures.steps.0 c.loop-window.invariant.made c.self.view_is
-    c.self.invariant
+    subst (λ (es : List (KeyedWindow × g.row.J-Value.Denot)). IsRun es) (sym c.in_ok-entries.ensures) (shifted-run c.args.by c.self.inside.entries c.self.invariant)

@@ -3,7 +3,7 @@ use Rattle.sb_runs.proofs.Splitting.{Splitting}
 use Rattle.sb_runs.proofs.run.Run.split_at.Given as goal
 
 abbrev pub invariant-entries : goal.invariant-entries
-invariant-entries g l = Splitting l.mark l.initial.open.items l.closed.items l.open.items
+invariant-entries g l = Splitting l.mark l.initial.open l.closed l.open
 
 abbrev pub decreases-entries : goal.decreases-entries
-decreases-entries g l = length l.open.items
+decreases-entries g l = length l.open

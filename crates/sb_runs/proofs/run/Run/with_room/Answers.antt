@@ -4,4 +4,4 @@ use Rattle.sb_runs.proofs.Found.{run-none}
 use Rattle.sb_runs.proofs.run.Run.with_room.Goals as goal
 
 pub invariant_of-result : goal.invariant_of-result
-invariant_of-result g c = subst (λ es. IsRun {V = g.row.V.Denot} es) (sym c.in_ok-with_capacity.ensures.items) run-none
+invariant_of-result g c = subst (λ es. IsRun {V = g.row.J-Value.Denot} es) (sym c.in_ok-with_room.ensures) run-none

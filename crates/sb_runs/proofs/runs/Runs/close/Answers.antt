@@ -10,12 +10,12 @@ use Rattle.sb_runs.proofs.runs.Runs.close.Goals as goal
 pub returns-clause-run : goal.returns-clause-run
 returns-clause-run g c =
     let join = g.J.Joiner.joined c.args.joiner.now in
-    subst (λ (p : List (KeyedWindow × g.row.V.Denot) × List (KeyedWindow × g.row.V.Denot)). IsRun (merged join p.0 p.1)) (sym c.new-2.ensures.both) (merged-is-run join c.in_ok-first.first c.in_ok-first.last c.new-2.ensures.runs.0 c.new-2.ensures.runs.1)
+    subst (λ (p : List (KeyedWindow × g.row.J-Value.Denot) × List (KeyedWindow × g.row.J-Value.Denot)). IsRun (merged join p.0 p.1)) (sym c.new-2.ensures.both) (merged-is-run join c.in_ok-first.first c.in_ok-first.last c.new-2.ensures.runs.0 c.new-2.ensures.runs.1)
 
 pub returns-clause-closed : goal.returns-clause-closed
 returns-clause-closed g c q =
     let join = g.J.Joiner.joined c.args.joiner.now in
-    ap (λ (p : List (KeyedWindow × g.row.V.Denot) × List (KeyedWindow × g.row.V.Denot)). found (merged join p.0 p.1) q) c.new-2.ensures.both
+    ap (λ (p : List (KeyedWindow × g.row.J-Value.Denot) × List (KeyedWindow × g.row.J-Value.Denot)). found (merged join p.0 p.1) q) c.new-2.ensures.both
     ∙ merged-has join c.in_ok-first.first c.in_ok-first.last c.new-2.ensures.runs.0 c.new-2.ensures.runs.1 q
     ∙ c.in_ok-first.ensures q
     ∙ c.in_ok-closed.ensures.closed q
