@@ -8,4 +8,4 @@ use Rattle.sb_outside.specs.Lines.{longest_line}
 pub record Limits : Type 0 where
   pub line : LONGEST_LINE ≡ 128
   pub definition : longest_line ≡ LONGEST_LINE
-  pub buffer : CAPACITY ≡ 8192
+  pub buffer : CAPACITY ≡ 65536

@@ -8,8 +8,8 @@ ghost use Rattle.sb_outside.specs.Sources.{SourceCause};
 
 use crate::source::{Source, SourceFault};
 
-/// How many bytes a buffer has room for.
-pub const CAPACITY: usize = 8192;
+/// How many bytes a buffer has room for: as many as a pipe has, so that one read takes all that waits in one.
+pub const CAPACITY: usize = 65_536;
 
 /// A place for bytes, and where the bytes at hand begin and end in it.
 #[derive(Drop)]

@@ -2,7 +2,7 @@
 
 ghost use Rattle.sb_outside.specs.Laws as law;
 
-/// A line has at most 128 bytes without its end, and a reader of lines has room for 8,192 bytes.
+/// A line has at most 128 bytes without its end, and a reader of lines has room for 65,536 bytes.
 pub fn limits()
     ensures { law.Limits }
 {}

@@ -192,10 +192,10 @@ impl Source for EmptyLines {
 fn a_read_is_given_the_whole_buffer_once_no_byte_is_at_hand(rt: HostRuntime) {
     let mut source = EmptyLines { reads: 0, room: 0 };
     let mut lines = LineBuffer::new();
-    for count in 0..20_000u32 {
+    for count in 0..150_000u32 {
         let is_line = lines.advance(&mut source) == Step::Line;
         let reads = u32::from(source.reads);
-        assert!(rt; is_line && reads == count / 8192 + 1 && source.room == 8192);
+        assert!(rt; is_line && reads == count / 65_536 + 1 && source.room == 65_536);
     }
 }
 
