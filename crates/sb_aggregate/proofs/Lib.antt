@@ -5,6 +5,7 @@ pub mod SessionEnds
 pub mod SessionLaws
 pub mod SessionRows
 pub mod PartialValues
+pub mod Singles
 pub mod LeastOfTwo
 pub mod SortedLists
 pub mod Unions
@@ -14,4 +15,3 @@ pub mod Ends
 pub mod Absorbing
 pub use Rattle.sb_runs.proofs.records
 pub use Rattle.sb_runs.proofs.window
-pub use Rattle.sb_runs.proofs.runs

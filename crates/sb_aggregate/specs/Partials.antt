@@ -1,5 +1,5 @@
 -- What is kept of the values of a keyed window until it closes: its partial value, a list of values.
-use Rattle.std.specs.Prelude.{ℕ, ℤ, ◌-◌, nat_lt, if◌then◌else◌, List, [], ◌∷◌, ◌++◌, length, map, Option, None}
+use Rattle.std.specs.Prelude.{ℕ, ℤ, Bool, true, false, ◌-◌, nat_lt, if◌then◌else◌, List, [], ◌∷◌, ◌++◌, length, map, Option, None}
 use Rattle.std.specs.Ordering.{int_cmp}
 use Rattle.sb_runs.specs.records.declared.item.Record.{Record}
 use Rattle.sb_runs.specs.records.Orders.{distinct}
@@ -7,7 +7,7 @@ use Rattle.sb_runs.specs.window.declared.keyed_window.KeyedWindow.{KeyedWindow}
 use Rattle.sb_runs.specs.window.Spacing.{Spacing}
 use Rattle.sb_runs.specs.window.Gatherings.{gathered_value}
 use Rattle.sb_aggregate.specs.declared.aggregate.Agg.{Agg}
-use Rattle.sb_aggregate.specs.declared.aggregate.Agg.TheVariants.{Count, Sum, Distinct}
+use Rattle.sb_aggregate.specs.declared.aggregate.Agg.TheVariants.{Count, Sum, Distinct, Top}
 use Rattle.sb_aggregate.specs.Aggregates.{signed_value, aggregate_values}
 
 -- a partial value for each of some keyed windows
@@ -23,6 +23,12 @@ partial_values agg vs = aggregate_values agg vs
 abbrev pub joining : Agg → Agg
 joining Count = Sum
 joining agg = agg
+
+-- whether the partial value of any values is a single one
+abbrev pub is_single : Agg → Bool
+is_single Distinct = false
+is_single (Top k) = false
+is_single agg = true
 
 -- the partial value of what two partial values stand for
 abbrev pub join_values : Agg → List ℤ → List ℤ → List ℤ

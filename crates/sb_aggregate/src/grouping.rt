@@ -7,9 +7,7 @@ ghost use Rattle.sb_aggregate.specs.Orderless.{given-orderless};
 
 use crate::aggregate::Agg;
 use crate::part::AggPart;
-use crate::partial::{Partial, PartialJoiner};
-use crate::rows::rows_of;
-use sb_runs::Runs;
+use crate::partials::KeptPartials;
 use sb_runs::sb_record::{NoMemory, Record, Trail};
 use sb_runs::sb_window::{Grouping, Windows};
 use std::alloc::Global;
@@ -22,7 +20,7 @@ pub struct Aggregate {
     alloc: Global,
     agg: Agg,
     windows: Windows,
-    partials: Runs<Partial>,
+    partials: KeptPartials,
     absorbed: Trail<Trail<Record>>,
     closed: u64,
     spent: bool,
@@ -32,6 +30,7 @@ impl Model for Aggregate {
     ghost use Rattle.std.specs.Prelude.{◌≡◌, false};
     ghost use Rattle.std.specs.List.{flat_map};
     ghost use Rattle.sb_aggregate.specs.Groups.{Absorbed, HasPartialsFrom};
+    ghost use Rattle.sb_aggregate.specs.Held.{runs_of};
 
     ghost Value = { Absorbed };
 
@@ -44,7 +43,7 @@ impl Model for Aggregate {
     } };
 
     ghost invariant = { λ a. a.spent ≡ false
-        → HasPartialsFrom a.closed a.agg a.windows (flat_map (λ l. l) a.absorbed) a.partials };
+        → HasPartialsFrom a.closed a.agg a.windows (flat_map (λ l. l) a.absorbed) (runs_of a.partials) };
 }
 
 impl Aggregate {
@@ -56,7 +55,7 @@ impl Aggregate {
             alloc,
             agg,
             windows,
-            partials: Runs::new(alloc),
+            partials: KeptPartials::new(alloc),
             absorbed: Trail::start(),
             closed: 0,
             spent: false,
@@ -88,11 +87,7 @@ impl Grouping for Aggregate {
             return Err(NoMemory);
         }
         self.spent = true;
-        let joiner = PartialJoiner {
-            alloc: self.alloc,
-            agg: self.agg,
-        };
-        self.partials.push(self.alloc, &joiner, part.partials)?;
+        self.partials.push(self.alloc, self.agg, part.partials)?;
         self.absorbed = self.absorbed.with(part.records);
         self.spent = false;
         Ok(())
@@ -103,12 +98,7 @@ impl Grouping for Aggregate {
             return Err(NoMemory);
         }
         self.spent = true;
-        let joiner = PartialJoiner {
-            alloc: self.alloc,
-            agg: self.agg,
-        };
-        let closed = self.partials.close(self.alloc, &joiner, mark)?;
-        let rows = rows_of(&joiner, closed)?;
+        let rows = self.partials.close(self.alloc, self.agg, mark)?;
         self.closed = mark;
         self.spent = false;
         Ok(rows)

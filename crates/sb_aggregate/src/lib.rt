@@ -17,10 +17,12 @@ mod grouping;
 pub mod laws;
 mod part;
 mod partial;
+mod partials;
 mod placing;
 mod ranking;
 mod rows;
 mod session;
+mod single;
 mod sorted_list;
 mod value_set;
 

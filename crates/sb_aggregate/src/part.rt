@@ -9,11 +9,10 @@ ghost use Rattle.sb_aggregate.specs.Partials.{partial_values, joining, join_valu
 ghost use Rattle.sb_runs.specs.Placed.{placed_first, placed_value};
 
 use crate::aggregate::Agg;
-use crate::partial::{Partial, PartialJoiner};
+use crate::partials::Partials;
 use crate::placing::{Placing, SLOTS};
 use sb_runs::sb_record::{END_MARK, NoMemory, Record, Trail};
 use sb_runs::sb_window::{KeyedWindow, Windows};
-use sb_runs::{Run, spread};
 use std::alloc::Global;
 use std::marker::Model;
 
@@ -22,18 +21,19 @@ use std::marker::Model;
 pub struct AggPart {
     pub(crate) agg: Agg,
     pub(crate) windows: Windows,
-    pub(crate) partials: Run<Partial>,
+    pub(crate) partials: Partials,
     pub(crate) records: Trail<Record>,
 }
 
 impl Model for AggPart {
     ghost use Rattle.sb_aggregate.specs.Groups.{Grouped, HasPartials};
+    ghost use Rattle.sb_aggregate.specs.Held.{run_of};
 
     ghost Value = { Grouped };
 
     ghost view = { λ p. record { agg = p.agg; windows = p.windows; records = p.records } };
 
-    ghost invariant = { λ p. HasPartials p.agg p.windows p.records p.partials };
+    ghost invariant = { λ p. HasPartials p.agg p.windows p.records (run_of p.partials) };
 }
 
 /// Groups the records of a bundle. It takes memory for each record, and for each keyed window that they lie in.
@@ -60,8 +60,7 @@ pub fn part_of(
     }
     let panes = placing.run(alloc, agg)?;
     let every = windows.every();
-    let joiner = PartialJoiner { alloc, agg };
-    let partials = spread(alloc, &joiner, panes, every, windows.size() / every)?;
+    let partials = panes.spread(alloc, agg, every, windows.size() / every)?;
     Ok(AggPart {
         agg,
         windows: *windows,

@@ -1,16 +1,17 @@
 //! Partial values: what is kept of the values of a keyed window until it closes.
 
-ghost use Rattle.std.specs.Prelude.{◌≡◌, ◌∷◌, ◌++◌, [], ◌%◌, ◌^◌, length, IfSome, IfOk, OnOk};
+ghost use Rattle.std.specs.Prelude.{◌≡◌, ◌∷◌, ◌++◌, [], ◌%◌, ◌^◌, length, true, IsSome, IfSome, IfOk, OnOk};
 ghost use Rattle.sb_aggregate.specs.Aggregates.{IsValid};
-ghost use Rattle.sb_aggregate.specs.Partials.{partial_values, join_values, final_values, joining, rows_of_values};
+ghost use Rattle.sb_aggregate.specs.Partials.{is_single, partial_values, join_values, final_values, joining, rows_of_values};
 ghost use Rattle.sb_aggregate.specs.Held.{held_values};
 
 use crate::aggregate::{Agg, aggregated};
 use crate::value_set::ValueSet;
-use sb_runs::Joiner;
 use sb_runs::sb_record::{NoMemory, Record};
 use sb_runs::sb_window::KeyedWindow;
+use sb_runs::{Joiner, compare_windows, later_window};
 use std::alloc::Global;
+use std::cmp::Ordering;
 use std::marker::Model;
 
 /// The partial value of the values of a keyed window, which contracts see as a list: a count, a sum, the least or the
@@ -61,7 +62,8 @@ impl Agg {
 
     /// What two partial values come to, each a single value, where it is always a single value too.
     pub(crate) fn joined(self, one: i64, other: i64) -> Option<i64>
-        ensures { IfSome result (λ value. value ∷ [] ≡ join_values self (one ∷ []) (other ∷ [])) }
+        ensures joined { IfSome result (λ value. value ∷ [] ≡ join_values self (one ∷ []) (other ∷ [])) }
+        ensures some { is_single self ≡ true → IsSome result }
     {
         match self {
             Agg::Count | Agg::Sum => Some(one.wrapping_add(other)),
@@ -73,6 +75,15 @@ impl Agg {
 }
 
 impl Partial {
+    /// That of a single number.
+    pub(crate) fn single(value: i64) -> Partial
+        ensures { result ≡ value ∷ [] }
+    {
+        Partial {
+            held: Held::One(value),
+        }
+    }
+
     /// The partial value of one value.
     pub(crate) fn of_one(agg: Agg, value: i64) -> Partial
         requires { IsValid agg }
@@ -160,16 +171,36 @@ pub(crate) struct PartialJoiner {
 }
 
 impl Joiner for PartialJoiner {
+    type Entry = (KeyedWindow, Partial);
+
     type Value = Partial;
+
+    ghost seen = { λ e. e };
 
     ghost joined = { λ j v w. join_values j.agg v w };
 
-    fn join(&self, value: &mut Partial, later: Partial) -> Result<(), NoMemory> {
-        value.join(self.alloc, self.agg, later)
+    fn end(entry: &(KeyedWindow, Partial)) -> u64 {
+        entry.0.end
     }
 
-    fn copy(&self, value: &Partial) -> Result<Partial, NoMemory> {
-        value.copied(self.alloc)
+    fn compare(one: &(KeyedWindow, Partial), other: &(KeyedWindow, Partial)) -> Ordering {
+        compare_windows(&one.0, &other.0)
+    }
+
+    fn join(
+        &self,
+        entry: &mut (KeyedWindow, Partial),
+        later: (KeyedWindow, Partial),
+    ) -> Result<(), NoMemory> {
+        entry.1.join(self.alloc, self.agg, later.1)
+    }
+
+    fn later(
+        &self,
+        entry: &(KeyedWindow, Partial),
+        by: u64,
+    ) -> Result<(KeyedWindow, Partial), NoMemory> {
+        Ok((later_window(&entry.0, by), entry.1.copied(self.alloc)?))
     }
 }
 
@@ -250,7 +281,11 @@ fn made_of(alloc: Global, agg: Agg, values: Vec<i64>) -> Result<Held, NoMemory>
 }
 
 // Adds a row of a keyed window.
-fn push_row(window: &KeyedWindow, value: i64, rows: &mut Vec<Record>) -> Result<(), NoMemory>
+pub(crate) fn push_row(
+    window: &KeyedWindow,
+    value: i64,
+    rows: &mut Vec<Record>,
+) -> Result<(), NoMemory>
     ensures { OnOk result (rows.new.items ≡ rows.old.items ++ rows_of_values window.now (value ∷ [])) }
 {
     rows.push(Record {

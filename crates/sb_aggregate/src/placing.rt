@@ -3,19 +3,23 @@
 //! A value is joined at once to one that was placed at the same pane, where that one is still remembered. So where many
 //! records fall in one pane, few values are left to put in order. What is remembered changes no result, only time.
 
-ghost use Rattle.std.specs.Prelude.{◌≡◌, ◌∷◌, [], ◌<◌, false, IsTrue, map, OnOk, IfOk};
+ghost use Rattle.std.specs.Prelude.{◌≡◌, ◌∷◌, [], ◌<◌, true, false, IsTrue, map, OnOk, IfOk};
 ghost use Rattle.sb_runs.specs.records.Reorderings.{IsReordered};
+ghost use Rattle.sb_runs.specs.records.declared.key.Key.TheVariants.{Number};
 ghost use Rattle.sb_runs.specs.window.declared.keyed_window.KeyedWindow.{KeyedWindow as Window};
 ghost use Rattle.sb_runs.specs.window.Gatherings.{joined_value};
 ghost use Rattle.sb_aggregate.specs.Aggregates.{IsValid};
-ghost use Rattle.sb_aggregate.specs.Partials.{partial_values, joining, join_values};
+ghost use Rattle.sb_aggregate.specs.Partials.{is_single, partial_values, joining, join_values};
 ghost use Rattle.sb_runs.specs.Placed.{placed_value};
+ghost use Rattle.sb_aggregate.specs.Held.{run_of};
 ghost use Rattle.sb_aggregate.specs.Numbers.{numbered_entry};
 ghost use Rattle.sb_runs.specs.Runs.{found};
 
 use crate::aggregate::Agg;
 use crate::partial::{Partial, PartialJoiner};
+use crate::partials::Partials;
 use crate::ranking::sort_numbers;
+use crate::single::SingleJoiner;
 use sb_runs::Run;
 use sb_runs::sb_record::{Key, NoMemory};
 use sb_runs::sb_window::KeyedWindow;
@@ -69,7 +73,7 @@ impl Numbered {
     }
 
     // Its pane.
-    fn window(&self) -> KeyedWindow
+    pub(crate) fn window(&self) -> KeyedWindow
         ensures { result ≡ (numbered_entry self.now).0 }
     {
         KeyedWindow {
@@ -130,17 +134,23 @@ impl Placing {
     /// # Errors
     ///
     /// [`NoMemory`].
-    pub(crate) fn run(&mut self, alloc: Global, agg: Agg) -> Result<Run<Partial>, NoMemory>
+    pub(crate) fn run(&mut self, alloc: Global, agg: Agg) -> Result<Partials, NoMemory>
         requires { IsValid agg }
         ensures { IfOk result
-            (λ run. (q : Window) → found run q ≡ placed_value (partial_values (joining agg)) self.old q) }
+            (λ run. (q : Window) → found (run_of run) q ≡ placed_value (partial_values (joining agg)) self.old q) }
     {
         sort_numbers(alloc, &mut self.numbers)?;
+        if self.words.is_empty() {
+            if let Some(joiner) = SingleJoiner::of(agg) {
+                let run = run_of_singles(alloc, agg, &joiner, &self.numbers)?;
+                return Ok(Partials::Single(run));
+            }
+        }
         sort_words(&mut self.words);
         let joiner = PartialJoiner { alloc, agg };
         let numbers = run_of_numbers(alloc, agg, &self.numbers)?;
         let words = run_of_words(alloc, agg, &self.words)?;
-        numbers.merged(alloc, &joiner, words)
+        Ok(Partials::Any(numbers.merged(alloc, &joiner, words)?))
     }
 }
 
@@ -178,8 +188,47 @@ fn sort_words(words: &mut Vec<(KeyedWindow, i64)>)
     words.sort_unstable();
 }
 
+// What values at keys that are numbers come to, where that is a single number at each.
+fn run_of_singles(
+    alloc: Global,
+    agg: Agg,
+    joiner: &SingleJoiner,
+    numbers: &[Numbered],
+) -> Result<Run<SingleJoiner>, NoMemory>
+    requires joiner { joiner.now ≡ agg }
+    requires single { is_single agg ≡ true }
+    ensures { IfOk result (λ run. (q : Window)
+        → found run q ≡ placed_value (partial_values (joining agg)) (map numbered_entry numbers.now) q) }
+{
+    let mut run = Run::with_room(alloc, numbers.len())?;
+    for entry in numbers {
+        add_single(alloc, joiner, entry.end, entry.key, entry.value, &mut run)?;
+    }
+    Ok(run)
+}
+
+// Joins a value to a run of single numbers.
+fn add_single(
+    alloc: Global,
+    joiner: &SingleJoiner,
+    end: u64,
+    key: u64,
+    value: i64,
+    run: &mut Run<SingleJoiner>,
+) -> Result<(), NoMemory>
+    requires { is_single joiner.now ≡ true }
+    ensures { OnOk result ((q : Window) → found run.new q ≡ joined_value (join_values joiner.now) (found run.old q)
+        (found ((record { end = end; key = Number key }, partial_values (joining joiner.now) (value ∷ [])) ∷ []) q)) }
+{
+    run.add(alloc, joiner, Numbered { end, key, value })
+}
+
 // What values at keys that are numbers come to.
-fn run_of_numbers(alloc: Global, agg: Agg, numbers: &[Numbered]) -> Result<Run<Partial>, NoMemory>
+fn run_of_numbers(
+    alloc: Global,
+    agg: Agg,
+    numbers: &[Numbered],
+) -> Result<Run<PartialJoiner>, NoMemory>
     requires { IsValid agg }
     ensures { IfOk result (λ run. (q : Window)
         → found run q ≡ placed_value (partial_values (joining agg)) (map numbered_entry numbers.now) q) }
@@ -188,7 +237,7 @@ fn run_of_numbers(alloc: Global, agg: Agg, numbers: &[Numbered]) -> Result<Run<P
     let mut run = Run::with_room(alloc, numbers.len())?;
     for entry in numbers {
         let partial = Partial::of_one(agg.joining(), entry.value);
-        run.add(alloc, &joiner, entry.window(), partial)?;
+        run.add(alloc, &joiner, (entry.window(), partial))?;
     }
     Ok(run)
 }
@@ -198,7 +247,7 @@ fn run_of_words(
     alloc: Global,
     agg: Agg,
     words: &[(KeyedWindow, i64)],
-) -> Result<Run<Partial>, NoMemory>
+) -> Result<Run<PartialJoiner>, NoMemory>
     requires { IsValid agg }
     ensures { IfOk result
         (λ run. (q : Window) → found run q ≡ placed_value (partial_values (joining agg)) words.now q) }
@@ -208,7 +257,7 @@ fn run_of_words(
     for entry in words {
         let window = KeyedWindow { ..entry.0 };
         let partial = Partial::of_one(agg.joining(), entry.1);
-        run.add(alloc, &joiner, window, partial)?;
+        run.add(alloc, &joiner, (window, partial))?;
     }
     Ok(run)
 }

@@ -16,7 +16,7 @@ ghost use Rattle.sb_join.specs.Orderless.{gives-orderless};
 use crate::join::{Combine, Side};
 use crate::part::JoinPart;
 use crate::rows::rows_of;
-use crate::side_values::{SideJoiner, SideValues};
+use crate::side_values::SideJoiner;
 use sb_runs::Runs;
 use sb_runs::sb_record::{NoMemory, Record};
 use sb_runs::sb_window::{Grouping, Windows};
@@ -29,7 +29,7 @@ pub struct JoinKept {
     alloc: Global,
     combine: Combine,
     windows: Windows,
-    values: Runs<SideValues>,
+    values: Runs<SideJoiner>,
     left_mark: u64,
     right_mark: u64,
     closed: u64,

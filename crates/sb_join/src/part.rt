@@ -19,7 +19,7 @@ use std::marker::Model;
 pub struct JoinPart {
     windows: Windows,
     side: Side,
-    pub(crate) values: Run<SideValues>,
+    pub(crate) values: Run<SideJoiner>,
     records: Trail<Record>,
 }
 
@@ -71,7 +71,7 @@ fn joined(
     alloc: Global,
     side: Side,
     placed: &[(KeyedWindow, i64)],
-) -> Result<Run<SideValues>, NoMemory>
+) -> Result<Run<SideJoiner>, NoMemory>
     ensures { IfOk result (λ run. (q : Window) → found run q
         ≡ placed_value (λ vs. map (λ v. (side, v)) vs) placed.now q) }
 {
@@ -80,7 +80,7 @@ fn joined(
     for entry in placed {
         let window = KeyedWindow { ..entry.0 };
         let value = SideValues::of_one(alloc, side, entry.1);
-        run.add(alloc, &joiner, window, value)?;
+        run.add(alloc, &joiner, (window, value))?;
     }
     Ok(run)
 }

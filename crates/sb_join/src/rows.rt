@@ -21,7 +21,7 @@ use sb_runs::sb_window::KeyedWindow;
 pub(crate) fn rows_of(
     joiner: &SideJoiner,
     combine: Combine,
-    closed: Closed<SideValues>,
+    closed: Closed<SideJoiner>,
 ) -> Result<Vec<Record>, NoMemory>
     ensures { IfOk result (λ rows. rows.items ≡ sorted_records (rows_of_entries (combined_values combine)
         (merged (λ v w. v ++ w) closed.0 closed.1))) }

@@ -5,9 +5,11 @@ ghost use Rattle.sb_join.specs.declared.join.Side.TheVariants.{Left as OnLeft, R
 ghost use Rattle.sb_join.specs.Entries.{of_side};
 
 use crate::join::Side;
-use sb_runs::Joiner;
 use sb_runs::sb_record::NoMemory;
+use sb_runs::sb_window::KeyedWindow;
+use sb_runs::{Joiner, compare_windows, later_window};
 use std::alloc::Global;
+use std::cmp::Ordering;
 use std::marker::Model;
 
 /// The values of a keyed window, in the order in which they came. Contracts see them as a list, each with its side.
@@ -125,15 +127,35 @@ pub(crate) struct SideJoiner {
 }
 
 impl Joiner for SideJoiner {
+    type Entry = (KeyedWindow, SideValues);
+
     type Value = SideValues;
+
+    ghost seen = { λ e. e };
 
     ghost joined = { λ j v w. v ++ w };
 
-    fn join(&self, value: &mut SideValues, later: SideValues) -> Result<(), NoMemory> {
-        value.append(later)
+    fn end(entry: &(KeyedWindow, SideValues)) -> u64 {
+        entry.0.end
     }
 
-    fn copy(&self, value: &SideValues) -> Result<SideValues, NoMemory> {
-        value.copied(self.alloc)
+    fn compare(one: &(KeyedWindow, SideValues), other: &(KeyedWindow, SideValues)) -> Ordering {
+        compare_windows(&one.0, &other.0)
+    }
+
+    fn join(
+        &self,
+        entry: &mut (KeyedWindow, SideValues),
+        later: (KeyedWindow, SideValues),
+    ) -> Result<(), NoMemory> {
+        entry.1.append(later.1)
+    }
+
+    fn later(
+        &self,
+        entry: &(KeyedWindow, SideValues),
+        by: u64,
+    ) -> Result<(KeyedWindow, SideValues), NoMemory> {
+        Ok((later_window(&entry.0, by), entry.1.copied(self.alloc)?))
     }
 }

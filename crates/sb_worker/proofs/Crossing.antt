@@ -20,11 +20,9 @@ use Rattle.atomic_table.proofs.shared.Seat.TheSendSync as seat_crossing
 use Rattle.sb_cascade.specs.base.records.contracts.item.Record as record_row
 use Rattle.sb_cascade.proofs.base.records.Crossing.{Trail-send, Trail-sync}
 use Rattle.sb_cascade.proofs.base.records.item.Record.TheSendSync as record_crossing
-use Rattle.sb_cascade.proofs.base.window.keyed_window.KeyedWindow.TheSendSync as window_crossing
 use Rattle.sb_cascade.proofs.base.window.windows.Windows.TheSendSync as windows_crossing
 use Rattle.sb_cascade.specs.base.aggregate.contracts.grouping.Aggregate as aggregate
-use Rattle.sb_cascade.proofs.base.aggregate.partial.Partial.TheSendSync as partial_crossing
-use Rattle.sb_cascade.proofs.base.aggregate.runs.Runs.TheSendSync as runs_crossing
+use Rattle.sb_cascade.proofs.base.aggregate.partials.KeptPartials.TheSendSync as partials_crossing
 use Rattle.sb_cascade.proofs.session.session.Session.TheSendSync as session_crossing
 use Rattle.sb_cascade.proofs.base.join.kept.JoinKept.TheSendSync as join_crossing
 use Rattle.sb_cascade.proofs.sink.sink.SinkKept.TheSendSync as sink_crossing
@@ -57,7 +55,7 @@ Diary-send = search (sendable, crosses, Trail-send, event_crossing.the_send) dep
 Aggregate-send : IsSend aggregate.the_row
 Aggregate-send =
     search
-    (sendable, crosses, maps, Trail-send, record_crossing.the_send, runs_crossing.the_send, partial_crossing.the_send, window_crossing.the_send, windows_crossing.the_send)
+    (sendable, crosses, maps, Trail-send, record_crossing.the_send, partials_crossing.the_send, windows_crossing.the_send)
     depth 60 fits 50000
 
 Kept-send : IsSend kept.the_row
@@ -79,7 +77,7 @@ Diary-sync = search (sendable, crosses, Trail-sync, event_crossing.the_sync) dep
 Aggregate-sync : IsSync aggregate.the_row
 Aggregate-sync =
     search
-    (sendable, crosses, maps, Trail-sync, record_crossing.the_sync, runs_crossing.the_sync, partial_crossing.the_sync, window_crossing.the_sync, windows_crossing.the_sync)
+    (sendable, crosses, maps, Trail-sync, record_crossing.the_sync, partials_crossing.the_sync, windows_crossing.the_sync)
     depth 60 fits 50000
 
 Kept-sync : IsSync kept.the_row

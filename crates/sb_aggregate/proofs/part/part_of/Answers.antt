@@ -7,9 +7,10 @@ use Rattle.sb_runs.specs.records.declared.item.Record.{Record}
 use Rattle.sb_runs.specs.records.declared.item.TheConstants.{END_MARK}
 use Rattle.sb_runs.specs.window.declared.keyed_window.KeyedWindow.{KeyedWindow}
 use Rattle.sb_runs.specs.window.Gatherings.{joined_value}
+use Rattle.sb_aggregate.specs.Held.{run_of}
 use Rattle.sb_aggregate.specs.Partials.{join_values, partial_values, partial_at}
 use Rattle.sb_runs.specs.Placed.{placed_first, placed_value}
-use Rattle.sb_aggregate.proofs.PartialValues.{join_values-grouped, partials-joined}
+use Rattle.sb_aggregate.proofs.PartialValues.{partials-joined}
 use Rattle.sb_runs.proofs.Placed.{placed-append}
 use Rattle.sb_runs.proofs.Spreading.{All-take}
 use Rattle.sb_aggregate.proofs.Panes.{part-room, part-spread}
@@ -35,14 +36,11 @@ loop-record-preserved c =
           ∙ ap (λ l. l ++ r ∷ []) c.loop-record.invariant.grouped ∙ ap (λ x. take i records ++ x ∷ []) c.record-item.is ∙ sym (take_more records i r (omega arith));
     }
 
-pub spread-requires-clause-groups : goal.spread-requires-clause-groups
-spread-requires-clause-groups c = join_values-grouped c.args.agg
-
 pub spread-requires-clause-ends : goal.spread-requires-clause-ends
 spread-requires-clause-ends c =
     let records = take c.loop-record.record-index c.args.records.now in
     let placed : List (KeyedWindow × ℤ) = flat_map (placed_first c.args.windows.now) records in
-    part-room c.args.agg c.args.windows.now c.size.ensures.sound records placed placed (λ f. refl) refl c.in_ok-panes.panes (λ q. c.in_ok-panes.ensures q ∙ c.loop-record.invariant.placed q)
+    part-room c.args.agg c.args.windows.now c.size.ensures.sound records placed placed (λ f. refl) refl (run_of c.in_ok-panes.panes) (λ q. c.in_ok-panes.ensures q ∙ c.loop-record.invariant.placed q)
     c.size.result c.every-every.result c.size.ensures.value c.every-every.ensures.value
     (All-take (λ r. r.time < END_MARK) c.loop-record.record-index c.args.records.now (recursion_from_All (λ r. r.time < END_MARK) c.args.records.now c.requires.times))
 
@@ -51,6 +49,6 @@ invariant_of-result c q =
     let records = take c.loop-record.record-index c.args.records.now in
     let placed : List (KeyedWindow × ℤ) = flat_map (placed_first c.args.windows.now) records in
     c.in_ok-partials.ensures q
-    ∙ part-spread c.args.agg c.args.windows.now c.size.ensures.sound records placed placed (λ f. refl) refl c.in_ok-panes.panes (λ q. c.in_ok-panes.ensures q ∙ c.loop-record.invariant.placed q)
+    ∙ part-spread c.args.agg c.args.windows.now c.size.ensures.sound records placed placed (λ f. refl) refl (run_of c.in_ok-panes.panes) (λ q. c.in_ok-panes.ensures q ∙ c.loop-record.invariant.placed q)
     c.size.result c.every-every.result c.size.ensures.value c.every-every.ensures.value q
     ∙ ap (λ l. partial_at c.args.agg c.args.windows.now l q) (sym c.loop-record.invariant.grouped)

@@ -28,7 +28,7 @@ returns-clause-joined c _ q =
     let inside : c.args.at < length c.args.numbers.now.items = omega (arith, c.if-at-len.false, c.len.ensures, c.args.numbers.now.ok.0) in
     let within : c.args.at < length (map numbered_entry c.args.numbers.now.items) = omega (arith, inside, length-map c.args.numbers.now.items numbered_entry) in
     let at : get_or (map numbered_entry items) c.args.at (numbered_entry held) ≡ (window, held.value) = get_or-map numbered_entry items c.args.at held (numbered_entry held) inside ∙ ap numbered_entry (sym c.index.ensures) in
-    let is : joined ∷ [] ≡ join_values agg (held.value ∷ []) (entry.value ∷ []) = c.in-Some.ensures ∙ (λ i. join_values agg (to_z-of_z w64 held.value fits_held i ∷ []) (to_z-of_z w64 entry.value fits_entry i ∷ [])) in
+    let is : joined ∷ [] ≡ join_values agg (held.value ∷ []) (entry.value ∷ []) = c.in-Some.ensures.joined ∙ (λ i. join_values agg (to_z-of_z w64 held.value fits_held i ∷ []) (to_z-of_z w64 entry.value fits_entry i ∷ [])) in
     ap (λ v. placed_value made (map numbered_entry (set items c.args.at (new v))) q) (to_z-of_z w64 joined fits_joined)
     ∙ ap (λ l. placed_value made l q) (map-set numbered_entry items c.args.at (new joined))
     ∙ placed-in_place made (join_values agg) (λ v w vs ws. both-kept agg (v ∷ vs) (w ∷ ws)) (partials-orderless (joining agg)) (map numbered_entry items) c.args.at window joined held.value entry.value (numbered_entry held) q

@@ -16,7 +16,7 @@ windows-preserved c f =
     let left = merged (λ v w. v ++ w) c.windows.waiting.0 c.windows.waiting.1 in
     let more = merged (λ v w. v ++ w) c.next.new.self.0 c.next.new.self.1 in
     let whole : (c.in-Some.window, c.in-Some.both) ∷ more ≡ left =
-    ap (λ o. option_to_list o ++ more) (sym c.in-Some.is) ∙ with-rest left (option_to_list c.in_ok-window.field-0) more c.in_ok-window.ensures.first c.in_ok-window.ensures.rest in
+    ap (λ o. map (λ e. e) (option_to_list o) ++ more) (sym c.in-Some.is) ∙ with-rest left (map (λ e. e) (option_to_list c.in_ok-window.field-0)) more c.in_ok-window.ensures.first c.in_ok-window.ensures.rest in
     let rest = rows_of_entries (combined_values c.args.combine) more in
     let made = map (row c.in-Some.window) c.pair_up.new.pairs.items in
     let pushed : c.push_rows.new.rows.items ≡ c.windows.rows.items ++ map (row c.in-Some.window) c.pair_up.new.pairs.items =
@@ -32,7 +32,7 @@ windows-preserved c f =
 pub returns : goal.returns
 returns c =
     let left = merged (λ v w. v ++ w) c.windows.waiting.0 c.windows.waiting.1 in
-    let none : left ≡ [] = none-left left (sym c.in_ok-window.ensures.first ∙ ap option_to_list c.in_default.is) in
+    let none : left ≡ [] = none-left left (sym c.in_ok-window.ensures.first ∙ ap (λ o. map (λ e. e) (option_to_list o)) c.in_default.is) in
     let all = rows_of_entries (combined_values c.args.combine) (merged (λ v w. v ++ w) c.args.closed.0 c.args.closed.1) in
     c.sort_rows.ensures
     ∙ sorted-unique (sorted_records c.windows.rows.items) all (in_order-ascending records_total c.windows.rows.items)

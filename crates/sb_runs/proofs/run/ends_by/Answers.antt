@@ -1,4 +1,4 @@
-use Rattle.std.proofs.Common.{◌<◌, ◌≤◌, length, refl, sym, ◌∙◌, subst}
+use Rattle.std.proofs.Common.{◌<◌, ◌≤◌, length, refl, subst}
 use Rattle.std.proofs.lemmas.Bool.{leb-true}
 use Rattle.sb_runs.proofs.Splitting.{all-low-by-last}
 use Rattle.sb_runs.proofs.run.ends_by.Goals as goal

@@ -1,4 +1,4 @@
-use Rattle.std.proofs.Common.{◌≡◌, ◌<◌, length, IsTrue, refl, subst, ap, ◌∙◌, arith}
+use Rattle.std.proofs.Common.{◌<◌, length, IsTrue, refl, subst, ap, ◌∙◌, arith}
 use Rattle.std.specs.Ordering.{is_lt}
 use Rattle.sb_runs.proofs.Found.{run-behind}
 use Rattle.sb_runs.proofs.run.is_before.Goals as goal

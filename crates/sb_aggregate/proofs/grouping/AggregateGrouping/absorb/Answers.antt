@@ -11,12 +11,9 @@ use Rattle.sb_runs.specs.window.Spacing.{Spacing}
 use Rattle.sb_aggregate.specs.declared.aggregate.Agg.{Agg}
 use Rattle.sb_aggregate.specs.Aggregates.{aggregate_rows}
 use Rattle.sb_aggregate.specs.Groups.{Absorbed, Grouped, HasPartials, HasPartialsFrom, given}
-use Rattle.sb_aggregate.proofs.PartialValues.{join_values-grouped}
+use Rattle.sb_aggregate.specs.Held.{run_of, runs_of}
 use Rattle.sb_aggregate.proofs.Absorbing.{flat-more, late-reordered, partials-absorbed, rows-absorbed}
 use Rattle.sb_aggregate.proofs.grouping.AggregateGrouping.absorb.Goals as goal
-
-pub push-requires : goal.push-requires
-push-requires c = join_values-grouped c.self.inside.agg
 
 pub invariant_of-self-2 : goal.invariant_of-self-2
 invariant_of-self-2 c _ =
@@ -27,13 +24,13 @@ invariant_of-self-2 c _ =
     let from = c.requires.from not_spent in
     let agg : c.part.inside.agg ≡ c.self.inside.agg = ap (λ (x : Grouped). x.agg) c.part.view_is ∙ like.agg ∙ sym (ap (λ (x : Absorbed). x.agg) c.self.view_is) in
     let windows : c.part.inside.windows ≡ c.self.inside.windows = ap (λ (x : Grouped). x.windows) c.part.view_is ∙ like.windows ∙ sym (ap (λ (x : Absorbed). x.windows) c.self.view_is) in
-    let has_more : HasPartials c.self.inside.agg c.self.inside.windows c.part.inside.records c.part.inside.partials =
-    subst (λ (w : Spacing). HasPartials c.self.inside.agg w c.part.inside.records c.part.inside.partials) windows (subst (λ (a : Agg). HasPartials a c.part.inside.windows c.part.inside.records c.part.inside.partials) agg c.part.invariant) in
+    let has_more : HasPartials c.self.inside.agg c.self.inside.windows c.part.inside.records (run_of c.part.inside.partials) =
+    subst (λ (w : Spacing). HasPartials c.self.inside.agg w c.part.inside.records (run_of c.part.inside.partials)) windows (subst (λ (a : Agg). HasPartials a c.part.inside.windows c.part.inside.records (run_of c.part.inside.partials)) agg c.part.invariant) in
     let same : IsReordered c.part.inside.records (all_records from.0) = subst (λ (x : Grouped). IsReordered x.records (all_records from.0)) (sym c.part.view_is) from.1 in
     let late : IsFrom c.self.inside.closed from.0 = subst (λ (x : Absorbed). IsFrom x.closed from.0) (sym c.self.view_is) from.2 in
-    subst (λ (l : List Record). HasPartialsFrom c.self.inside.closed c.self.inside.agg c.self.inside.windows l c.push.new.self)
+    subst (λ (l : List Record). HasPartialsFrom c.self.inside.closed c.self.inside.agg c.self.inside.windows l (runs_of c.push.new.self))
     (sym (ap (flat_map (λ l. l)) c.with.ensures ∙ flat-more g.absorbed p.records))
-    (partials-absorbed g.agg g.windows g.closed (flat_map (λ l. l) g.absorbed) p.records g.partials c.push.new.self p.partials (c.self.invariant c.if-self.false) has_more
+    (partials-absorbed g.agg g.windows g.closed (flat_map (λ l. l) g.absorbed) p.records (runs_of g.partials) (runs_of c.push.new.self) (run_of p.partials) (c.self.invariant c.if-self.false) has_more
     (late-reordered g.closed p.records (all_records from.0) same (All-all_records (λ r. c.self.inside.closed ≤ r.time) from.0 late)) c.in_ok-push.ensures)
 
 pub returns-clause-adds : goal.returns-clause-adds
