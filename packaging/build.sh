@@ -15,7 +15,7 @@ home=$1 log=$2
 out=$home/crates/streambox/out
 # Where the copies are, and what rt says of the crates in progress.
 lanes=
-# A check takes up to so many KiB of memory.
+# A check takes up to so many KiB of memory, for each process that it is given.
 readonly MEMORY_OF_A_LANE=3500000
 
 # By crate: those of this repository that it stands on; the bytes of the sources that are proved one after the other from
@@ -76,14 +76,20 @@ read_crates() {
   unset 'crates[-1]'
 }
 
-# How many crates are proved at a time.
-count_lanes() {
+# How many checks there are processors and memory for, at most four.
+count_checks() {
   local memory most
   memory=$(awk '/^MemAvailable:/ { print $2 }' /proc/meminfo 2> /dev/null || true)
   most=$(nproc 2> /dev/null || echo 1)
   ((most <= 4)) || most=4
   [[ -z $memory ]] || ((most <= memory / MEMORY_OF_A_LANE)) || most=$((memory / MEMORY_OF_A_LANE))
-  most=${STREAMBOX_LANES-$most}
+  echo $((most > 1 ? most : 1))
+}
+
+# How many crates are proved at a time.
+count_lanes() {
+  local most
+  most=${STREAMBOX_LANES-$(count_checks)}
   echo $((most > 1 ? most : 1))
 }
 
@@ -144,9 +150,10 @@ leads() {
   done
 }
 
-# begin CRATE LANE: the crate that leads takes the processors that it needs, and others what that leaves.
+# begin CRATE LANE: the crate that leads takes all processors, and others what that leaves. By itself rt would give a large
+# crate few, since it reckons with more memory than a check takes.
 begin() {
-  local call=(rt lib)
+  local call=(rt lib --jobs "$(count_checks)")
   leads "$1" || call=(nice -n 10 rt lib --jobs 1)
   started=$((started + 1))
   say "$started of $((${#crates[@]} + 1)): $1"
