@@ -1,3 +1,4 @@
 pub mod LargeSums
 pub mod Sums
 pub mod LiveTable
+pub mod Crossing

@@ -1,3 +1,5 @@
+use denote.Param.Send.{sendable}
+use Rattle.uses.proofs.Crossing.{LiveRows-send}
 use Rattle.std.proofs.Common.{ap, sym, ◌∙◌}
 use Rattle.std.proofs.lemmas.Option.{same_Some}
 use Rattle.sb_cli.specs.live.Showings.{Showing, ShownRows}
@@ -10,3 +12,6 @@ returns-in-Done-clause-told g c = λ done.
     (ap (λ (s : ShownRows). s.out.changes) c.new-rows.ensures
     ∙ ap (λ (s : Showing). s.changes) (same_Some _ _ (sym c.unwrap.ensures ∙ c.take.ensures.value ∙ c.requires.table)))
     c.in-Done.ensures.ends.0 c.into_out-out.ensures c.last-last.ensures
+
+pub run-end-requires-send-R : goal.run-end-requires-send-R
+run-end-requires-send-R g c κs within = (search (sendable, LiveRows-send, c.type_bounds.send-R.owned, c.type_bounds.send-R.leaving) depth 60)
