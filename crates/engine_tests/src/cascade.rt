@@ -5,7 +5,7 @@ ghost use Rattle.sb_worker.specs.hand.base.pipeline.Shapes.{sum_shape};
 ghost use Rattle.sb_worker.specs.turn.Turning.{opening_view};
 ghost use Rattle.sb_worker.specs.cascade.Calls.{IsEmptyHanded, IsFeeder, IsReady, IsSame};
 ghost use Rattle.sb_worker.specs.cascade.Calls.{hands, passes_out, plan_of, setting_of, view_of};
-ghost use Rattle.sb_worker.specs.cascade.Views.{first_hands, nothing_fed};
+ghost use Rattle.sb_worker.specs.cascade.shared.Views.{first_hands, nothing_fed};
 
 use sb_worker::sb_cascade::{Cascade, CascadePass, TryTake};
 use sb_worker::sb_hand::Hand;

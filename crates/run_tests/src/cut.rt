@@ -124,20 +124,20 @@ const FIRST_PARTS: [FirstPart; 4] = [
 ];
 
 /// Whether a run over a first part ends so, and writes the row below its low watermark.
-fn ends_so<W: Threads + Wait + Clock + Sync>(
+fn ends_so<W: AllocGlobal + Threads + Wait + Clock + Sync>(
     rt: &W,
-    alloc: Global,
     part: &FirstPart,
     workers: u32,
 ) -> Result<bool, Fail> {
     let (text, failing, end) = part;
+    let alloc = rt.alloc();
     let plan = sum_plan(alloc, 10)?;
     let mut input = source(alloc, text, failing)?;
     let mut sink = sink(alloc);
     let mut out = Printing::new(&mut sink);
     let mut dropped = Vec::new(alloc);
     let sizes = sizes(workers);
-    let ended = run_part(rt, alloc, plan, sizes, &mut input, &mut out, &mut dropped);
+    let ended = run_part(rt, plan, sizes, &mut input, &mut out, &mut dropped);
     Ok(ended == *end && sink.taken() == b"10,1,5\n".as_slice())
 }
 
@@ -145,10 +145,7 @@ fn ends_so<W: Threads + Wait + Clock + Sync>(
 fn a_first_part_writes_the_rows_below_its_low_watermark(rt: HostRuntime) -> Result<(), Fail> {
     for part in &FIRST_PARTS {
         for workers in [1, 2] {
-            assert!(rt;
-                ends_so(&rt, rt.alloc(), part, workers)?,
-                "{workers} workers, {part:?}"
-            );
+            assert!(rt; ends_so(&rt, part, workers)?, "{workers} workers, {part:?}");
         }
     }
     Ok(())
@@ -180,13 +177,13 @@ const RESTS: [Rest; 2] = [
 ];
 
 /// Whether a run that goes on after the first part ends so, and writes these rows.
-fn goes_on<W: Threads + Wait + Clock + Sync>(
+fn goes_on<W: AllocGlobal + Threads + Wait + Clock + Sync>(
     rt: &W,
-    alloc: Global,
     rest: &Rest,
     workers: u32,
 ) -> Result<bool, Fail> {
     let (text, refusal, rows) = rest;
+    let alloc = rt.alloc();
     let mut first = source(alloc, FIRST, &[])?;
     let Some(saved) = saved_part(alloc, &mut first)? else {
         return Ok(false);
@@ -199,7 +196,6 @@ fn goes_on<W: Threads + Wait + Clock + Sync>(
     let mut dropped = Vec::new(alloc);
     let end = run_rest(
         rt,
-        alloc,
         plan,
         sizes(workers),
         saved.checkpoint,
@@ -214,10 +210,7 @@ fn goes_on<W: Threads + Wait + Clock + Sync>(
 fn the_rest_writes_the_rows_from_there_on(rt: HostRuntime) -> Result<(), Fail> {
     for rest in &RESTS {
         for workers in [1, 2] {
-            assert!(rt;
-                goes_on(&rt, rt.alloc(), rest, workers)?,
-                "{workers} workers, {rest:?}"
-            );
+            assert!(rt; goes_on(&rt, rest, workers)?, "{workers} workers, {rest:?}");
         }
     }
     Ok(())

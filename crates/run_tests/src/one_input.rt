@@ -8,7 +8,7 @@ use sb_run::sb_base::{
 use sb_run::sb_emit::{CountTap, Printing, Tap};
 use sb_run::sb_outside::{MemSink, MemSource};
 use sb_run::sb_work::{Gate, OpenGate};
-use sb_run::{MAX_WORKERS, RunEnd, Sizes, execute, execute_alone};
+use sb_run::{MAX_WORKERS, RunEnd, Sizes, Team, execute, execute_alone};
 use std::alloc::{AllocError, Global};
 use std::sync::Wait;
 use std::test::Fail;
@@ -45,18 +45,24 @@ fn pieces(alloc: Global) -> Result<Vec<usize>, AllocError>
     vec![in alloc; 27; 20]
 }
 
+/// Workers whose gate is open.
+fn open<W>(rt: &W) -> Team<'_, W, OpenGate> {
+    Team {
+        rt,
+        gate: &OpenGate,
+    }
+}
+
 /// Runs a plan with so many workers, who pass the gate, and bundles of a size. The writes with these numbers fail, and
 /// so does the tap at these calls.
-pub(crate) fn run<W: Threads + Wait + Clock + Sync, G: Gate + Sync>(
-    rt: &W,
-    alloc: Global,
+pub(crate) fn run<W: AllocGlobal + Threads + Wait + Clock + Sync, G: Gate + Sync>(
+    team: Team<'_, W, G>,
     plan: Plan,
     workers: u32,
     bundle: u32,
     input: &mut MemSource,
     writes: &[u64],
     calls: &[u64],
-    gate: &G,
 ) -> Result<Ran, AllocError>
     requires some { 1 ≤ bundle }
     requires most { bundle ≤ MAX_BUNDLE }
@@ -69,6 +75,7 @@ pub(crate) fn run<W: Threads + Wait + Clock + Sync, G: Gate + Sync>(
         pending: 4,
         keeps_diaries: true,
     };
+    let alloc = team.rt.alloc();
     let mut sink = MemSink::new(alloc, Vec::new(alloc), Vec::from_slice(alloc, writes)?);
     let mut taps: Vec<Box<dyn Tap>> = Vec::new(alloc);
     taps.push(Box::new(alloc, CountTap::new(Vec::from_slice(alloc, calls)?))?)?;
@@ -77,17 +84,7 @@ pub(crate) fn run<W: Threads + Wait + Clock + Sync, G: Gate + Sync>(
     let end = if workers == 1 {
         execute_alone(alloc, plan, sizes, input, &mut out, &mut taps, &mut dropped)
     } else {
-        execute(
-            rt,
-            alloc,
-            plan,
-            sizes,
-            input,
-            &mut out,
-            &mut taps,
-            &mut dropped,
-            gate,
-        )
+        execute(team, plan, sizes, input, &mut out, &mut taps, &mut dropped)
     };
     let rows = Vec::from_slice(alloc, sink.taken())?;
     Ok(Ran { end, rows, dropped })
@@ -145,9 +142,8 @@ const CASES: [Case; 8] = [
 ];
 
 /// Whether a run with so many workers and bundles of this size has the rows and the end of a case.
-fn gives<W: Threads + Wait + Clock + Sync>(
+fn gives<W: AllocGlobal + Threads + Wait + Clock + Sync>(
     rt: &W,
-    alloc: Global,
     case: &Case,
     workers: u32,
     bundle: u32,
@@ -158,10 +154,10 @@ fn gives<W: Threads + Wait + Clock + Sync>(
     requires most_workers { workers ≤ MAX_WORKERS }
 {
     let (lines, every, rows, end) = case;
+    let alloc = rt.alloc();
     let plan = sums(alloc, *every, LatePolicy::Refuse)?;
     let mut input = source(alloc, lines, &[])?;
-    let gate = &OpenGate;
-    let ran = run(rt, alloc, plan, workers, bundle, &mut input, &[], &[], gate)?;
+    let ran = run(open(rt), plan, workers, bundle, &mut input, &[], &[])?;
     Ok(ran.rows.as_slice() == rows.as_bytes() && said(&ran.end) == *end)
 }
 
@@ -169,7 +165,7 @@ fn gives<W: Threads + Wait + Clock + Sync>(
 fn rows_do_not_depend_on_the_size_of_bundles(rt: HostRuntime) -> Result<(), Fail> {
     for case in &CASES {
         for bundle in [1, 2, 1_024] {
-            assert!(rt; gives(&rt, rt.alloc(), case, 1, bundle)?, "{case:?}");
+            assert!(rt; gives(&rt, case, 1, bundle)?, "{case:?}");
         }
     }
     Ok(())
@@ -180,7 +176,7 @@ fn rows_do_not_depend_on_the_number_of_workers(rt: HostRuntime) -> Result<(), Fa
     for case in &CASES {
         for workers in [2, 4, 8] {
             for bundle in [1, 2, 1_024] {
-                assert!(rt; gives(&rt, rt.alloc(), case, workers, bundle)?, "{case:?}");
+                assert!(rt; gives(&rt, case, workers, bundle)?, "{case:?}");
             }
         }
     }
@@ -203,9 +199,8 @@ const FAULTS: [Fault; 3] = [
 ];
 
 /// Whether a run with so many workers ends by a fault so.
-fn ends_so<W: Threads + Wait + Clock + Sync>(
+fn ends_so<W: AllocGlobal + Threads + Wait + Clock + Sync>(
     rt: &W,
-    alloc: Global,
     fault: &Fault,
     workers: u32,
 ) -> Result<bool, Fail>
@@ -213,17 +208,17 @@ fn ends_so<W: Threads + Wait + Clock + Sync>(
     requires most_workers { workers ≤ MAX_WORKERS }
 {
     let (reads, writes, calls, rows, end) = fault;
+    let alloc = rt.alloc();
     let plan = sums(alloc, 10, LatePolicy::Refuse)?;
     let mut input = source(alloc, FIRST, reads)?;
-    let gate = &OpenGate;
-    let ran = run(rt, alloc, plan, workers, 1, &mut input, writes, calls, gate)?;
+    let ran = run(open(rt), plan, workers, 1, &mut input, writes, calls)?;
     Ok(ran.rows.as_slice() == rows.as_bytes() && said(&ran.end) == *end)
 }
 
 #[test]
 fn faults_end_a_run_of_several_workers(rt: HostRuntime) -> Result<(), Fail> {
     for fault in &FAULTS {
-        assert!(rt; ends_so(&rt, rt.alloc(), fault, 4)?, "{fault:?}");
+        assert!(rt; ends_so(&rt, fault, 4)?, "{fault:?}");
     }
     Ok(())
 }
@@ -231,10 +226,10 @@ fn faults_end_a_run_of_several_workers(rt: HostRuntime) -> Result<(), Fail> {
 #[test]
 fn faults_end_a_run_behind_what_was_written(rt: HostRuntime) -> Result<(), Fail> {
     for fault in &FAULTS {
-        assert!(rt; ends_so(&rt, rt.alloc(), fault, 1)?, "{fault:?}");
+        assert!(rt; ends_so(&rt, fault, 1)?, "{fault:?}");
     }
     let first_row: Fault = (&[], &[], &[1], "10,1,7\n", "tap 0 failed");
-    assert!(rt; ends_so(&rt, rt.alloc(), &first_row, 1)?);
+    assert!(rt; ends_so(&rt, &first_row, 1)?);
     Ok(())
 }
 
@@ -243,7 +238,7 @@ fn late_records_are_listed_if_the_plan_drops_them(rt: HostRuntime) -> Result<(),
     let alloc = rt.alloc();
     let plan = sums(alloc, 10, LatePolicy::Drop)?;
     let mut input = source(alloc, LATE, &[])?;
-    let ran = run(&rt, alloc, plan, 1, 2, &mut input, &[], &[], &OpenGate)?;
+    let ran = run(open(&rt), plan, 1, 2, &mut input, &[], &[])?;
     assert!(rt; ran.rows.as_slice() == b"10,1,5\n20,1,4\n".as_slice());
     assert!(rt; said(&ran.end) == "done");
     let late = Dropped {
@@ -293,7 +288,7 @@ fn one_worker_looks_for_a_container_once_in_an_epoch(rt: HostRuntime) -> Result<
     let alloc = rt.alloc();
     let plan = sums_of_expanded(alloc)?;
     let mut input = source(alloc, FIRST, &[])?;
-    let ran = run(&rt, alloc, plan, 1, 1, &mut input, &[], &[], &OpenGate)?;
+    let ran = run(open(&rt), plan, 1, 1, &mut input, &[], &[])?;
     let Ran { end, rows, .. } = ran;
     assert!(rt; rows.as_slice() == b"10,1,7\n20,1,4\n".as_slice());
     assert!(rt; searches_below(alloc, end)?.as_slice() == [2, 2].as_slice());

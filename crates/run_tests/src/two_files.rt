@@ -8,7 +8,7 @@ use sb_run::sb_base::{
 use sb_run::sb_emit::{CountTap, Printing, Tap};
 use sb_run::sb_outside::MemSink;
 use sb_run::sb_work::OpenGate;
-use sb_run::{MAX_FILE_LENGTH, MAX_WORKERS, Sizes, TwoEnd, execute_two};
+use sb_run::{ByStream, MAX_FILE_LENGTH, MAX_WORKERS, Sizes, Team, TwoEnd, execute_two};
 use std::alloc::{AllocError, Global};
 use std::sync::Wait;
 use std::test::Fail;
@@ -20,8 +20,7 @@ use std::time::Clock;
 struct Ran {
     end: TwoEnd,
     rows: Vec<u8>,
-    dropped_a: Vec<Dropped>,
-    dropped_b: Vec<Dropped>,
+    dropped: ByStream<Vec<Dropped>>,
 }
 
 /// The join of both streams over windows of 10 units, which adds the values.
@@ -47,9 +46,8 @@ fn file_of(alloc: Global, text: &[u8]) -> Result<Vec<u8>, Fail>
 
 /// Runs a plan over two files with so many workers. The writes with these numbers fail, and so does the tap at these
 /// calls.
-fn run_two<W: Threads + Wait + Clock + Sync>(
+fn run_two<W: AllocGlobal + Threads + Wait + Clock + Sync>(
     rt: &W,
-    alloc: Global,
     plan: Plan,
     workers: u32,
     texts: (&[u8], &[u8]),
@@ -65,33 +63,26 @@ fn run_two<W: Threads + Wait + Clock + Sync>(
         pending: 4,
         keeps_diaries: true,
     };
-    let a = file_of(alloc, texts.0)?;
-    let b = file_of(alloc, texts.1)?;
+    let alloc = rt.alloc();
+    let files = ByStream {
+        a: file_of(alloc, texts.0)?,
+        b: file_of(alloc, texts.1)?,
+    };
     let mut sink = MemSink::new(alloc, Vec::new(alloc), Vec::from_slice(alloc, writes)?);
     let mut taps: Vec<Box<dyn Tap>> = Vec::new(alloc);
     taps.push(Box::new(alloc, CountTap::new(Vec::from_slice(alloc, calls)?))?)?;
-    let (mut dropped_a, mut dropped_b) = (Vec::new(alloc), Vec::new(alloc));
-    let mut out = Printing::new(&mut sink);
-    let end = execute_two(
+    let mut dropped = ByStream {
+        a: Vec::new(alloc),
+        b: Vec::new(alloc),
+    };
+    let team = Team {
         rt,
-        alloc,
-        plan,
-        sizes,
-        a,
-        b,
-        &mut out,
-        &mut taps,
-        &OpenGate,
-        &mut dropped_a,
-        &mut dropped_b,
-    );
+        gate: &OpenGate,
+    };
+    let mut out = Printing::new(&mut sink);
+    let end = execute_two(team, plan, sizes, files, &mut out, &mut taps, &mut dropped);
     let rows = Vec::from_slice(alloc, sink.taken())?;
-    Ok(Ran {
-        end,
-        rows,
-        dropped_a,
-        dropped_b,
-    })
+    Ok(Ran { end, rows, dropped })
 }
 
 /// How a run ended, in words.
@@ -156,9 +147,8 @@ const CASES: [Case; 6] = [
 ];
 
 /// Whether a run over these two files has these rows and this end.
-fn gives<W: Threads + Wait + Clock + Sync>(
+fn gives<W: AllocGlobal + Threads + Wait + Clock + Sync>(
     rt: &W,
-    alloc: Global,
     workers: u32,
     texts: (&[u8], &[u8]),
     rows: &str,
@@ -167,7 +157,7 @@ fn gives<W: Threads + Wait + Clock + Sync>(
     requires some_workers { 1 ≤ workers }
     requires most_workers { workers ≤ MAX_WORKERS }
 {
-    let ran = run_two(rt, alloc, join_plan(alloc)?, workers, texts, &[], &[])?;
+    let ran = run_two(rt, join_plan(rt.alloc())?, workers, texts, &[], &[])?;
     Ok(ran.rows.as_slice() == rows.as_bytes() && said(&ran.end) == end)
 }
 
@@ -175,7 +165,7 @@ fn gives<W: Threads + Wait + Clock + Sync>(
 fn rows_are_those_over_both_files(rt: HostRuntime) -> Result<(), Fail> {
     for (a, b, rows, end) in &CASES {
         for workers in [1, 2, 8] {
-            let holds = gives(&rt, rt.alloc(), workers, (*a, *b), rows, end)?;
+            let holds = gives(&rt, workers, (*a, *b), rows, end)?;
             assert!(rt; holds, "{workers} workers, {a:?} and {b:?}");
         }
     }
@@ -204,7 +194,7 @@ fn a_refused_file_does_not_stop_the_other(rt: HostRuntime) -> Result<(), Fail> {
     for workers in [1, 4] {
         let a = b"r,a,3,1,5\nw,a,2000\nx\n".as_slice();
         let texts = (a, b.as_slice());
-        let holds = gives(&rt, alloc, workers, texts, TEN_ROWS, "file a: line 3")?;
+        let holds = gives(&rt, workers, texts, TEN_ROWS, "file a: line 3")?;
         assert!(rt; holds, "{workers} workers");
     }
     Ok(())
@@ -230,9 +220,8 @@ const FAULTS: [Fault; 2] = [
 ];
 
 /// Whether a run over two long files ends by a fault so.
-fn ends_so<W: Threads + Wait + Clock + Sync>(
+fn ends_so<W: AllocGlobal + Threads + Wait + Clock + Sync>(
     rt: &W,
-    alloc: Global,
     fault: &Fault,
     workers: u32,
 ) -> Result<bool, Fail>
@@ -240,9 +229,10 @@ fn ends_so<W: Threads + Wait + Clock + Sync>(
     requires most_workers { workers ≤ MAX_WORKERS }
 {
     let (writes, calls, rows, end) = fault;
+    let alloc = rt.alloc();
     let (a, b) = (long_text(alloc, 'a')?, long_text(alloc, 'b')?);
     let texts = (a.as_slice(), b.as_slice());
-    let ran = run_two(rt, alloc, join_plan(alloc)?, workers, texts, writes, calls)?;
+    let ran = run_two(rt, join_plan(rt.alloc())?, workers, texts, writes, calls)?;
     Ok(ran.rows.as_slice() == rows.as_bytes() && said(&ran.end) == *end)
 }
 
@@ -251,7 +241,7 @@ fn faults_end_a_run_though_the_files_have_more(rt: HostRuntime) -> Result<(), Fa
     for fault in &FAULTS {
         for workers in [1, 4] {
             assert!(rt;
-                ends_so(&rt, rt.alloc(), fault, workers)?,
+                ends_so(&rt, fault, workers)?,
                 "{workers} workers, {fault:?}"
             );
         }
@@ -265,10 +255,10 @@ fn late_records_are_listed_with_their_file(rt: HostRuntime) -> Result<(), Fail> 
     let plan = join_plan(alloc)?.with_late(LatePolicy::Drop);
     let a = b"w,a,10\nr,a,9,1,1\n".as_slice();
     let b = b"w,b,5\n# a comment\nr,b,4,1,1\nr,b,7,1,2\n".as_slice();
-    let ran = run_two(&rt, alloc, plan, 2, (a, b), &[], &[])?;
+    let ran = run_two(&rt, plan, 2, (a, b), &[], &[])?;
     assert!(rt; said(&ran.end) == "done");
     let late = |line, time, mark| Dropped { line, time, mark };
-    assert!(rt; ran.dropped_a.as_slice() == [late(2, 9, 10)].as_slice());
-    assert!(rt; ran.dropped_b.as_slice() == [late(3, 4, 5)].as_slice());
+    assert!(rt; ran.dropped.a.as_slice() == [late(2, 9, 10)].as_slice());
+    assert!(rt; ran.dropped.b.as_slice() == [late(3, 4, 5)].as_slice());
     Ok(())
 }

@@ -1,6 +1,7 @@
 //! Two workers have a bundle in hand at the same time: the gate holds the first of them until the other comes.
 
 use crate::one_input::{FIRST, run, said, source, sums};
+use sb_run::Team;
 use sb_run::sb_base::LatePolicy;
 use sb_run::sb_work::Gate;
 use std::sync::atomic::{AtomicU64, Ordering};
@@ -51,7 +52,11 @@ fn two_inside(rt: HostRuntime) -> Result<(), Fail> {
     };
     let plan = sums(alloc, 10, LatePolicy::Refuse)?;
     let mut input = source(alloc, FIRST, &[])?;
-    let ran = run(&rt, alloc, plan, 2, 1, &mut input, &[], &[], &gate)?;
+    let team = Team {
+        rt: &rt,
+        gate: &gate,
+    };
+    let ran = run(team, plan, 2, 1, &mut input, &[], &[])?;
     assert!(rt; said(&ran.end) == "done");
     assert!(rt; ran.rows.as_slice() == b"10,1,7\n20,1,4\n".as_slice());
     assert!(rt; gate.both.load(Ordering::SeqCst) == 1);

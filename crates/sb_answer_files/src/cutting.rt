@@ -32,9 +32,8 @@ use std::thread::Threads;
 use std::time::Clock;
 
 /// Answers with the rows below the low watermark of a first part of an input.
-pub fn answer_part<W: Threads + Wait + Clock + Sync, S: Source, K: Sink, F: Folder>(
+pub fn answer_part<W: AllocGlobal + Threads + Wait + Clock + Sync, S: Source, K: Sink, F: Folder>(
     rt: &W,
-    alloc: Global,
     name: &str,
     options: Options,
     source: &mut S,
@@ -58,8 +57,9 @@ pub fn answer_part<W: Threads + Wait + Clock + Sync, S: Source, K: Sink, F: Fold
         (faults_of (S.faults source.new) (K.sink_state out.new) (F.failed folder.new)) result.status }
     ensures end { result.status ≡ Status.Done → S.has_ended source.new }
 {
+    let alloc = rt.alloc();
     match load_plan(alloc, name, folder) {
-        Ok(plan) => answer_part_of(rt, alloc, plan, options, source, out),
+        Ok(plan) => answer_part_of(rt, plan, options, source, out),
         Err(PlanStop::Fault(fault)) => Ending::of(alloc, Status::Plan(fault)),
         Err(PlanStop::Folder) => Ending::of(alloc, Status::Folder),
         Err(PlanStop::Memory) => Ending::of(alloc, Status::Memory),
@@ -67,9 +67,8 @@ pub fn answer_part<W: Threads + Wait + Clock + Sync, S: Source, K: Sink, F: Fold
 }
 
 /// Answers with the rows that a plan gives of a first part of an input.
-fn answer_part_of<W: Threads + Wait + Clock + Sync, S: Source, K: Sink>(
+fn answer_part_of<W: AllocGlobal + Threads + Wait + Clock + Sync, S: Source, K: Sink>(
     rt: &W,
-    alloc: Global,
     plan: Plan,
     options: Options,
     source: &mut S,
@@ -89,16 +88,8 @@ fn answer_part_of<W: Threads + Wait + Clock + Sync, S: Source, K: Sink>(
         (faults_of (S.faults source.new) (K.sink_state out.new) loads) result.status }
     ensures end { result.status ≡ Status.Done → S.has_ended source.new }
 {
-    let mut dropped = Vec::new(alloc);
-    let end = part_to(
-        rt,
-        alloc,
-        plan,
-        sizes_of(&options),
-        source,
-        out,
-        &mut dropped,
-    );
+    let mut dropped = Vec::new(rt.alloc());
+    let end = part_to(rt, plan, sizes_of(&options), source, out, &mut dropped);
     let status = cut_status(end, finish_cut(out, end));
     Ending {
         status,
@@ -108,9 +99,8 @@ fn answer_part_of<W: Threads + Wait + Clock + Sync, S: Source, K: Sink>(
 }
 
 /// Runs a plan over a first part of an input, and writes its rows to a sink.
-fn part_to<W: Threads + Wait + Clock + Sync, S: Source, K: Sink>(
+fn part_to<W: AllocGlobal + Threads + Wait + Clock + Sync, S: Source, K: Sink>(
     rt: &W,
-    alloc: Global,
     plan: Plan,
     sizes: Sizes,
     source: &mut S,
@@ -126,7 +116,7 @@ fn part_to<W: Threads + Wait + Clock + Sync, S: Source, K: Sink>(
     ensures end { result ≡ CutEnd.Done → S.has_ended source.new }
 {
     let mut lent = Lent { sink: &mut *out };
-    run_part(rt, alloc, plan, sizes, source, &mut lent, dropped)
+    run_part(rt, plan, sizes, source, &mut lent, dropped)
 }
 
 /// Has the sink pass on all rows of a part, unless writing failed or there was no memory.

@@ -20,24 +20,21 @@ use sb_answers::sb_base::{Dropped, Plan, Sequence};
 use sb_answers::sb_emit::{Lent, Tap};
 use sb_answers::sb_outside::{Folder, Sink, SinkFault};
 use sb_answers::sb_plan::PlanStop;
-use sb_answers::sb_run::{MAX_FILE_LENGTH, Sizes, TwoEnd, execute_two};
+use sb_answers::sb_run::{ByStream, MAX_FILE_LENGTH, Sizes, Team, TwoEnd, execute_two};
 use sb_answers::sb_told::{LateRecords, Status};
 use sb_answers::sb_words::Options;
 use sb_answers::sb_work::OpenGate;
-use sb_answers::{Diaries, Ending, TwoFiles, load_both, load_plan, sizes_of};
-use std::alloc::Global;
+use sb_answers::{Diaries, Ending, load_both, load_plan, sizes_of};
 use std::sync::Wait;
 use std::thread::Threads;
 use std::time::Clock;
 
-/// Answers with the rows of the plan in a file over the lines of two more files, one of each stream. The plan is loaded
-/// first, then file a, and then, if that is not too long, file b.
-pub fn answer_feeds<W: Threads + Wait + Clock + Sync, K: Sink, F: Folder>(
+/// Answers with the rows of the plan in a file over the lines of two more files, whose names are `names`. The plan is
+/// loaded first, then file a, and then, if that is not too long, file b.
+pub fn answer_feeds<W: AllocGlobal + Threads + Wait + Clock + Sync, K: Sink, F: Folder>(
     rt: &W,
-    alloc: Global,
     name: &str,
-    file_a: &str,
-    file_b: &str,
+    names: ByStream<&str>,
     options: Options,
     out: &mut K,
     folder: &mut F,
@@ -46,9 +43,9 @@ pub fn answer_feeds<W: Threads + Wait + Clock + Sync, K: Sink, F: Folder>(
     requires range { AreInRange options }
     requires few { length taps.old.items < 2 ^ 32 }
     ensures answer { (left : Option (List ℕ)) → IsAnswer (F.files folder.old)
-        (Feeds name.now file_a.now file_b.now options) left left (K.taken out.old) (K.taken out.new) result }
+        (Feeds name.now names.a.now names.b.now options) left left (K.taken out.old) (K.taken out.new) result }
     ensures offered { (left : Option (List ℕ)) → IsTrue options.taps → IsOffered (F.files folder.old)
-        (Feeds name.now file_a.now file_b.now options) left left (K.taken out.old) (K.taken out.new)
+        (Feeds name.now names.a.now names.b.now options) left left (K.taken out.old) (K.taken out.new)
         (map (λ t. tap_state t) taps.old.items) (map (λ t. tap_state t) taps.new.items) result.status }
     ensures unoffered { options.taps ≡ false → (taps.new ≡ taps.old) × IsNoTap result.status }
     ensures unread { IsUnread result.status → (out.new ≡ out.old) × (taps.new ≡ taps.old) }
@@ -57,16 +54,17 @@ pub fn answer_feeds<W: Threads + Wait + Clock + Sync, K: Sink, F: Folder>(
         (faults_of reads (K.sink_state out.old) (F.failed folder.old))
         (faults_of reads (K.sink_state out.new) (F.failed folder.new)) result.status }
     ensures blames { result.status ≡ Status.Folder → BlamesFile (F.files folder.old)
-        (Feeds name.now file_a.now file_b.now options) (F.failed folder.old) (F.failed folder.new) }
+        (Feeds name.now names.a.now names.b.now options) (F.failed folder.old) (F.failed folder.new) }
     ensures blames_tap { (place : ℕ) → result.status ≡ Status.Tap place → BlamesTap place
         (map (λ t. tap_state t) taps.old.items) (map (λ t. tap_state t) taps.new.items) }
     ensures no_fault_hidden { (reads : ℕ) → HidesNoFault
         (faults_of reads (K.sink_state out.old) (F.failed folder.old))
         (faults_of reads (K.sink_state out.new) (F.failed folder.new)) result.status }
 {
+    let alloc = rt.alloc();
     match load_plan(alloc, name, folder) {
-        Ok(plan) => match load_both(alloc, file_a, file_b, folder) {
-            Ok(files) => answer_files(rt, alloc, plan, options, files, out, taps),
+        Ok(plan) => match load_both(alloc, names.a, names.b, folder) {
+            Ok(files) => answer_files(rt, plan, options, files, out, taps),
             Err(status) => Ending::of(alloc, status),
         },
         Err(PlanStop::Fault(fault)) => Ending::of(alloc, Status::Plan(fault)),
@@ -76,22 +74,21 @@ pub fn answer_feeds<W: Threads + Wait + Clock + Sync, K: Sink, F: Folder>(
 }
 
 /// Answers with the rows of a plan over two files, and offers each to the taps if the options say so.
-fn answer_files<W: Threads + Wait + Clock + Sync, K: Sink>(
+fn answer_files<W: AllocGlobal + Threads + Wait + Clock + Sync, K: Sink>(
     rt: &W,
-    alloc: Global,
     plan: Plan,
     options: Options,
-    files: TwoFiles,
+    files: ByStream<Vec<u8>>,
     out: &mut K,
     taps: &mut Vec<Box<dyn Tap>>,
 ) -> Ending
     requires range { AreInRange options }
     requires few { length taps.old.items < 2 ^ 32 }
-    requires short_a { length files.0.items ≤ MAX_FILE_LENGTH }
-    requires short_b { length files.1.items ≤ MAX_FILE_LENGTH }
-    ensures answer { IsAnswerToTwo plan options (by_stream files.0.items files.1.items)
+    requires short_a { length files.a.items ≤ MAX_FILE_LENGTH }
+    requires short_b { length files.b.items ≤ MAX_FILE_LENGTH }
+    ensures answer { IsAnswerToTwo plan options (by_stream files.a.items files.b.items)
         (K.taken out.old) (K.taken out.new) result }
-    ensures offered { IsTrue options.taps → IsOfferedOfBytes plan (by_stream files.0.items files.1.items)
+    ensures offered { IsTrue options.taps → IsOfferedOfBytes plan (by_stream files.a.items files.b.items)
         (K.taken out.old) (K.taken out.new)
         (map (λ t. tap_state t) taps.old.items) (map (λ t. tap_state t) taps.new.items) result.status }
     ensures unoffered { options.taps ≡ false → (taps.new ≡ taps.old) × IsNoTap result.status }
@@ -106,30 +103,29 @@ fn answer_files<W: Threads + Wait + Clock + Sync, K: Sink>(
         (faults_of reads (K.sink_state out.new) loads) result.status }
 {
     if options.taps {
-        answer_past(rt, alloc, plan, options, files, out, taps)
+        answer_past(rt, plan, options, files, out, taps)
     } else {
-        let mut none = Vec::new(alloc);
-        answer_past(rt, alloc, plan, options, files, out, &mut none)
+        let mut none = Vec::new(rt.alloc());
+        answer_past(rt, plan, options, files, out, &mut none)
     }
 }
 
 /// Answers with the rows of a plan over two files, past the taps.
-fn answer_past<W: Threads + Wait + Clock + Sync, K: Sink>(
+fn answer_past<W: AllocGlobal + Threads + Wait + Clock + Sync, K: Sink>(
     rt: &W,
-    alloc: Global,
     plan: Plan,
     options: Options,
-    files: TwoFiles,
+    files: ByStream<Vec<u8>>,
     out: &mut K,
     taps: &mut Vec<Box<dyn Tap>>,
 ) -> Ending
     requires range { AreInRange options }
     requires few { length taps.old.items < 2 ^ 32 }
-    requires short_a { length files.0.items ≤ MAX_FILE_LENGTH }
-    requires short_b { length files.1.items ≤ MAX_FILE_LENGTH }
-    ensures answer { IsAnswerToTwo plan options (by_stream files.0.items files.1.items)
+    requires short_a { length files.a.items ≤ MAX_FILE_LENGTH }
+    requires short_b { length files.b.items ≤ MAX_FILE_LENGTH }
+    ensures answer { IsAnswerToTwo plan options (by_stream files.a.items files.b.items)
         (K.taken out.old) (K.taken out.new) result }
-    ensures offered { IsOfferedOfBytes plan (by_stream files.0.items files.1.items) (K.taken out.old) (K.taken out.new)
+    ensures offered { IsOfferedOfBytes plan (by_stream files.a.items files.b.items) (K.taken out.old) (K.taken out.new)
         (map (λ t. tap_state t) taps.old.items) (map (λ t. tap_state t) taps.new.items) result.status }
     ensures read { IsRead result.status }
     ensures cause { (reads : ℕ) (loads : List Load) → HasCause
@@ -141,56 +137,48 @@ fn answer_past<W: Threads + Wait + Clock + Sync, K: Sink>(
         (faults_of reads (K.sink_state out.old) loads)
         (faults_of reads (K.sink_state out.new) loads) result.status }
 {
-    let mut dropped_a = Vec::new(alloc);
-    let mut dropped_b = Vec::new(alloc);
+    let alloc = rt.alloc();
+    let mut dropped = ByStream {
+        a: Vec::new(alloc),
+        b: Vec::new(alloc),
+    };
     let sizes = sizes_of(&options);
-    let end = files_to(
-        rt,
-        alloc,
-        plan,
-        sizes,
-        files,
-        out,
-        taps,
-        &mut dropped_a,
-        &mut dropped_b,
-    );
+    let end = files_to(rt, plan, sizes, files, out, taps, &mut dropped);
     let status = status_behind(&end, finish_after(out, &end));
     Ending {
         status,
-        late: LateRecords::OfFiles(Sequence::new(dropped_a), Sequence::new(dropped_b)),
+        late: LateRecords::OfFiles(Sequence::new(dropped.a), Sequence::new(dropped.b)),
         diaries: tell(end, status, options.diary),
     }
 }
 
 /// Runs a plan over two files, and writes its rows to a sink.
-fn files_to<W: Threads + Wait + Clock + Sync, K: Sink>(
+fn files_to<W: AllocGlobal + Threads + Wait + Clock + Sync, K: Sink>(
     rt: &W,
-    alloc: Global,
     plan: Plan,
     sizes: Sizes,
-    files: TwoFiles,
+    files: ByStream<Vec<u8>>,
     out: &mut K,
     taps: &mut Vec<Box<dyn Tap>>,
-    dropped_a: &mut Vec<Dropped>,
-    dropped_b: &mut Vec<Dropped>,
+    dropped: &mut ByStream<Vec<Dropped>>,
 ) -> TwoEnd
     requires sizes { ends.AreSizes sizes }
     requires few { length taps.old.items < 2 ^ 32 }
-    requires short_a { length files.0.items ≤ MAX_FILE_LENGTH }
-    requires short_b { length files.1.items ≤ MAX_FILE_LENGTH }
-    ensures ends { TwoEnds plan sizes (by_stream files.0.items files.1.items)
+    requires short_a { length files.a.items ≤ MAX_FILE_LENGTH }
+    requires short_b { length files.b.items ≤ MAX_FILE_LENGTH }
+    ensures ends { TwoEnds plan sizes (by_stream files.a.items files.b.items)
         (λ taken rows taken'. Wrote taken taken' rows) (λ taken rows taken'. WrotePrefix taken taken' rows)
         (K.taken out.old) (K.taken out.new)
         (map (λ t. tap_state t) taps.old.items) (map (λ t. tap_state t) taps.new.items)
-        (by_stream dropped_a.old.items dropped_b.old.items) (by_stream dropped_a.new.items dropped_b.new.items) result }
+        (by_stream dropped.old.a.items dropped.old.b.items) (by_stream dropped.new.a.items dropped.new.b.items) result }
     ensures output { ends.OutputCause (K.sink_state out.old) (K.sink_state out.new) (as_run result) }
 {
-    let (a, b) = files;
+    let team = Team {
+        rt,
+        gate: &OpenGate,
+    };
     let mut lent = Lent { sink: &mut *out };
-    execute_two(
-        rt, alloc, plan, sizes, a, b, &mut lent, taps, &OpenGate, dropped_a, dropped_b,
-    )
+    execute_two(team, plan, sizes, files, &mut lent, taps, dropped)
 }
 
 /// Has the sink pass on all rows, unless writing failed or there was no memory.

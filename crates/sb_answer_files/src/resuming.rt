@@ -28,15 +28,13 @@ use sb_answers::sb_words::Options;
 use sb_answers::{
     Diaries, Ending, finish_after, load_checkpoint, plan_to_cut, sizes_of, status_behind,
 };
-use std::alloc::Global;
 use std::sync::Wait;
 use std::thread::Threads;
 use std::time::Clock;
 
 /// Answers with the rows of the rest of an input, behind the checkpoint in a file.
-pub fn answer_resume<W: Threads + Wait + Clock + Sync, S: Source, K: Sink, F: Folder>(
+pub fn answer_resume<W: AllocGlobal + Threads + Wait + Clock + Sync, S: Source, K: Sink, F: Folder>(
     rt: &W,
-    alloc: Global,
     name: &str,
     checkpoint: &str,
     options: Options,
@@ -61,9 +59,10 @@ pub fn answer_resume<W: Threads + Wait + Clock + Sync, S: Source, K: Sink, F: Fo
         (faults_of (S.faults source.new) (K.sink_state out.new) (F.failed folder.new)) result.status }
     ensures end { result.status ≡ Status.Done → S.has_ended source.new }
 {
+    let alloc = rt.alloc();
     match plan_to_cut(alloc, name, folder) {
         Ok(plan) => match load_checkpoint(alloc, &plan, checkpoint, folder) {
-            Ok(checkpoint) => answer_rest(rt, alloc, plan, options, checkpoint, source, out),
+            Ok(checkpoint) => answer_rest(rt, plan, options, checkpoint, source, out),
             Err(status) => Ending::of(alloc, status),
         },
         Err(PlanStop::Fault(fault)) => Ending::of(alloc, Status::Plan(fault)),
@@ -73,9 +72,8 @@ pub fn answer_resume<W: Threads + Wait + Clock + Sync, S: Source, K: Sink, F: Fo
 }
 
 /// Answers with the rows of the rest of an input, behind a checkpoint.
-fn answer_rest<W: Threads + Wait + Clock + Sync, S: Source, K: Sink>(
+fn answer_rest<W: AllocGlobal + Threads + Wait + Clock + Sync, S: Source, K: Sink>(
     rt: &W,
-    alloc: Global,
     plan: Plan,
     options: Options,
     checkpoint: Checkpoint,
@@ -97,10 +95,9 @@ fn answer_rest<W: Threads + Wait + Clock + Sync, S: Source, K: Sink>(
         (faults_of (S.faults source.new) (K.sink_state out.new) loads) result.status }
     ensures end { result.status ≡ Status.Done → S.has_ended source.new }
 {
-    let mut dropped = Vec::new(alloc);
+    let mut dropped = Vec::new(rt.alloc());
     let end = rest_to(
         rt,
-        alloc,
         plan,
         sizes_of(&options),
         checkpoint,
@@ -117,9 +114,8 @@ fn answer_rest<W: Threads + Wait + Clock + Sync, S: Source, K: Sink>(
 }
 
 /// Runs a plan over the rest of an input, and writes the rows from the low watermark of the checkpoint on to a sink.
-fn rest_to<W: Threads + Wait + Clock + Sync, S: Source, K: Sink>(
+fn rest_to<W: AllocGlobal + Threads + Wait + Clock + Sync, S: Source, K: Sink>(
     rt: &W,
-    alloc: Global,
     plan: Plan,
     sizes: Sizes,
     checkpoint: Checkpoint,
@@ -142,9 +138,7 @@ fn rest_to<W: Threads + Wait + Clock + Sync, S: Source, K: Sink>(
 {
     let low = checkpoint.low;
     let mut rows = RowsFrom::new(low, Lent { sink: &mut *out });
-    let end = run_rest(
-        rt, alloc, plan, sizes, checkpoint, source, &mut rows, dropped,
-    );
+    let end = run_rest(rt, plan, sizes, checkpoint, source, &mut rows, dropped);
     // The sink that was lent is back.
     let Lent { sink: _sink } = rows.into_out();
     end

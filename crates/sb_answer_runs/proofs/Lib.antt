@@ -1,3 +1,4 @@
 pub mod AuditAnswers
 pub mod WorkRuns
 pub mod WatchAnswers
+pub mod Shown

@@ -21,8 +21,8 @@ use Rattle.sb_answers.specs.live.Lasts.{last_if_any, nearer}
 use Rattle.sb_answers.specs.live.Naming.{key_named}
 use Rattle.sb_answers.specs.one_feed.Due.{due_mark, due_rows, streams_in}
 use Rattle.sb_answers.specs.one_feed.Given.{Given, items_of}
-use Rattle.sb_watch.specs.declared.watching.Watched.{Watched}
-use Rattle.sb_watch.specs.Watches.{Tells, TellsNothing}
+use Rattle.sb_answer_runs.specs.declared.watched.Watched.{Watched}
+use Rattle.sb_answer_runs.specs.Watches.{Tells, TellsNothing}
 use Rattle.sb_answers.specs.words.declared.options.Options.{Options}
 use Rattle.sb_answers.specs.told.declared.status.Status.{Status}
 use Rattle.sb_answers.specs.told.declared.status.Status.TheVariants.{Memory}

@@ -1,2 +1,3 @@
 pub mod AuditSteps
 pub mod WorkSteps
+pub mod Watches

@@ -27,9 +27,8 @@ use std::thread::Threads;
 use std::time::Clock;
 
 /// Answers with the sums over windows of a size.
-pub fn answer_sum<W: Threads + Wait + Clock + Sync, S: Source, K: Sink>(
+pub fn answer_sum<W: AllocGlobal + Threads + Wait + Clock + Sync, S: Source, K: Sink>(
     rt: &W,
-    alloc: Global,
     size: u64,
     options: Options,
     source: &mut S,
@@ -61,16 +60,16 @@ pub fn answer_sum<W: Threads + Wait + Clock + Sync, S: Source, K: Sink>(
         (faults_of (S.faults source.new) (K.sink_state out.new) loads) result.status }
     ensures end { result.status ≡ Status.Done → S.has_ended source.new }
 {
+    let alloc = rt.alloc();
     match sum_plan(alloc, size) {
-        Ok(plan) => answer_run(rt, alloc, plan, options, source, out, taps),
+        Ok(plan) => answer_run(rt, plan, options, source, out, taps),
         Err(NoMemory) => Ending::of(alloc, Status::Memory),
     }
 }
 
 /// Answers with the rows of the plan in a file.
-pub fn answer_file<W: Threads + Wait + Clock + Sync, S: Source, K: Sink, F: Folder>(
+pub fn answer_file<W: AllocGlobal + Threads + Wait + Clock + Sync, S: Source, K: Sink, F: Folder>(
     rt: &W,
-    alloc: Global,
     name: &str,
     options: Options,
     source: &mut S,
@@ -106,8 +105,9 @@ pub fn answer_file<W: Threads + Wait + Clock + Sync, S: Source, K: Sink, F: Fold
         (faults_of (S.faults source.new) (K.sink_state out.new) (F.failed folder.new)) result.status }
     ensures end { result.status ≡ Status.Done → S.has_ended source.new }
 {
+    let alloc = rt.alloc();
     match load_plan(alloc, name, folder) {
-        Ok(plan) => answer_run(rt, alloc, plan, options, source, out, taps),
+        Ok(plan) => answer_run(rt, plan, options, source, out, taps),
         Err(PlanStop::Fault(fault)) => Ending::of(alloc, Status::Plan(fault)),
         Err(PlanStop::Folder) => Ending::of(alloc, Status::Folder),
         Err(PlanStop::Memory) => Ending::of(alloc, Status::Memory),

@@ -18,15 +18,13 @@ use sb_answers::sb_run::{RunEnd, Sizes, run};
 use sb_answers::sb_told::{LateRecords, Status};
 use sb_answers::sb_words::Options;
 use sb_answers::{Diaries, Ending, finish_after, sizes_of, status_behind};
-use std::alloc::Global;
 use std::sync::Wait;
 use std::thread::Threads;
 use std::time::Clock;
 
 /// Answers with the rows of a plan, and offers each to the taps if the options say so.
-pub(crate) fn answer_run<W: Threads + Wait + Clock + Sync, S: Source, K: Sink>(
+pub(crate) fn answer_run<W: AllocGlobal + Threads + Wait + Clock + Sync, S: Source, K: Sink>(
     rt: &W,
-    alloc: Global,
     plan: Plan,
     options: Options,
     source: &mut S,
@@ -58,17 +56,16 @@ pub(crate) fn answer_run<W: Threads + Wait + Clock + Sync, S: Source, K: Sink>(
     ensures end { result.status ≡ Status.Done → S.has_ended source.new }
 {
     if options.taps {
-        answer_past(rt, alloc, plan, options, source, out, taps)
+        answer_past(rt, plan, options, source, out, taps)
     } else {
-        let mut none = Vec::new(alloc);
-        answer_past(rt, alloc, plan, options, source, out, &mut none)
+        let mut none = Vec::new(rt.alloc());
+        answer_past(rt, plan, options, source, out, &mut none)
     }
 }
 
 /// Answers with the rows of a plan, past the taps.
-fn answer_past<W: Threads + Wait + Clock + Sync, S: Source, K: Sink>(
+fn answer_past<W: AllocGlobal + Threads + Wait + Clock + Sync, S: Source, K: Sink>(
     rt: &W,
-    alloc: Global,
     plan: Plan,
     options: Options,
     source: &mut S,
@@ -97,10 +94,9 @@ fn answer_past<W: Threads + Wait + Clock + Sync, S: Source, K: Sink>(
         (faults_of (S.faults source.new) (K.sink_state out.new) loads) result.status }
     ensures end { result.status ≡ Status.Done → S.has_ended source.new }
 {
-    let mut dropped = Vec::new(alloc);
+    let mut dropped = Vec::new(rt.alloc());
     let end = run_to(
         rt,
-        alloc,
         plan,
         sizes_of(&options),
         source,
@@ -117,9 +113,8 @@ fn answer_past<W: Threads + Wait + Clock + Sync, S: Source, K: Sink>(
 }
 
 /// Runs a plan over an input, and writes its rows to a sink.
-fn run_to<W: Threads + Wait + Clock + Sync, S: Source, K: Sink>(
+fn run_to<W: AllocGlobal + Threads + Wait + Clock + Sync, S: Source, K: Sink>(
     rt: &W,
-    alloc: Global,
     plan: Plan,
     sizes: Sizes,
     source: &mut S,
@@ -140,7 +135,7 @@ fn run_to<W: Threads + Wait + Clock + Sync, S: Source, K: Sink>(
     ensures end { ends.IsDone result → S.has_ended source.new }
 {
     let mut lent = Lent { sink: &mut *out };
-    run(rt, alloc, plan, sizes, source, &mut lent, taps, dropped)
+    run(rt, plan, sizes, source, &mut lent, taps, dropped)
 }
 
 /// The diaries that are told of a run that ended so.

@@ -6,6 +6,7 @@ mod answer;
 mod audit;
 mod engine;
 mod plain;
+mod watched;
 mod watching;
 mod work;
 

@@ -12,22 +12,20 @@ ghost use Rattle.sb_answers.specs.Courses.{row_if_any, watch_course};
 ghost use Rattle.sb_answers.specs.Faults.{BlamesFile, HasCause, HidesNoFault, faults_of};
 
 use crate::plain::write_due;
+use crate::watched::{Watched, watch};
 use sb_answers::sb_base::{END_MARK, NoMemory, Plan, Sequence, Stop};
 use sb_answers::sb_outside::{Folder, Sink, Source};
 use sb_answers::sb_plan::PlanStop;
 use sb_answers::sb_told::{LateRecords, Status};
 use sb_answers::sb_words::Options;
 use sb_answers::{Diaries, Ending, load_plan, sizes_of};
-use sb_watch::{Watched, watch};
-use std::alloc::Global;
 use std::sync::Wait;
 use std::thread::Threads;
 use std::time::Clock;
 
 /// Answers with the last row of a key among the rows of the plan in a file.
-pub fn answer_watch<W: Threads + Wait + Clock + Sync, S: Source, K: Sink, F: Folder>(
+pub fn answer_watch<W: AllocGlobal + Threads + Wait + Clock + Sync, S: Source, K: Sink, F: Folder>(
     rt: &W,
-    alloc: Global,
     name: &str,
     key: &str,
     options: Options,
@@ -52,8 +50,9 @@ pub fn answer_watch<W: Threads + Wait + Clock + Sync, S: Source, K: Sink, F: Fol
         (faults_of (S.faults source.new) (K.sink_state out.new) (F.failed folder.new)) result.status }
     ensures end { result.status ≡ Status.Done → S.has_ended source.new }
 {
+    let alloc = rt.alloc();
     match load_plan(alloc, name, folder) {
-        Ok(plan) => answer_watched(rt, alloc, plan, key, options, source, out),
+        Ok(plan) => answer_watched(rt, plan, key, options, source, out),
         Err(PlanStop::Fault(fault)) => Ending::of(alloc, Status::Plan(fault)),
         Err(PlanStop::Folder) => Ending::of(alloc, Status::Folder),
         Err(PlanStop::Memory) => Ending::of(alloc, Status::Memory),
@@ -61,9 +60,8 @@ pub fn answer_watch<W: Threads + Wait + Clock + Sync, S: Source, K: Sink, F: Fol
 }
 
 /// Answers with the last row of a key among the rows of a plan.
-fn answer_watched<W: Threads + Wait + Clock + Sync, S: Source, K: Sink>(
+fn answer_watched<W: AllocGlobal + Threads + Wait + Clock + Sync, S: Source, K: Sink>(
     rt: &W,
-    alloc: Global,
     plan: Plan,
     key: &str,
     options: Options,
@@ -84,10 +82,9 @@ fn answer_watched<W: Threads + Wait + Clock + Sync, S: Source, K: Sink>(
         (faults_of (S.faults source.new) (K.sink_state out.new) loads) result.status }
     ensures end { result.status ≡ Status.Done → S.has_ended source.new }
 {
-    let mut dropped = Vec::new(alloc);
+    let mut dropped = Vec::new(rt.alloc());
     let status = match watch(
         rt,
-        alloc,
         plan,
         sizes_of(&options),
         key.as_bytes(),

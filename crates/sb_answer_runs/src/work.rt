@@ -23,15 +23,13 @@ use sb_answers::sb_run::{RunEnd, Sizes, run};
 use sb_answers::sb_told::{Note, Status, print};
 use sb_answers::sb_words::Options;
 use sb_answers::{Ending, WORK_WINDOW, sizes_of};
-use std::alloc::Global;
 use std::sync::Wait;
 use std::thread::Threads;
 use std::time::Clock;
 
 /// Answers with the summary of the sums over so many records that are made.
-pub fn answer_work<W: Threads + Wait + Clock + Sync, K: Sink>(
+pub fn answer_work<W: AllocGlobal + Threads + Wait + Clock + Sync, K: Sink>(
     rt: &W,
-    alloc: Global,
     records: u64,
     options: Options,
     out: &mut K,
@@ -48,16 +46,16 @@ pub fn answer_work<W: Threads + Wait + Clock + Sync, K: Sink>(
         (faults_of reads (K.sink_state out.old) loads)
         (faults_of reads (K.sink_state out.new) loads) result.status }
 {
-    match summary_of(rt, alloc, records, sizes_of(&options)) {
+    let alloc = rt.alloc();
+    match summary_of(rt, records, sizes_of(&options)) {
         Ok(summary) => Ending::of(alloc, print(out, text_of(records, &summary).as_slice())),
         Err(NoMemory) => Ending::of(alloc, Status::Memory),
     }
 }
 
 /// The summary of all rows over so many records.
-fn summary_of<W: Threads + Wait + Clock + Sync>(
+fn summary_of<W: AllocGlobal + Threads + Wait + Clock + Sync>(
     rt: &W,
-    alloc: Global,
     records: u64,
     sizes: Sizes,
 ) -> Result<Summary, NoMemory>
@@ -65,9 +63,9 @@ fn summary_of<W: Threads + Wait + Clock + Sync>(
     requires sizes { ends.AreSizes sizes }
     ensures { IfOk result (λ summary. sums_text records summary ≡ summary_text records (work_rows records)) }
 {
-    let plan = sum_plan(alloc, WORK_WINDOW)?;
+    let plan = sum_plan(rt.alloc(), WORK_WINDOW)?;
     let mut summary = Summary::new();
-    match run_work(rt, alloc, plan, sizes, records, &mut summary) {
+    match run_work(rt, plan, sizes, records, &mut summary) {
         RunEnd::Done(_) => Ok(summary),
         RunEnd::Memory => Err(NoMemory),
         // The lines that are made are accepted, and neither their source nor a summary ever fails.
@@ -76,9 +74,8 @@ fn summary_of<W: Threads + Wait + Clock + Sync>(
 }
 
 /// Runs the plan over so many records, and adds the numbers of its rows to a summary.
-fn run_work<W: Threads + Wait + Clock + Sync>(
+fn run_work<W: AllocGlobal + Threads + Wait + Clock + Sync>(
     rt: &W,
-    alloc: Global,
     plan: Plan,
     sizes: Sizes,
     records: u64,
@@ -89,12 +86,12 @@ fn run_work<W: Threads + Wait + Clock + Sync>(
     requires sizes { ends.AreSizes sizes }
     ensures { SumsWork records summary.old summary.new result }
 {
+    let alloc = rt.alloc();
     let mut source = GenSource::new(records);
     let mut taps = Vec::new(alloc);
     let mut dropped = Vec::new(alloc);
     run(
         rt,
-        alloc,
         plan,
         sizes,
         &mut source,

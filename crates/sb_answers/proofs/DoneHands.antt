@@ -8,8 +8,8 @@ use Rattle.sb_cut.specs.base.pipeline.Operators.{operator_of}
 use Rattle.sb_cut.specs.base.pipeline.Operators.Operator.{Sink}
 use Rattle.sb_cut.specs.base.pipeline.Shapes.{Shape}
 use Rattle.sb_cut.specs.base.pipeline.declared.transform.Step.{Step}
-use Rattle.sb_cut.specs.hand.Hands.{HandView, settings_at, settings_for}
-use Rattle.sb_cut.specs.hand.Showing.{Settings, diaries_of}
+use Rattle.sb_cut.specs.hand.Hands.{HandView}
+use Rattle.sb_cut.specs.hand.Showing.{Settings, diaries_of, settings_at, settings_for}
 use Rattle.sb_cut.specs.run.declared.run_end.RunEnd.{RunEnd}
 use Rattle.sb_cut.specs.run.declared.run_end.RunEnd.TheVariants as run
 use Rattle.sb_cut.specs.run.RunEnds.{IsDoneHand}

@@ -10,7 +10,7 @@ mod running;
 pub use diaries::Diaries;
 pub use ending::Ending;
 pub use limits::{MAX_CHECKPOINT_BYTES, WORK_WINDOW};
-pub use loading::{TwoFiles, load_both, load_checkpoint, load_plan, plan_to_cut};
+pub use loading::{load_both, load_checkpoint, load_plan, plan_to_cut};
 pub use running::{finish_after, sizes_of, status_behind};
 
 // What the crates above name of the crates below.

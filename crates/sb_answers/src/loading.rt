@@ -18,9 +18,9 @@ ghost use Rattle.sb_answers.specs.RestSteps.{HasNoCheckpoint, IsNoneIn, IsSaidIn
 
 use crate::limits::MAX_CHECKPOINT_BYTES;
 use sb_cut::sb_checkpoint::{Checkpoint, CheckpointStop, first_session, read_checkpoint};
-use sb_cut::sb_run::MAX_FILE_LENGTH;
 use sb_cut::sb_run::sb_base::Plan;
 use sb_cut::sb_run::sb_outside::{Folder, FolderFault};
+use sb_cut::sb_run::{ByStream, MAX_FILE_LENGTH};
 use sb_told::Status;
 use sb_told::sb_plan::{MAX_PLAN_BYTES, PlanCause, PlanFault, PlanStop, plan_of};
 use std::alloc::Global;
@@ -61,19 +61,16 @@ pub fn plan_to_cut<F: Folder>(alloc: Global, name: &str, folder: &mut F) -> Resu
     }
 }
 
-/// The bytes of the file of stream a, and of that of stream b.
-pub type TwoFiles = (Vec<u8>, Vec<u8>);
-
-/// The bytes of two record files, or the status that says why there are none. A file that is too long is told before
-/// the next is loaded.
+/// The bytes of the record files of both streams, or the status that says why there are none. A file that is too long is
+/// told before the next is loaded.
 pub fn load_both<F: Folder>(
     alloc: Global,
     file_a: &str,
     file_b: &str,
     folder: &mut F,
-) -> Result<TwoFiles, Status>
+) -> Result<ByStream<Vec<u8>>, Status>
     ensures bytes { IfOk result (λ files. HaveBytes (F.files folder.old) file_a.now file_b.now
-        (by_stream files.0.items files.1.items)) }
+        (by_stream files.a.items files.b.items)) }
     ensures none { IfErr result (λ status. HaveNoBytes (F.files folder.old) file_a.now file_b.now status) }
     ensures same { F.files folder.new ≡ F.files folder.old }
     ensures loaded { result ≢ Err Status.Folder → F.failed folder.new ≡ F.failed folder.old }
@@ -83,7 +80,7 @@ pub fn load_both<F: Folder>(
 {
     let a = load_file(alloc, file_a, folder)?;
     let b = load_file(alloc, file_b, folder)?;
-    Ok((a, b))
+    Ok(ByStream { a, b })
 }
 
 /// The bytes of a record file, or the status that says why there are none.

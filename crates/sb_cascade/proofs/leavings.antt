@@ -1,14 +1,5 @@
--- A leaving keeps the rule, and is the one event that it is said to be.
-pub mod Acts
-pub mod ActsOfParts
-pub mod ActsOfBeginnings
-pub mod Acting
-pub mod FreshEvents
-pub mod HeldEvents
-pub mod ClosingsTold
+-- What a leaving leaves behind, for the calls.
 pub mod ToldWorks
+pub mod ToldFeeds
 pub mod Handing
 pub mod LeftTurns
-pub mod RowsLeft
-pub mod LaterRows
-pub mod Leaving

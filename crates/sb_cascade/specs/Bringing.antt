@@ -13,11 +13,11 @@ use Rattle.sb_hand.specs.lane.declared.answers.ArriveStop.{ArriveStop}
 use Rattle.sb_hand.specs.lane.declared.answers.ArriveStop.TheVariants.{Full, Memory}
 use Rattle.sb_cascade.specs.declared.cascade.Cascade.{Cascade}
 use Rattle.sb_cascade.specs.declared.pass.CascadePass.{CascadePass}
-use Rattle.sb_cascade.specs.declared.telling.Change.{Change}
-use Rattle.sb_cascade.specs.declared.telling.Change.TheVariants as change
+use Rattle.sb_shared.specs.declared.telling.Change.{Change}
+use Rattle.sb_shared.specs.declared.telling.Change.TheVariants as change
 use Rattle.sb_cascade.specs.Calls.{LeftBy, hands, plan_of, setting_of}
 use Rattle.sb_cascade.specs.Told.{Is}
-use Rattle.sb_cascade.specs.Views.{stream_feed}
+use Rattle.sb_shared.specs.Views.{stream_feed}
 
 -- a lane that was sealed with the marks that the feeder brought of a stream
 abbrev pub sealed_lane : Stream → CascadePass → CoreLane

@@ -6,20 +6,20 @@ use Rattle.sb_hand.specs.core.declared.held.Held.{Held}
 use Rattle.sb_hand.specs.core.declared.held.Held.TheVariants.{Work, Close}
 use Rattle.sb_hand.specs.core.Closings.{delivery}
 use Rattle.sb_hand.specs.node.declared.closing.Closing.{Closing}
-use Rattle.sb_turn.specs.declared.turns.Entry.TheVariants as entry
-use Rattle.sb_turn.specs.declared.turns.View.{View}
-use Rattle.sb_turn.specs.Passes.{Holds, IsFree, IsPassOf, seat_view}
+use Rattle.sb_shared.specs.turn.declared.turns.Entry.TheVariants as entry
+use Rattle.sb_shared.specs.turn.declared.turns.View.{View}
+use Rattle.sb_shared.specs.turn.Passes.{Holds, IsFree, IsPassOf, seat_view}
 use Rattle.sb_hand.specs.work.declared.claim.Claim.{Claim}
 use Rattle.sb_cascade.specs.declared.cascade.Cascade.{Cascade}
 use Rattle.sb_cascade.specs.declared.pass.CascadePass.{CascadePass}
-use Rattle.sb_cascade.specs.declared.telling.Change.{Change}
-use Rattle.sb_cascade.specs.declared.telling.Change.TheVariants as change
-use Rattle.sb_cascade.specs.declared.telling.Hands.{Hands}
-use Rattle.sb_cascade.specs.declared.telling.Setting.{Setting}
-use Rattle.sb_cascade.specs.Doings.{close_of, work_of}
-use Rattle.sb_cascade.specs.Found.{IsClaim, IsFound}
-use Rattle.sb_cascade.specs.SharedNodes.{SharedView}
-use Rattle.sb_cascade.specs.Shown.{operator_of}
+use Rattle.sb_shared.specs.declared.telling.Change.{Change}
+use Rattle.sb_shared.specs.declared.telling.Change.TheVariants as change
+use Rattle.sb_shared.specs.declared.telling.Hands.{Hands}
+use Rattle.sb_shared.specs.declared.telling.Setting.{Setting}
+use Rattle.sb_shared.specs.Doings.{close_of, work_of}
+use Rattle.sb_shared.specs.Found.{IsClaim, IsFound}
+use Rattle.sb_shared.specs.SharedNodes.{SharedView}
+use Rattle.sb_shared.specs.Shown.{operator_of}
 use Rattle.sb_hand.specs.base.pipeline.Shapes.{Shape}
 
 -- the plan of a cascade, and what it was made with

@@ -3,7 +3,7 @@ use Rattle.std.specs.Prelude.{ℕ, ◌⊎◌}
 use Rattle.sb_cascade.specs.declared.closings.CloseStop.{CloseStop}
 use Rattle.sb_cascade.specs.declared.closings.CloseStop.TheVariants.{NotYet, Memory}
 use Rattle.sb_cascade.specs.declared.pass.CascadePass.{CascadePass}
-use Rattle.sb_cascade.specs.declared.telling.Change.TheVariants as change
+use Rattle.sb_shared.specs.declared.telling.Change.TheVariants as change
 use Rattle.sb_cascade.specs.Calls.{LeftBy, LeftSpent}
 use Rattle.sb_cascade.specs.Told.{Is}
 

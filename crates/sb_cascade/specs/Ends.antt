@@ -8,17 +8,17 @@ use Rattle.sb_hand.specs.core.Soundness.{IsSound}
 use Rattle.sb_hand.specs.core.Exactness.{IsExact}
 use Rattle.sb_hand.specs.tally.Tally.{IsTallied}
 use Rattle.sb_hand.specs.node.declared.state.NodeState.{NodeState}
-use Rattle.sb_hand.specs.Hands.{settings_for}
+use Rattle.sb_hand.specs.Showing.{settings_for}
 use Rattle.sb_hand.specs.Linking.{AreLinked}
-use Rattle.sb_turn.specs.declared.turns.View.{View}
-use Rattle.sb_turn.specs.Turning.{Listed, events, log_of, once_in}
-use Rattle.sb_cascade.specs.declared.telling.Change.{Change}
-use Rattle.sb_cascade.specs.declared.telling.Hands.{Hands}
-use Rattle.sb_cascade.specs.declared.telling.Setting.{Setting}
-use Rattle.sb_cascade.specs.Doings.{is_event, replay}
-use Rattle.sb_cascade.specs.SharedNodes.{SharedView}
-use Rattle.sb_cascade.specs.Shown.{AreLater, ShowsPart, beginning_of, diaries_in, moment_of, operator_of, settings_in}
-use Rattle.sb_cascade.specs.Views.{records_of_feed, feed_of}
+use Rattle.sb_shared.specs.turn.declared.turns.View.{View}
+use Rattle.sb_shared.specs.turn.Turning.{Listed, events, log_of, once_in}
+use Rattle.sb_shared.specs.declared.telling.Change.{Change}
+use Rattle.sb_shared.specs.declared.telling.Hands.{Hands}
+use Rattle.sb_shared.specs.declared.telling.Setting.{Setting}
+use Rattle.sb_shared.specs.Doings.{is_event, replay}
+use Rattle.sb_shared.specs.SharedNodes.{SharedView}
+use Rattle.sb_shared.specs.Shown.{AreLater, ShowsPart, beginning_of, diaries_in, moment_of, operator_of, settings_in}
+use Rattle.sb_shared.specs.Views.{records_of_feed, feed_of}
 
 -- what lies under the turn of a new node
 abbrev pub fresh_state : NodeState → SharedView

@@ -5,18 +5,18 @@ use Rattle.sb_hand.specs.core.declared.moment.Moment.{Moment}
 use Rattle.sb_hand.specs.core.declared.moment.Node.{Node}
 use Rattle.sb_hand.specs.core.Exactness.{IsExact}
 use Rattle.sb_hand.specs.tally.Tally.{IsTallied}
-use Rattle.sb_turn.specs.declared.turns.View.{View}
-use Rattle.sb_turn.specs.Turning.{Listed, events, log_of, once_in}
+use Rattle.sb_shared.specs.turn.declared.turns.View.{View}
+use Rattle.sb_shared.specs.turn.Turning.{Listed, events, log_of, once_in}
 use Rattle.sb_hand.specs.node.declared.state.NodeState.{NodeState}
-use Rattle.sb_hand.specs.Hands.{HandView, Shows, settings_at}
-use Rattle.sb_hand.specs.Showing.{diaries_of, settings_of}
-use Rattle.sb_cascade.specs.declared.telling.Change.{Change}
-use Rattle.sb_cascade.specs.declared.telling.Hands.{Hands}
-use Rattle.sb_cascade.specs.declared.telling.Setting.{Setting}
-use Rattle.sb_cascade.specs.Doings.{is_event, replay}
-use Rattle.sb_cascade.specs.SharedNodes.{SharedView}
-use Rattle.sb_cascade.specs.Shown.{AreLater, beginning_of}
-use Rattle.sb_cascade.specs.Views.{records_of_feed, feed_of}
+use Rattle.sb_hand.specs.Hands.{HandView, Shows}
+use Rattle.sb_hand.specs.Showing.{diaries_of, settings_at, settings_of}
+use Rattle.sb_shared.specs.declared.telling.Change.{Change}
+use Rattle.sb_shared.specs.declared.telling.Hands.{Hands}
+use Rattle.sb_shared.specs.declared.telling.Setting.{Setting}
+use Rattle.sb_shared.specs.Doings.{is_event, replay}
+use Rattle.sb_shared.specs.SharedNodes.{SharedView}
+use Rattle.sb_shared.specs.Shown.{AreLater, beginning_of}
+use Rattle.sb_shared.specs.Views.{records_of_feed, feed_of}
 
 -- it is made with what the hand was made with
 pub record IsShared (plan : Shape) (bundle pending : ℕ) (keeps : Bool) (a : Setting) : Type 0 where

@@ -1,14 +1,14 @@
 -- What a pass did at the shelf, by its trace.
 use Rattle.std.specs.Prelude.{◌≡◌, ◌≢◌, ◌⊎◌, ◌<◌, ℕ, All, Bool, true, false, List, [], ◌∷◌, ◌++◌, length, None, Some}
 use Rattle.std.specs.List.{AllByRecursion}
-use Rattle.sb_turn.specs.declared.shelf.TheConstants.{PLACES}
-use Rattle.sb_turn.specs.declared.turns.Entry.{Entry}
-use Rattle.sb_turn.specs.declared.turns.Entry.TheVariants as entry
-use Rattle.sb_turn.specs.Turning.{looks_from}
+use Rattle.sb_shared.specs.turn.declared.shelf.TheConstants.{PLACES}
+use Rattle.sb_shared.specs.turn.declared.turns.Entry.{Entry}
+use Rattle.sb_shared.specs.turn.declared.turns.Entry.TheVariants as entry
+use Rattle.sb_shared.specs.turn.Turning.{looks_from}
 use Rattle.sb_hand.specs.work.declared.claim.Claim.{Claim}
 use Rattle.sb_cascade.specs.declared.pass.CascadePass.{CascadePass}
-use Rattle.sb_cascade.specs.declared.telling.Change.{Change}
-use Rattle.sb_cascade.specs.declared.telling.Change.TheVariants as change
+use Rattle.sb_shared.specs.declared.telling.Change.{Change}
+use Rattle.sb_shared.specs.declared.telling.Change.TheVariants as change
 use Rattle.sb_cascade.specs.Calls.{view_of}
 
 -- a bundle was taken

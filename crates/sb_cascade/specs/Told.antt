@@ -5,9 +5,9 @@ use Rattle.sb_hand.specs.base.records.declared.item.Record.{Record}
 use Rattle.sb_hand.specs.base.records.declared.item.Stream.{Stream}
 use Rattle.sb_hand.specs.node.declared.closing.Closing.{Closing}
 use Rattle.sb_hand.specs.work.declared.claim.Claim.{Claim}
-use Rattle.sb_cascade.specs.declared.telling.Change.{Change}
-use Rattle.sb_cascade.specs.declared.telling.Change.TheVariants.{Arrive, Take, Deliver, Finish, Begin, Rows, Pass, End}
-use Rattle.sb_cascade.specs.declared.telling.Change.TheVariants.{Drain}
+use Rattle.sb_shared.specs.declared.telling.Change.{Change}
+use Rattle.sb_shared.specs.declared.telling.Change.TheVariants.{Arrive, Take, Deliver, Finish, Begin, Rows, Pass, End}
+use Rattle.sb_shared.specs.declared.telling.Change.TheVariants.{Drain}
 
 abbrev pub Is : Change → Change → Type 0
 Is told c = c ≡ told

@@ -7,7 +7,7 @@ use Rattle.sb_hand.specs.core.Closings.{delivery, is_pardo}
 use Rattle.sb_hand.specs.core.Events.{below}
 use Rattle.sb_cascade.specs.declared.cascade.Cascade.{Cascade}
 use Rattle.sb_cascade.specs.declared.pass.CascadePass.{CascadePass}
-use Rattle.sb_cascade.specs.declared.telling.Change.{Change}
+use Rattle.sb_shared.specs.declared.telling.Change.{Change}
 use Rattle.sb_cascade.specs.Calls.{LeftBy, plan_of}
 
 -- a transform of single records gives this, and it is something

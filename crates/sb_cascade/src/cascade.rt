@@ -2,18 +2,17 @@
 
 ghost use Rattle.std.specs.Prelude.{◌≡◌, ◌≤◌, ◌+◌, [], length};
 ghost use Rattle.std.specs.Vec.{vec_capacity};
-ghost use Rattle.sb_turn.specs.Passes.{Holds, IsPassOf, IsSamePass, about, node_count, seat_view};
-ghost use Rattle.sb_turn.specs.Turning.{left_view};
-ghost use Rattle.sb_cascade.specs.Found.{IsFound};
-ghost use Rattle.sb_cascade.specs.Leavings.{Does, Looks};
-ghost use Rattle.sb_cascade.specs.SharedNodes.{lines_of};
-ghost use Rattle.sb_cascade.specs.Views.{after};
+ghost use Rattle.sb_shared.specs.turn.Passes.{Holds, IsPassOf, IsSamePass, about, node_count, seat_view};
+ghost use Rattle.sb_shared.specs.turn.Turning.{left_view};
+ghost use Rattle.sb_shared.specs.Found.{IsFound};
+ghost use Rattle.sb_shared.specs.Leavings.{Does, Looks};
+ghost use Rattle.sb_shared.specs.SharedNodes.{lines_of};
+ghost use Rattle.sb_shared.specs.Views.{after};
 
-use crate::keeping::Keeping;
-use crate::telling::{Change, Setting};
 use sb_hand::sb_base::Plan;
 use sb_hand::sb_node::NodeState;
-use sb_turn::{Guard, Pass, Turns};
+use sb_shared::sb_turn::{Guard, Pass, Turns};
+use sb_shared::{Change, Keeping, Setting};
 use std::alloc::Global;
 use std::sync::Wait;
 use std::time::Duration;

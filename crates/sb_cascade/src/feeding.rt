@@ -4,17 +4,17 @@ ghost use Rattle.std.specs.Prelude.{◌≡◌, ◌+◌, length, IfErr, IfOk, OnE
 ghost use Rattle.sb_cascade.specs.Bringing.{IsTurnedBack, LeftSource, MayArrive, MaySeal};
 ghost use Rattle.sb_cascade.specs.Calls.{HasSame, IsEmptyHanded, IsFeeder, IsReady, LeftBy};
 ghost use Rattle.sb_cascade.specs.Calls.{hands, passes_out, plan_of, setting_of};
-ghost use Rattle.sb_cascade.specs.Found.{IsDrained};
-ghost use Rattle.sb_cascade.specs.Shown.{AreLater};
+ghost use Rattle.sb_shared.specs.Found.{IsDrained};
+ghost use Rattle.sb_shared.specs.Shown.{AreLater};
 ghost use Rattle.sb_cascade.specs.Told.{Is, IsArrival, IsDrain};
-ghost use Rattle.sb_cascade.specs.Views.{stream_feed, with_bundle, with_drained, with_mark};
-ghost use Rattle.sb_cascade.specs.declared.telling.Change.TheVariants as change;
+ghost use Rattle.sb_shared.specs.Views.{stream_feed, with_bundle, with_drained, with_mark};
+ghost use Rattle.sb_shared.specs.declared.telling.Change.TheVariants as change;
 
 use crate::cascade::Cascade;
 use crate::pass::CascadePass;
-use crate::telling::Change;
 use sb_hand::sb_base::{Bundle, NoMemory, Record, Sequence, Stream};
 use sb_hand::sb_lane::ArriveStop;
+use sb_shared::Change;
 use std::snapshot::Snapshot;
 use std::sync::Wait;
 

@@ -8,15 +8,11 @@
 mod cascade;
 mod closings;
 mod feeding;
-mod keeping;
-pub mod laws;
 mod life;
 mod pass;
 mod reasons;
-mod shared_node;
 mod shelf;
 mod taking;
-mod telling;
 mod working;
 
 pub use cascade::Cascade;
@@ -27,4 +23,4 @@ pub use taking::TryTake;
 // What the crates above name of the crates below.
 pub use sb_hand;
 pub use sb_hand::{sb_base, sb_diary, sb_lane, sb_node, sb_work};
-pub use sb_turn;
+pub use sb_shared::sb_turn;

@@ -8,24 +8,22 @@ ghost use lib.ListN.{get_elem?};
 ghost use Rattle.sb_hand.specs.base.pipeline.Shapes.{Shape};
 ghost use Rattle.sb_hand.specs.Hands.{IsNewHand};
 ghost use Rattle.sb_hand.specs.node.declared.state.NodeState.{NodeState as ANode};
-ghost use Rattle.sb_turn.specs.Passes.{ShowsEmpty};
-ghost use Rattle.sb_turn.specs.Turning.{joined_with, opening_view, split_off};
+ghost use Rattle.sb_shared.specs.turn.Passes.{ShowsEmpty};
+ghost use Rattle.sb_shared.specs.turn.Turning.{joined_with, opening_view, split_off};
 ghost use Rattle.sb_cascade.specs.Calls.{HasSame, IsEmptyHanded, IsFeeder, IsReady};
 ghost use Rattle.sb_cascade.specs.Calls.{hands, passes_out, setting_of, view_of};
 ghost use Rattle.sb_cascade.specs.Ends.{fresh_state};
 ghost use Rattle.sb_cascade.specs.Lives.{GivesBack, IsShared};
-ghost use Rattle.sb_cascade.specs.SharedNodes.{SharedView, owed_lines};
-ghost use Rattle.sb_cascade.specs.Views.{first_hands, idle_hands, no_feed};
+ghost use Rattle.sb_shared.specs.SharedNodes.{SharedView, owed_lines};
+ghost use Rattle.sb_shared.specs.Views.{first_hands, idle_hands, no_feed};
 
 use crate::cascade::Cascade;
-use crate::keeping::Keeping;
 use crate::pass::CascadePass;
-use crate::shared_node::SharedNode;
-use crate::telling::Setting;
 use sb_hand::sb_base::{NoMemory, Record};
 use sb_hand::sb_node::NodeState;
 use sb_hand::{Hand, HandParts};
-use sb_turn::{Pass, Turns};
+use sb_shared::sb_turn::{Pass, Turns};
+use sb_shared::{Keeping, Setting, SharedNode};
 use std::alloc::Global;
 
 /// A pass that has nothing in hand.

@@ -1,16 +1,16 @@
 //! The state word: whether the work goes on, or why it ends.
 
 ghost use Rattle.std.specs.Prelude.{◌≡◌, ◌≢◌, ◌≤◌};
-ghost use Rattle.sb_turn.specs.Passes.{IsSamePass};
-ghost use Rattle.sb_turn.specs.Reasons.{number_of};
-ghost use Rattle.sb_turn.specs.Turning.{raised_view, saw};
+ghost use Rattle.sb_shared.specs.turn.Passes.{IsSamePass};
+ghost use Rattle.sb_shared.specs.turn.Reasons.{number_of};
+ghost use Rattle.sb_shared.specs.turn.Turning.{raised_view, saw};
 ghost use Rattle.sb_cascade.specs.Calls.{HasSame, IsFeeder, IsReady, IsSame, hands, setting_of, view_of};
-ghost use Rattle.sb_cascade.specs.Found.{IsShown};
-ghost use Rattle.sb_cascade.specs.Views.{hands_after_raise};
+ghost use Rattle.sb_shared.specs.Found.{IsShown};
+ghost use Rattle.sb_shared.specs.Views.{hands_after_raise};
 
 use crate::cascade::Cascade;
 use crate::pass::CascadePass;
-use sb_turn::Reason;
+use sb_shared::sb_turn::Reason;
 use std::marker::Brand;
 
 impl Cascade {

@@ -1,16 +1,16 @@
 //! Bundles pass from worker to worker by the shelf.
 
 ghost use Rattle.std.specs.Prelude.{◌≡◌, ◌≤◌, true, false, [], length, None, Some, IfNone, IfSome, MatchOption};
-ghost use Rattle.sb_turn.specs.Passes.{ShowsEmpty};
+ghost use Rattle.sb_shared.specs.turn.Passes.{ShowsEmpty};
 ghost use Rattle.sb_cascade.specs.Calls.{HasBundle, IsEmptyHanded, IsReady, IsSame, MayFill};
 ghost use Rattle.sb_cascade.specs.Calls.{passes_out, plan_of, setting_of};
-ghost use Rattle.sb_cascade.specs.Found.{IsClaim};
+ghost use Rattle.sb_shared.specs.Found.{IsClaim};
 ghost use Rattle.sb_cascade.specs.Shelving.{ClaimedOne, EndsWith, FoundNoneFree, FoundNoneFull, KeepsOne, WasIdle};
 
 use crate::cascade::Cascade;
 use crate::pass::CascadePass;
-use crate::telling::Piece;
 use sb_hand::sb_work::Claim;
+use sb_shared::Piece;
 use std::sync::Wait;
 
 impl Cascade {

@@ -3,18 +3,16 @@
 ghost use Rattle.std.specs.Prelude.{◌≡◌, ◌≤◌, ℕ, length, false, IfNone, IfSome};
 ghost use Rattle.sb_cascade.specs.Calls.{FoundHeld, HasBundle, HasSame, IsEmptyHanded, IsReady, IsSame, IsUnder};
 ghost use Rattle.sb_cascade.specs.Calls.{LeftAtOnce, LeftBy, plan_of, setting_of};
-ghost use Rattle.sb_cascade.specs.Found.{IsClaim};
+ghost use Rattle.sb_shared.specs.Found.{IsClaim};
 ghost use Rattle.sb_cascade.specs.Told.{Is, IsTake};
-ghost use Rattle.sb_cascade.specs.declared.telling.Change.TheVariants as change;
+ghost use Rattle.sb_shared.specs.declared.telling.Change.TheVariants as change;
 ghost use Rattle.sb_hand.specs.work.declared.claim.Claim.{Claim as AClaim};
 
 use crate::cascade::Cascade;
-use crate::keeping::Keeping;
 use crate::pass::CascadePass;
-use crate::shared_node::Taken;
-use crate::telling::Change;
 use sb_hand::sb_work::Claim;
-use sb_turn::Guard;
+use sb_shared::sb_turn::Guard;
+use sb_shared::{Change, Keeping, Taken};
 use std::snapshot::Snapshot;
 use std::sync::Wait;
 

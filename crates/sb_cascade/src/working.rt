@@ -5,18 +5,18 @@ ghost use Rattle.sb_hand.specs.base.pipeline.declared.transform.Down.{Down as AD
 ghost use Rattle.sb_hand.specs.core.Events.{below};
 ghost use Rattle.sb_cascade.specs.Calls.{HasBundle, HasSame, IsEmptyHanded, IsReady, IsSame, LeftBy, LeftSpent};
 ghost use Rattle.sb_cascade.specs.Calls.{hands, plan_of, setting_of};
-ghost use Rattle.sb_cascade.specs.Shown.{operator_of};
+ghost use Rattle.sb_shared.specs.Shown.{operator_of};
 ghost use Rattle.sb_cascade.specs.Told.{Is, IsDelivery, IsFinish};
 ghost use Rattle.sb_cascade.specs.Working.{GivesBelow, LeftBelow, NeedsNoPart};
-ghost use Rattle.sb_cascade.specs.declared.telling.Change.TheVariants as change;
+ghost use Rattle.sb_shared.specs.declared.telling.Change.TheVariants as change;
 ghost use Rattle.sb_hand.specs.work.Processing.{IsPart};
 
 use crate::cascade::Cascade;
 use crate::pass::CascadePass;
-use crate::telling::Change;
 use sb_hand::sb_base::{Bundle, NoMemory, Record, Sequence};
 use sb_hand::sb_work::{Part, Receipt};
-use sb_turn::Reason;
+use sb_shared::Change;
+use sb_shared::sb_turn::Reason;
 use std::snapshot::Snapshot;
 use std::sync::Wait;
 

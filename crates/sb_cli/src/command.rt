@@ -26,6 +26,7 @@ ghost use Rattle.sb_answer_files.specs.words.Words.{Asked, IsCommand, IsNoComman
 ghost use Rattle.sb_answer_files.specs.words.Words.Asked.{Sum, Audit, Work, Feeds, Resume};
 
 use sb_answer_files::sb_answers::Ending;
+use sb_answer_files::sb_answers::sb_run::ByStream;
 use sb_answer_files::sb_base::NoMemory;
 use sb_answer_files::sb_emit::Tap;
 use sb_answer_files::sb_outside::{Folder, Sink, SinkFault, Source, write_all_of};
@@ -36,7 +37,6 @@ use sb_answer_runs::{
     answer_audit, answer_file, answer_slow, answer_sum, answer_watch, answer_work,
 };
 use sb_arguments::read_words;
-use std::alloc::Global;
 use std::sync::Wait;
 use std::thread::Threads;
 use std::time::Clock;
@@ -57,9 +57,14 @@ use std::time::Clock;
 ///
 /// With one worker it waits for nobody and starts no thread, but for `feeds`, which reads each file in a thread of its
 /// own, and `watch`, whose table waits for its readers. With more, or for these two, whether it returns is not said.
-pub fn streambox<W: Threads + Wait + Clock + Sync, S: Source, K: Sink, N: Sink, F: Folder>(
+pub fn streambox<
+    W: AllocGlobal + Threads + Wait + Clock + Sync,
+    S: Source,
+    K: Sink,
+    N: Sink,
+    F: Folder,
+>(
     rt: &W,
-    alloc: Global,
     words: &[String],
     input: &mut S,
     out: &mut K,
@@ -168,15 +173,14 @@ pub fn streambox<W: Threads + Wait + Clock + Sync, S: Source, K: Sink, N: Sink, 
         → IsCommand (Work records options) (texts words.now)
         → (Rose (K.sink_state out.old).faults (K.sink_state out.new).faults → ⊥) → IsDoneOrMemory result }
 {
-    let ending = respond(rt, alloc, words, input, out, folder, taps);
+    let ending = respond(rt, words, input, out, folder, taps);
     tell(notes, &ending);
     ending.status
 }
 
 /// Does what the words ask for.
-fn respond<W: Threads + Wait + Clock + Sync, S: Source, K: Sink, F: Folder>(
+fn respond<W: AllocGlobal + Threads + Wait + Clock + Sync, S: Source, K: Sink, F: Folder>(
     rt: &W,
-    alloc: Global,
     words: &[String],
     input: &mut S,
     out: &mut K,
@@ -227,30 +231,31 @@ fn respond<W: Threads + Wait + Clock + Sync, S: Source, K: Sink, F: Folder>(
         (faults_of (S.faults input.old) (K.sink_state out.old) (F.failed folder.old))
         (faults_of (S.faults input.new) (K.sink_state out.new) (F.failed folder.new)) result.status }
 {
+    let alloc = rt.alloc();
     match read_words(alloc, words) {
-        Ok(Some(Request::Sum(size, options))) => answer_sum(
-            rt, alloc, size, options, input, out, taps,
-        ),
+        Ok(Some(Request::Sum(size, options))) => answer_sum(rt, size, options, input, out, taps),
         Ok(Some(Request::Audit)) => answer_audit(alloc, input, out),
-        Ok(Some(Request::Work(records, options))) => {
-            answer_work(rt, alloc, records, options, out)
-        }
+        Ok(Some(Request::Work(records, options))) => answer_work(rt, records, options, out),
         Ok(Some(Request::Run(name, options))) => {
-            answer_file(rt, alloc, name, options, input, out, folder, taps)
+            answer_file(rt, name, options, input, out, folder, taps)
         }
         Ok(Some(Request::Slow(name))) => answer_slow(alloc, name, input, out, folder),
         Ok(Some(Request::Watch(name, key, options))) => {
-            answer_watch(rt, alloc, name, key, options, input, out, folder)
+            answer_watch(rt, name, key, options, input, out, folder)
         }
-        Ok(Some(Request::Feeds(name, file_a, file_b, options))) => answer_feeds(
-            rt, alloc, name, file_a, file_b, options, out, folder, taps,
-        ),
+        Ok(Some(Request::Feeds(name, file_a, file_b, options))) => {
+            let files = ByStream {
+                a: file_a,
+                b: file_b,
+            };
+            answer_feeds(rt, name, files, options, out, folder, taps)
+        }
         Ok(Some(Request::Part(name, options))) => {
-            answer_part(rt, alloc, name, options, input, out, folder)
+            answer_part(rt, name, options, input, out, folder)
         }
         Ok(Some(Request::Save(name))) => answer_save(alloc, name, input, out, folder),
         Ok(Some(Request::Resume(name, checkpoint, options))) => answer_resume(
-            rt, alloc, name, checkpoint, options, input, out, folder,
+            rt, name, checkpoint, options, input, out, folder,
         ),
         Ok(None) => Ending::of(alloc, Status::Words),
         Err(NoMemory) => Ending::of(alloc, Status::Memory),

@@ -10,7 +10,6 @@ use sb_run::sb_base::{Dropped, Plan};
 use sb_run::sb_emit::RowOut;
 use sb_run::sb_outside::Source;
 use sb_run::{Sizes, run};
-use std::alloc::Global;
 use std::sync::Wait;
 use std::thread::Threads;
 use std::time::Clock;
@@ -20,9 +19,8 @@ use std::time::Clock;
 /// end of `dropped`. After a failed write nothing more is written.
 ///
 /// Whether the call returns is not said: workers wait for one another.
-pub fn run_part<W: Threads + Wait + Clock + Sync, S: Source, R: RowOut>(
+pub fn run_part<W: AllocGlobal + Threads + Wait + Clock + Sync, S: Source, R: RowOut>(
     rt: &W,
-    alloc: Global,
     plan: Plan,
     sizes: Sizes,
     input: &mut S,
@@ -37,9 +35,9 @@ pub fn run_part<W: Threads + Wait + Clock + Sync, S: Source, R: RowOut>(
     ensures output { CutOutputCause (R.row_state out.old) (R.row_state out.new) result }
     ensures name { S.name input.new ≡ S.name input.old }
 {
-    let mut taps = Vec::new(alloc);
+    let mut taps = Vec::new(rt.alloc());
     let mut part = FirstPart::new(&mut *input);
-    let end = run(rt, alloc, plan, sizes, &mut part, out, &mut taps, dropped);
+    let end = run(rt, plan, sizes, &mut part, out, &mut taps, dropped);
     let is_whole = part.is_whole();
     let _source = part.into_source();
     CutEnd::of(end, is_whole)

@@ -14,7 +14,6 @@ use sb_run::sb_base::{Dropped, Plan};
 use sb_run::sb_emit::RowOut;
 use sb_run::sb_outside::Source;
 use sb_run::{RunEnd, Sizes, run};
-use std::alloc::Global;
 use std::sync::Wait;
 use std::thread::Threads;
 use std::time::Clock;
@@ -26,9 +25,8 @@ use std::time::Clock;
 /// plan drops go to the end of `dropped`.
 ///
 /// Whether the call returns is not said: workers wait for one another.
-pub fn run_rest<W: Threads + Wait + Clock + Sync, S: Source, R: RowOut>(
+pub fn run_rest<W: AllocGlobal + Threads + Wait + Clock + Sync, S: Source, R: RowOut>(
     rt: &W,
-    alloc: Global,
     plan: Plan,
     sizes: Sizes,
     checkpoint: Checkpoint,
@@ -48,18 +46,9 @@ pub fn run_rest<W: Threads + Wait + Clock + Sync, S: Source, R: RowOut>(
     ensures output { OutputCause (R.row_state out.old.out) (R.row_state out.new.out) result }
     ensures name { S.name input.new ≡ S.name input.old }
 {
-    let mut taps = Vec::new(alloc);
+    let mut taps = Vec::new(rt.alloc());
     let mut resumed = Resumed::new(checkpoint, &mut *input);
-    let end = run(
-        rt,
-        alloc,
-        plan,
-        sizes,
-        &mut resumed,
-        out,
-        &mut taps,
-        dropped,
-    );
+    let end = run(rt, plan, sizes, &mut resumed, out, &mut taps, dropped);
     let _source = resumed.into_source();
     end
 }

@@ -2,24 +2,24 @@
 use Rattle.std.proofs.Common.{◌≡◌, ℕ, ◌+◌, List, [], ◌∷◌, ◌++◌, get_or, length, map, set, Some, sym, refl, ap, subst, ◌∙◌, arith}
 use Rattle.std.specs.List.{slice_get}
 use Rattle.std.proofs.lemmas.Option.{get_or_from_slice_get, same_Some}
-use Rattle.sb_node.specs.base.bundle.declared.bundle.Bundle.{Bundle}
-use Rattle.sb_tally.specs.core.declared.moment.CoreLane.{CoreLane}
-use Rattle.sb_tally.specs.core.Marks.{before_closing}
-use Rattle.sb_tally.proofs.core.exact.Nodes.{slice_get-set_same}
-use Rattle.sb_node.specs.diary.Diaries.{Written, with_spare}
-use Rattle.sb_node.specs.diary.declared.event.DiaryEvent.{DiaryEvent}
-use Rattle.sb_node.specs.diary.declared.event.DiaryEvent.TheVariants as line
-use Rattle.sb_node.specs.kept.declared.kept.Kept.{Kept}
-use Rattle.sb_node.specs.lane.LaneView.{LaneView, lane_of}
-use Rattle.sb_node.specs.work.declared.outputs.Part.{Part}
-use Rattle.sb_node.specs.declared.closing.Closing.{Closing}
-use Rattle.sb_node.specs.declared.state.NodeState.{NodeState}
-use Rattle.sb_node.specs.Changes as node
-use Rattle.sb_node.specs.LinkChanges.{LinksStay}
-use Rattle.sb_node.specs.Marking.{mark_for}
+use Rattle.sb_shown.specs.base.bundle.declared.bundle.Bundle.{Bundle}
+use Rattle.sb_shown.specs.core.declared.moment.CoreLane.{CoreLane}
+use Rattle.sb_shown.specs.core.Marks.{before_closing}
+use Rattle.sb_shown.proofs.core.exact.Nodes.{slice_get-set_same}
+use Rattle.sb_shown.specs.diary.Diaries.{Written, with_spare}
+use Rattle.sb_shown.specs.diary.declared.event.DiaryEvent.{DiaryEvent}
+use Rattle.sb_shown.specs.diary.declared.event.DiaryEvent.TheVariants as line
+use Rattle.sb_shown.specs.kept.declared.kept.Kept.{Kept}
+use Rattle.sb_shown.specs.lane.LaneView.{LaneView, lane_of}
+use Rattle.sb_shown.specs.work.declared.outputs.Part.{Part}
+use Rattle.sb_shown.specs.node.declared.closing.Closing.{Closing}
+use Rattle.sb_shown.specs.node.declared.state.NodeState.{NodeState}
+use Rattle.sb_shown.specs.node.Changes as node
+use Rattle.sb_shown.specs.node.LinkChanges.{LinksStay}
+use Rattle.sb_shown.specs.node.Marking.{mark_for}
 use Rattle.sb_hand.specs.LaneGoing.{LaneGoes}
-use Rattle.sb_hand.specs.Sets.{Absorbs, BeginsAt, HasLane, SetsLane, SetsNode, StaysAt, Takes, Turns}
-use Rattle.sb_hand.proofs.SettingsStay.{set_same}
+use Rattle.sb_shown.specs.Sets.{Absorbs, BeginsAt, HasLane, SetsLane, SetsNode, StaysAt, Takes, Turns}
+use Rattle.sb_shown.proofs.SettingsStay.{set_same}
 
 -- the node that code reads
 pub own-there : (nodes : List NodeState) (k : ℕ) (own x : NodeState) → slice_get nodes k ≡ Some x → own ≡ get_or nodes k own → slice_get nodes k ≡ Some own

@@ -3,71 +3,54 @@ use Rattle.std.proofs.Common.{◌≡◌, ℕ, suc, ◌+◌, ◌≤◌, Bool, tru
 use Rattle.std.specs.Prelude.{◌||◌, Ok}
 use Rattle.std.specs.List.{slice_get, slice_set, list_any}
 use Rattle.std.proofs.lemmas.List.{map-set}
-use Rattle.sb_node.specs.base.records.declared.item.Record.{Record}
-use Rattle.sb_node.specs.base.records.Reading.{◌>>=◌}
-use Rattle.sb_node.specs.base.records.Records.{sorted_records, before}
-use Rattle.sb_node.specs.base.records.declared.element.KeptRec.{KeptRec}
-use Rattle.sb_node.specs.base.pipeline.Shapes.{Shape}
-use Rattle.sb_node.specs.base.pipeline.Plans.{IsPlan}
-use Rattle.sb_node.specs.base.pipeline.Operators.{Operator, operator_at, lanes_of}
-use Rattle.sb_node.specs.base.pipeline.Operators.Operator.{ParDo, Windowed, Sink}
-use Rattle.sb_node.specs.base.pipeline.Operators.WindowOperator.{Aggregated, Sessions, Joined}
-use Rattle.sb_tally.specs.core.declared.moment.Cont.{Cont}
-use Rattle.sb_tally.specs.core.declared.moment.CoreLane.{CoreLane}
-use Rattle.sb_tally.specs.core.declared.moment.Node.{Node}
-use Rattle.sb_tally.specs.core.declared.moment.Moment.{Moment}
-use Rattle.sb_tally.specs.core.declared.held.Held.{Held}
-use Rattle.sb_tally.specs.core.declared.held.Held.TheVariants.{Close}
-use Rattle.sb_tally.specs.core.declared.event.Event.TheVariants.{Begin}
-use Rattle.sb_tally.specs.core.Bounds.{bound_at}
-use Rattle.sb_tally.specs.core.Closings.{kept_at, rows_at, rows_at_sink, is_sink}
-use Rattle.sb_tally.specs.core.Events.{after}
-use Rattle.sb_tally.specs.core.Lanes.{closable, with_first_closing}
-use Rattle.sb_tally.specs.core.Marks.{before_closing, first_is_closing, least_begun_mark}
-use Rattle.sb_tally.specs.core.Moments.{set_lane, is_close_of}
-use Rattle.sb_tally.specs.core.Parts.{Part, part_after, with_part}
-use Rattle.sb_tally.specs.core.Soundness.{IsSound}
-use Rattle.sb_tally.proofs.core.sound.AfterSound.{events-keep_sound}
-use Rattle.sb_tally.proofs.core.parts.PartsLaw.{parts-are_events}
-use Rattle.sb_node.specs.lane.declared.answers.LaneClose.{LaneClose}
-use Rattle.sb_node.specs.lane.Looks.{look_of}
-use Rattle.sb_node.specs.lane.LaneView.{LaneView, lane_of}
-use Rattle.sb_node.specs.lane.Placed.{conts_of}
-use Rattle.sb_node.specs.declared.closing.Closing.{Closing}
-use Rattle.sb_node.specs.declared.state.NodeState.{NodeState}
-use Rattle.sb_node.specs.kept.declared.kept.Kept.{Kept}
-use Rattle.sb_node.specs.kept.Keeping.{IsMadeFor, IsSpent, ShowsKept, closed_mark, output_from, gives}
-use Rattle.sb_node.specs.Marking.{mark_for}
+use Rattle.sb_shown.specs.base.records.declared.item.Record.{Record}
+use Rattle.sb_shown.specs.base.records.Reading.{◌>>=◌}
+use Rattle.sb_shown.specs.base.records.Records.{sorted_records, before}
+use Rattle.sb_shown.specs.base.records.declared.element.KeptRec.{KeptRec}
+use Rattle.sb_shown.specs.base.pipeline.Shapes.{Shape}
+use Rattle.sb_shown.specs.base.pipeline.Plans.{IsPlan}
+use Rattle.sb_shown.specs.base.pipeline.Operators.{Operator, operator_at, lanes_of}
+use Rattle.sb_shown.specs.base.pipeline.Operators.Operator.{ParDo, Windowed, Sink}
+use Rattle.sb_shown.specs.core.declared.moment.Cont.{Cont}
+use Rattle.sb_shown.specs.core.declared.moment.CoreLane.{CoreLane}
+use Rattle.sb_shown.specs.core.declared.moment.Node.{Node}
+use Rattle.sb_shown.specs.core.declared.moment.Moment.{Moment}
+use Rattle.sb_shown.specs.core.declared.held.Held.{Held}
+use Rattle.sb_shown.specs.core.declared.held.Held.TheVariants.{Close}
+use Rattle.sb_shown.specs.core.declared.event.Event.TheVariants.{Begin}
+use Rattle.sb_shown.specs.core.Bounds.{bound_at}
+use Rattle.sb_shown.specs.core.Closings.{kept_at, rows_at, rows_at_sink, is_sink}
+use Rattle.sb_shown.specs.core.Events.{after}
+use Rattle.sb_shown.specs.core.Lanes.{closable, with_first_closing}
+use Rattle.sb_shown.specs.core.Marks.{before_closing, first_is_closing, least_begun_mark}
+use Rattle.sb_shown.specs.core.Moments.{set_lane, is_close_of}
+use Rattle.sb_shown.specs.core.Parts.{Part, part_after, with_part}
+use Rattle.sb_shown.specs.core.Soundness.{IsSound}
+use Rattle.sb_shown.proofs.core.sound.AfterSound.{events-keep_sound}
+use Rattle.sb_shown.proofs.core.parts.PartsLaw.{parts-are_events}
+use Rattle.sb_shown.specs.lane.declared.answers.LaneClose.{LaneClose}
+use Rattle.sb_shown.specs.lane.Looks.{look_of}
+use Rattle.sb_shown.specs.lane.LaneView.{LaneView, lane_of}
+use Rattle.sb_shown.specs.lane.Placed.{conts_of}
+use Rattle.sb_shown.specs.node.declared.closing.Closing.{Closing}
+use Rattle.sb_shown.specs.node.declared.state.NodeState.{NodeState}
+use Rattle.sb_shown.specs.kept.declared.kept.Kept.{Kept}
+use Rattle.sb_shown.specs.kept.Keeping.{IsMadeFor, IsSpent, ShowsKept, closed_mark, output_from, gives}
+use Rattle.sb_shown.specs.node.Marking.{mark_for}
 use Rattle.sb_hand.specs.Runs.{close_of}
-use Rattle.sb_hand.specs.Sets.{HasLane, BeginsAt}
-use Rattle.sb_hand.specs.Showing.{ShowsNode, Stands, Reaches, Does, diaries_of}
-use Rattle.sb_hand.proofs.Calm.{node_is}
-use Rattle.sb_node.proofs.lane.InTheCore.{MayClose, may-close}
-use Rattle.sb_hand.proofs.ClosingMarks.{calm_before, mark_for-is}
-use Rattle.sb_hand.proofs.ShowsKept.{StandsFor, groups-at, rows-closes, shows-closes, rows-at}
+use Rattle.sb_shown.specs.Sets.{HasLane, BeginsAt}
+use Rattle.sb_shown.specs.Showing.{ShowsNode, Stands, Reaches, Does, diaries_of}
+use Rattle.sb_shown.proofs.Calm.{node_is}
+use Rattle.sb_shown.proofs.lane.InTheCore.{MayClose, may-close}
+use Rattle.sb_shown.proofs.ClosingMarks.{calm_before, mark_for-is}
+use Rattle.sb_shown.proofs.ShowsKept.{StandsFor, groups-at, rows-closes, shows-closes, rows-at}
 use Rattle.std.proofs.lemmas.Option.{get_or_from_slice_get}
-use Rattle.sb_tally.specs.core.Moments.{empty_lane}
-use Rattle.sb_node.specs.diary.declared.event.DiaryEvent.{DiaryEvent}
-use Rattle.sb_node.specs.diary.declared.event.DiaryEvent.TheVariants as line
-use Rattle.sb_tally.specs.Written.{line_after}
-use Rattle.sb_hand.proofs.Single.{chain, passing, there-too, get-map, event-free}
-
-pub lanes_two : (op : Operator) → lanes_of op ≤ 2
-lanes_two (ParDo op) = omega arith
-lanes_two (Windowed (Aggregated agg windows)) = omega arith
-lanes_two (Windowed (Sessions agg gap)) = omega arith
-lanes_two (Windowed (Joined combine windows)) = omega arith
-lanes_two Sink = omega arith
-
--- what begins, as the core has it
-abbrev pub begun_part : Operator → ℕ → ℕ → Node → CoreLane → Cont → Part
-begun_part op k l n lane c =
-    let begun = set_lane l (record lane { conts = with_first_closing lane.conts }) n in
-    record {
-      node = record begun { kept = kept_at op (least_begun_mark begun.lanes) n.kept; closings = n.closings + 1 };
-      held = Close k l c.epoch n.closings (least_begun_mark n.lanes) (least_begun_mark begun.lanes) (rows_at op (least_begun_mark n.lanes) (least_begun_mark begun.lanes) n.kept) (is_sink op) ∷ [];
-      rows = rows_at_sink op (least_begun_mark begun.lanes) n.kept;
-    }
+use Rattle.sb_shown.specs.core.Moments.{empty_lane}
+use Rattle.sb_shown.specs.diary.declared.event.DiaryEvent.{DiaryEvent}
+use Rattle.sb_shown.specs.diary.declared.event.DiaryEvent.TheVariants as line
+use Rattle.sb_shown.specs.tally.Written.{line_after}
+use Rattle.sb_shown.proofs.Single.{chain, passing, there-too, get-map, event-free}
+use Rattle.sb_shown.proofs.Steps.{begun_part, lanes_two}
 
 module _ (plan : Shape) (is_plan : IsPlan plan) (bundle : ℕ) (nodes : List NodeState) (rows : List Record) (m : Moment) (s : Stands plan bundle nodes [] rows m) (k l : ℕ) (within : k ≤ length plan.steps) (lane : LaneView) (has : HasLane k l lane nodes) (close : LaneClose) (looks : look_of (conts_of lane.containers) ≡ Ok close) (n : Node) (at_m : slice_get m.nodes k ≡ Some n) where
   pub shown : ShowsNode (operator_at (slice_get plan.steps k)) has.own n

@@ -3,41 +3,42 @@ use Rattle.std.proofs.Common.{◌≡◌, ℕ, suc, zero, eqb, ◌+◌, ◌-◌, 
 use Rattle.std.specs.List.{slice_get, AllByRecursion}
 use Rattle.std.specs.Option.{option_map}
 use Rattle.std.proofs.lemmas.Option.{same_Some}
-use Rattle.sb_node.specs.diary.declared.event.DiaryEvent.{DiaryEvent}
-use Rattle.sb_node.specs.diary.declared.event.DiaryEvent.TheVariants as line
-use Rattle.sb_node.specs.base.records.declared.item.Record.{Record}
-use Rattle.sb_node.specs.base.pipeline.declared.transform.Step.{Step}
-use Rattle.sb_node.specs.base.pipeline.declared.transform.Down.{Down}
-use Rattle.sb_node.specs.base.pipeline.Shapes.{Shape}
-use Rattle.sb_node.specs.base.pipeline.Plans.{IsPlan}
-use Rattle.sb_node.specs.base.pipeline.Operators.{operator_at}
-use Rattle.sb_node.proofs.base.pipeline.Feeding.{apart}
-use Rattle.sb_tally.specs.core.Bounds.{bound_at}
-use Rattle.sb_tally.specs.core.Closings.{is_pardo}
-use Rattle.sb_tally.specs.core.Holdings.{IsCloseOf, IsClosing, IsHeld}
-use Rattle.sb_tally.specs.core.declared.held.Held.{Held}
-use Rattle.sb_tally.specs.core.LaneOrder.{IsLane}
-use Rattle.sb_tally.specs.core.Lanes.{in_epoch, next_floor, with_arrival}
-use Rattle.sb_tally.specs.core.Moments.{epoch_of, floor_of}
-use Rattle.sb_node.specs.lane.Changes.{StandsAt}
-use Rattle.sb_node.specs.lane.Laws.{FitsEpoch}
-use Rattle.sb_node.specs.lane.LaneView.{LaneView, lane_of}
-use Rattle.sb_node.specs.lane.Links.{link_in}
-use Rattle.sb_node.specs.lane.Placed.{conts_of}
-use Rattle.sb_node.proofs.lane.OrderKept.{next-fits, place-kept}
-use Rattle.sb_node.specs.declared.closing.Closing.{Closing}
-use Rattle.sb_node.specs.declared.state.NodeState.{NodeState}
-use Rattle.sb_node.specs.LinkChanges.{FindsPlace, LinksStay}
+use Rattle.sb_shown.specs.diary.declared.event.DiaryEvent.{DiaryEvent}
+use Rattle.sb_shown.specs.diary.declared.event.DiaryEvent.TheVariants as line
+use Rattle.sb_shown.specs.base.records.declared.item.Record.{Record}
+use Rattle.sb_shown.specs.base.pipeline.declared.transform.Step.{Step}
+use Rattle.sb_shown.specs.base.pipeline.declared.transform.Down.{Down}
+use Rattle.sb_shown.specs.base.pipeline.Shapes.{Shape}
+use Rattle.sb_shown.specs.base.pipeline.Plans.{IsPlan}
+use Rattle.sb_shown.specs.base.pipeline.Operators.{operator_at}
+use Rattle.sb_shown.proofs.base.pipeline.Feeding.{apart}
+use Rattle.sb_shown.specs.core.Bounds.{bound_at}
+use Rattle.sb_shown.specs.core.Closings.{is_pardo}
+use Rattle.sb_shown.specs.core.Holdings.{IsCloseOf, IsClosing, IsHeld}
+use Rattle.sb_shown.specs.core.declared.held.Held.{Held}
+use Rattle.sb_shown.specs.core.LaneOrder.{IsLane}
+use Rattle.sb_shown.specs.core.Lanes.{in_epoch, next_floor, with_arrival}
+use Rattle.sb_shown.specs.core.Moments.{epoch_of, floor_of}
+use Rattle.sb_shown.specs.lane.Changes.{StandsAt}
+use Rattle.sb_shown.specs.lane.Laws.{FitsEpoch}
+use Rattle.sb_shown.specs.lane.LaneView.{LaneView, lane_of}
+use Rattle.sb_shown.specs.lane.Links.{link_in}
+use Rattle.sb_shown.specs.lane.Placed.{conts_of}
+use Rattle.sb_shown.proofs.lane.OrderKept.{next-fits, place-kept}
+use Rattle.sb_shown.specs.node.declared.closing.Closing.{Closing}
+use Rattle.sb_shown.specs.node.declared.state.NodeState.{NodeState}
+use Rattle.sb_shown.specs.node.LinkChanges.{FindsPlace, LinksStay}
 use Rattle.sb_hand.specs.LaneGoing.{LaneGoes}
-use Rattle.sb_hand.specs.Linking.{AreLinked, KeepsLinks, NoneBelow, StandsBelow}
+use Rattle.sb_shown.specs.Linking.{AreLinked, KeepsLinks, NoneBelow, StandsBelow}
 use Rattle.sb_hand.specs.Runs.{close_of}
-use Rattle.sb_hand.specs.Sets.{BeginsAt, HasLane, Turns}
-use Rattle.sb_hand.specs.Showing.{CanStand}
+use Rattle.sb_shown.specs.Sets.{BeginsAt, HasLane, Turns}
+use Rattle.sb_shown.specs.Showing.{CanStand}
 use Rattle.sb_hand.proofs.Gives.{Puts}
-use Rattle.sb_hand.proofs.Having.{has-down, step-of}
+use Rattle.sb_hand.proofs.Having.{has-down}
+use Rattle.sb_shown.proofs.Steps.{step-of}
 use Rattle.sb_hand.proofs.KeptLinks.{first-keeps, it-goes, put-keeps}
 use Rattle.sb_hand.proofs.LinkedSets.{from, has-now, of-lane, of-node, one-lane}
-use Rattle.sb_hand.proofs.OpenBelow.{lane-ok, lane-shown, none-before}
+use Rattle.sb_shown.proofs.OpenBelow.{lane-ok, lane-shown, none-before}
 
 pub some-rows : (n : ℕ) → eqb n 0 ≡ false → 0 < n
 some-rows zero h = cc

@@ -1,22 +1,22 @@
 -- Lists of events, one after another.
 use Rattle.std.proofs.Common.{◌≡◌, ℕ, suc, zero, ◌+◌, List, [], ◌∷◌, ◌++◌, Some, None, Option, sym, refl, ap, subst, ◌∙◌, append_assoc, append-nil, zero-add, false, arith}
 use Rattle.std.specs.Prelude.{replicate}
-use Rattle.sb_node.specs.base.records.declared.item.Record.{Record}
-use Rattle.sb_node.specs.base.records.Reading.{◌>>=◌}
-use Rattle.sb_node.specs.base.pipeline.Shapes.{Shape}
-use Rattle.sb_tally.specs.core.declared.moment.Moment.{Moment}
-use Rattle.sb_tally.specs.core.declared.held.Held.{Held}
-use Rattle.sb_tally.specs.core.declared.event.Event.{Event}
-use Rattle.sb_tally.specs.core.Events.{after, run}
-use Rattle.sb_tally.specs.core.declared.event.Event.TheVariants.{Deliver}
-use Rattle.sb_node.specs.declared.closing.Closing.{Closing}
+use Rattle.sb_shown.specs.base.records.declared.item.Record.{Record}
+use Rattle.sb_shown.specs.base.records.Reading.{◌>>=◌}
+use Rattle.sb_shown.specs.base.pipeline.Shapes.{Shape}
+use Rattle.sb_shown.specs.core.declared.moment.Moment.{Moment}
+use Rattle.sb_shown.specs.core.declared.held.Held.{Held}
+use Rattle.sb_shown.specs.core.declared.event.Event.{Event}
+use Rattle.sb_shown.specs.core.Events.{after, run}
+use Rattle.sb_shown.specs.core.declared.event.Event.TheVariants.{Deliver}
+use Rattle.sb_shown.specs.node.declared.closing.Closing.{Closing}
 use Rattle.sb_hand.proofs.LeftToDo.{lowers-then, lowers-none}
 use Rattle.sb_hand.specs.Runs.{close_of, deliveries, Delivers}
-use Rattle.sb_node.specs.declared.state.NodeState.{NodeState}
+use Rattle.sb_shown.specs.node.declared.state.NodeState.{NodeState}
 use Rattle.std.proofs.lemmas.Option.{same_Some}
-use Rattle.sb_node.specs.diary.declared.event.DiaryEvent.{DiaryEvent}
-use Rattle.sb_tally.specs.Keeping.{diaries_after, if_some, diaries_by}
-use Rattle.sb_hand.specs.Showing.{Stands, CanStand, Does, diaries_of}
+use Rattle.sb_shown.specs.diary.declared.event.DiaryEvent.{DiaryEvent}
+use Rattle.sb_shown.specs.tally.Keeping.{diaries_after, if_some, diaries_by}
+use Rattle.sb_shown.specs.Showing.{Stands, CanStand, Does, diaries_of}
 
 pub run-append : (plan : Shape) (es fs : List Event) (m : Moment) → run plan (es ++ fs) m ≡ (run plan es m >>= run plan fs)
 run-append plan [] fs m = refl

@@ -3,51 +3,49 @@ use Rattle.std.proofs.Common.{◌≡◌, ℕ, ◌+◌, ◌-◌, ◌≤◌, ◌<�
 use Rattle.std.specs.Prelude.{◌&&◌, min}
 use Rattle.std.specs.List.{slice_get}
 use Rattle.std.proofs.lemmas.Bool.{eq-eqb, ne_eqb}
-use Rattle.sb_node.specs.base.records.declared.item.Record.{Record}
-use Rattle.sb_node.specs.base.records.Reading.{◌>>=◌}
-use Rattle.sb_node.specs.base.bundle.declared.bundle.Bundle.{Bundle}
-use Rattle.sb_node.specs.base.pipeline.declared.transform.Down.{Down}
-use Rattle.sb_node.specs.base.pipeline.declared.transform.Step.{Step}
-use Rattle.sb_node.specs.base.pipeline.Shapes.{Shape}
-use Rattle.sb_node.specs.base.pipeline.Plans.{IsPlan}
-use Rattle.sb_node.specs.base.pipeline.Operators.{operator_at}
-use Rattle.sb_tally.specs.core.declared.moment.CoreLane.{CoreLane}
-use Rattle.sb_tally.specs.core.declared.held.Held.{Held}
-use Rattle.sb_tally.specs.core.declared.held.Held.TheVariants.{Work, Close}
-use Rattle.sb_tally.specs.core.declared.event.Event.TheVariants.{Take, Deliver, Pass, End}
-use Rattle.sb_tally.specs.core.Choices.{is_empty}
-use Rattle.sb_tally.specs.core.Closings.{delivery}
-use Rattle.sb_tally.specs.core.Events.{below}
-use Rattle.sb_tally.specs.core.Lanes.{next_epoch, take_from, with_arrival, with_seal}
-use Rattle.sb_tally.specs.core.Laws.{concerns}
-use Rattle.sb_tally.specs.core.Moments.{set_lane}
-use Rattle.sb_tally.specs.core.Parts.{only_node, put_in}
-use Rattle.sb_node.specs.lane.LaneView.{LaneView, lane_of}
-use Rattle.sb_node.specs.lane.Placed.{conts_of}
-use Rattle.sb_node.specs.lane.Taking.{take_first}
-use Rattle.sb_node.specs.declared.state.NodeState.{NodeState}
+use Rattle.sb_shown.specs.base.records.declared.item.Record.{Record}
+use Rattle.sb_shown.specs.base.records.Reading.{◌>>=◌}
+use Rattle.sb_shown.specs.base.bundle.declared.bundle.Bundle.{Bundle}
+use Rattle.sb_shown.specs.base.pipeline.declared.transform.Down.{Down}
+use Rattle.sb_shown.specs.base.pipeline.declared.transform.Step.{Step}
+use Rattle.sb_shown.specs.base.pipeline.Shapes.{Shape}
+use Rattle.sb_shown.specs.base.pipeline.Plans.{IsPlan}
+use Rattle.sb_shown.specs.base.pipeline.Operators.{operator_at}
+use Rattle.sb_shown.specs.core.declared.moment.CoreLane.{CoreLane}
+use Rattle.sb_shown.specs.core.declared.held.Held.{Held}
+use Rattle.sb_shown.specs.core.declared.held.Held.TheVariants.{Work, Close}
+use Rattle.sb_shown.specs.core.declared.event.Event.TheVariants.{Take, Deliver, Pass, End}
+use Rattle.sb_shown.specs.core.Choices.{is_empty}
+use Rattle.sb_shown.specs.core.Closings.{delivery}
+use Rattle.sb_shown.specs.core.Events.{below}
+use Rattle.sb_shown.specs.core.Lanes.{next_epoch, take_from, with_arrival, with_seal}
+use Rattle.sb_shown.specs.core.Laws.{concerns}
+use Rattle.sb_shown.specs.core.Moments.{set_lane}
+use Rattle.sb_shown.specs.core.Parts.{only_node, put_in}
+use Rattle.sb_shown.specs.lane.LaneView.{LaneView, lane_of}
+use Rattle.sb_shown.specs.lane.Placed.{conts_of}
+use Rattle.sb_shown.specs.lane.Taking.{take_first}
+use Rattle.sb_shown.specs.node.declared.state.NodeState.{NodeState}
 use Rattle.std.proofs.lemmas.List.{length-drop, take_min}
 use Rattle.std.proofs.lemmas.Bool.{cases_lt}
 use Rattle.std.specs.Option.{option_map}
-use Rattle.sb_node.specs.declared.closing.Closing.{Closing}
+use Rattle.sb_shown.specs.node.declared.closing.Closing.{Closing}
 use Rattle.sb_hand.specs.Runs.{close_of, deliveries, Delivers, Ends}
 use Rattle.sb_hand.proofs.Composing.{does-then}
 use Rattle.sb_hand.proofs.LeftToDo.{lowers-then, below-lowers, ends-lowers}
-use Rattle.sb_hand.specs.Sets.{HasLane, Turns, SetsLane}
-use Rattle.sb_hand.proofs.Having.{step-of, has-down}
-use Rattle.sb_hand.specs.Showing.{CanStand, Does}
-use Rattle.sb_node.specs.diary.declared.event.DiaryEvent.{DiaryEvent}
-use Rattle.sb_node.specs.diary.declared.event.DiaryEvent.TheVariants as line
-use Rattle.sb_tally.specs.Written as written
-use Rattle.sb_tally.specs.Written.{arrival_line, seal_line}
-use Rattle.sb_hand.proofs.LaneEvents.{lane_in, the_lane-is, lane-free, lane-held, put-is}
+use Rattle.sb_shown.specs.Sets.{HasLane, Turns, SetsLane}
+use Rattle.sb_hand.proofs.Having.{has-down}
+use Rattle.sb_shown.proofs.Steps.{below-is, step-of}
+use Rattle.sb_shown.specs.Showing.{CanStand, Does}
+use Rattle.sb_shown.specs.diary.declared.event.DiaryEvent.{DiaryEvent}
+use Rattle.sb_shown.specs.diary.declared.event.DiaryEvent.TheVariants as line
+use Rattle.sb_shown.specs.tally.Written as written
+use Rattle.sb_shown.specs.tally.Written.{arrival_line, seal_line}
+use Rattle.sb_shown.proofs.LaneEvents.{lane_in, the_lane-is, lane-free, lane-held, put-is}
 use Rattle.sb_hand.proofs.Numbers.{work_number}
-use Rattle.sb_hand.proofs.SettingsStay.{settings-lane}
-use Rattle.sb_hand.proofs.Single.{chain, passing, there-too}
-use Rattle.sb_node.proofs.lane.InTheCore.{take_first-is}
-
-pub below-is : (plan : Shape) (k : ℕ) (st : Step) → slice_get plan.steps k ≡ Some st → below plan k ≡ Some st.down
-below-is plan k st h = ap (λ (o : Option Step). o >>= λ s. Some s.down) h
+use Rattle.sb_shown.proofs.SettingsStay.{settings-lane}
+use Rattle.sb_shown.proofs.Single.{chain, passing, there-too}
+use Rattle.sb_shown.proofs.lane.InTheCore.{take_first-is}
 
 module _ (plan : Shape) (is_plan : IsPlan plan) (bundle : ℕ) (old new : List NodeState) where
   -- a bundle is taken

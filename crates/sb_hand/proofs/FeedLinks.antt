@@ -2,30 +2,30 @@
 use Rattle.std.proofs.Common.{◌≡◌, ℕ, ◌+◌, ◌≤◌, List, [], length, Some, refl, sym, ap, subst, ◌∙◌, arith}
 use Rattle.std.specs.Prelude.{Result, Ok, Err, IfOk, IfErr, OnOk, OnErr}
 use Rattle.std.proofs.lemmas.Option.{same_Some}
-use Rattle.sb_node.specs.base.records.declared.item.Stream.{Stream}
-use Rattle.sb_node.specs.base.bundle.declared.bundle.Bundle.{Bundle}
-use Rattle.sb_node.specs.diary.declared.event.DiaryEvent.TheVariants as line
-use Rattle.sb_node.specs.base.pipeline.declared.transform.Down.{Down}
-use Rattle.sb_node.specs.base.pipeline.Shapes.{Shape, source}
-use Rattle.sb_node.specs.base.pipeline.Plans.{IsPlan}
-use Rattle.sb_node.proofs.base.pipeline.Feeding.{sources_apart}
-use Rattle.sb_tally.specs.core.declared.moment.CoreLane.{CoreLane}
-use Rattle.sb_tally.specs.core.Lanes.{next_epoch, with_seal}
-use Rattle.sb_node.specs.lane.declared.answers.ArriveStop.{ArriveStop}
-use Rattle.sb_node.specs.lane.LaneView.{LaneView, lane_of}
-use Rattle.sb_node.specs.lane.Placed.{conts_of}
-use Rattle.sb_node.specs.declared.state.NodeState.{NodeState}
+use Rattle.sb_shown.specs.base.records.declared.item.Stream.{Stream}
+use Rattle.sb_shown.specs.base.bundle.declared.bundle.Bundle.{Bundle}
+use Rattle.sb_shown.specs.diary.declared.event.DiaryEvent.TheVariants as line
+use Rattle.sb_shown.specs.base.pipeline.declared.transform.Down.{Down}
+use Rattle.sb_shown.specs.base.pipeline.Shapes.{Shape, source}
+use Rattle.sb_shown.specs.base.pipeline.Plans.{IsPlan}
+use Rattle.sb_shown.proofs.base.pipeline.Feeding.{sources_apart}
+use Rattle.sb_shown.specs.core.declared.moment.CoreLane.{CoreLane}
+use Rattle.sb_shown.specs.core.Lanes.{next_epoch, with_seal}
+use Rattle.sb_shown.specs.lane.declared.answers.ArriveStop.{ArriveStop}
+use Rattle.sb_shown.specs.lane.LaneView.{LaneView, lane_of}
+use Rattle.sb_shown.specs.lane.Placed.{conts_of}
+use Rattle.sb_shown.specs.node.declared.state.NodeState.{NodeState}
 use Rattle.sb_hand.specs.Feeding.{ArrivesIn, ComesBack, TakesStream}
-use Rattle.sb_node.specs.LinkChanges.{GetsPlace, LinksStay}
+use Rattle.sb_shown.specs.node.LinkChanges.{GetsPlace, LinksStay}
 use Rattle.sb_hand.specs.LaneGoing.{LaneGoes}
-use Rattle.sb_hand.specs.Linking.{AreLinked}
-use Rattle.sb_hand.specs.Searching.{SearchesStay}
-use Rattle.sb_hand.specs.Sets.{HasLane, StaysAt, Turns}
-use Rattle.sb_hand.specs.Showing.{CanStand}
+use Rattle.sb_shown.specs.Linking.{AreLinked}
+use Rattle.sb_shown.specs.Searching.{SearchesStay}
+use Rattle.sb_shown.specs.Sets.{HasLane, StaysAt, Turns}
+use Rattle.sb_shown.specs.Showing.{CanStand}
 use Rattle.sb_hand.proofs.KeptLinks.{arrive-keeps, seal-keeps}
 use Rattle.sb_hand.proofs.LinkedEvents.{NoneAbove, stay}
 use Rattle.sb_hand.proofs.LinkedSets.{has-now, has-was, of-lane, of-stays, stay-set}
-use Rattle.sb_hand.proofs.Unsealed.{unsealed_of}
+use Rattle.sb_shown.proofs.Unsealed.{unsealed_of}
 
 pub stay-none : (nodes : List NodeState) → SearchesStay nodes nodes
 stay-none nodes k l is h = (is, h, refl)

@@ -1,12 +1,12 @@
 -- Events that feed nothing.
 use Rattle.std.proofs.Common.{◌≡◌, ℕ, suc, zero, true, false, List, [], ◌∷◌, ◌++◌, refl, ◌∙◌}
-use Rattle.sb_node.specs.base.records.declared.item.Record.{Record}
-use Rattle.sb_node.specs.base.records.declared.item.Stream.{Stream}
-use Rattle.sb_tally.specs.core.declared.event.Event.{Event}
-use Rattle.sb_tally.specs.core.declared.event.Event.TheVariants.{Take, Deliver, Finish, Begin, Pass, End}
-use Rattle.sb_tally.specs.core.Laws.{records_fed_after}
-use Rattle.sb_tally.specs.Keeping.{feed_after}
-use Rattle.sb_tally.specs.Tally.{Feed}
+use Rattle.sb_shown.specs.base.records.declared.item.Record.{Record}
+use Rattle.sb_shown.specs.base.records.declared.item.Stream.{Stream}
+use Rattle.sb_shown.specs.core.declared.event.Event.{Event}
+use Rattle.sb_shown.specs.core.declared.event.Event.TheVariants.{Take, Deliver, Finish, Begin, Pass, End}
+use Rattle.sb_shown.specs.core.Laws.{records_fed_after}
+use Rattle.sb_shown.specs.tally.Keeping.{feed_after}
+use Rattle.sb_shown.specs.tally.Tally.{Feed}
 use Rattle.sb_hand.specs.HandLaws.{FeedNothing, BundlesFeedNothing, ClosingsFeedNothing}
 use Rattle.sb_hand.specs.Runs.{deliveries}
 use Rattle.sb_hand.specs.Runs.IsClosingRun.{OfTransform, OfSink}

@@ -5,44 +5,44 @@ use Rattle.std.specs.List.{slice_get, slice_set, list_all, AllByRecursion}
 use Rattle.std.proofs.lemmas.Bool.{cases_eq, le-leb}
 use Rattle.std.proofs.lemmas.List.{length-set, map-set}
 use Rattle.std.proofs.lemmas.Option.{same_Some}
-use Rattle.sb_node.specs.base.records.declared.item.Record.{Record}
-use Rattle.sb_node.specs.base.records.declared.item.Stream.{Stream}
-use Rattle.sb_node.specs.base.records.declared.item.TheConstants.{MAX_TIME, END_MARK}
-use Rattle.sb_node.specs.base.records.Reading.{◌>>=◌}
-use Rattle.sb_node.specs.base.bundle.declared.bundle.Bundle.{Bundle}
-use Rattle.sb_node.specs.base.pipeline.declared.transform.Down.{Down}
-use Rattle.sb_node.specs.base.pipeline.Operators.{operator_at}
-use Rattle.sb_node.specs.base.pipeline.Plans.{IsPlan}
-use Rattle.sb_node.specs.base.pipeline.Shapes.{Shape, source}
-use Rattle.sb_tally.specs.core.declared.event.Event.{Event}
-use Rattle.sb_tally.specs.core.declared.event.Event.TheVariants.{Arrive, Seal}
-use Rattle.sb_tally.specs.core.declared.held.Held.{Held}
-use Rattle.sb_tally.specs.core.declared.moment.CoreLane.{CoreLane}
-use Rattle.sb_tally.specs.core.declared.moment.Moment.{Moment}
-use Rattle.sb_tally.specs.core.declared.moment.Node.{Node}
-use Rattle.sb_tally.specs.core.Choices.{is_empty}
-use Rattle.sb_tally.specs.core.Lanes.{next_epoch, next_floor, with_arrival, with_seal}
-use Rattle.sb_tally.specs.core.Moments.{set_lane}
-use Rattle.sb_tally.specs.core.Parts.{only_node, put_in}
-use Rattle.sb_tally.proofs.core.exact.Nodes.{slice_get-set_same, slice_get-set_other}
-use Rattle.sb_node.specs.diary.declared.event.DiaryEvent.{DiaryEvent}
-use Rattle.sb_node.specs.diary.declared.event.DiaryEvent.TheVariants as line
-use Rattle.sb_node.specs.kept.declared.kept.Kept.{Kept}
-use Rattle.sb_node.specs.lane.declared.answers.ArriveStop.{ArriveStop}
-use Rattle.sb_node.specs.lane.declared.answers.ArriveStop.TheVariants.{Full, Memory}
-use Rattle.sb_node.specs.lane.LaneView.{LaneView, lane_of}
-use Rattle.sb_node.specs.lane.Placed.{conts_of}
-use Rattle.sb_node.specs.lane.Unfinished.{unfinished_of}
-use Rattle.sb_tally.specs.Written.{arrival_line, seal_line}
-use Rattle.sb_tally.specs.Written as written
-use Rattle.sb_node.specs.declared.state.NodeState.{NodeState}
-use Rattle.sb_node.specs.Coming.{IsBackFrom}
+use Rattle.sb_shown.specs.base.records.declared.item.Record.{Record}
+use Rattle.sb_shown.specs.base.records.declared.item.Stream.{Stream}
+use Rattle.sb_shown.specs.base.records.declared.item.TheConstants.{MAX_TIME, END_MARK}
+use Rattle.sb_shown.specs.base.records.Reading.{◌>>=◌}
+use Rattle.sb_shown.specs.base.bundle.declared.bundle.Bundle.{Bundle}
+use Rattle.sb_shown.specs.base.pipeline.declared.transform.Down.{Down}
+use Rattle.sb_shown.specs.base.pipeline.Operators.{operator_at}
+use Rattle.sb_shown.specs.base.pipeline.Plans.{IsPlan}
+use Rattle.sb_shown.specs.base.pipeline.Shapes.{Shape, source}
+use Rattle.sb_shown.specs.core.declared.event.Event.{Event}
+use Rattle.sb_shown.specs.core.declared.event.Event.TheVariants.{Arrive, Seal}
+use Rattle.sb_shown.specs.core.declared.held.Held.{Held}
+use Rattle.sb_shown.specs.core.declared.moment.CoreLane.{CoreLane}
+use Rattle.sb_shown.specs.core.declared.moment.Moment.{Moment}
+use Rattle.sb_shown.specs.core.declared.moment.Node.{Node}
+use Rattle.sb_shown.specs.core.Choices.{is_empty}
+use Rattle.sb_shown.specs.core.Lanes.{next_epoch, next_floor, with_arrival, with_seal}
+use Rattle.sb_shown.specs.core.Moments.{set_lane}
+use Rattle.sb_shown.specs.core.Parts.{only_node, put_in}
+use Rattle.sb_shown.proofs.core.exact.Nodes.{slice_get-set_same, slice_get-set_other}
+use Rattle.sb_shown.specs.diary.declared.event.DiaryEvent.{DiaryEvent}
+use Rattle.sb_shown.specs.diary.declared.event.DiaryEvent.TheVariants as line
+use Rattle.sb_shown.specs.kept.declared.kept.Kept.{Kept}
+use Rattle.sb_shown.specs.lane.declared.answers.ArriveStop.{ArriveStop}
+use Rattle.sb_shown.specs.lane.declared.answers.ArriveStop.TheVariants.{Full, Memory}
+use Rattle.sb_shown.specs.lane.LaneView.{LaneView, lane_of}
+use Rattle.sb_shown.specs.lane.Placed.{conts_of}
+use Rattle.sb_shown.specs.lane.Unfinished.{unfinished_of}
+use Rattle.sb_shown.specs.tally.Written.{arrival_line, seal_line}
+use Rattle.sb_shown.specs.tally.Written as written
+use Rattle.sb_shown.specs.node.declared.state.NodeState.{NodeState}
+use Rattle.sb_shown.specs.node.Coming.{IsBackFrom}
 use Rattle.sb_hand.specs.Feeding.{ArrivesIn, ComesBack, IsTurnedBack, MayArrive, MaySeal, TakesStream}
-use Rattle.sb_hand.specs.Sets.{HasLane, SetsLane, StaysAt, Turns}
-use Rattle.sb_hand.specs.Showing.{CanStand, Does, IsKept, ShowsNode, Stands, diaries_of, settings_of}
-use Rattle.sb_hand.proofs.LaneEvents.{lane_in, the_lane-is, lane-free, put-is}
-use Rattle.sb_hand.proofs.SettingsStay.{set_same, settings-lane, settings-set}
-use Rattle.sb_hand.proofs.Single.{chain, passing, there-too, get-map}
+use Rattle.sb_shown.specs.Sets.{HasLane, SetsLane, StaysAt, Turns}
+use Rattle.sb_shown.specs.Showing.{CanStand, Does, IsKept, ShowsNode, Stands, diaries_of, settings_of}
+use Rattle.sb_shown.proofs.LaneEvents.{lane_in, the_lane-is, lane-free, put-is}
+use Rattle.sb_shown.proofs.SettingsStay.{set_same, settings-lane, settings-set}
+use Rattle.sb_shown.proofs.Single.{chain, passing, there-too, get-map}
 
 -- ---- nothing is done
 module _ (plan : Shape) (size : ℕ) (old new : List NodeState) (k l : ℕ) (lane : LaneView) (t : StaysAt k l old new lane) where

@@ -4,49 +4,49 @@ use Rattle.std.specs.Prelude.{◌||◌, ◌&&◌}
 use Rattle.std.specs.List.{slice_get, slice_set, AllByRecursion}
 use Rattle.std.proofs.lemmas.Bool.{eq-eqb}
 use Rattle.std.proofs.lemmas.List.{map-set}
-use Rattle.sb_node.specs.base.records.declared.item.Record.{Record}
-use Rattle.sb_node.specs.base.records.Reading.{◌>>=◌}
-use Rattle.sb_node.specs.base.records.declared.element.KeptRec.{KeptRec}
-use Rattle.sb_node.specs.base.records.Elements.{on_lane}
-use Rattle.sb_node.specs.base.pipeline.Shapes.{Shape}
-use Rattle.sb_node.specs.base.pipeline.Plans.{IsPlan}
-use Rattle.sb_node.specs.base.pipeline.Operators.{Operator, operator_at}
-use Rattle.sb_node.specs.base.pipeline.Operators.Operator.{ParDo, Windowed, Sink}
-use Rattle.sb_tally.specs.core.declared.moment.CoreLane.{CoreLane}
-use Rattle.sb_tally.specs.core.declared.moment.Node.{Node}
-use Rattle.sb_tally.specs.core.declared.moment.Moment.{Moment}
-use Rattle.sb_tally.specs.core.declared.held.Held.{Held}
-use Rattle.sb_tally.specs.core.declared.held.Held.TheVariants.{Work}
-use Rattle.sb_tally.specs.core.declared.event.Event.TheVariants.{Finish}
-use Rattle.sb_tally.specs.core.Bounds.{bound_at}
-use Rattle.sb_tally.specs.core.Choices.{is_empty}
-use Rattle.sb_tally.specs.core.Closings.{delivery, kept_elements, is_pardo}
-use Rattle.sb_tally.specs.core.Holdings.{IsHeld, IsWork}
-use Rattle.sb_tally.specs.core.LaneOrder.{IsWithin}
-use Rattle.sb_tally.specs.core.Lanes.{finish_in}
-use Rattle.sb_tally.specs.core.Laws.{concerns}
-use Rattle.sb_tally.specs.core.Marks.{least_begun_mark}
-use Rattle.sb_tally.specs.core.Moments.{set_lane}
-use Rattle.sb_tally.specs.core.Parts.{Part, only_node, with_part}
-use Rattle.sb_tally.specs.core.Soundness.{IsSound}
-use Rattle.sb_tally.proofs.core.times.InTime.{work_floor, closed_least}
-use Rattle.sb_tally.proofs.core.exact.Nodes.{begun_mark, slice_get-set_same}
-use Rattle.sb_node.specs.lane.LaneView.{LaneView, lane_of}
-use Rattle.sb_node.specs.lane.Placed.{conts_of}
-use Rattle.sb_node.specs.lane.Taking.{finish_first}
-use Rattle.sb_node.specs.declared.state.NodeState.{NodeState}
-use Rattle.sb_node.specs.base.window.Groupings.{IsFrom}
-use Rattle.sb_node.specs.kept.declared.kept.Kept.{Kept}
-use Rattle.sb_node.specs.kept.Keeping.{IsMadeFor, IsSpent, IsPartFor, ShowsKept, closed_mark, gives}
-use Rattle.sb_node.specs.work.declared.outputs.Part.{Part as WorkPart}
-use Rattle.sb_hand.specs.Sets.{Turns, Absorbs}
-use Rattle.sb_node.specs.diary.declared.event.DiaryEvent.TheVariants as line
-use Rattle.sb_hand.specs.Showing.{ShowsNode, Reaches, Does, diaries_of}
-use Rattle.sb_hand.proofs.Calm.{calm}
-use Rattle.sb_hand.proofs.LaneEvents.{lane_in, lane-held}
-use Rattle.sb_node.proofs.lane.InTheCore.{finish_first-is}
-use Rattle.sb_hand.proofs.ShowsKept.{StandsFor, shows-adds}
-use Rattle.sb_hand.proofs.Single.{chain, passing, there-too, get-map, event-held}
+use Rattle.sb_shown.specs.base.records.declared.item.Record.{Record}
+use Rattle.sb_shown.specs.base.records.Reading.{◌>>=◌}
+use Rattle.sb_shown.specs.base.records.declared.element.KeptRec.{KeptRec}
+use Rattle.sb_shown.specs.base.records.Elements.{on_lane}
+use Rattle.sb_shown.specs.base.pipeline.Shapes.{Shape}
+use Rattle.sb_shown.specs.base.pipeline.Plans.{IsPlan}
+use Rattle.sb_shown.specs.base.pipeline.Operators.{Operator, operator_at}
+use Rattle.sb_shown.specs.base.pipeline.Operators.Operator.{ParDo, Windowed, Sink}
+use Rattle.sb_shown.specs.core.declared.moment.CoreLane.{CoreLane}
+use Rattle.sb_shown.specs.core.declared.moment.Node.{Node}
+use Rattle.sb_shown.specs.core.declared.moment.Moment.{Moment}
+use Rattle.sb_shown.specs.core.declared.held.Held.{Held}
+use Rattle.sb_shown.specs.core.declared.held.Held.TheVariants.{Work}
+use Rattle.sb_shown.specs.core.declared.event.Event.TheVariants.{Finish}
+use Rattle.sb_shown.specs.core.Bounds.{bound_at}
+use Rattle.sb_shown.specs.core.Choices.{is_empty}
+use Rattle.sb_shown.specs.core.Closings.{delivery, kept_elements, is_pardo}
+use Rattle.sb_shown.specs.core.Holdings.{IsHeld, IsWork}
+use Rattle.sb_shown.specs.core.LaneOrder.{IsWithin}
+use Rattle.sb_shown.specs.core.Lanes.{finish_in}
+use Rattle.sb_shown.specs.core.Laws.{concerns}
+use Rattle.sb_shown.specs.core.Marks.{least_begun_mark}
+use Rattle.sb_shown.specs.core.Moments.{set_lane}
+use Rattle.sb_shown.specs.core.Parts.{Part, only_node, with_part}
+use Rattle.sb_shown.specs.core.Soundness.{IsSound}
+use Rattle.sb_shown.proofs.core.times.InTime.{work_floor, closed_least}
+use Rattle.sb_shown.proofs.core.exact.Nodes.{begun_mark, slice_get-set_same}
+use Rattle.sb_shown.specs.lane.LaneView.{LaneView, lane_of}
+use Rattle.sb_shown.specs.lane.Placed.{conts_of}
+use Rattle.sb_shown.specs.lane.Taking.{finish_first}
+use Rattle.sb_shown.specs.node.declared.state.NodeState.{NodeState}
+use Rattle.sb_shown.specs.base.window.Groupings.{IsFrom}
+use Rattle.sb_shown.specs.kept.declared.kept.Kept.{Kept}
+use Rattle.sb_shown.specs.kept.Keeping.{IsMadeFor, IsSpent, IsPartFor, ShowsKept, closed_mark, gives}
+use Rattle.sb_shown.specs.work.declared.outputs.Part.{Part as WorkPart}
+use Rattle.sb_shown.specs.Sets.{Turns, Absorbs}
+use Rattle.sb_shown.specs.diary.declared.event.DiaryEvent.TheVariants as line
+use Rattle.sb_shown.specs.Showing.{ShowsNode, Reaches, Does, diaries_of}
+use Rattle.sb_shown.proofs.Calm.{calm}
+use Rattle.sb_shown.proofs.LaneEvents.{lane_in, lane-held}
+use Rattle.sb_shown.proofs.lane.InTheCore.{finish_first-is}
+use Rattle.sb_shown.proofs.ShowsKept.{StandsFor, shows-adds}
+use Rattle.sb_shown.proofs.Single.{chain, passing, there-too, get-map, event-held}
 
 not_pardo : (op : Operator) (records : List Record) → is_pardo op ≡ false → delivery op records ≡ []
 not_pardo (ParDo op) records h = cc

@@ -5,55 +5,56 @@ use Rattle.std.specs.List.{slice_get}
 use Rattle.std.specs.Option.{option_map}
 use Rattle.std.proofs.lemmas.Bool.{eq-eqb, ne_eqb}
 use Rattle.std.proofs.lemmas.Option.{same_Some, slice_get_within}
-use Rattle.sb_node.specs.base.bundle.declared.bundle.Bundle.{Bundle}
-use Rattle.sb_node.specs.base.records.declared.item.Record.{Record}
-use Rattle.sb_node.specs.base.records.Reading.{◌>>=◌}
-use Rattle.sb_node.specs.base.pipeline.declared.transform.Step.{Step}
-use Rattle.sb_node.specs.base.pipeline.declared.transform.Down.{Down}
-use Rattle.sb_node.specs.base.pipeline.Shapes.{Shape}
-use Rattle.sb_node.specs.base.pipeline.Plans.{IsPlan}
-use Rattle.sb_node.specs.base.pipeline.Operators.{Operator, operator_at, lanes_of}
-use Rattle.sb_node.specs.base.pipeline.Operators.Operator.{ParDo, Windowed, Sink}
-use Rattle.sb_tally.specs.core.declared.moment.Cont.{Cont}
-use Rattle.sb_tally.specs.core.declared.moment.CoreLane.{CoreLane}
-use Rattle.sb_tally.specs.core.declared.moment.Node.{Node}
-use Rattle.sb_tally.specs.core.declared.held.Held.{Held}
-use Rattle.sb_tally.specs.core.declared.event.Event.TheVariants.{Deliver}
-use Rattle.sb_tally.specs.core.Bounds.{bound_at}
-use Rattle.sb_tally.specs.core.Choices.{is_empty}
-use Rattle.sb_tally.specs.core.Closings.{delivery, is_pardo}
-use Rattle.sb_tally.specs.core.Events.{after, below}
-use Rattle.sb_tally.specs.core.Holdings.{IsWork}
-use Rattle.sb_tally.specs.core.LaneOrder.{IsLane, cont_at}
-use Rattle.sb_tally.specs.core.Lanes.{in_epoch, with_arrival}
-use Rattle.sb_tally.specs.core.Laws.{concerns}
-use Rattle.sb_tally.specs.core.Moments.{epoch_at, epoch_of, lane_at, set_lane, with_held}
-use Rattle.sb_tally.specs.core.Parts.{Part, held_after, only_node, put_in, with_part}
-use Rattle.sb_tally.specs.core.Soundness.{IsSound}
-use Rattle.sb_tally.proofs.core.exact.AfterExact.{not_sealed}
-use Rattle.sb_tally.proofs.core.sound.AfterSound.{events-keep_sound}
-use Rattle.sb_tally.proofs.core.exact.Nodes.{slice_get-set_same}
-use Rattle.sb_tally.proofs.core.sound.Orderly.{lawful_of}
-use Rattle.sb_tally.proofs.core.parts.PartsLaw.{held-parts_are_events}
-use Rattle.sb_node.specs.lane.Changes.{StandsAt}
-use Rattle.sb_node.specs.lane.LaneView.{LaneView, lane_of, link_at}
-use Rattle.sb_node.specs.lane.Links.{Link, down_of, link_of, link_in, links_of}
-use Rattle.sb_node.specs.lane.Placed.{Placed, conts_of}
-use Rattle.sb_node.proofs.lane.OrderKept.{place-within}
-use Rattle.sb_node.specs.declared.state.NodeState.{NodeState}
-use Rattle.sb_hand.specs.Linking.{AreLinked, place_in}
+use Rattle.sb_shown.specs.base.bundle.declared.bundle.Bundle.{Bundle}
+use Rattle.sb_shown.specs.base.records.declared.item.Record.{Record}
+use Rattle.sb_shown.specs.base.records.Reading.{◌>>=◌}
+use Rattle.sb_shown.specs.base.pipeline.declared.transform.Step.{Step}
+use Rattle.sb_shown.specs.base.pipeline.declared.transform.Down.{Down}
+use Rattle.sb_shown.specs.base.pipeline.Shapes.{Shape}
+use Rattle.sb_shown.specs.base.pipeline.Plans.{IsPlan}
+use Rattle.sb_shown.specs.base.pipeline.Operators.{Operator, operator_at, lanes_of}
+use Rattle.sb_shown.specs.base.pipeline.Operators.Operator.{ParDo, Windowed, Sink}
+use Rattle.sb_shown.specs.core.declared.moment.Cont.{Cont}
+use Rattle.sb_shown.specs.core.declared.moment.CoreLane.{CoreLane}
+use Rattle.sb_shown.specs.core.declared.moment.Node.{Node}
+use Rattle.sb_shown.specs.core.declared.held.Held.{Held}
+use Rattle.sb_shown.specs.core.declared.event.Event.TheVariants.{Deliver}
+use Rattle.sb_shown.specs.core.Bounds.{bound_at}
+use Rattle.sb_shown.specs.core.Choices.{is_empty}
+use Rattle.sb_shown.specs.core.Closings.{delivery, is_pardo}
+use Rattle.sb_shown.specs.core.Events.{after, below}
+use Rattle.sb_shown.specs.core.Holdings.{IsWork}
+use Rattle.sb_shown.specs.core.LaneOrder.{IsLane, cont_at}
+use Rattle.sb_shown.specs.core.Lanes.{in_epoch, with_arrival}
+use Rattle.sb_shown.specs.core.Laws.{concerns}
+use Rattle.sb_shown.specs.core.Moments.{epoch_at, epoch_of, lane_at, set_lane, with_held}
+use Rattle.sb_shown.specs.core.Parts.{Part, held_after, only_node, put_in, with_part}
+use Rattle.sb_shown.specs.core.Soundness.{IsSound}
+use Rattle.sb_shown.proofs.core.exact.AfterExact.{not_sealed}
+use Rattle.sb_shown.proofs.core.sound.AfterSound.{events-keep_sound}
+use Rattle.sb_shown.proofs.core.exact.Nodes.{slice_get-set_same}
+use Rattle.sb_shown.proofs.core.sound.Orderly.{lawful_of}
+use Rattle.sb_shown.proofs.core.parts.PartsLaw.{held-parts_are_events}
+use Rattle.sb_shown.specs.lane.Changes.{StandsAt}
+use Rattle.sb_shown.specs.lane.LaneView.{LaneView, lane_of, link_at}
+use Rattle.sb_shown.specs.lane.Links.{Link, down_of, link_of, link_in, links_of}
+use Rattle.sb_shown.specs.lane.Placed.{Placed, conts_of}
+use Rattle.sb_shown.proofs.lane.OrderKept.{place-within}
+use Rattle.sb_shown.specs.node.declared.state.NodeState.{NodeState}
+use Rattle.sb_shown.specs.Linking.{AreLinked, place_in}
 use Rattle.sb_hand.specs.Runs.{work_of}
-use Rattle.sb_hand.specs.Sets.{HasLane}
-use Rattle.sb_hand.specs.Showing.{CanStand, ShowsNode}
-use Rattle.sb_hand.proofs.Doing.{below-is}
+use Rattle.sb_shown.specs.Sets.{HasLane}
+use Rattle.sb_shown.specs.Showing.{CanStand, ShowsNode}
+use Rattle.sb_shown.proofs.Steps.{below-is}
 use Rattle.sb_hand.proofs.Finishes.{the_work}
-use Rattle.sb_hand.proofs.Having.{finds, lanes-are, step-of}
-use Rattle.sb_hand.proofs.LaneEvents.{put-is}
-use Rattle.sb_hand.proofs.LinkLists.{down-in}
+use Rattle.sb_hand.proofs.Having.{finds, lanes-are}
+use Rattle.sb_shown.proofs.Steps.{step-of}
+use Rattle.sb_shown.proofs.LaneEvents.{put-is}
+use Rattle.sb_shown.proofs.LinkLists.{down-in}
 use Rattle.sb_hand.proofs.Numbers.{work_number}
-use Rattle.sb_hand.proofs.OpenBelow.{lane-shown, lane-ok}
+use Rattle.sb_shown.proofs.OpenBelow.{lane-shown, lane-ok}
 use Rattle.sb_hand.proofs.Outputs.{pardo-within}
-use Rattle.sb_hand.proofs.Single.{chain, passing, there-too, get-map}
+use Rattle.sb_shown.proofs.Single.{chain, passing, there-too, get-map}
 
 one_lane_of : (o : Operator) → is_pardo o ≡ true → lanes_of o ≡ 1
 one_lane_of (ParDo op) h = refl

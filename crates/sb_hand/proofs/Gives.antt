@@ -2,34 +2,35 @@
 use Rattle.std.proofs.Common.{◌≡◌, ℕ, ◌+◌, ◌-◌, ◌^◌, ◌<◌, true, false, List, [], ◌∷◌, length, Some, None, Option, sym, refl, ap, subst, ◌∙◌, arith}
 use Rattle.std.specs.List.{slice_get}
 use Rattle.std.specs.Option.{option_map}
-use Rattle.sb_node.specs.diary.declared.event.DiaryEvent.{DiaryEvent}
-use Rattle.sb_node.specs.diary.declared.event.DiaryEvent.TheVariants as line
-use Rattle.sb_node.specs.base.records.declared.item.Record.{Record}
-use Rattle.sb_node.specs.base.pipeline.declared.transform.Step.{Step}
-use Rattle.sb_node.specs.base.pipeline.declared.transform.Down.{Down}
-use Rattle.sb_node.specs.base.pipeline.Shapes.{Shape}
-use Rattle.sb_tally.specs.core.declared.event.Event.TheVariants.{Deliver}
-use Rattle.sb_tally.specs.core.Bounds.{bound_at}
-use Rattle.sb_tally.specs.core.Choices.{is_empty}
-use Rattle.sb_tally.specs.core.LaneOrder.{IsLane}
-use Rattle.sb_tally.specs.core.Lanes.{in_epoch, with_arrival}
-use Rattle.sb_node.specs.lane.Changes.{StandsAt}
-use Rattle.sb_node.specs.lane.LaneView.{LaneView, lane_of}
-use Rattle.sb_node.specs.lane.Links.{down_of, link_in, links_of}
-use Rattle.sb_node.specs.lane.Placed.{conts_of}
-use Rattle.sb_node.specs.declared.state.NodeState.{NodeState}
-use Rattle.sb_node.specs.work.declared.claim.Claim.{Claim}
-use Rattle.sb_node.specs.LinkChanges.{FindsPlace, GetsLink, LinksStay}
+use Rattle.sb_shown.specs.diary.declared.event.DiaryEvent.{DiaryEvent}
+use Rattle.sb_shown.specs.diary.declared.event.DiaryEvent.TheVariants as line
+use Rattle.sb_shown.specs.base.records.declared.item.Record.{Record}
+use Rattle.sb_shown.specs.base.pipeline.declared.transform.Step.{Step}
+use Rattle.sb_shown.specs.base.pipeline.declared.transform.Down.{Down}
+use Rattle.sb_shown.specs.base.pipeline.Shapes.{Shape}
+use Rattle.sb_shown.specs.core.declared.event.Event.TheVariants.{Deliver}
+use Rattle.sb_shown.specs.core.Bounds.{bound_at}
+use Rattle.sb_shown.specs.core.Choices.{is_empty}
+use Rattle.sb_shown.specs.core.LaneOrder.{IsLane}
+use Rattle.sb_shown.specs.core.Lanes.{in_epoch, with_arrival}
+use Rattle.sb_shown.specs.lane.Changes.{StandsAt}
+use Rattle.sb_shown.specs.lane.LaneView.{LaneView, lane_of}
+use Rattle.sb_shown.specs.lane.Links.{down_of, link_in, links_of}
+use Rattle.sb_shown.specs.lane.Placed.{conts_of}
+use Rattle.sb_shown.specs.node.declared.state.NodeState.{NodeState}
+use Rattle.sb_shown.specs.work.declared.claim.Claim.{Claim}
+use Rattle.sb_shown.specs.node.LinkChanges.{FindsPlace, GetsLink, LinksStay}
 use Rattle.sb_hand.specs.LaneGoing.{LaneGoes}
-use Rattle.sb_hand.specs.Linking.{KeepsLinks}
+use Rattle.sb_shown.specs.Linking.{KeepsLinks}
 use Rattle.sb_hand.specs.Readiness.{CanGive}
 use Rattle.sb_hand.specs.Runs.{work_of, Gives}
-use Rattle.sb_hand.specs.Sets.{HasLane, StaysAt, Turns}
+use Rattle.sb_shown.specs.Sets.{HasLane, StaysAt, Turns}
 use Rattle.sb_hand.specs.Todo.{Lowers, todo_lane, todo_seen}
 use Rattle.sb_hand.proofs.Composing.{does-then}
 use Rattle.sb_hand.proofs.Feeds.{stays-holding, stays-settings}
 use Rattle.sb_hand.proofs.Given as given_to
-use Rattle.sb_hand.proofs.Having.{has-down, step-of}
+use Rattle.sb_hand.proofs.Having.{has-down}
+use Rattle.sb_shown.proofs.Steps.{step-of}
 use Rattle.sb_hand.proofs.KeptLinks.{above-stays, give-keeps, put-keeps}
 use Rattle.sb_hand.proofs.LeftToDo.{at-least, lowers-lane, lowers-then}
 use Rattle.sb_hand.proofs.Works.{given-below, given-lowers, given-settings}

@@ -1,33 +1,33 @@
 -- The lanes that nodes have.
-use Rattle.std.proofs.Common.{◌≡◌, ℕ, suc, zero, ◌+◌, ◌≤◌, ◌<◌, Bool, true, List, [], ◌∷◌, length, map, get_or, Some, None, Option, cond, sym, refl, ap, subst, ◌∙◌, arith}
+use Rattle.std.proofs.Common.{◌≡◌, ℕ, suc, zero, ◌+◌, ◌≤◌, ◌<◌, Bool, true, List, [], ◌∷◌, length, map, get_or, Some, cond, sym, refl, ap, subst, ◌∙◌, arith}
 use Rattle.std.specs.List.{slice_get, AllByRecursion}
 use Rattle.std.specs.Option.{option_map}
 use Rattle.std.proofs.lemmas.List.{length-map}
 use Rattle.std.proofs.lemmas.Option.{same_Some, slice_get_read}
-use Rattle.sb_hand.proofs.Beginning.{lanes_two}
-use Rattle.sb_node.proofs.base.records.Numbers.{bind_some}
-use Rattle.sb_node.specs.base.records.declared.item.Record.{Record}
-use Rattle.sb_node.specs.base.pipeline.declared.transform.Step.{Step}
-use Rattle.sb_node.specs.base.pipeline.declared.transform.Down.{Down}
-use Rattle.sb_node.specs.base.pipeline.Shapes.{Shape}
-use Rattle.sb_node.specs.base.pipeline.Operators.{operator_at, lanes_of}
-use Rattle.sb_tally.specs.core.declared.moment.CoreLane.{CoreLane}
-use Rattle.sb_tally.specs.core.declared.moment.Node.{Node}
-use Rattle.sb_tally.specs.core.declared.moment.Moment.{Moment}
-use Rattle.sb_tally.specs.core.declared.held.Held.{Held}
-use Rattle.sb_tally.specs.core.declared.held.Held.TheVariants.{Close}
-use Rattle.sb_tally.specs.core.Bounds.{bound_at}
-use Rattle.sb_tally.specs.core.Holdings.{IsHeld, IsClosing}
-use Rattle.sb_tally.specs.core.Marks.{first_is_closing, begun_count}
-use Rattle.sb_tally.specs.core.Moments.{lane_at}
-use Rattle.sb_tally.proofs.core.times.InTime.{begun_within}
-use Rattle.sb_node.specs.lane.LaneView.{LaneView, lane_of}
-use Rattle.sb_node.specs.lane.Placed.{conts_of}
-use Rattle.sb_node.specs.declared.state.NodeState.{NodeState}
-use Rattle.sb_hand.specs.Sets.{HasLane}
-use Rattle.sb_hand.specs.Showing.{ShowsNode, Stands, CanStand}
-use Rattle.sb_hand.proofs.Calm.{node_is}
-use Rattle.sb_hand.proofs.Single.{there-too}
+use Rattle.sb_shown.proofs.Steps.{lanes_two, step-of}
+use Rattle.sb_shown.proofs.base.records.Numbers.{bind_some}
+use Rattle.sb_shown.specs.base.records.declared.item.Record.{Record}
+use Rattle.sb_shown.specs.base.pipeline.declared.transform.Step.{Step}
+use Rattle.sb_shown.specs.base.pipeline.declared.transform.Down.{Down}
+use Rattle.sb_shown.specs.base.pipeline.Shapes.{Shape}
+use Rattle.sb_shown.specs.base.pipeline.Operators.{operator_at, lanes_of}
+use Rattle.sb_shown.specs.core.declared.moment.CoreLane.{CoreLane}
+use Rattle.sb_shown.specs.core.declared.moment.Node.{Node}
+use Rattle.sb_shown.specs.core.declared.moment.Moment.{Moment}
+use Rattle.sb_shown.specs.core.declared.held.Held.{Held}
+use Rattle.sb_shown.specs.core.declared.held.Held.TheVariants.{Close}
+use Rattle.sb_shown.specs.core.Bounds.{bound_at}
+use Rattle.sb_shown.specs.core.Holdings.{IsHeld, IsClosing}
+use Rattle.sb_shown.specs.core.Marks.{first_is_closing, begun_count}
+use Rattle.sb_shown.specs.core.Moments.{lane_at}
+use Rattle.sb_shown.proofs.core.times.InTime.{begun_within}
+use Rattle.sb_shown.specs.lane.LaneView.{LaneView, lane_of}
+use Rattle.sb_shown.specs.lane.Placed.{conts_of}
+use Rattle.sb_shown.specs.node.declared.state.NodeState.{NodeState}
+use Rattle.sb_shown.specs.Sets.{HasLane}
+use Rattle.sb_shown.specs.Showing.{ShowsNode, Stands, CanStand}
+use Rattle.sb_shown.proofs.Calm.{node_is}
+use Rattle.sb_shown.proofs.Single.{there-too}
 
 unmap : {X Y : Type 0} (f : X → Y) (xs : List X) (k : ℕ) (y : Y) → slice_get (map f xs) k ≡ Some y → (x : X) × (slice_get xs k ≡ Some x) × (f x ≡ y)
 unmap f [] k y h = cc
@@ -80,14 +80,6 @@ module _ (plan : Shape) (bundle : ℕ) (nodes : List NodeState) (held : List Hel
       let x = ap (λ (x : CoreLane). x.ended) f.lane_is in
       let y = ap (λ (x : CoreLane). length x.marks) f.lane_is in
       (f.lane, f.has, e, omega (arith, b, n, x, y))
-
--- the transform of a number, by where what it gives goes
-pub step-of : (steps : List Step) (k : ℕ) (d : Down) → option_map (λ (s : Step). s.down) (slice_get steps k) ≡ Some d → (st : Step) × (slice_get steps k ≡ Some st) × (st.down ≡ d)
-step-of steps k d h = go (slice_get steps k) refl h
-  where
-    go : (o : Option Step) → slice_get steps k ≡ o → option_map (λ (s : Step). s.down) o ≡ Some d → (st : Step) × (slice_get steps k ≡ Some st) × (st.down ≡ d)
-    go None e h = cc
-    go (Some st) e h = (st, e, same_Some st.down d h)
 
 pub has-down : (plan : Shape) (bundle : ℕ) (nodes : List NodeState) (held : List Held) → CanStand plan bundle nodes held → (k : ℕ) (d : Down) → option_map (λ (s : Step). s.down) (slice_get plan.steps k) ≡ Some d → (lane : LaneView) × HasLane d.node d.lane lane nodes
 has-down plan bundle nodes held can k d h =

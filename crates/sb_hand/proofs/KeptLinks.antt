@@ -3,39 +3,39 @@ use Rattle.std.proofs.Common.{◌≡◌, ℕ, ◌+◌, ◌-◌, ◌≤◌, ◌<�
 use Rattle.std.specs.List.{slice_get}
 use Rattle.std.specs.Option.{option_map}
 use Rattle.std.proofs.lemmas.Option.{same_Some}
-use Rattle.sb_node.specs.base.bundle.declared.bundle.Bundle.{Bundle}
-use Rattle.sb_node.specs.diary.declared.event.DiaryEvent.{DiaryEvent}
-use Rattle.sb_node.specs.base.records.declared.item.Record.{Record}
-use Rattle.sb_node.specs.base.pipeline.declared.transform.Step.{Step}
-use Rattle.sb_node.specs.base.pipeline.declared.transform.Down.{Down}
-use Rattle.sb_node.specs.base.pipeline.Shapes.{Shape}
-use Rattle.sb_node.specs.base.pipeline.Plans.{IsPlan}
-use Rattle.sb_tally.specs.core.declared.moment.Cont.{Cont}
-use Rattle.sb_tally.specs.core.declared.moment.CoreLane.{CoreLane}
-use Rattle.sb_tally.specs.core.declared.moment.Moment.{Moment}
-use Rattle.sb_tally.specs.core.declared.held.Held.{Held}
-use Rattle.sb_tally.specs.core.Bounds.{bound_at}
-use Rattle.sb_tally.specs.core.Lanes.{next_epoch, next_floor, with_arrival, with_bundle, with_seal}
-use Rattle.sb_tally.proofs.core.exact.Nodes.{slice_get-set_other}
-use Rattle.sb_node.specs.lane.LaneView.{LaneView, lane_of}
-use Rattle.sb_node.specs.lane.Links.{Link, link_in, links_of}
-use Rattle.sb_node.specs.lane.Placed.{conts_of}
-use Rattle.sb_node.specs.lane.Taking.{finish_first}
-use Rattle.sb_node.specs.work.declared.outputs.Part.{Part}
-use Rattle.sb_node.specs.declared.closing.Closing.{Closing}
-use Rattle.sb_node.specs.declared.state.NodeState.{NodeState}
-use Rattle.sb_node.specs.LinkChanges.{DropsLink, FindsPlace, GetsLink, GetsPlace, LinksStay}
+use Rattle.sb_shown.specs.base.bundle.declared.bundle.Bundle.{Bundle}
+use Rattle.sb_shown.specs.diary.declared.event.DiaryEvent.{DiaryEvent}
+use Rattle.sb_shown.specs.base.records.declared.item.Record.{Record}
+use Rattle.sb_shown.specs.base.pipeline.declared.transform.Step.{Step}
+use Rattle.sb_shown.specs.base.pipeline.declared.transform.Down.{Down}
+use Rattle.sb_shown.specs.base.pipeline.Shapes.{Shape}
+use Rattle.sb_shown.specs.base.pipeline.Plans.{IsPlan}
+use Rattle.sb_shown.specs.core.declared.moment.Cont.{Cont}
+use Rattle.sb_shown.specs.core.declared.moment.CoreLane.{CoreLane}
+use Rattle.sb_shown.specs.core.declared.moment.Moment.{Moment}
+use Rattle.sb_shown.specs.core.declared.held.Held.{Held}
+use Rattle.sb_shown.specs.core.Bounds.{bound_at}
+use Rattle.sb_shown.specs.core.Lanes.{next_epoch, next_floor, with_arrival, with_bundle, with_seal}
+use Rattle.sb_shown.proofs.core.exact.Nodes.{slice_get-set_other}
+use Rattle.sb_shown.specs.lane.LaneView.{LaneView, lane_of}
+use Rattle.sb_shown.specs.lane.Links.{Link, link_in, links_of}
+use Rattle.sb_shown.specs.lane.Placed.{conts_of}
+use Rattle.sb_shown.specs.lane.Taking.{finish_first}
+use Rattle.sb_shown.specs.work.declared.outputs.Part.{Part}
+use Rattle.sb_shown.specs.node.declared.closing.Closing.{Closing}
+use Rattle.sb_shown.specs.node.declared.state.NodeState.{NodeState}
+use Rattle.sb_shown.specs.node.LinkChanges.{DropsLink, FindsPlace, GetsLink, GetsPlace, LinksStay}
 use Rattle.sb_hand.specs.LaneGoing.{LaneGoes}
-use Rattle.sb_hand.specs.Linking.{AreLinked, KeepsLinks, place_in}
-use Rattle.sb_hand.specs.Searching.{LooksFew}
-use Rattle.sb_hand.specs.Sets.{Absorbs, BeginsAt, HasLane, StaysAt, Takes, Turns}
-use Rattle.sb_hand.specs.Showing.{Stands}
-use Rattle.sb_hand.proofs.LinkLists.{AreRising, rising}
+use Rattle.sb_shown.specs.Linking.{AreLinked, KeepsLinks, place_in}
+use Rattle.sb_shown.specs.Searching.{LooksFew}
+use Rattle.sb_shown.specs.Sets.{Absorbs, BeginsAt, HasLane, StaysAt, Takes, Turns}
+use Rattle.sb_shown.specs.Showing.{Stands}
+use Rattle.sb_shown.proofs.LinkLists.{AreRising, rising}
 use Rattle.sb_hand.proofs.LinkedEvents.{NoneAbove, NoneUnder, end, few-then, link, put, put-but, seal, stay}
 use Rattle.sb_hand.proofs.LinkedSets.{OneLane, few-set, has-now, has-was, of-lane, of-node, of-stays, one-lane}
-use Rattle.sb_hand.proofs.OpenBelow.{lane-ok, none-under}
-use Rattle.sb_hand.proofs.Unsealed as unsealed
-use Rattle.sb_hand.proofs.Unsealed.{unsealed_of}
+use Rattle.sb_shown.proofs.OpenBelow.{lane-ok, none-under}
+use Rattle.sb_shown.proofs.Unsealed as unsealed
+use Rattle.sb_shown.proofs.Unsealed.{unsealed_of}
 
 as-many : (a b : ℕ) → b ≡ a → a ≤ b
 as-many a b e = omega (arith, e)

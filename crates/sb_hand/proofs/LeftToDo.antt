@@ -2,21 +2,21 @@
 use Rattle.std.proofs.Common.{◌≡◌, ℕ, ◌+◌, ◌-◌, ◌≤◌, ◌<◌, cond, eqb, true, false, List, [], ◌∷◌, ◌++◌, length, drop, filter, not, refl, sym, ap, subst, ◌∙◌, arith}
 use Rattle.std.specs.Prelude.{Bool, Option, Some, None, sum_by, slice_get, slice_set}
 use Rattle.std.proofs.lemmas.List.Sums.{sum_by-cons}
-use Rattle.sb_node.specs.base.bundle.declared.bundle.Bundle.{Bundle}
-use Rattle.sb_node.specs.base.records.Reading.{◌>>=◌}
-use Rattle.sb_tally.specs.core.declared.moment.Cont.{Cont}
-use Rattle.sb_tally.specs.core.declared.moment.CoreLane.{CoreLane}
-use Rattle.sb_tally.specs.core.Lanes.{with_first_closing}
-use Rattle.sb_tally.proofs.core.exact.Nodes.{slice_get-set_same, slice_get-set_other, sum_by-set_get}
-use Rattle.sb_node.specs.lane.LaneView.{LaneView, lane_of}
-use Rattle.sb_node.specs.lane.Taking.{first_taken, take_first, finish_first}
-use Rattle.sb_node.specs.declared.closing.Closing.{Closing}
-use Rattle.sb_node.specs.declared.state.NodeState.{NodeState}
-use Rattle.sb_node.specs.diary.declared.event.DiaryEvent.{DiaryEvent}
-use Rattle.sb_hand.specs.Sets.{SetsLane, Takes, Turns, Absorbs, BeginsAt}
+use Rattle.sb_shown.specs.base.bundle.declared.bundle.Bundle.{Bundle}
+use Rattle.sb_shown.specs.base.records.Reading.{◌>>=◌}
+use Rattle.sb_shown.specs.core.declared.moment.Cont.{Cont}
+use Rattle.sb_shown.specs.core.declared.moment.CoreLane.{CoreLane}
+use Rattle.sb_shown.specs.core.Lanes.{with_first_closing}
+use Rattle.sb_shown.proofs.core.exact.Nodes.{slice_get-set_same, slice_get-set_other, sum_by-set_get}
+use Rattle.sb_shown.specs.lane.LaneView.{LaneView, lane_of}
+use Rattle.sb_shown.specs.lane.Taking.{first_taken, take_first, finish_first}
+use Rattle.sb_shown.specs.node.declared.closing.Closing.{Closing}
+use Rattle.sb_shown.specs.node.declared.state.NodeState.{NodeState}
+use Rattle.sb_shown.specs.diary.declared.event.DiaryEvent.{DiaryEvent}
+use Rattle.sb_shown.specs.Sets.{SetsLane, Takes, Turns, Absorbs, BeginsAt}
 use Rattle.sb_hand.specs.Todo.{waiting_in, todo_lane, todo_seen, todo_of, todo_at, Lowers}
-use Rattle.sb_node.specs.lane.Placed.{conts_of}
-use Rattle.sb_node.specs.work.declared.outputs.Part.{Part}
+use Rattle.sb_shown.specs.lane.Placed.{conts_of}
+use Rattle.sb_shown.specs.work.declared.outputs.Part.{Part}
 
 pub lowers-then : (k x y : ℕ) (a b c : List NodeState) → Lowers k x a b → Lowers k y b c → Lowers k (x + y) a c
 lowers-then k x y a b c l m = record {

@@ -3,26 +3,26 @@ use Rattle.std.proofs.Common.{◌≡◌, ℕ, ◌+◌, ◌≤◌, ◌<◌, true,
 use Rattle.std.specs.List.{slice_get}
 use Rattle.std.specs.Option.{option_map}
 use Rattle.std.proofs.lemmas.Bool.{cases_eq}
-use Rattle.sb_node.specs.base.pipeline.declared.transform.Down.{Down}
-use Rattle.sb_node.specs.base.pipeline.declared.transform.Step.{Step}
-use Rattle.sb_node.specs.base.pipeline.Shapes.{Shape}
-use Rattle.sb_node.specs.base.pipeline.Plans.{IsPlan}
-use Rattle.sb_node.specs.base.pipeline.Operators.{operator_at}
-use Rattle.sb_node.proofs.base.pipeline.Feeding.{apart}
-use Rattle.sb_tally.specs.core.declared.moment.Cont.{Cont}
-use Rattle.sb_tally.specs.core.Closings.{is_pardo}
-use Rattle.sb_node.specs.lane.LaneView.{LaneView, lane_of, link_at}
-use Rattle.sb_node.specs.lane.Links.{Link, link_in, links_of, with_place}
-use Rattle.sb_node.specs.lane.Links.{with_link as set_link}
-use Rattle.sb_node.specs.lane.Placed.{Placed, conts_of}
-use Rattle.sb_node.specs.declared.state.NodeState.{NodeState}
-use Rattle.sb_node.specs.LinkChanges.{DropsLink, GetsLink, LinksStay}
-use Rattle.sb_hand.specs.Linking.{AreLinked, KeepsLinks, LeadsTo, place_in}
-use Rattle.sb_hand.specs.Searching.{LooksFew, SearchesFew}
-use Rattle.sb_hand.specs.Sets.{HasLane}
-use Rattle.sb_hand.proofs.LinkLists.{AreRising, ended-in, ended-other, linked-here, linked-other, linked-place, placed-in, placed-other}
+use Rattle.sb_shown.specs.base.pipeline.declared.transform.Down.{Down}
+use Rattle.sb_shown.specs.base.pipeline.declared.transform.Step.{Step}
+use Rattle.sb_shown.specs.base.pipeline.Shapes.{Shape}
+use Rattle.sb_shown.specs.base.pipeline.Plans.{IsPlan}
+use Rattle.sb_shown.specs.base.pipeline.Operators.{operator_at}
+use Rattle.sb_shown.proofs.base.pipeline.Feeding.{apart}
+use Rattle.sb_shown.specs.core.declared.moment.Cont.{Cont}
+use Rattle.sb_shown.specs.core.Closings.{is_pardo}
+use Rattle.sb_shown.specs.lane.LaneView.{LaneView, lane_of, link_at}
+use Rattle.sb_shown.specs.lane.Links.{Link, link_in, links_of, with_place}
+use Rattle.sb_shown.specs.lane.Links.{with_link as set_link}
+use Rattle.sb_shown.specs.lane.Placed.{Placed, conts_of}
+use Rattle.sb_shown.specs.node.declared.state.NodeState.{NodeState}
+use Rattle.sb_shown.specs.node.LinkChanges.{DropsLink, GetsLink, LinksStay}
+use Rattle.sb_shown.specs.Linking.{AreLinked, KeepsLinks, LeadsTo, place_in}
+use Rattle.sb_shown.specs.Searching.{LooksFew, SearchesFew}
+use Rattle.sb_shown.specs.Sets.{HasLane}
+use Rattle.sb_shown.proofs.LinkLists.{AreRising, ended-in, ended-other, linked-here, linked-other, linked-place, placed-in, placed-other}
 use Rattle.sb_hand.proofs.LinkedSets.{OneLane, Each, each-set, few-set}
-use Rattle.sb_hand.proofs.Unsealed.{Oldest, unsealed_of, ended}
+use Rattle.sb_shown.proofs.Unsealed.{Oldest, unsealed_of, ended}
 
 -- nothing is done
 pub few-none : (nodes : List NodeState) → SearchesFew nodes nodes

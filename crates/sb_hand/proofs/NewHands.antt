@@ -3,21 +3,20 @@ use Rattle.std.proofs.Common.{◌≡◌, ℕ, suc, zero, ◌+◌, ◌≤◌, Boo
 use Rattle.std.specs.Prelude.{◌⊎◌, replicate}
 use Rattle.std.specs.List.{slice_get}
 use Rattle.std.proofs.lemmas.Option.{same_Some, slice_get_within}
-use Rattle.sb_node.specs.base.bundle.declared.bundle.TheConstants.{MAX_BUNDLE}
-use Rattle.sb_node.specs.base.pipeline.declared.transform.Step.{Step}
-use Rattle.sb_node.specs.base.pipeline.Shapes.{Shape}
-use Rattle.sb_node.specs.base.pipeline.Operators.{Operator, operator_of, operator_at, lanes_of}
-use Rattle.sb_node.specs.base.pipeline.Operators.Operator.{ParDo, Windowed, Sink}
-use Rattle.sb_node.specs.base.pipeline.Operators.WindowOperator.{Aggregated, Sessions, Joined}
-use Rattle.sb_node.specs.base.pipeline.Plans.{IsPlan}
-use Rattle.sb_tally.specs.core.Marks.{least_begun_mark}
-use Rattle.sb_tally.specs.core.Moments as moments
-use Rattle.sb_tally.proofs.core.sound.FirstMoment.{at_node, node_count, first-sound}
-use Rattle.sb_node.specs.lane.LaneView.{LaneView, empty_lane, lane_of}
-use Rattle.sb_node.specs.declared.state.NodeState.{NodeState}
-use Rattle.sb_hand.specs.Hands.{settings_at, settings_for}
+use Rattle.sb_shown.specs.base.bundle.declared.bundle.TheConstants.{MAX_BUNDLE}
+use Rattle.sb_shown.specs.base.pipeline.declared.transform.Step.{Step}
+use Rattle.sb_shown.specs.base.pipeline.Shapes.{Shape}
+use Rattle.sb_shown.specs.base.pipeline.Operators.{Operator, operator_of, operator_at, lanes_of}
+use Rattle.sb_shown.specs.base.pipeline.Operators.Operator.{ParDo, Windowed, Sink}
+use Rattle.sb_shown.specs.base.pipeline.Operators.WindowOperator.{Aggregated, Sessions, Joined}
+use Rattle.sb_shown.specs.base.pipeline.Plans.{IsPlan}
+use Rattle.sb_shown.specs.core.Marks.{least_begun_mark}
+use Rattle.sb_shown.specs.core.Moments as moments
+use Rattle.sb_shown.proofs.core.sound.FirstMoment.{at_node, node_count, first-sound}
+use Rattle.sb_shown.specs.lane.LaneView.{LaneView, empty_lane, lane_of}
+use Rattle.sb_shown.specs.node.declared.state.NodeState.{NodeState}
 use Rattle.sb_hand.specs.NewNodes.{AreNewNodes, IsNewNode}
-use Rattle.sb_hand.specs.Showing.{ShowsNode, Stands, diaries_of, settings_of}
+use Rattle.sb_shown.specs.Showing.{ShowsNode, Stands, diaries_of, settings_at, settings_for, settings_of}
 
 -- ---- so many nodes, and one more
 pushed : {X : Type 0} (xs : List X) (x : X) (k : ℕ) (y : X) → slice_get (xs ++ x ∷ []) k ≡ Some y → (slice_get xs k ≡ Some y) ⊎ ((length xs ≡ k) × (x ≡ y))

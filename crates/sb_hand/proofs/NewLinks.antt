@@ -3,11 +3,11 @@ use Rattle.std.proofs.Common.{◌≡◌, ℕ, suc, zero, Bool, List, Some, sym, 
 use Rattle.std.specs.Prelude.{replicate}
 use Rattle.std.specs.List.{slice_get}
 use Rattle.std.proofs.lemmas.Option.{same_Some}
-use Rattle.sb_node.specs.base.pipeline.Operators.{lanes_of, operator_at}
-use Rattle.sb_node.specs.base.pipeline.Shapes.{Shape}
-use Rattle.sb_node.specs.lane.LaneView.{LaneView, empty_lane, link_at}
-use Rattle.sb_node.specs.declared.state.NodeState.{NodeState}
-use Rattle.sb_hand.specs.Linking.{AreLinked}
+use Rattle.sb_shown.specs.base.pipeline.Operators.{lanes_of, operator_at}
+use Rattle.sb_shown.specs.base.pipeline.Shapes.{Shape}
+use Rattle.sb_shown.specs.lane.LaneView.{LaneView, empty_lane, link_at}
+use Rattle.sb_shown.specs.node.declared.state.NodeState.{NodeState}
+use Rattle.sb_shown.specs.Linking.{AreLinked}
 use Rattle.sb_hand.specs.NewNodes.{AreNewNodes}
 
 of-same : {X : Type 0} (n k : ℕ) (x y : X) → slice_get (replicate n x) k ≡ Some y → x ≡ y

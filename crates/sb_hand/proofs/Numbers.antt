@@ -4,15 +4,15 @@ use Rattle.std.specs.Prelude.{count_by, ◌||◌}
 use Rattle.std.specs.List.{sum_by, list_any, AllByRecursion}
 use Rattle.std.proofs.lemmas.List.Sums.{sum_by-cons}
 use Rattle.std.proofs.lemmas.Option.{same_Some}
-use Rattle.sb_node.specs.base.records.declared.item.Record.{Record}
-use Rattle.sb_node.specs.base.pipeline.Shapes.{Shape}
-use Rattle.sb_tally.specs.core.declared.moment.Cont.{Cont}
-use Rattle.sb_tally.specs.core.declared.moment.Moment.{Moment}
-use Rattle.sb_tally.specs.core.declared.held.Held.{Held}
-use Rattle.sb_tally.specs.core.declared.held.Held.TheVariants.{Work}
-use Rattle.sb_tally.specs.core.LaneOrder.{cont_at}
-use Rattle.sb_tally.specs.core.Holdings.{IsHeld}
-use Rattle.sb_tally.specs.core.Soundness.{IsSound, numbers_of}
+use Rattle.sb_shown.specs.base.records.declared.item.Record.{Record}
+use Rattle.sb_shown.specs.base.pipeline.Shapes.{Shape}
+use Rattle.sb_shown.specs.core.declared.moment.Cont.{Cont}
+use Rattle.sb_shown.specs.core.declared.moment.Moment.{Moment}
+use Rattle.sb_shown.specs.core.declared.held.Held.{Held}
+use Rattle.sb_shown.specs.core.declared.held.Held.TheVariants.{Work}
+use Rattle.sb_shown.specs.core.LaneOrder.{cont_at}
+use Rattle.sb_shown.specs.core.Holdings.{IsHeld}
+use Rattle.sb_shown.specs.core.Soundness.{IsSound, numbers_of}
 
 any-count : (p : ℕ → Bool) (xs : List ℕ) → list_any p xs ≡ true → 1 ≤ count_by p xs
 any-count p [] h = cc

@@ -3,14 +3,14 @@ use Rattle.std.proofs.Common.{◌≡◌, ◌<◌, ℕ, true, false, List, length
 use Rattle.std.specs.List.{slice_get}
 use Rattle.std.proofs.lemmas.Bool.{cases_lt}
 use Rattle.std.proofs.lemmas.Option.{slice_get_past}
-use Rattle.sb_node.specs.base.records.declared.item.Record.{Record}
-use Rattle.sb_tally.specs.core.Closings.{delivery, is_pardo}
-use Rattle.sb_node.specs.base.pipeline.Operators.{Operator, operator_at}
-use Rattle.sb_node.specs.base.pipeline.Operators.Operator.{ParDo, Windowed, Sink}
-use Rattle.sb_node.specs.base.pipeline.declared.transform.Step.{Step}
-use Rattle.sb_node.specs.work.Processing.{IsOutput, IsPart}
-use Rattle.sb_node.specs.work.declared.outputs.Output.{Output}
-use Rattle.sb_node.specs.work.declared.outputs.Output.TheVariants as output
+use Rattle.sb_shown.specs.base.records.declared.item.Record.{Record}
+use Rattle.sb_shown.specs.core.Closings.{delivery, is_pardo}
+use Rattle.sb_shown.specs.base.pipeline.Operators.{Operator, operator_at}
+use Rattle.sb_shown.specs.base.pipeline.Operators.Operator.{ParDo, Windowed, Sink}
+use Rattle.sb_shown.specs.base.pipeline.declared.transform.Step.{Step}
+use Rattle.sb_shown.specs.work.Processing.{IsOutput, IsPart}
+use Rattle.sb_shown.specs.work.declared.outputs.Output.{Output}
+use Rattle.sb_shown.specs.work.declared.outputs.Output.TheVariants as output
 
 abbrev pub Comes : Operator → ℕ → List Record → Output → Type 0
 Comes op lane records (output.Records given) = (is_pardo op ≡ true) × (given.items ≡ delivery op records)

@@ -5,31 +5,31 @@ use Rattle.std.specs.List.{slice_get, list_any, AllByRecursion}
 use Rattle.std.proofs.lemmas.Bool.{false≢true}
 use Rattle.std.proofs.lemmas.List.Sums.{sum_by-cons}
 use Rattle.std.proofs.lemmas.Option.{same_Some}
-use Rattle.sb_node.specs.base.records.declared.item.Record.{Record}
-use Rattle.sb_node.specs.base.bundle.declared.bundle.Bundle.{Bundle}
-use Rattle.sb_node.specs.base.pipeline.declared.transform.Down.{Down}
-use Rattle.sb_node.specs.base.pipeline.Shapes.{Shape}
-use Rattle.sb_tally.specs.core.declared.moment.Cont.{Cont}
-use Rattle.sb_tally.specs.core.declared.moment.CoreLane.{CoreLane}
-use Rattle.sb_tally.specs.core.declared.moment.Moment.{Moment}
-use Rattle.sb_tally.specs.core.Choices.{only_if, is_empty}
-use Rattle.sb_tally.specs.core.Lanes.{closable}
-use Rattle.sb_tally.specs.core.Marks.{first_is_closing}
-use Rattle.sb_tally.specs.core.Moments.{lane_at, is_close_of}
-use Rattle.sb_tally.proofs.core.ends.AtRest.{free}
-use Rattle.sb_node.specs.lane.declared.answers.NotYet.{NotYet}
-use Rattle.sb_node.specs.lane.LaneView.{lane_of}
-use Rattle.sb_node.specs.lane.Looks.{look_marked, look_closing, look_of}
-use Rattle.sb_node.specs.lane.Placed.{conts_of}
-use Rattle.sb_node.specs.lane.Taking.{first_taken, take_first}
-use Rattle.sb_node.specs.lane.Unfinished.{unfinished_in, unfinished_of}
-use Rattle.sb_node.specs.declared.state.NodeState.{NodeState}
+use Rattle.sb_shown.specs.base.records.declared.item.Record.{Record}
+use Rattle.sb_shown.specs.base.bundle.declared.bundle.Bundle.{Bundle}
+use Rattle.sb_shown.specs.base.pipeline.declared.transform.Down.{Down}
+use Rattle.sb_shown.specs.base.pipeline.Shapes.{Shape}
+use Rattle.sb_shown.specs.core.declared.moment.Cont.{Cont}
+use Rattle.sb_shown.specs.core.declared.moment.CoreLane.{CoreLane}
+use Rattle.sb_shown.specs.core.declared.moment.Moment.{Moment}
+use Rattle.sb_shown.specs.core.Choices.{only_if, is_empty}
+use Rattle.sb_shown.specs.core.Lanes.{closable}
+use Rattle.sb_shown.specs.core.Marks.{first_is_closing}
+use Rattle.sb_shown.specs.core.Moments.{lane_at, is_close_of}
+use Rattle.sb_shown.proofs.core.ends.AtRest.{free}
+use Rattle.sb_shown.specs.lane.declared.answers.NotYet.{NotYet}
+use Rattle.sb_shown.specs.lane.LaneView.{lane_of}
+use Rattle.sb_shown.specs.lane.Looks.{look_marked, look_closing, look_of}
+use Rattle.sb_shown.specs.lane.Placed.{conts_of}
+use Rattle.sb_shown.specs.lane.Taking.{first_taken, take_first}
+use Rattle.sb_shown.specs.lane.Unfinished.{unfinished_in, unfinished_of}
+use Rattle.sb_shown.specs.node.declared.state.NodeState.{NodeState}
 use Rattle.sb_hand.specs.HandLaws.{AreIdle, IdleIsRest, IdleIsFinished}
-use Rattle.sb_hand.specs.Showing.{Stands}
-use Rattle.sb_node.specs.Looking.{CannotClose, NoneWaits}
+use Rattle.sb_shown.specs.Showing.{Stands}
+use Rattle.sb_shown.specs.node.Looking.{CannotClose, NoneWaits}
 use Rattle.sb_hand.proofs.Having.{finds}
 use Rattle.sb_hand.proofs.ShownLanes.{one-of-all, within-plan, lane-shown}
-use Rattle.sb_hand.proofs.Single.{there-too}
+use Rattle.sb_shown.proofs.Single.{there-too}
 
 -- no bundle waits in a lane of which none can be taken
 none_taken : (o : Option (Bundle × List Cont)) (c : Cont) (cs : List Cont) → first_taken [] c cs o ≡ None → o ≡ None

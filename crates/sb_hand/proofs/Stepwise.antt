@@ -1,12 +1,12 @@
 -- A step keeps what a hand knows of itself.
 use Rattle.std.proofs.Common.{◌≡◌, ℕ, List, [], ap, sym, subst}
-use Rattle.sb_node.specs.base.records.declared.item.Record.{Record}
-use Rattle.sb_node.specs.base.pipeline.Shapes.{Shape}
+use Rattle.sb_shown.specs.base.records.declared.item.Record.{Record}
+use Rattle.sb_shown.specs.base.pipeline.Shapes.{Shape}
 use Rattle.sb_hand.specs.declared.did.Did.{Did}
 use Rattle.sb_hand.specs.declared.did.Did.TheVariants.{Bundle, Closing, Nothing}
-use Rattle.sb_node.specs.declared.state.NodeState.{NodeState}
+use Rattle.sb_shown.specs.node.declared.state.NodeState.{NodeState}
 use Rattle.sb_hand.specs.Runs.{bundle_events}
-use Rattle.sb_hand.specs.Showing.{CanStand, settings_of}
+use Rattle.sb_shown.specs.Showing.{CanStand, settings_of}
 use Rattle.sb_hand.specs.Stepping.{Steps}
 use Rattle.sb_hand.proofs.Composing.{can-after}
 

@@ -3,36 +3,36 @@ use Rattle.std.proofs.Common.{◌≡◌, ℕ, suc, zero, ◌+◌, ◌≤◌, ◌
 use Rattle.std.specs.Prelude.{Ok}
 use Rattle.std.specs.List.{slice_get}
 use Rattle.std.proofs.lemmas.Option.{same_Some, slice_get_past}
-use Rattle.sb_node.specs.base.records.declared.item.Record.{Record}
-use Rattle.sb_node.specs.base.pipeline.declared.transform.Step.{Step}
-use Rattle.sb_node.specs.base.pipeline.Shapes.{Shape}
-use Rattle.sb_node.specs.base.pipeline.Plans.{IsPlan}
-use Rattle.sb_node.specs.base.pipeline.Operators.{operator_at}
-use Rattle.sb_tally.specs.core.declared.event.Event.TheVariants.{Begin, Pass, End}
-use Rattle.sb_tally.specs.core.Closings.{is_sink}
-use Rattle.sb_tally.specs.core.Marks.{first_is_closing}
-use Rattle.sb_tally.proofs.core.times.Timely.{no_sink}
-use Rattle.sb_node.specs.lane.declared.answers.LaneClose.{LaneClose}
-use Rattle.sb_node.specs.lane.Looks.{look_of}
-use Rattle.sb_node.specs.lane.LaneView.{LaneView, lane_of}
-use Rattle.sb_node.specs.lane.Placed.{conts_of}
-use Rattle.sb_node.specs.declared.closing.Closing.{Closing}
-use Rattle.sb_node.specs.declared.state.NodeState.{NodeState}
-use Rattle.sb_node.specs.Marking.{mark_for}
+use Rattle.sb_shown.specs.base.records.declared.item.Record.{Record}
+use Rattle.sb_shown.specs.base.pipeline.declared.transform.Step.{Step}
+use Rattle.sb_shown.specs.base.pipeline.Shapes.{Shape}
+use Rattle.sb_shown.specs.base.pipeline.Plans.{IsPlan}
+use Rattle.sb_shown.specs.base.pipeline.Operators.{operator_at}
+use Rattle.sb_shown.specs.core.declared.event.Event.TheVariants.{Begin, Pass, End}
+use Rattle.sb_shown.specs.core.Closings.{is_sink}
+use Rattle.sb_shown.specs.core.Marks.{first_is_closing}
+use Rattle.sb_shown.proofs.core.times.Timely.{no_sink}
+use Rattle.sb_shown.specs.lane.declared.answers.LaneClose.{LaneClose}
+use Rattle.sb_shown.specs.lane.Looks.{look_of}
+use Rattle.sb_shown.specs.lane.LaneView.{LaneView, lane_of}
+use Rattle.sb_shown.specs.lane.Placed.{conts_of}
+use Rattle.sb_shown.specs.node.declared.closing.Closing.{Closing}
+use Rattle.sb_shown.specs.node.declared.state.NodeState.{NodeState}
+use Rattle.sb_shown.specs.node.Marking.{mark_for}
 use Rattle.sb_hand.specs.Runs.{close_of, deliveries, Ends, ClosesNode}
 use Rattle.sb_hand.specs.Runs.IsClosingRun.{OfTransform, OfSink}
-use Rattle.sb_hand.specs.Sets.{HasLane, BeginsAt, Turns}
-use Rattle.sb_hand.specs.Showing.{Does, CanStand}
+use Rattle.sb_shown.specs.Sets.{HasLane, BeginsAt, Turns}
+use Rattle.sb_shown.specs.Showing.{Does, CanStand}
 use Rattle.sb_hand.proofs.Beginning.{begin-does, begin-sink, rises}
-use Rattle.sb_node.specs.diary.declared.event.DiaryEvent.TheVariants as line
+use Rattle.sb_shown.specs.diary.declared.event.DiaryEvent.TheVariants as line
 use Rattle.sb_hand.proofs.Composing.{does-then, can-after}
 use Rattle.sb_hand.proofs.Doing.{end-does}
 use Rattle.sb_hand.proofs.LeftToDo.{lowers-then, begins-lowers, ends-lowers}
 use Rattle.sb_hand.proofs.Having.{closing-lane, lanes-are}
-use Rattle.sb_hand.proofs.Beginning.{lanes_two}
-use Rattle.sb_hand.proofs.SettingsStay.{settings-lane, settings-node}
-use Rattle.sb_node.specs.kept.Keeping.{closed_mark}
-use Rattle.sb_hand.proofs.Single.{there-too}
+use Rattle.sb_shown.proofs.Steps.{lanes_two}
+use Rattle.sb_shown.proofs.SettingsStay.{settings-lane, settings-node}
+use Rattle.sb_shown.specs.kept.Keeping.{closed_mark}
+use Rattle.sb_shown.proofs.Single.{there-too}
 
 pub transform-op : (steps : List Step) (k : ℕ) → k < length steps → is_sink (operator_at (slice_get steps k)) ≡ false
 transform-op steps k h = let x = slice_get-some steps k h in ap (λ o. is_sink (operator_at o)) x.1 ∙ no_sink x.0.kind

@@ -4,43 +4,44 @@ use Rattle.std.specs.Prelude.{Bool, All}
 use Rattle.std.specs.List.{slice_get, AllByRecursion}
 use Rattle.std.specs.Option.{option_map}
 use Rattle.std.proofs.lemmas.List.Elements.{All-from_recursion}
-use Rattle.sb_node.specs.base.bundle.declared.bundle.Bundle.{Bundle}
-use Rattle.sb_node.specs.base.records.declared.item.Record.{Record}
-use Rattle.sb_node.specs.base.records.declared.item.TheConstants.{END_MARK}
-use Rattle.sb_node.specs.base.pipeline.declared.transform.Step.{Step}
-use Rattle.sb_node.specs.base.pipeline.declared.transform.Down.{Down}
-use Rattle.sb_node.specs.base.records.Elements.{on_lane}
-use Rattle.sb_node.specs.base.pipeline.Shapes.{Shape}
-use Rattle.sb_node.specs.base.pipeline.Plans.{IsPlan}
-use Rattle.sb_node.specs.base.pipeline.Operators.{operator_at}
-use Rattle.sb_tally.specs.core.declared.event.Event.TheVariants.{Take, Deliver, Finish}
-use Rattle.sb_tally.specs.core.Bounds.{bound_at}
-use Rattle.sb_tally.specs.core.Choices.{is_empty}
-use Rattle.sb_tally.specs.core.Closings.{delivery, is_pardo}
-use Rattle.sb_tally.specs.core.LaneOrder.{IsWithin}
-use Rattle.sb_tally.specs.core.Lanes.{with_arrival}
-use Rattle.sb_tally.proofs.core.times.TimeBounds.{bound-before_end}
-use Rattle.sb_node.specs.lane.LaneView.{LaneView, lane_of}
-use Rattle.sb_node.specs.lane.Placed.{conts_of}
-use Rattle.sb_node.specs.lane.Taking.{finish_first}
-use Rattle.sb_node.specs.declared.state.NodeState.{NodeState}
+use Rattle.sb_shown.specs.base.bundle.declared.bundle.Bundle.{Bundle}
+use Rattle.sb_shown.specs.base.records.declared.item.Record.{Record}
+use Rattle.sb_shown.specs.base.records.declared.item.TheConstants.{END_MARK}
+use Rattle.sb_shown.specs.base.pipeline.declared.transform.Step.{Step}
+use Rattle.sb_shown.specs.base.pipeline.declared.transform.Down.{Down}
+use Rattle.sb_shown.specs.base.records.Elements.{on_lane}
+use Rattle.sb_shown.specs.base.pipeline.Shapes.{Shape}
+use Rattle.sb_shown.specs.base.pipeline.Plans.{IsPlan}
+use Rattle.sb_shown.specs.base.pipeline.Operators.{operator_at}
+use Rattle.sb_shown.specs.core.declared.event.Event.TheVariants.{Take, Deliver, Finish}
+use Rattle.sb_shown.specs.core.Bounds.{bound_at}
+use Rattle.sb_shown.specs.core.Choices.{is_empty}
+use Rattle.sb_shown.specs.core.Closings.{delivery, is_pardo}
+use Rattle.sb_shown.specs.core.LaneOrder.{IsWithin}
+use Rattle.sb_shown.specs.core.Lanes.{with_arrival}
+use Rattle.sb_shown.proofs.core.times.TimeBounds.{bound-before_end}
+use Rattle.sb_shown.specs.lane.LaneView.{LaneView, lane_of}
+use Rattle.sb_shown.specs.lane.Placed.{conts_of}
+use Rattle.sb_shown.specs.lane.Taking.{finish_first}
+use Rattle.sb_shown.specs.node.declared.state.NodeState.{NodeState}
 use Rattle.sb_hand.specs.Runs.{work_of, bundle_events, FinishesWork, WorksOff}
-use Rattle.sb_hand.specs.Sets.{HasLane, SetsLane, Takes, Turns, Absorbs}
-use Rattle.sb_node.specs.diary.declared.event.DiaryEvent.TheVariants as line
-use Rattle.sb_hand.specs.Showing.{CanStand, Does, ShowsNode, settings_of}
-use Rattle.sb_node.specs.kept.Keeping.{IsPartFor}
-use Rattle.sb_node.specs.base.window.Groupings.{IsFrom}
-use Rattle.sb_node.specs.work.Processing.{IsPart}
-use Rattle.sb_node.specs.work.declared.outputs.Part.{Part}
+use Rattle.sb_shown.specs.Sets.{HasLane, SetsLane, Takes, Turns, Absorbs}
+use Rattle.sb_shown.specs.diary.declared.event.DiaryEvent.TheVariants as line
+use Rattle.sb_shown.specs.Showing.{CanStand, Does, ShowsNode, settings_of}
+use Rattle.sb_shown.specs.kept.Keeping.{IsPartFor}
+use Rattle.sb_shown.specs.base.window.Groupings.{IsFrom}
+use Rattle.sb_shown.specs.work.Processing.{IsPart}
+use Rattle.sb_shown.specs.work.declared.outputs.Part.{Part}
 use Rattle.std.proofs.lemmas.Option.{same_Some, slice_get_within}
-use Rattle.sb_hand.proofs.SettingsStay.{settings-lane, settings-node}
-use Rattle.sb_hand.proofs.Single.{there-too}
+use Rattle.sb_shown.proofs.SettingsStay.{settings-lane, settings-node}
+use Rattle.sb_shown.proofs.Single.{there-too}
 use Rattle.sb_hand.specs.Todo.{Lowers}
 use Rattle.sb_hand.proofs.LeftToDo.{lowers-then, takes-lowers, finish-turns-lowers, absorbs-lowers, below-lowers}
 use Rattle.sb_hand.proofs.Composing.{does-then}
 use Rattle.sb_hand.proofs.Doing.{take-does, deliver-does}
 use Rattle.sb_hand.proofs.Finishes.{finish-does, absorb-does, the_work, work_from}
-use Rattle.sb_hand.proofs.Having.{finds, lanes-are, step-of, has-down}
+use Rattle.sb_hand.proofs.Having.{finds, lanes-are, has-down}
+use Rattle.sb_shown.proofs.Steps.{step-of}
 
 -- the lane of the bundle in hand
 pub work-lane : (plan : Shape) (bundle : ℕ) (nodes : List NodeState) (k l : ℕ) (b : Bundle) (delivered : Bool) → CanStand plan bundle nodes (work_of k l b delivered ∷ []) → (lane : LaneView) × HasLane k l lane nodes

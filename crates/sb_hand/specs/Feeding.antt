@@ -1,21 +1,21 @@
 -- What the feeder may bring, and what comes of it.
 use Rattle.std.specs.Prelude.{◌≡◌, ◌≤◌, ◌<◌, ℕ, ◌+◌, ◌-◌, ◌^◌, List, length, Some}
 use Rattle.std.specs.List.{AllByRecursion}
-use Rattle.sb_node.specs.base.records.declared.item.Stream.{Stream}
-use Rattle.sb_node.specs.base.records.declared.item.TheConstants.{MAX_TIME, END_MARK}
-use Rattle.sb_node.specs.base.bundle.declared.bundle.Bundle.{Bundle}
-use Rattle.sb_node.specs.base.pipeline.declared.transform.Down.{Down}
-use Rattle.sb_node.specs.base.pipeline.Shapes.{Shape, source}
-use Rattle.sb_tally.specs.core.Lanes.{next_epoch, next_floor, with_arrival}
-use Rattle.sb_node.specs.diary.declared.event.DiaryEvent.TheVariants as line
-use Rattle.sb_node.specs.lane.declared.answers.ArriveStop.{ArriveStop}
-use Rattle.sb_node.specs.lane.declared.answers.ArriveStop.TheVariants.{Full, Memory}
-use Rattle.sb_node.specs.lane.Unfinished.{unfinished_of}
-use Rattle.sb_node.specs.lane.LaneView.{LaneView, lane_of}
-use Rattle.sb_node.specs.lane.Placed.{conts_of}
-use Rattle.sb_node.specs.declared.state.NodeState.{NodeState}
-use Rattle.sb_node.specs.Coming.{IsBackFrom}
-use Rattle.sb_hand.specs.Sets.{HasLane, StaysAt, Turns}
+use Rattle.sb_shown.specs.base.records.declared.item.Stream.{Stream}
+use Rattle.sb_shown.specs.base.records.declared.item.TheConstants.{MAX_TIME, END_MARK}
+use Rattle.sb_shown.specs.base.bundle.declared.bundle.Bundle.{Bundle}
+use Rattle.sb_shown.specs.base.pipeline.declared.transform.Down.{Down}
+use Rattle.sb_shown.specs.base.pipeline.Shapes.{Shape, source}
+use Rattle.sb_shown.specs.core.Lanes.{next_epoch, next_floor, with_arrival}
+use Rattle.sb_shown.specs.diary.declared.event.DiaryEvent.TheVariants as line
+use Rattle.sb_shown.specs.lane.declared.answers.ArriveStop.{ArriveStop}
+use Rattle.sb_shown.specs.lane.declared.answers.ArriveStop.TheVariants.{Full, Memory}
+use Rattle.sb_shown.specs.lane.Unfinished.{unfinished_of}
+use Rattle.sb_shown.specs.lane.LaneView.{LaneView, lane_of}
+use Rattle.sb_shown.specs.lane.Placed.{conts_of}
+use Rattle.sb_shown.specs.node.declared.state.NodeState.{NodeState}
+use Rattle.sb_shown.specs.node.Coming.{IsBackFrom}
+use Rattle.sb_shown.specs.Sets.{HasLane, StaysAt, Turns}
 
 -- the lane that takes the stream, if the plan uses it
 pub record TakesStream (plan : Shape) (stream : Stream) (nodes : List NodeState) : Type 0 where

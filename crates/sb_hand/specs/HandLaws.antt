@@ -1,28 +1,28 @@
 -- What the run of a whole input needs of a hand.
 use Rattle.std.specs.Prelude.{◌≡◌, ◌≤◌, ◌<◌, ℕ, Bool, List, [], length, Some, slice_get}
-use Rattle.sb_node.specs.base.records.declared.item.Record.{Record}
-use Rattle.sb_node.specs.base.records.declared.item.Stream.{Stream}
-use Rattle.sb_node.specs.base.pipeline.declared.transform.Down.{Down}
-use Rattle.sb_node.specs.base.pipeline.Operators.{lanes_of, operator_at}
-use Rattle.sb_node.specs.base.pipeline.Shapes.{Shape, source}
-use Rattle.sb_node.specs.base.pipeline.Plans.{IsPlan}
-use Rattle.sb_tally.specs.core.declared.event.Event.{Event}
-use Rattle.sb_tally.specs.core.declared.held.Held.{Held}
-use Rattle.sb_tally.specs.core.declared.moment.Moment.{Moment}
-use Rattle.sb_tally.specs.core.Laws.{IsDone, records_fed_by}
-use Rattle.sb_tally.specs.core.Moments.{lane_at}
-use Rattle.sb_tally.specs.core.Rest.{IsAtRest}
-use Rattle.sb_node.specs.lane.LaneView.{LaneView, lane_of}
-use Rattle.sb_node.specs.lane.Placed.{conts_of}
-use Rattle.sb_node.specs.lane.Unfinished.{unfinished_of}
-use Rattle.sb_tally.specs.Keeping.{feed_by}
-use Rattle.sb_tally.specs.Tally.{Feed}
-use Rattle.sb_node.specs.declared.state.NodeState.{NodeState}
+use Rattle.sb_shown.specs.base.records.declared.item.Record.{Record}
+use Rattle.sb_shown.specs.base.records.declared.item.Stream.{Stream}
+use Rattle.sb_shown.specs.base.pipeline.declared.transform.Down.{Down}
+use Rattle.sb_shown.specs.base.pipeline.Operators.{lanes_of, operator_at}
+use Rattle.sb_shown.specs.base.pipeline.Shapes.{Shape, source}
+use Rattle.sb_shown.specs.base.pipeline.Plans.{IsPlan}
+use Rattle.sb_shown.specs.core.declared.event.Event.{Event}
+use Rattle.sb_shown.specs.core.declared.held.Held.{Held}
+use Rattle.sb_shown.specs.core.declared.moment.Moment.{Moment}
+use Rattle.sb_shown.specs.core.Laws.{IsDone, records_fed_by}
+use Rattle.sb_shown.specs.core.Moments.{lane_at}
+use Rattle.sb_shown.specs.core.Rest.{IsAtRest}
+use Rattle.sb_shown.specs.lane.LaneView.{LaneView, lane_of}
+use Rattle.sb_shown.specs.lane.Placed.{conts_of}
+use Rattle.sb_shown.specs.lane.Unfinished.{unfinished_of}
+use Rattle.sb_shown.specs.tally.Keeping.{feed_by}
+use Rattle.sb_shown.specs.tally.Tally.{Feed}
+use Rattle.sb_shown.specs.node.declared.state.NodeState.{NodeState}
 use Rattle.sb_hand.specs.Feeding.{TakesStream}
 use Rattle.sb_hand.specs.Hands.{NoneLeft}
 use Rattle.sb_hand.specs.Runs.{IsClosingRun, bundle_events}
-use Rattle.sb_hand.specs.Sets.{HasLane}
-use Rattle.sb_hand.specs.Showing.{Stands}
+use Rattle.sb_shown.specs.Sets.{HasLane}
+use Rattle.sb_shown.specs.Showing.{Stands}
 use Rattle.sb_hand.specs.Stepping.{IsIdle}
 
 -- nothing is left to do at any node of the plan

@@ -1,13 +1,11 @@
 -- What contracts see of a hand.
-use Rattle.std.specs.Prelude.{◌≡◌, ℕ, ◌+◌, Bool, false, List, [], ◌∷◌, ◌++◌, All, length, map, replicate}
-use Rattle.sb_node.specs.base.records.declared.item.Record.{Record}
-use Rattle.sb_node.specs.base.pipeline.Shapes.{Shape}
-use Rattle.sb_node.specs.base.pipeline.Operators.{Operator, operator_of, lanes_of}
-use Rattle.sb_node.specs.base.pipeline.Operators.Operator.{Sink}
-use Rattle.sb_tally.specs.core.declared.moment.Moment.{Moment}
-use Rattle.sb_tally.specs.core.Moments.{first}
-use Rattle.sb_node.specs.declared.state.NodeState.{NodeState}
-use Rattle.sb_hand.specs.Showing.{Settings, Stands, diaries_of, settings_of}
+use Rattle.std.specs.Prelude.{◌≡◌, ℕ, ◌+◌, Bool, false, List, [], ◌++◌, All, length, replicate}
+use Rattle.sb_shown.specs.base.records.declared.item.Record.{Record}
+use Rattle.sb_shown.specs.base.pipeline.Shapes.{Shape}
+use Rattle.sb_shown.specs.core.declared.moment.Moment.{Moment}
+use Rattle.sb_shown.specs.core.Moments.{first}
+use Rattle.sb_shown.specs.node.declared.state.NodeState.{NodeState}
+use Rattle.sb_shown.specs.Showing.{Stands, diaries_of, settings_at, settings_of}
 
 pub record HandView : Type 0 where
   pub plan : Shape
@@ -20,15 +18,6 @@ pub record HandView : Type 0 where
 -- the hand shows the moment, if these rows were drained before
 abbrev pub Shows : HandView → List Record → Moment → Type 0
 Shows h drained m = Stands h.plan h.bundle h.nodes [] (drained ++ h.tray) m
-
--- what the node of an operator is made with
-abbrev pub settings_for : Bool → ℕ → Operator → Settings
-settings_for keeps pending op = record { keeps = keeps; limits = replicate (lanes_of op) pending }
-
--- what all nodes of a plan are made with: the transforms, and the sink
-abbrev pub settings_at : Bool → ℕ → Shape → List Settings
-settings_at keeps pending plan =
-    map (λ s. settings_for keeps pending (operator_of s.kind)) plan.steps ++ settings_for keeps pending Sink ∷ []
 
 -- a new hand shows the first moment of its plan, and its diaries have no line
 pub record IsNewHand (plan : Shape) (bundle pending : ℕ) (keeps : Bool) (h : HandView) : Type 0 where

@@ -4,22 +4,19 @@ pub mod HandParts
 pub mod Hands
 pub mod LaneGoing
 pub mod Limits
-pub mod Linking
 pub mod NewNodes
 pub mod Readiness
 pub mod Runs
-pub mod Searching
-pub mod Sets
-pub mod Showing
 pub mod Stepping
 pub mod Todo
-pub use Rattle.sb_node.specs.diary
-pub use Rattle.sb_node.specs.base
-pub use Rattle.sb_node.specs.work
-pub use Rattle.sb_tally.specs.core
-pub use Rattle.sb_node.specs.lane
-pub use Rattle.sb_tally.specs as tally
-pub use Rattle.sb_node.specs.kept
-pub use Rattle.sb_node.specs as node
-pub use Rattle.sb_tally.specs.AnyOrder
-pub use Rattle.sb_tally.proofs.Orders as TallyOrders
+pub use Rattle.sb_shown.specs.Linking
+pub use Rattle.sb_shown.specs.Sets
+pub use Rattle.sb_shown.specs.Showing
+pub use Rattle.sb_shown.specs.diary
+pub use Rattle.sb_shown.specs.base
+pub use Rattle.sb_shown.specs.work
+pub use Rattle.sb_shown.specs.core
+pub use Rattle.sb_shown.specs.lane
+pub use Rattle.sb_shown.specs.tally
+pub use Rattle.sb_shown.specs.kept
+pub use Rattle.sb_shown.specs.node

@@ -1,10 +1,10 @@
 -- Nodes to which nothing has come.
 use Rattle.std.specs.Prelude.{◌≡◌, ℕ, Bool, List, [], length, replicate, Some, slice_get}
-use Rattle.sb_node.specs.base.pipeline.Operators.{Operator, lanes_of, operator_at}
-use Rattle.sb_node.specs.base.pipeline.Shapes.{Shape}
-use Rattle.sb_node.specs.kept.Keeping.{IsSpent, IsMadeFor, ShowsKept, closed_mark}
-use Rattle.sb_node.specs.lane.LaneView.{empty_lane}
-use Rattle.sb_node.specs.declared.state.NodeState.{NodeState}
+use Rattle.sb_shown.specs.base.pipeline.Operators.{Operator, lanes_of, operator_at}
+use Rattle.sb_shown.specs.base.pipeline.Shapes.{Shape}
+use Rattle.sb_shown.specs.kept.Keeping.{IsSpent, IsMadeFor, ShowsKept, closed_mark}
+use Rattle.sb_shown.specs.lane.LaneView.{empty_lane}
+use Rattle.sb_shown.specs.node.declared.state.NodeState.{NodeState}
 
 -- its lanes and its diary are empty, and it keeps nothing
 pub record IsNewNode (op : Operator) (pending : ℕ) (keeps : Bool) (own : NodeState) : Type 0 where

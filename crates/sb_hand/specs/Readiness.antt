@@ -1,17 +1,17 @@
 -- What the calls on a bundle or a closing in hand rely on.
 use Rattle.std.specs.Prelude.{◌≡◌, ◌<◌, ℕ, true, false, List, [], ◌∷◌, length, slice_get}
-use Rattle.sb_node.specs.base.records.declared.item.Record.{Record}
-use Rattle.sb_node.specs.base.pipeline.Shapes.{Shape}
-use Rattle.sb_node.specs.base.pipeline.Plans.{IsPlan}
-use Rattle.sb_node.specs.base.pipeline.Operators.{operator_at}
-use Rattle.sb_tally.specs.core.Closings.{delivery, is_pardo}
-use Rattle.sb_tally.specs.core.declared.held.Held.{Held}
-use Rattle.sb_node.specs.declared.closing.Closing.{Closing}
-use Rattle.sb_node.specs.declared.state.NodeState.{NodeState}
-use Rattle.sb_node.specs.work.declared.claim.Claim.{Claim}
-use Rattle.sb_hand.specs.Linking.{AreLinked, NoneBelow}
+use Rattle.sb_shown.specs.base.records.declared.item.Record.{Record}
+use Rattle.sb_shown.specs.base.pipeline.Shapes.{Shape}
+use Rattle.sb_shown.specs.base.pipeline.Plans.{IsPlan}
+use Rattle.sb_shown.specs.base.pipeline.Operators.{operator_at}
+use Rattle.sb_shown.specs.core.Closings.{delivery, is_pardo}
+use Rattle.sb_shown.specs.core.declared.held.Held.{Held}
+use Rattle.sb_shown.specs.node.declared.closing.Closing.{Closing}
+use Rattle.sb_shown.specs.node.declared.state.NodeState.{NodeState}
+use Rattle.sb_shown.specs.work.declared.claim.Claim.{Claim}
+use Rattle.sb_shown.specs.Linking.{AreLinked, NoneBelow}
 use Rattle.sb_hand.specs.Runs.{close_of, work_of}
-use Rattle.sb_hand.specs.Showing.{CanStand}
+use Rattle.sb_shown.specs.Showing.{CanStand}
 
 -- the nodes of a plan are linked, and show a moment with this in hand
 pub record IsReady (plan : Shape) (bundle : ℕ) (held : List Held) (nodes : List NodeState) : Type 0 where

@@ -1,18 +1,18 @@
 -- What a step of a node does.
 use Rattle.std.specs.Prelude.{◌≡◌, ℕ, true, is_some, List, All, Some, Ok, slice_get}
-use Rattle.sb_node.specs.base.records.declared.item.Record.{Record}
-use Rattle.sb_node.specs.base.pipeline.Shapes.{Shape}
-use Rattle.sb_node.specs.lane.declared.answers.LaneClose.{LaneClose}
-use Rattle.sb_node.specs.lane.Looks.{look_of}
-use Rattle.sb_node.specs.lane.LaneView.{LaneView}
-use Rattle.sb_node.specs.lane.Placed.{conts_of}
-use Rattle.sb_node.specs.lane.Taking.{take_first}
+use Rattle.sb_shown.specs.base.records.declared.item.Record.{Record}
+use Rattle.sb_shown.specs.base.pipeline.Shapes.{Shape}
+use Rattle.sb_shown.specs.lane.declared.answers.LaneClose.{LaneClose}
+use Rattle.sb_shown.specs.lane.Looks.{look_of}
+use Rattle.sb_shown.specs.lane.LaneView.{LaneView}
+use Rattle.sb_shown.specs.lane.Placed.{conts_of}
+use Rattle.sb_shown.specs.lane.Taking.{take_first}
 use Rattle.sb_hand.specs.declared.did.Did.{Did}
 use Rattle.sb_hand.specs.declared.did.Did.TheVariants.{Bundle, Closing, Nothing}
-use Rattle.sb_node.specs.declared.state.NodeState.{NodeState}
-use Rattle.sb_node.specs.Looking.{CannotClose, NoneWaits}
+use Rattle.sb_shown.specs.node.declared.state.NodeState.{NodeState}
+use Rattle.sb_shown.specs.node.Looking.{CannotClose, NoneWaits}
 use Rattle.sb_hand.specs.Runs.{WorksOff, ClosesNode}
-use Rattle.sb_hand.specs.Sets.{HasLane}
+use Rattle.sb_shown.specs.Sets.{HasLane}
 
 -- nothing waits in a lane of the node, and none of its closings can begin
 pub record IsIdle (k : ℕ) (nodes : List NodeState) : Type 0 where

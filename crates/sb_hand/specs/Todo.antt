@@ -1,9 +1,9 @@
 -- How much is left to do at a node: bundles that wait, and epochs that are sealed and have not ended.
 use Rattle.std.specs.Prelude.{◌≡◌, ℕ, ◌+◌, ◌-◌, ◌≤◌, ◌<◌, List, length, sum_by, Option, Some, None, slice_get}
-use Rattle.sb_tally.specs.core.declared.moment.Cont.{Cont}
-use Rattle.sb_tally.specs.core.declared.moment.CoreLane.{CoreLane}
-use Rattle.sb_node.specs.lane.LaneView.{LaneView, lane_of}
-use Rattle.sb_node.specs.declared.state.NodeState.{NodeState}
+use Rattle.sb_shown.specs.core.declared.moment.Cont.{Cont}
+use Rattle.sb_shown.specs.core.declared.moment.CoreLane.{CoreLane}
+use Rattle.sb_shown.specs.lane.LaneView.{LaneView, lane_of}
+use Rattle.sb_shown.specs.node.declared.state.NodeState.{NodeState}
 
 abbrev pub waiting_in : Cont → ℕ
 waiting_in c = length c.waiting

@@ -1,21 +1,21 @@
 //! Whole bundles: taken, processed, delivered and finished.
 
 ghost use Rattle.std.specs.Prelude.{◌≡◌, ◌≤◌, ◌∷◌, [], true, false, length, OnOk, slice_get, is_some};
-ghost use Rattle.sb_tally.specs.core.Closings.{delivery, is_pardo};
-ghost use Rattle.sb_node.specs.lane.LaneView.{LaneView};
-ghost use Rattle.sb_node.specs.lane.Placed.{conts_of};
-ghost use Rattle.sb_node.specs.lane.Taking.{take_first};
-ghost use Rattle.sb_node.specs.base.pipeline.Operators.{operator_at};
-ghost use Rattle.sb_node.specs.work.Processing.{IsOutput};
-ghost use Rattle.sb_hand.specs.Linking.{KeepsLinks};
+ghost use Rattle.sb_shown.specs.core.Closings.{delivery, is_pardo};
+ghost use Rattle.sb_shown.specs.lane.LaneView.{LaneView};
+ghost use Rattle.sb_shown.specs.lane.Placed.{conts_of};
+ghost use Rattle.sb_shown.specs.lane.Taking.{take_first};
+ghost use Rattle.sb_shown.specs.base.pipeline.Operators.{operator_at};
+ghost use Rattle.sb_shown.specs.work.Processing.{IsOutput};
+ghost use Rattle.sb_shown.specs.Linking.{KeepsLinks};
 ghost use Rattle.sb_hand.specs.Readiness.{CanGive, IsReady};
 ghost use Rattle.sb_hand.specs.Runs.{work_of, FinishesWork, Gives, WorksOff};
-ghost use Rattle.sb_hand.specs.Sets.{HasLane};
+ghost use Rattle.sb_shown.specs.Sets.{HasLane};
 
 use crate::events::{down_at, finish_at, finish_part, link_at, put_at, put_first, take_at};
-use sb_node::NodeState;
-use sb_node::sb_base::{Bundle, NoMemory, Plan, Record, Sequence};
-use sb_node::sb_work::{Claim, Output, Receipt, process};
+use sb_shown::sb_base::{Bundle, NoMemory, Plan, Record, Sequence};
+use sb_shown::sb_node::NodeState;
+use sb_shown::sb_work::{Claim, Output, Receipt, process};
 use std::alloc::Global;
 
 /// What a transform of single records gives for a bundle goes below, to where the bundle's container is linked. If that

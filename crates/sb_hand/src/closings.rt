@@ -1,22 +1,22 @@
 //! Whole closings.
 
 ghost use Rattle.std.specs.Prelude.{◌≡◌, ◌<◌, ◌≤◌, ◌++◌, ◌+◌, ◌∷◌, [], true, false, length, drop, take, OnOk, IfOk, Ok};
-ghost use Rattle.sb_tally.specs.core.Marks.{first_is_closing};
-ghost use Rattle.sb_node.specs.diary.declared.event.DiaryEvent.TheVariants as line;
-ghost use Rattle.sb_node.specs.lane.LaneView.{LaneView, lane_of};
-ghost use Rattle.sb_node.specs.lane.Looks.{look_of};
-ghost use Rattle.sb_node.specs.lane.Placed.{conts_of};
-ghost use Rattle.sb_node.specs.lane.declared.answers.LaneClose.{LaneClose as AClose};
-ghost use Rattle.sb_node.specs.LinkChanges.{DropsLink};
+ghost use Rattle.sb_shown.specs.core.Marks.{first_is_closing};
+ghost use Rattle.sb_shown.specs.diary.declared.event.DiaryEvent.TheVariants as line;
+ghost use Rattle.sb_shown.specs.lane.LaneView.{LaneView, lane_of};
+ghost use Rattle.sb_shown.specs.lane.Looks.{look_of};
+ghost use Rattle.sb_shown.specs.lane.Placed.{conts_of};
+ghost use Rattle.sb_shown.specs.lane.declared.answers.LaneClose.{LaneClose as AClose};
+ghost use Rattle.sb_shown.specs.node.LinkChanges.{DropsLink};
 ghost use Rattle.sb_hand.specs.LaneGoing.{LaneGoes};
-ghost use Rattle.sb_hand.specs.Linking.{KeepsLinks, StandsBelow};
+ghost use Rattle.sb_shown.specs.Linking.{KeepsLinks, StandsBelow};
 ghost use Rattle.sb_hand.specs.Readiness.{CanDeliver, IsReady};
 ghost use Rattle.sb_hand.specs.Runs.{close_of, Delivers, Ends, ClosesNode};
-ghost use Rattle.sb_hand.specs.Sets.{HasLane, Turns};
+ghost use Rattle.sb_shown.specs.Sets.{HasLane, Turns};
 
 use crate::events::{begin_at, end_at, put_at, put_first, seal_at};
-use sb_node::sb_base::{Bundle, NoMemory, Plan, Record, Sequence};
-use sb_node::{Closing, NodeState};
+use sb_shown::sb_base::{Bundle, NoMemory, Plan, Record, Sequence};
+use sb_shown::sb_node::{Closing, NodeState};
 use std::alloc::Global;
 
 /// The first records of a list.
@@ -186,7 +186,6 @@ fn close_sink(
 
 /// A whole closing of a node, of the oldest container of a lane, which may close.
 pub(crate) fn close_node(
-    alloc: Global,
     plan: &Plan,
     bundle: u32,
     nodes: &mut Vec<NodeState>,
@@ -206,6 +205,7 @@ pub(crate) fn close_node(
 {
     let closing = begin_at(nodes, node, lane, epoch)?;
     if node < plan.transforms() {
+        let alloc = *nodes.allocator();
         close_transform(alloc, plan, bundle, nodes, &closing)
     } else {
         close_sink(nodes, tray, closing)

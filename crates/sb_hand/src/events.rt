@@ -2,27 +2,27 @@
 
 ghost use Rattle.std.specs.Prelude.{◌≡◌, ◌<◌, ◌≤◌, ◌+◌, ◌-◌, ◌^◌, true, length, OnOk, IfOk, slice_get, Some, is_some};
 ghost use Rattle.std.specs.Prelude.{ℕ, drop, map, Ok};
-ghost use Rattle.sb_tally.specs.core.LaneOrder.{IsLane};
-ghost use Rattle.sb_tally.specs.core.Lanes.{in_epoch, next_epoch, with_arrival, with_seal};
-ghost use Rattle.sb_tally.specs.core.Marks.{first_is_closing};
-ghost use Rattle.sb_node.specs.diary.declared.event.DiaryEvent.TheVariants as line;
-ghost use Rattle.sb_node.specs.kept.Keeping.{IsPartFor, closed_mark};
-ghost use Rattle.sb_node.specs.lane.Changes.{StandsAt};
-ghost use Rattle.sb_node.specs.lane.LaneView.{LaneView, lane_of};
-ghost use Rattle.sb_node.specs.lane.Links.{down_of, links_of};
-ghost use Rattle.sb_node.specs.lane.Looks.{look_of};
-ghost use Rattle.sb_node.specs.lane.Placed.{conts_of};
-ghost use Rattle.sb_node.specs.lane.Taking.{take_first, finish_first};
-ghost use Rattle.sb_node.specs.lane.declared.answers.LaneClose.{LaneClose as AClose};
-ghost use Rattle.sb_node.specs.LinkChanges.{DropsLink, FindsPlace, GetsLink, GetsPlace, LinksStay};
+ghost use Rattle.sb_shown.specs.core.LaneOrder.{IsLane};
+ghost use Rattle.sb_shown.specs.core.Lanes.{in_epoch, next_epoch, with_arrival, with_seal};
+ghost use Rattle.sb_shown.specs.core.Marks.{first_is_closing};
+ghost use Rattle.sb_shown.specs.diary.declared.event.DiaryEvent.TheVariants as line;
+ghost use Rattle.sb_shown.specs.kept.Keeping.{IsPartFor, closed_mark};
+ghost use Rattle.sb_shown.specs.lane.Changes.{StandsAt};
+ghost use Rattle.sb_shown.specs.lane.LaneView.{LaneView, lane_of};
+ghost use Rattle.sb_shown.specs.lane.Links.{down_of, links_of};
+ghost use Rattle.sb_shown.specs.lane.Looks.{look_of};
+ghost use Rattle.sb_shown.specs.lane.Placed.{conts_of};
+ghost use Rattle.sb_shown.specs.lane.Taking.{take_first, finish_first};
+ghost use Rattle.sb_shown.specs.lane.declared.answers.LaneClose.{LaneClose as AClose};
+ghost use Rattle.sb_shown.specs.node.LinkChanges.{DropsLink, FindsPlace, GetsLink, GetsPlace, LinksStay};
 ghost use Rattle.sb_hand.specs.LaneGoing.{LaneGoes};
-ghost use Rattle.sb_node.specs.Marking as spec;
-ghost use Rattle.sb_hand.specs.Sets.{HasLane, Takes, Turns, Absorbs, BeginsAt, StaysAt};
-ghost use Rattle.sb_node.specs.declared.state.NodeState.{NodeState as ANode};
+ghost use Rattle.sb_shown.specs.node.Marking as spec;
+ghost use Rattle.sb_shown.specs.Sets.{HasLane, Takes, Turns, Absorbs, BeginsAt, StaysAt};
+ghost use Rattle.sb_shown.specs.node.declared.state.NodeState.{NodeState as ANode};
 
-use sb_node::sb_base::{Bundle, Down, NoMemory};
-use sb_node::sb_work::{Part, Receipt};
-use sb_node::{Closing, NodeState};
+use sb_shown::sb_base::{Bundle, Down, NoMemory};
+use sb_shown::sb_node::{Closing, NodeState};
+use sb_shown::sb_work::{Part, Receipt};
 
 /// Takes the first waiting bundle of a lane in which one waits.
 pub(crate) fn take_at(nodes: &mut Vec<NodeState>, node: u32, lane: u32) -> Result<Bundle, NoMemory>

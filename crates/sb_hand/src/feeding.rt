@@ -1,24 +1,24 @@
 //! What the feeder brings: bundles and watermarks of a stream.
 
 ghost use Rattle.std.specs.Prelude.{◌≡◌, ◌<◌, ◌+◌, [], ◌∷◌, length, OnOk, OnErr, IfOk, IfErr};
-ghost use Rattle.sb_tally.specs.core.declared.event.Event.TheVariants as event;
-ghost use Rattle.sb_tally.specs.core.Lanes.{next_epoch, with_seal};
-ghost use Rattle.sb_node.specs.diary.declared.event.DiaryEvent.TheVariants as line;
-ghost use Rattle.sb_node.specs.lane.LaneView.{LaneView, lane_of};
-ghost use Rattle.sb_node.specs.lane.Placed.{conts_of};
-ghost use Rattle.sb_node.specs.lane.Unfinished.{unfinished_of};
-ghost use Rattle.sb_node.specs.base.pipeline.Plans.{IsPlan};
+ghost use Rattle.sb_shown.specs.core.declared.event.Event.TheVariants as event;
+ghost use Rattle.sb_shown.specs.core.Lanes.{next_epoch, with_seal};
+ghost use Rattle.sb_shown.specs.diary.declared.event.DiaryEvent.TheVariants as line;
+ghost use Rattle.sb_shown.specs.lane.LaneView.{LaneView, lane_of};
+ghost use Rattle.sb_shown.specs.lane.Placed.{conts_of};
+ghost use Rattle.sb_shown.specs.lane.Unfinished.{unfinished_of};
+ghost use Rattle.sb_shown.specs.base.pipeline.Plans.{IsPlan};
 ghost use Rattle.sb_hand.specs.Feeding.{ArrivesIn, ComesBack, IsTurnedBack, MayArrive, MaySeal, TakesStream};
-ghost use Rattle.sb_node.specs.LinkChanges.{GetsPlace, LinksStay};
+ghost use Rattle.sb_shown.specs.node.LinkChanges.{GetsPlace, LinksStay};
 ghost use Rattle.sb_hand.specs.LaneGoing.{LaneGoes};
-ghost use Rattle.sb_hand.specs.Linking.{AreLinked};
-ghost use Rattle.sb_hand.specs.Searching.{SearchesStay};
-ghost use Rattle.sb_hand.specs.Sets.{HasLane, StaysAt, Turns};
-ghost use Rattle.sb_hand.specs.Showing.{CanStand, Does, settings_of};
+ghost use Rattle.sb_shown.specs.Linking.{AreLinked};
+ghost use Rattle.sb_shown.specs.Searching.{SearchesStay};
+ghost use Rattle.sb_shown.specs.Sets.{HasLane, StaysAt, Turns};
+ghost use Rattle.sb_shown.specs.Showing.{CanStand, Does, settings_of};
 
-use sb_node::NodeState;
-use sb_node::sb_base::{Bundle, Down, NoMemory, Plan, Stream};
-use sb_node::sb_lane::ArriveStop;
+use sb_shown::sb_base::{Bundle, Down, NoMemory, Plan, Stream};
+use sb_shown::sb_lane::ArriveStop;
+use sb_shown::sb_node::NodeState;
 
 /// Puts a bundle into a lane, if fewer than the lane's limit are waiting or out.
 fn arrive_in(nodes: &mut Vec<NodeState>, place: Down, bundle: Bundle) -> Result<u64, ArriveStop>

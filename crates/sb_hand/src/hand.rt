@@ -3,17 +3,17 @@
 ghost use Rattle.std.specs.Prelude.{◌≡◌, ◌≤◌, ◌<◌, ◌+◌, ◌↔◌, IsTrue, true, false, [], ◌∷◌, length, slice_get, Some};
 ghost use Rattle.std.specs.Prelude.{IfOk, IfErr, OnOk, OnErr};
 ghost use Rattle.std.specs.Option.{option_map};
-ghost use Rattle.sb_tally.specs.core.declared.event.Event.TheVariants as event;
-ghost use Rattle.sb_node.specs.lane.LaneView.{LaneView};
-ghost use Rattle.sb_node.specs.lane.Placed.{conts_of};
-ghost use Rattle.sb_node.specs.lane.Unfinished.{unfinished_of};
+ghost use Rattle.sb_shown.specs.core.declared.event.Event.TheVariants as event;
+ghost use Rattle.sb_shown.specs.lane.LaneView.{LaneView};
+ghost use Rattle.sb_shown.specs.lane.Placed.{conts_of};
+ghost use Rattle.sb_shown.specs.lane.Unfinished.{unfinished_of};
 ghost use Rattle.sb_hand.specs.Feeding.{IsTurnedBack, MayArrive, MaySeal, TakesStream};
 ghost use Rattle.sb_hand.specs.Hands.{IsNewHand, KeepsAllButNodes, NoneLeft};
 ghost use Rattle.sb_hand.specs.HandParts.{IsMadeOf};
-ghost use Rattle.sb_hand.specs.Linking.{AreLinked};
-ghost use Rattle.sb_hand.specs.Searching.{SearchesFew, SearchesStay};
-ghost use Rattle.sb_hand.specs.Sets.{HasLane};
-ghost use Rattle.sb_hand.specs.Showing.{CanStand, Does, settings_of};
+ghost use Rattle.sb_shown.specs.Linking.{AreLinked};
+ghost use Rattle.sb_shown.specs.Searching.{SearchesFew, SearchesStay};
+ghost use Rattle.sb_shown.specs.Sets.{HasLane};
+ghost use Rattle.sb_shown.specs.Showing.{CanStand, Does, settings_of};
 ghost use Rattle.sb_hand.specs.Stepping.{Steps};
 
 use crate::did::Did;
@@ -21,10 +21,10 @@ use crate::feeding;
 use crate::making::new_nodes;
 use crate::settling::is_none_left;
 use crate::steps::step_node;
-use sb_node::NodeState;
-use sb_node::sb_base::{Bundle, MAX_BUNDLE, NoMemory, Plan, Record, Stream};
-use sb_node::sb_diary::Diary;
-use sb_node::sb_lane::ArriveStop;
+use sb_shown::sb_base::{Bundle, MAX_BUNDLE, NoMemory, Plan, Record, Stream};
+use sb_shown::sb_diary::Diary;
+use sb_shown::sb_lane::ArriveStop;
+use sb_shown::sb_node::NodeState;
 use std::alloc::Global;
 use std::marker::Model;
 
@@ -48,11 +48,11 @@ pub struct Hand {
 impl Model for Hand {
     ghost use Rattle.std.specs.Prelude.{◌≡◌, false, []};
     ghost use Rattle.sb_hand.specs.Hands.{HandView};
-    ghost use Rattle.sb_hand.specs.Linking.{AreLinked};
-    ghost use Rattle.sb_hand.specs.Showing.{CanStand};
+    ghost use Rattle.sb_shown.specs.Linking.{AreLinked};
+    ghost use Rattle.sb_shown.specs.Showing.{CanStand};
     ghost use Rattle.std.specs.Coded.{codes};
-    ghost use Rattle.sb_node.specs.base.pipeline.contracts.transform.Step as step;
-    ghost use Rattle.sb_node.specs.contracts.state.NodeState as state;
+    ghost use Rattle.sb_shown.specs.base.pipeline.contracts.transform.Step as step;
+    ghost use Rattle.sb_shown.specs.node.contracts.state.NodeState as state;
 
     ghost Value = { HandView };
 

@@ -16,6 +16,4 @@ pub use did::Did;
 pub use hand::{Hand, HandParts, MAX_PENDING};
 
 // What the crates above name of the crates below.
-pub use sb_node;
-pub use sb_node::{sb_base, sb_diary, sb_lane, sb_work};
-pub use sb_tally::sb_core;
+pub use sb_shown::{sb_base, sb_core, sb_diary, sb_lane, sb_node, sb_work};

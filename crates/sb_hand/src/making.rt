@@ -1,15 +1,15 @@
 //! The nodes of a new hand.
 
 ghost use Rattle.std.specs.Prelude.{◌≡◌, ◌≤◌, ◌+◌, IfOk, length, replicate, slice_get};
-ghost use Rattle.sb_node.specs.lane.LaneView.{empty_lane};
-ghost use Rattle.sb_node.specs.base.pipeline.Operators.{operator_at};
+ghost use Rattle.sb_shown.specs.lane.LaneView.{empty_lane};
+ghost use Rattle.sb_shown.specs.base.pipeline.Operators.{operator_at};
 ghost use Rattle.sb_hand.specs.NewNodes.{AreNewNodes, IsNewNode};
 
-use sb_node::NodeState;
-use sb_node::sb_base::{NoMemory, Plan};
-use sb_node::sb_diary::Diary;
-use sb_node::sb_kept::Kept;
-use sb_node::sb_lane::Lane;
+use sb_shown::sb_base::{NoMemory, Plan};
+use sb_shown::sb_diary::Diary;
+use sb_shown::sb_kept::Kept;
+use sb_shown::sb_lane::Lane;
+use sb_shown::sb_node::NodeState;
 use std::alloc::Global;
 
 /// So many lanes in which nothing has arrived.

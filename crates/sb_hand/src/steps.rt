@@ -2,23 +2,23 @@
 
 ghost use Rattle.std.specs.Prelude.{◌≡◌, ◌≤◌, [], true, length, All, Some, Ok, slice_get, is_some};
 ghost use Rattle.std.specs.Prelude.{IfOk, OnOk, IfSome, IfNone};
-ghost use Rattle.sb_node.specs.lane.declared.answers.LaneClose.{LaneClose as AClose};
-ghost use Rattle.sb_node.specs.lane.Looks.{look_of};
-ghost use Rattle.sb_node.specs.lane.LaneView.{LaneView};
-ghost use Rattle.sb_node.specs.lane.Placed.{conts_of};
-ghost use Rattle.sb_node.specs.lane.Taking.{take_first};
-ghost use Rattle.sb_node.specs.declared.state.NodeState.{NodeState as ANode};
-ghost use Rattle.sb_hand.specs.Linking.{KeepsLinks};
+ghost use Rattle.sb_shown.specs.lane.declared.answers.LaneClose.{LaneClose as AClose};
+ghost use Rattle.sb_shown.specs.lane.Looks.{look_of};
+ghost use Rattle.sb_shown.specs.lane.LaneView.{LaneView};
+ghost use Rattle.sb_shown.specs.lane.Placed.{conts_of};
+ghost use Rattle.sb_shown.specs.lane.Taking.{take_first};
+ghost use Rattle.sb_shown.specs.node.declared.state.NodeState.{NodeState as ANode};
+ghost use Rattle.sb_shown.specs.Linking.{KeepsLinks};
 ghost use Rattle.sb_hand.specs.Readiness.{IsReady};
 ghost use Rattle.sb_hand.specs.Stepping.{Steps};
-ghost use Rattle.sb_node.specs.Looking.{CannotClose, NoneWaits};
+ghost use Rattle.sb_shown.specs.node.Looking.{CannotClose, NoneWaits};
 
 use crate::bundles::work_off;
 use crate::closings::close_node;
 use crate::did::Did;
-use sb_node::NodeState;
-use sb_node::sb_base::{NoMemory, Plan, Record};
-use sb_node::sb_lane::Lane;
+use sb_shown::sb_base::{NoMemory, Plan, Record};
+use sb_shown::sb_lane::Lane;
+use sb_shown::sb_node::NodeState;
 use std::alloc::Global;
 
 /// The first lane whose oldest container can close, and that container's epoch.
@@ -38,7 +38,6 @@ fn closable_lane(lanes: &[Lane]) -> Option<(u32, u64)>
 
 /// A closing of a node in which nothing waits, if one can begin.
 fn close_step(
-    alloc: Global,
     plan: &Plan,
     size: u32,
     nodes: &mut Vec<NodeState>,
@@ -54,7 +53,7 @@ fn close_step(
 {
     match closable_lane(nodes[node as usize].lanes.as_slice()) {
         Some((lane, epoch)) => {
-            close_node(alloc, plan, size, nodes, tray, node, lane, epoch)?;
+            close_node(plan, size, nodes, tray, node, lane, epoch)?;
             Ok(Did::Closing)
         }
         None => Ok(Did::Nothing),
@@ -81,6 +80,6 @@ pub(crate) fn step_node(
             work_off(alloc, plan, size, nodes, node, lane)?;
             Ok(Did::Bundle)
         }
-        None => close_step(alloc, plan, size, nodes, tray, node),
+        None => close_step(plan, size, nodes, tray, node),
     }
 }

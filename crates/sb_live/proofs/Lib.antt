@@ -1,3 +1,4 @@
+pub mod Crossing
 pub mod Earlier
 pub mod Ends
 pub mod Rises

@@ -20,9 +20,9 @@ use Rattle.sb_worker.specs.lane.Placed.{conts_of}
 use Rattle.sb_worker.specs.lane.Unfinished.{unfinished_of}
 use Rattle.sb_worker.specs.node.declared.state.NodeState.{NodeState}
 use Rattle.sb_worker.specs.hand.Feeding.{MayArrive, MaySeal, TakesStream}
-use Rattle.sb_worker.specs.hand.Hands.{HandView, settings_at, settings_for}
+use Rattle.sb_worker.specs.hand.Hands.{HandView}
 use Rattle.sb_worker.specs.hand.Sets.{HasLane}
-use Rattle.sb_worker.specs.hand.Showing.{Settings, diaries_of, settings_of}
+use Rattle.sb_worker.specs.hand.Showing.{Settings, diaries_of, settings_at, settings_for, settings_of}
 use Rattle.sb_worker.proofs.hand.Resting.{idle-is-finished}
 use Rattle.sb_worker.proofs.hand.ShownLanes.{one-of-all, shows-sources, takes-sources}
 use Rattle.sb_worker.proofs.hand.Single.{get-map}

@@ -25,8 +25,8 @@ use Rattle.sb_worker.proofs.tally.Ends.{end-is_tallied}
 use Rattle.sb_worker.proofs.tally.Settling.{end-is_settled}
 use Rattle.sb_worker.proofs.tally.Telling.{diaries-tell}
 use Rattle.sb_feeds.specs.emit.Taps.{TapState}
-use Rattle.sb_worker.specs.hand.Hands.{HandView, settings_at}
-use Rattle.sb_worker.specs.hand.Showing.{diaries_of, settings_of}
+use Rattle.sb_worker.specs.hand.Hands.{HandView}
+use Rattle.sb_worker.specs.hand.Showing.{diaries_of, settings_at, settings_of}
 use Rattle.sb_worker.proofs.hand.ShownLanes.{done-is-empty}
 use Rattle.sb_feeds.specs.one_feed.declared.cutters.Cutters.{Cutters}
 use Rattle.sb_feeds.specs.one_feed.declared.give.GiveStop.{GiveStop}

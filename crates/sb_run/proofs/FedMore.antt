@@ -18,14 +18,14 @@ use Rattle.sb_worker.specs.tally.Tally.{IsTallied}
 use Rattle.sb_worker.specs.tally.Whole.{fed_bundle}
 use Rattle.sb_worker.specs.cascade.declared.cascade.Cascade.{Cascade}
 use Rattle.sb_worker.specs.cascade.declared.pass.CascadePass.{CascadePass}
-use Rattle.sb_worker.specs.cascade.declared.telling.Hands.{Hands}
+use Rattle.sb_worker.specs.cascade.shared.declared.telling.Hands.{Hands}
 use Rattle.sb_worker.specs.cascade.Bringing as bring
 use Rattle.sb_worker.specs.cascade.Bringing.{sealed_lane}
 use Rattle.sb_worker.specs.cascade.Calls.{IsEmptyHanded, IsFeeder, IsReady, IsSame, hands, plan_of, setting_of, view_of}
-use Rattle.sb_worker.specs.cascade.Found.{IsDrained}
-use Rattle.sb_worker.specs.cascade.Views as view
+use Rattle.sb_worker.specs.cascade.shared.Found.{IsDrained}
+use Rattle.sb_worker.specs.cascade.shared.Views as view
 use Rattle.sb_worker.specs.turn.Turning.{raised_view}
-use Rattle.sb_worker.proofs.cascade.feeds.FeedOfChanges.{bundle-dry, bundle-fed, drained-fed, mark-dry, mark-fed, raise-fed, raise-keeps}
+use Rattle.sb_worker.proofs.cascade.shared.feeds.FeedOfChanges.{bundle-dry, bundle-fed, drained-fed, mark-dry, mark-fed, raise-fed, raise-keeps}
 use Rattle.sb_feeds.specs.one_feed.Feeds.{AreRowsSoFar, Fed, MayArrive, MaySeal, bundles_in, records_of_feed, floor_in, marks_in, with_bundle, with_mark}
 use Rattle.sb_feeds.proofs.one_feed.RowsSoFar.{so_far_bundle, so_far_mark}
 use Rattle.sb_run.specs.Feeders.{HasFed, IsStill}

@@ -24,8 +24,8 @@ use Rattle.sb_feeds.specs.base.pipeline.Results as result
 use Rattle.sb_feeds.specs.base.pipeline.Shapes.{Shape, streams_of}
 use Rattle.sb_worker.specs.tally.Whole.{Tallies}
 use Rattle.sb_feeds.specs.emit.Taps.{TapState}
-use Rattle.sb_worker.specs.hand.Hands.{HandView, settings_at}
-use Rattle.sb_worker.specs.hand.Showing.{diaries_of, settings_of}
+use Rattle.sb_worker.specs.hand.Hands.{HandView}
+use Rattle.sb_worker.specs.hand.Showing.{diaries_of, settings_at, settings_of}
 use Rattle.sb_worker.specs.cascade.declared.cascade.Cascade.{Cascade}
 use Rattle.sb_worker.specs.cascade.declared.pass.CascadePass.{CascadePass}
 use Rattle.sb_worker.specs.cascade.Calls.{plan_of, setting_of}

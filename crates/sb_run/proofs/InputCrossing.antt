@@ -16,7 +16,11 @@ use Rattle.sb_feeds.specs.contracts.input.signals.Signals as signals
 use Rattle.sb_feeds.proofs.input.signals.Signals.TheSendSync as signals_crossing
 use Rattle.sb_run.specs.contracts.input.ahead.Ahead as ahead
 use Rattle.sb_run.proofs.input.ahead.Ahead.TheSendSync as ahead_crossing
+use Rattle.sb_run.specs.contracts.shared.common.Passes as passes
 use Rattle.sb_run.proofs.FilesCrossing.{captured}
+use Rattle.sb_worker.specs.cascade.contracts.pass.CascadePass as pass
+use Rattle.sb_worker.proofs.Crossing.{Pass-send}
+use Rattle.std.proofs.Crossing.{Vec-send}
 
 pub Out-send : IsSend outward.the_row
 Out-send = outward_crossing.the_send
@@ -42,8 +46,6 @@ Ahead-sync α R shared = ahead_crossing.the_sync α R shared
 pub Ahead-lent : (ℓ α : NamedLft) (R : RattleType) → IsSync R → IsSend (shr_ref_field ℓ (ahead.the_row α R) tt).row
 Ahead-lent ℓ α R shared = search (sendable, Ahead-sync) depth 20
 
-pub Eleven-send : (ν : Sym) (A B C D E F G H I J K : RattleType) → IsSend A → IsSend B → IsSend C → IsSend D → IsSend E → IsSend F → IsSend G → IsSend H → IsSend I → IsSend J → IsSend K
-    → IsSend (TupleAt ν (A ∷ B ∷ C ∷ D ∷ E ∷ F ∷ G ∷ H ∷ I ∷ J ∷ K ∷ []))
-Eleven-send ν A B C D E F G H I J K a b c d e f g h i j k =
-    declared_send (type_at ν (A ∷ B ∷ C ∷ D ∷ E ∷ F ∷ G ∷ H ∷ I ∷ J ∷ K ∷ []))
-    (captured (A ∷ B ∷ C ∷ D ∷ E ∷ F ∷ G ∷ H ∷ I ∷ J ∷ K ∷ []) (a, (b, (c, (d, (e, (f, (g, (h, (i, (j, (k, tt))))))))))))
+-- the passes of all workers
+pub Passes-send : IsSend passes.the_row
+Passes-send = declared_send passes.the_type (Pass-send, (Vec-send pass.the_row Pass-send, tt))

@@ -9,11 +9,11 @@ use Rattle.sb_worker.specs.turn.Turning.{joined_with, opening_view, saw, split_o
 use Rattle.sb_worker.specs.turn.Passes.{ShowsEmpty}
 use Rattle.sb_worker.specs.cascade.declared.cascade.Cascade.{Cascade}
 use Rattle.sb_worker.specs.cascade.declared.pass.CascadePass.{CascadePass}
-use Rattle.sb_worker.specs.cascade.declared.telling.Change.{Change}
-use Rattle.sb_worker.specs.cascade.declared.telling.Hands.{Hands}
+use Rattle.sb_worker.specs.cascade.shared.declared.telling.Change.{Change}
+use Rattle.sb_worker.specs.cascade.shared.declared.telling.Hands.{Hands}
 use Rattle.sb_worker.specs.cascade.Calls.{HasSame, IsEmptyHanded, IsFeeder, IsReady, IsSame, passes_out, view_of}
-use Rattle.sb_worker.specs.cascade.SharedNodes.{SharedView}
-use Rattle.sb_worker.specs.cascade.Views.{idle_hands}
+use Rattle.sb_worker.specs.cascade.shared.SharedNodes.{SharedView}
+use Rattle.sb_worker.specs.cascade.shared.Views.{idle_hands}
 use Rattle.sb_feeds.specs.one_feed.Feeds.{Fed}
 use Rattle.sb_run.specs.Feeders.{HasFed}
 use Rattle.sb_run.proofs.FedMore.{fed-still}

@@ -17,14 +17,14 @@ use Rattle.sb_worker.specs.core.Exactness.{IsExact}
 use Rattle.sb_worker.specs.tally.Tally as tally
 use Rattle.sb_worker.specs.tally.Tally.{IsTallied}
 use Rattle.sb_feeds.specs.emit.Taps.{TapState}
-use Rattle.sb_worker.specs.hand.Hands.{HandView, IsNewHand, Shows, settings_at}
-use Rattle.sb_worker.specs.hand.Showing.{diaries_of, settings_of}
+use Rattle.sb_worker.specs.hand.Hands.{HandView, IsNewHand, Shows}
+use Rattle.sb_worker.specs.hand.Showing.{diaries_of, settings_at, settings_of}
 use Rattle.sb_worker.specs.turn.Turning.{opening_view}
 use Rattle.sb_worker.specs.cascade.declared.cascade.Cascade.{Cascade}
 use Rattle.sb_worker.specs.cascade.declared.pass.CascadePass.{CascadePass}
 use Rattle.sb_worker.specs.cascade.Calls.{IsEmptyHanded, IsFeeder, IsReady, plan_of, setting_of, view_of}
 use Rattle.sb_worker.specs.cascade.Lives.{GivesBack, IsShared}
-use Rattle.sb_worker.specs.cascade.Views as view
+use Rattle.sb_worker.specs.cascade.shared.Views as view
 use Rattle.sb_feeds.specs.one_feed.declared.cutters.Cutters.{Cutters}
 use Rattle.sb_feeds.specs.one_feed.declared.give.GiveStop.{GiveStop}
 use Rattle.sb_feeds.specs.one_feed.declared.give.GiveStop.TheVariants as give

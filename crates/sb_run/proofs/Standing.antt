@@ -28,9 +28,9 @@ use Rattle.sb_worker.proofs.tally.First.{first-is_tallied}
 use Rattle.sb_worker.specs.hand.declared.did.Did.{Did}
 use Rattle.sb_worker.specs.hand.declared.did.Did.TheVariants as did
 use Rattle.sb_worker.specs.node.declared.state.NodeState.{NodeState}
-use Rattle.sb_worker.specs.hand.Hands.{HandView, IsNewHand, KeepsAllButNodes, settings_at}
+use Rattle.sb_worker.specs.hand.Hands.{HandView, IsNewHand, KeepsAllButNodes}
 use Rattle.sb_worker.specs.hand.Runs.{bundle_events}
-use Rattle.sb_worker.specs.hand.Showing.{Does, Stands, diaries_of, settings_of}
+use Rattle.sb_worker.specs.hand.Showing.{Does, Stands, diaries_of, settings_at, settings_of}
 use Rattle.sb_worker.specs.hand.Stepping.{Steps}
 use Rattle.sb_worker.proofs.hand.FeedingNothing.{bundles-feed_nothing, closings-feed_nothing}
 use Rattle.sb_feeds.specs.one_feed.Feeds.{Fed, bundles_in, records_of_feed, floor_in, marks_in, nothing_fed, with_bundle, with_mark}

@@ -22,8 +22,8 @@ use Rattle.sb_worker.specs.lane.Looks.{look_of}
 use Rattle.sb_worker.specs.lane.Taking.{take_first}
 use Rattle.sb_feeds.specs.emit.Taps.{TapState}
 use Rattle.sb_worker.specs.hand.HandLaws.{AreIdle}
-use Rattle.sb_worker.specs.hand.Hands.{HandView, IsNewHand, settings_at}
-use Rattle.sb_worker.specs.hand.Showing.{settings_of}
+use Rattle.sb_worker.specs.hand.Hands.{HandView, IsNewHand}
+use Rattle.sb_worker.specs.hand.Showing.{settings_at, settings_of}
 use Rattle.sb_worker.specs.node.Looking.{CannotClose, NoneWaits}
 use Rattle.sb_worker.proofs.hand.ShownLanes.{all-of-each, one-of-all}
 use Rattle.sb_worker.proofs.hand.Single.{get-map, there-too}

@@ -1,23 +1,24 @@
 -- What the feeder's pass of a shared cascade stands for between two lines of an input.
-use Rattle.std.specs.Prelude.{◌≡◌, ◌≤◌, List, [], length, Result, Ok, Err}
+use Rattle.std.specs.Prelude.{◌≡◌, ◌≤◌, ℕ, List, [], length, Result, Ok, Err}
 use Rattle.std.specs.List.{AllByRecursion}
 use Rattle.sb_feeds.specs.base.records.declared.item.Record.{Record}
 use Rattle.sb_feeds.specs.base.records.declared.item.Stream.{Stream}
 use Rattle.sb_feeds.specs.base.records.declared.item.TheConstants.{END_MARK}
+use Rattle.sb_feeds.specs.base.bundle.declared.bundle.TheConstants.{MAX_BUNDLE}
 use Rattle.sb_feeds.specs.base.pipeline.Plans.{IsPlan}
 use Rattle.sb_feeds.specs.base.pipeline.Shapes.{Shape}
 use Rattle.sb_worker.specs.cascade.declared.cascade.Cascade.{Cascade}
 use Rattle.sb_worker.specs.cascade.declared.pass.CascadePass.{CascadePass}
-use Rattle.sb_worker.specs.cascade.declared.telling.Setting.{Setting}
+use Rattle.sb_worker.specs.cascade.shared.declared.telling.Setting.{Setting}
 use Rattle.sb_worker.specs.cascade.Calls.{IsEmptyHanded, IsFeeder, IsReady, hands, passes_out, plan_of, setting_of}
 use Rattle.sb_worker.specs.cascade.Lives.{IsShared}
-use Rattle.sb_worker.specs.cascade.Views as view
+use Rattle.sb_worker.specs.cascade.shared.Views as view
 use Rattle.sb_feeds.specs.emit.Taps.{TapState}
 use Rattle.sb_feeds.specs.one_feed.declared.give.GiveStop.{GiveStop}
 use Rattle.sb_feeds.specs.one_feed.Feeds.{AreRowsSoFar, Fed, floor_in, nothing_fed}
 use Rattle.sb_feeds.specs.one_feed.Gives.{GivesOut, StopsOut}
-use Rattle.sb_worker.specs.hand.Hands.{HandView, settings_at}
-use Rattle.sb_worker.specs.hand.Showing.{settings_of}
+use Rattle.sb_worker.specs.hand.Hands.{HandView}
+use Rattle.sb_worker.specs.hand.Showing.{settings_at, settings_of}
 use Rattle.sb_run.specs.declared.sizes.Sizes.{Sizes}
 use Rattle.sb_run.specs.Rested.{IsRested, feed_of}
 use Rattle.sb_worker.specs.Helping.{IsFirst, IsHelper}
@@ -33,6 +34,13 @@ pub record HasFed (c : Cascade) (p : CascadePass) (f : Fed) (rows : List Record)
   pub drained : (hands p).feed.drained ≡ rows
   pub so_far : AreRowsSoFar (plan_of c) f rows
   pub bound : (s : Stream) → floor_in f s ≤ END_MARK
+
+-- the feeder begins: nothing was fed yet, and a bundle of the cascade has so many records at most
+pub record Begins (c : Cascade) (p : CascadePass) (size : ℕ) : Type 0 where
+  pub fed : HasFed c p nothing_fed []
+  pub is_size : (setting_of c).bundle ≡ size
+  pub some : 1 ≤ size
+  pub most : size ≤ MAX_BUNDLE
 
 -- the pass has no turn, as many others are out as before, and it is the feeder's if it was
 pub record IsStill (c : Cascade) (p q : CascadePass) : Type 0 where

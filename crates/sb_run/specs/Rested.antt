@@ -9,8 +9,8 @@ use Rattle.sb_worker.specs.core.Exactness.{IsExact}
 use Rattle.sb_worker.specs.tally.Tally.{Feed, IsTallied}
 use Rattle.sb_worker.specs.tally.Whole.{fed_bundle}
 use Rattle.sb_worker.specs.hand.HandLaws.{AreIdle}
-use Rattle.sb_worker.specs.hand.Hands.{HandView, Shows, settings_at}
-use Rattle.sb_worker.specs.hand.Showing.{diaries_of, settings_of}
+use Rattle.sb_worker.specs.hand.Hands.{HandView, Shows}
+use Rattle.sb_worker.specs.hand.Showing.{diaries_of, settings_at, settings_of}
 use Rattle.sb_feeds.specs.one_feed.Feeds.{AreRowsSoFar, Fed, bundles_in, records_of_feed, floor_in, marks_in}
 
 -- what was fed, as the tally counts it: rows that were drained are rows of the moment still, so none counts as drained

@@ -16,8 +16,8 @@ use Rattle.sb_worker.specs.tally.Whole.{Tallies}
 use Rattle.sb_worker.specs.tally.Written.{diary_at}
 use Rattle.sb_feeds.specs.emit.Taps.{TapState}
 use Rattle.sb_worker.specs.hand.declared.hand.TheConstants.{MAX_PENDING}
-use Rattle.sb_worker.specs.hand.Hands.{HandView, NoneLeft, settings_at}
-use Rattle.sb_worker.specs.hand.Showing.{diaries_of, settings_of}
+use Rattle.sb_worker.specs.hand.Hands.{HandView, NoneLeft}
+use Rattle.sb_worker.specs.hand.Showing.{diaries_of, settings_at, settings_of}
 use Rattle.sb_feeds.specs.one_feed.Calls.{calls_of}
 use Rattle.sb_feeds.specs.one_feed.Due.{AreFirstDropped, AreFirstRows, due_rows}
 use Rattle.sb_feeds.specs.one_feed.declared.give.GiveStop.{GiveStop}

@@ -2,6 +2,7 @@
 #![tactic(auto)]
 
 mod alone;
+mod by_stream;
 mod ending;
 mod files;
 mod input;
@@ -11,16 +12,19 @@ mod run_end;
 mod running;
 mod shared;
 mod sizes;
+mod team;
 mod together;
 mod working;
 
 pub use alone::execute_alone;
+pub use by_stream::ByStream;
 pub use files::MAX_FILE_LENGTH;
 pub use files::executing::execute_two;
 pub use files::two_end::TwoEnd;
 pub use run_end::RunEnd;
 pub use running::run;
 pub use sizes::{MAX_WORKERS, Sizes};
+pub use team::Team;
 pub use together::execute;
 
 // What the crates above name of the crates below.

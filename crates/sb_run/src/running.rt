@@ -6,21 +6,20 @@ ghost use Rattle.sb_run.specs.RunEnds.{AreSizes, Ends, InputCause, IsDone, Outpu
 use crate::alone::execute_alone;
 use crate::run_end::RunEnd;
 use crate::sizes::Sizes;
+use crate::team::Team;
 use crate::together::execute;
 use sb_feeds::sb_base::{Dropped, Plan};
 use sb_feeds::sb_emit::{RowOut, Tap};
 use sb_feeds::sb_outside::Source;
 use sb_worker::sb_work::OpenGate;
-use std::alloc::Global;
 use std::sync::Wait;
 use std::thread::Threads;
 use std::time::Clock;
 
 /// Runs a plan over an input: by [`execute_alone`] if `sizes.workers` is 1, else by [`execute`] with a gate that is
 /// always open.
-pub fn run<W: Threads + Wait + Clock + Sync, S: Source, R: RowOut>(
+pub fn run<W: AllocGlobal + Threads + Wait + Clock + Sync, S: Source, R: RowOut>(
     rt: &W,
-    alloc: Global,
     plan: Plan,
     sizes: Sizes,
     input: &mut S,
@@ -40,8 +39,12 @@ pub fn run<W: Threads + Wait + Clock + Sync, S: Source, R: RowOut>(
     ensures output { OutputCause (R.row_state out.old) (R.row_state out.new) result }
 {
     if sizes.workers == 1 {
-        execute_alone(alloc, plan, sizes, input, out, taps, dropped)
+        execute_alone(rt.alloc(), plan, sizes, input, out, taps, dropped)
     } else {
-        execute(rt, alloc, plan, sizes, input, out, taps, dropped, &OpenGate)
+        let team = Team {
+            rt,
+            gate: &OpenGate,
+        };
+        execute(team, plan, sizes, input, out, taps, dropped)
     }
 }

@@ -1,5 +1,6 @@
 //! A run by workers that share a cascade: one of them feeds it, and the others help.
 
+pub(crate) mod common;
 pub(crate) mod feeder;
 pub(crate) mod feeding;
 pub(crate) mod handing;

@@ -5,14 +5,17 @@ ghost use Rattle.sb_run.specs.Feeders.{IsBegun};
 ghost use Rattle.sb_run.specs.RunEnds.{AreSizes, Ends, IsDone, OutputCause, SharedInputCause};
 
 use crate::ending::{early_end, end_of};
+use crate::input::ahead::Ahead;
 use crate::input::printing::work_and_print;
 use crate::run_end::RunEnd;
+use crate::shared::common::{Common, Passes};
 use crate::shared::handing::{come_back, split_all};
 use crate::sizes::Sizes;
+use crate::team::Team;
 use sb_feeds::sb_base::{Dropped, NoMemory, Plan};
 use sb_feeds::sb_emit::{RowOut, Tap};
 use sb_feeds::sb_outside::Source;
-use sb_worker::sb_cascade::{Cascade, CascadePass};
+use sb_worker::sb_cascade::Cascade;
 use sb_worker::sb_hand::Hand;
 use sb_worker::sb_work::Gate;
 use std::alloc::Global;
@@ -20,12 +23,11 @@ use std::sync::Wait;
 use std::thread::Threads;
 use std::time::Clock;
 
-/// What workers share: the cascade, the feeder's pass, and those of the helpers.
+/// A cascade, and the passes of its workers.
 #[derive(Drop)]
 pub(crate) struct Begun {
     pub(crate) cascade: Cascade,
-    pub(crate) pass: CascadePass,
-    pub(crate) helpers: Vec<CascadePass>,
+    pub(crate) passes: Passes,
 }
 
 /// A cascade of the plan, for so many workers.
@@ -35,7 +37,7 @@ pub(crate) struct Begun {
 /// [`NoMemory`].
 pub(crate) fn begin(alloc: Global, plan: Plan, sizes: Sizes) -> Result<Begun, NoMemory>
     requires sizes { AreSizes sizes }
-    ensures { IfOk result (λ b. IsBegun plan sizes b.cascade b.pass b.helpers.items) }
+    ensures { IfOk result (λ b. IsBegun plan sizes b.cascade b.passes.feeder b.passes.helpers.items) }
 {
     // For the proof: a plan keeps its rules.
     let _ = plan.transforms();
@@ -46,13 +48,10 @@ pub(crate) fn begin(alloc: Global, plan: Plan, sizes: Sizes) -> Result<Begun, No
         sizes.pending,
         sizes.keeps_diaries,
     )?;
-    let (cascade, mut pass) = Cascade::share(alloc, hand)?;
-    let helpers = split_all(alloc, &cascade, &mut pass, sizes.workers - 1)?;
-    Ok(Begun {
-        cascade,
-        pass,
-        helpers,
-    })
+    let (cascade, mut feeder) = Cascade::share(alloc, hand)?;
+    let helpers = split_all(alloc, &cascade, &mut feeder, sizes.workers - 1)?;
+    let passes = Passes { feeder, helpers };
+    Ok(Begun { cascade, passes })
 }
 
 /// Runs a plan over an input with `sizes.workers` workers, one of which feeds, while the others help, each in a thread of
@@ -64,16 +63,19 @@ pub(crate) fn begin(alloc: Global, plan: Plan, sizes: Sizes) -> Result<Begun, No
 /// as a lane is full, or as nothing comes for a while, and at the end. The input may be read further than it was fed,
 /// and where a run ends early, it waits for a read that has begun. The gate is passed with each bundle in hand, outside
 /// of every turn. Whether the call returns is not said: workers wait for one another.
-pub fn execute<W: Threads + Wait + Clock + Sync, S: Source, R: RowOut, G: Gate + Sync>(
-    rt: &W,
-    alloc: Global,
+pub fn execute<
+    W: AllocGlobal + Threads + Wait + Clock + Sync,
+    S: Source,
+    R: RowOut,
+    G: Gate + Sync,
+>(
+    team: Team<'_, W, G>,
     plan: Plan,
     sizes: Sizes,
     input: &mut S,
     out: &mut R,
     taps: &mut Vec<Box<dyn Tap>>,
     dropped: &mut Vec<Dropped>,
-    gate: &G,
 ) -> RunEnd
     requires sizes { AreSizes sizes }
     requires few { length taps.old.items < 2 ^ 32 }
@@ -85,28 +87,25 @@ pub fn execute<W: Threads + Wait + Clock + Sync, S: Source, R: RowOut, G: Gate +
     ensures name { S.name input.new ≡ S.name input.old }
     ensures output { OutputCause (R.row_state out.old) (R.row_state out.new) result }
 {
+    let Team { rt, gate } = team;
+    let alloc = rt.alloc();
     let begun = match begin(alloc, plan, sizes) {
         Ok(begun) => begun,
         Err(NoMemory) => return RunEnd::Memory,
     };
     let Begun {
         cascade,
-        mut pass,
-        mut helpers,
+        mut passes,
     } = begun;
-    let (clear, fed) = work_and_print(
+    let ahead = Ahead::new(gate, cascade.plan(), passes.helpers.len());
+    let common = Common {
         rt,
         alloc,
-        &cascade,
-        &mut pass,
-        &mut helpers,
-        sizes.bundle,
-        input,
-        out,
-        taps,
-        dropped,
-        gate,
-    );
+        cascade: &cascade,
+        gate: &ahead,
+        size: sizes.bundle,
+    };
+    let (clear, fed) = work_and_print(&common, &mut passes, input, out, taps, dropped);
     if !clear {
         return RunEnd::Memory;
     }
@@ -114,7 +113,7 @@ pub fn execute<W: Threads + Wait + Clock + Sync, S: Source, R: RowOut, G: Gate +
         Ok(stop) => stop,
         Err(why) => return early_end(why),
     };
-    match come_back(rt, alloc, cascade, pass, helpers, gate, out, taps) {
+    match come_back(rt, alloc, cascade, passes, gate, out, taps) {
         Ok(hand) => end_of(hand, Ok(stop)),
         Err(why) => early_end(why),
     }

@@ -7,8 +7,8 @@ use Rattle.sb_cascade.specs.turn.declared.turns.Entry.TheVariants.{Left, Claimed
 use Rattle.sb_cascade.specs.turn.Turning.{looks_from}
 use Rattle.sb_cascade.specs.work.declared.claim.Claim.{Claim}
 use Rattle.sb_cascade.specs.declared.pass.CascadePass.{CascadePass}
-use Rattle.sb_cascade.specs.declared.telling.Change.{Change}
-use Rattle.sb_cascade.specs.declared.telling.Change.TheVariants as change
+use Rattle.sb_cascade.specs.shared.declared.telling.Change.{Change}
+use Rattle.sb_cascade.specs.shared.declared.telling.Change.TheVariants as change
 use Rattle.sb_cascade.specs.Calls.{IsEmptyHanded}
 use Rattle.sb_cascade.specs.Shelving.{ClaimedOne, KeepsOne, WasIdle}
 use Rattle.sb_cascade.specs.Shelving as shelving

@@ -6,8 +6,8 @@ use Rattle.std.proofs.lemmas.List.Sums.{sum_by-append}
 use Rattle.sb_cascade.specs.turn.declared.turns.Entry.{Entry}
 use Rattle.sb_cascade.specs.turn.declared.turns.Entry.TheVariants.{Left, Looked}
 use Rattle.sb_cascade.specs.turn.Turning.{looks_from}
-use Rattle.sb_cascade.specs.declared.telling.Change.{Change}
-use Rattle.sb_cascade.specs.declared.telling.Change.TheVariants as change
+use Rattle.sb_cascade.specs.shared.declared.telling.Change.{Change}
+use Rattle.sb_cascade.specs.shared.declared.telling.Change.TheVariants as change
 use Rattle.sb_cascade.specs.Shelving.{is_search}
 use Rattle.sb_worker.specs.Entries.{Does, FoundNoneFree, FoundNoneFull, Has, HasRun, is_end, is_finish}
 

@@ -37,11 +37,11 @@ use Rattle.sb_cascade.specs.node.contracts.state.NodeState as node
 use Rattle.sb_cascade.specs.turn.contracts.turns.Slot as slot
 use Rattle.sb_cascade.proofs.turn.turns.Slot.TheSendSync as slot_crossing
 use Rattle.sb_cascade.proofs.turn.turns.Turns.TheSendSync as turns_crossing
-use Rattle.sb_cascade.specs.contracts.shared_node.SharedNode as shared
-use Rattle.sb_cascade.specs.contracts.shared_node.SharedNode.TheInside as inside
-use Rattle.sb_cascade.specs.contracts.telling.Piece as piece
-use Rattle.sb_cascade.proofs.telling.Piece.TheSendSync as piece_crossing
-use Rattle.sb_cascade.proofs.telling.Setting.TheSendSync as setting_crossing
+use Rattle.sb_cascade.specs.shared.contracts.shared_node.SharedNode as shared
+use Rattle.sb_cascade.specs.shared.contracts.shared_node.SharedNode.TheInside as inside
+use Rattle.sb_cascade.specs.shared.contracts.telling.Piece as piece
+use Rattle.sb_cascade.proofs.shared.telling.Piece.TheSendSync as piece_crossing
+use Rattle.sb_cascade.proofs.shared.telling.Setting.TheSendSync as setting_crossing
 use Rattle.sb_cascade.specs.contracts.pass.CascadePass as pass
 use Rattle.sb_cascade.specs.contracts.cascade.Cascade as cascade
 

@@ -4,7 +4,7 @@ use Rattle.sb_cascade.specs.turn.declared.turns.Entry.{Entry}
 use Rattle.sb_cascade.specs.turn.declared.turns.Entry.TheVariants.{Saw}
 use Rattle.sb_cascade.specs.hand.declared.did.Did.{Did}
 use Rattle.sb_cascade.specs.hand.declared.did.Did.TheVariants.{Bundle, Closing, Nothing}
-use Rattle.sb_cascade.specs.declared.telling.Change.{Change}
+use Rattle.sb_cascade.specs.shared.declared.telling.Change.{Change}
 use Rattle.sb_worker.specs.Entries.{Does, FoundNoneFull, Gains, Has, is_claimed, is_idle_of, is_not_yet_of}
 use Rattle.sb_worker.specs.Steps.{IsBareAndIdle, IsClaiming, IsDone, IsIdle, IsNotYet, IsShelfBare}
 use Rattle.sb_worker.proofs.Counting.{does-then, free-after, free-before, full-after, full-before, has-after, has-before}

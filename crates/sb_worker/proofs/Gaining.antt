@@ -2,7 +2,7 @@
 use Rattle.std.proofs.Common.{Bool, List, [], ◌++◌, ap, sym, ◌∙◌, append-nil, append_assoc}
 use Rattle.sb_cascade.specs.turn.declared.turns.Entry.{Entry}
 use Rattle.sb_cascade.specs.declared.pass.CascadePass.{CascadePass}
-use Rattle.sb_cascade.specs.declared.telling.Change.{Change}
+use Rattle.sb_cascade.specs.shared.declared.telling.Change.{Change}
 use Rattle.sb_cascade.specs.Calls.{view_of}
 use Rattle.sb_worker.specs.Entries.{Gained, Gains, Grows, Has}
 use Rattle.sb_worker.proofs.Counting.{has-after}

@@ -5,8 +5,8 @@ use Rattle.sb_cascade.specs.turn.declared.turns.Entry.{Entry}
 use Rattle.sb_cascade.specs.turn.declared.turns.Entry.TheVariants.{Held, Left}
 use Rattle.sb_cascade.specs.node.declared.closing.Closing.{Closing}
 use Rattle.sb_cascade.specs.declared.pass.CascadePass.{CascadePass}
-use Rattle.sb_cascade.specs.declared.telling.Change.{Change}
-use Rattle.sb_cascade.specs.declared.telling.Change.TheVariants as change
+use Rattle.sb_cascade.specs.shared.declared.telling.Change.{Change}
+use Rattle.sb_cascade.specs.shared.declared.telling.Change.TheVariants as change
 use Rattle.sb_cascade.specs.Calls.{LeftBy, view_of}
 use Rattle.sb_cascade.specs.Told.{Is, IsEnd}
 use Rattle.sb_worker.specs.Entries.{Does, Gains, Grows, Has, is_ending, is_finishing, is_idle_of, is_idling}

@@ -2,7 +2,7 @@
 use Rattle.std.proofs.Common.{ℕ, ◌<◌, ◌≤◌, ◌-◌, ◌≡◌, Bool, List, [], ◌++◌, ⊎_elim, arith, refl, subst}
 use Rattle.std.proofs.lemmas.Bool.{cases_lt}
 use Rattle.sb_cascade.specs.turn.declared.turns.Entry.{Entry}
-use Rattle.sb_cascade.specs.declared.telling.Change.{Change}
+use Rattle.sb_cascade.specs.shared.declared.telling.Change.{Change}
 use Rattle.sb_worker.specs.Entries.{Does, Has}
 use Rattle.sb_worker.proofs.Counting.{does-then, has-after, has-before}
 

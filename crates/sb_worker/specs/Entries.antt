@@ -6,8 +6,8 @@ use Rattle.sb_cascade.specs.turn.declared.turns.Entry.{Entry}
 use Rattle.sb_cascade.specs.turn.declared.turns.Entry.TheVariants.{Left, Saw, Raised, Claimed}
 use Rattle.sb_cascade.specs.turn.Turning.{looks_from}
 use Rattle.sb_cascade.specs.declared.pass.CascadePass.{CascadePass}
-use Rattle.sb_cascade.specs.declared.telling.Change.{Change}
-use Rattle.sb_cascade.specs.declared.telling.Change.TheVariants as change
+use Rattle.sb_cascade.specs.shared.declared.telling.Change.{Change}
+use Rattle.sb_cascade.specs.shared.declared.telling.Change.TheVariants as change
 use Rattle.sb_cascade.specs.Calls.{view_of}
 
 -- the trace of the pass has these entries more

@@ -3,7 +3,7 @@ use Rattle.std.specs.Prelude.{◌≡◌, ℕ}
 use Rattle.sb_cascade.specs.declared.cascade.Cascade.{Cascade}
 use Rattle.sb_cascade.specs.declared.pass.CascadePass.{CascadePass}
 use Rattle.sb_cascade.specs.Calls.{IsEmptyHanded, IsFeeder, IsReady, hands, passes_out}
-use Rattle.sb_cascade.specs.Views.{no_feed}
+use Rattle.sb_cascade.specs.shared.Views.{no_feed}
 
 -- the pass of a helper, with nothing in hand
 pub record IsHelper (c : Cascade) (p : CascadePass) : Type 0 where

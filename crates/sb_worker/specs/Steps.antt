@@ -3,7 +3,7 @@ use Rattle.std.specs.Prelude.{◌≡◌, ◌≤◌, ◌⊎◌, ◌++◌, ℕ, Li
 use Rattle.sb_cascade.specs.turn.declared.turns.Entry.{Entry}
 use Rattle.sb_cascade.specs.hand.declared.did.Did.{Did}
 use Rattle.sb_cascade.specs.hand.declared.did.Did.TheVariants.{Bundle, Closing, Nothing}
-use Rattle.sb_cascade.specs.declared.telling.Change.{Change}
+use Rattle.sb_cascade.specs.shared.declared.telling.Change.{Change}
 use Rattle.sb_worker.specs.declared.step.OneStop.{OneStop}
 use Rattle.sb_worker.specs.declared.step.OneStop.TheVariants.{Stopped, Memory}
 use Rattle.sb_worker.specs.Entries.{Does, FoundNoneFree, FoundNoneFull, Has}

@@ -2,7 +2,7 @@
 
 ghost use Rattle.std.specs.Prelude.{◌≤◌, false, length, IfNone, IfSome};
 ghost use Rattle.sb_cascade.specs.Calls.{HasBundle, IsEmptyHanded, IsReady, IsSame, plan_of, setting_of};
-ghost use Rattle.sb_cascade.specs.Found.{IsClaim};
+ghost use Rattle.sb_cascade.specs.shared.Found.{IsClaim};
 ghost use Rattle.sb_worker.specs.Entries.{Gains};
 ghost use Rattle.sb_worker.specs.Steps.{IsBareAndIdle, IsClaiming, IsIdle, IsIdleAt, IsShelfBare};
 

@@ -3,7 +3,7 @@
 ghost use Rattle.std.specs.Prelude.{◌≡◌, ◌<◌, ◌≤◌, true, false, [], length, IfOk, MatchBool, OnErr, OnOk};
 ghost use Rattle.sb_cascade.specs.core.Closings.{is_sink};
 ghost use Rattle.sb_cascade.specs.Calls.{HasClosing, IsEmptyHanded, IsReady, IsSame, plan_of, rows_left, setting_of};
-ghost use Rattle.sb_cascade.specs.Shown.{operator_of};
+ghost use Rattle.sb_cascade.specs.shared.Shown.{operator_of};
 ghost use Rattle.sb_worker.specs.Entries.{Does, Gains, Grows};
 ghost use Rattle.sb_worker.specs.Steps.{IsNotYet, IsNotYetAt};
 

@@ -3,8 +3,8 @@
 ghost use Rattle.std.specs.Prelude.{◌≡◌, ◌≤◌, Bool, true, false, length, OnErr, IfOk, OnOk};
 ghost use Rattle.sb_cascade.specs.core.Closings.{delivery, is_pardo};
 ghost use Rattle.sb_cascade.specs.Calls.{HasBundle, IsEmptyHanded, IsReady, IsSame, plan_of, setting_of};
-ghost use Rattle.sb_cascade.specs.Found.{IsClaim};
-ghost use Rattle.sb_cascade.specs.Shown.{operator_of};
+ghost use Rattle.sb_cascade.specs.shared.Found.{IsClaim};
+ghost use Rattle.sb_cascade.specs.shared.Shown.{operator_of};
 ghost use Rattle.sb_cascade.specs.Working.{NeedsNoPart};
 ghost use Rattle.sb_cascade.specs.work.Processing.{IsOutput};
 ghost use Rattle.sb_worker.specs.Entries.{Does, Gains, Grows};

@@ -47,7 +47,6 @@ pub fn run(
     }
     Ok(streambox(
         rt,
-        rt.alloc(),
         words,
         &mut around.input,
         &mut around.out,

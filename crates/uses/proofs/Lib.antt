@@ -1,4 +1,3 @@
 pub mod LargeSums
 pub mod Sums
 pub mod LiveTable
-pub mod Crossing

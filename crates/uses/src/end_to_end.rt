@@ -9,7 +9,7 @@ ghost use Rattle.uses.specs.Sums.{GivesSums};
 
 use crate::in_memory::{Answer, answer_to_source};
 use sb_cli::sb_outside::{MemSource, Source, SourceFault};
-use std::alloc::{AllocError, Global};
+use std::alloc::AllocError;
 use std::sync::Wait;
 use std::thread::Threads;
 use std::time::Clock;
@@ -39,9 +39,8 @@ impl<S: Source, T: Source> Source for EndToEnd<S, T> {
 }
 
 /// What the program gives for words and two texts that are read as one: the same as for the two texts joined.
-pub fn answer_to_both<W: Threads + Wait + Clock + Sync>(
+pub fn answer_to_both<W: AllocGlobal + Threads + Wait + Clock + Sync>(
     rt: &W,
-    alloc: Global,
     words: &[String],
     first: Vec<u8>,
     second: Vec<u8>,
@@ -49,9 +48,10 @@ pub fn answer_to_both<W: Threads + Wait + Clock + Sync>(
     ensures { (size : ℕ) (options : Options) → IsCommand (Sum size options) (texts words.now)
         → IfOk result (GivesSums size (first.items ++ second.items)) }
 {
+    let alloc = rt.alloc();
     let mut input = EndToEnd {
         first: MemSource::new(first, Vec::new(alloc), Vec::new(alloc)),
         second: MemSource::new(second, Vec::new(alloc), Vec::new(alloc)),
     };
-    answer_to_source(rt, alloc, words, &mut input)
+    answer_to_source(rt, words, &mut input)
 }

@@ -9,7 +9,7 @@ ghost use Rattle.uses.specs.Sums.{GivesSums};
 
 use sb_cli::sb_outside::{MemFolder, MemSink, MemSource, Source};
 use sb_cli::{Status, streambox};
-use std::alloc::{AllocError, Global};
+use std::alloc::AllocError;
 use std::collections::BTreeMap;
 use std::sync::Wait;
 use std::thread::Threads;
@@ -24,9 +24,8 @@ pub struct Answer {
 
 /// What the program gives for words and an input, without files. The contract speaks of the words `sum SIZE` with any
 /// options.
-pub fn answer_to_source<W: Threads + Wait + Clock + Sync, S: Source>(
+pub fn answer_to_source<W: AllocGlobal + Threads + Wait + Clock + Sync, S: Source>(
     rt: &W,
-    alloc: Global,
     words: &[String],
     input: &mut S,
 ) -> Result<Answer, AllocError>
@@ -34,13 +33,13 @@ pub fn answer_to_source<W: Threads + Wait + Clock + Sync, S: Source>(
         → IsCommand (Sum size options) (texts words.now)
         → S.left input.old ≡ Some text → IfOk result (GivesSums size text) }
 {
+    let alloc = rt.alloc();
     let mut out = MemSink::new(alloc, Vec::new(alloc), Vec::new(alloc));
     let mut notes = MemSink::new(alloc, Vec::new(alloc), Vec::new(alloc));
     let mut folder = MemFolder::new(alloc, BTreeMap::new(alloc), Vec::new(alloc));
     let mut taps = Vec::new(alloc);
     let status = streambox(
         rt,
-        alloc,
         words,
         input,
         &mut out,
@@ -53,15 +52,15 @@ pub fn answer_to_source<W: Threads + Wait + Clock + Sync, S: Source>(
 }
 
 /// The same for a text.
-pub fn answer_to_text<W: Threads + Wait + Clock + Sync>(
+pub fn answer_to_text<W: AllocGlobal + Threads + Wait + Clock + Sync>(
     rt: &W,
-    alloc: Global,
     words: &[String],
     text: Vec<u8>,
 ) -> Result<Answer, AllocError>
     ensures { (size : ℕ) (options : Options) → IsCommand (Sum size options) (texts words.now)
         → IfOk result (GivesSums size text.items) }
 {
+    let alloc = rt.alloc();
     let mut input = MemSource::new(text, Vec::new(alloc), Vec::new(alloc));
-    answer_to_source(rt, alloc, words, &mut input)
+    answer_to_source(rt, words, &mut input)
 }

@@ -16,7 +16,6 @@ use sb_cli::sb_generator::{GenSource, MAX_RECORDS};
 use sb_cli::sb_live::{LiveOut, LiveReader, LiveRows, live};
 use sb_cli::sb_outside::Source;
 use sb_cli::sb_run::{RunEnd, Sizes, run};
-use std::alloc::Global;
 use std::sync::Wait;
 use std::thread::{self, Threads, join};
 use std::time::Clock;
@@ -75,9 +74,8 @@ fn follow(rt: &impl Wait, mut reader: LiveReader, key: Key) -> Seen
 }
 
 /// Runs the plan, shows its rows, and takes the table down, whatever the run's end is.
-fn run_shown<W: Threads + Wait + Clock + Sync, R: Wait + Drop + Send, S: Source>(
+fn run_shown<W: AllocGlobal + Threads + Wait + Clock + Sync, R: Wait + Drop + Send, S: Source>(
     rt: &W,
-    alloc: Global,
     plan: Plan,
     sizes: Sizes,
     input: &mut S,
@@ -89,19 +87,11 @@ fn run_shown<W: Threads + Wait + Clock + Sync, R: Wait + Drop + Send, S: Source>
     ensures down { table.new ≡ None }
     ensures told { IsTrue result.0 → TellsLast plan key (S.left input.old) result.1 }
 {
+    let alloc = rt.alloc();
     let mut rows = LiveRows::new(table.take().unwrap());
     let mut taps = Vec::new(alloc);
     let mut dropped = Vec::new(alloc);
-    let end = run(
-        rt,
-        alloc,
-        plan,
-        sizes,
-        input,
-        &mut rows,
-        &mut taps,
-        &mut dropped,
-    );
+    let end = run(rt, plan, sizes, input, &mut rows, &mut taps, &mut dropped);
     let out = rows.into_out();
     let last = out.last(&key);
     out.end();
@@ -118,9 +108,8 @@ fn run_shown<W: Threads + Wait + Clock + Sync, R: Wait + Drop + Send, S: Source>
 /// # Errors
 ///
 /// If there was not enough memory for the table.
-pub fn run_beside_readers<W: Threads + Wait + Clock + Sync, S: Source>(
+pub fn run_beside_readers<W: AllocGlobal + Threads + Wait + Clock + Sync, S: Source>(
     rt: &W,
-    alloc: Global,
     plan: Plan,
     sizes: Sizes,
     input: &mut S,
@@ -131,7 +120,7 @@ pub fn run_beside_readers<W: Threads + Wait + Clock + Sync, S: Source>(
         → TellsLast plan key (S.left input.old) told.last) }
     ensures steady { IfOk result (λ told. (told.readers.0.fell ≡ false) × (told.readers.1.fell ≡ false)) }
 {
-    let (out, mut readers) = live(alloc, rt, 2)?;
+    let (out, mut readers) = live(rt.alloc(), rt, 2)?;
     let (one, two) = (readers.pop().unwrap(), readers.pop().unwrap());
     let mut table = Some(out);
     let (readers, (is_done, last)) = join(
@@ -153,7 +142,7 @@ pub fn run_beside_readers<W: Threads + Wait + Clock + Sync, S: Source>(
             requires sizes { AreSizes sizes }
             requires table { table ≡ Some (record { changes = []; is_spent = false }) }
             ensures { IsTrue result.0 → TellsLast plan key (S.left input.entry.now) result.1 }
-        { run_shown(rt, alloc, plan, sizes, input, &mut table, key) },
+        { run_shown(rt, plan, sizes, input, &mut table, key) },
     );
     if let Some(out) = table {
         out.end();
@@ -170,9 +159,8 @@ pub fn run_beside_readers<W: Threads + Wait + Clock + Sync, S: Source>(
 /// # Errors
 ///
 /// If there was not enough memory.
-pub fn sums_beside_readers<W: Threads + Wait + Clock + Sync>(
+pub fn sums_beside_readers<W: AllocGlobal + Threads + Wait + Clock + Sync>(
     rt: &W,
-    alloc: Global,
     size: u64,
     records: u64,
     sizes: Sizes,
@@ -186,9 +174,9 @@ pub fn sums_beside_readers<W: Threads + Wait + Clock + Sync>(
     ensures told { IfOk result (λ told. told.last ≡ last_row key (made_sums size records)) }
     ensures steady { IfOk result (λ told. (told.readers.0.fell ≡ false) × (told.readers.1.fell ≡ false)) }
 {
-    let plan = sum_plan(alloc, size)?;
+    let plan = sum_plan(rt.alloc(), size)?;
     let mut input = GenSource::new(records);
-    let told = run_beside_readers(rt, alloc, plan, sizes, &mut input, key)?;
+    let told = run_beside_readers(rt, plan, sizes, &mut input, key)?;
     match told.is_done {
         true => Ok(told),
         // What is made is accepted whole, and no read of it fails.

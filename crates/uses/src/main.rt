@@ -86,9 +86,8 @@ fn print_answer(rt: &impl Print, title: &str, answer: &Answer) -> anyhow::Result
 }
 
 /// What two threads see of key 1 while one worker, and then eight, sum up records that are made, and its last row.
-fn print_live_table<R: Print + Threads + Wait + Clock + Sync>(
+fn print_live_table<R: AllocGlobal + Print + Threads + Wait + Clock + Sync>(
     rt: &R,
-    alloc: Global,
 ) -> anyhow::Result<()> {
     for workers in [1, 8] {
         let sizes = Sizes {
@@ -98,7 +97,7 @@ fn print_live_table<R: Print + Threads + Wait + Clock + Sync>(
             keeps_diaries: false,
         };
         let key = Key::Number(1);
-        let told = live_table::sums_beside_readers(rt, alloc, 10, RECORDS, sizes, key)
+        let told = live_table::sums_beside_readers(rt, 10, RECORDS, sizes, key)
             .ok()
             .context("out of memory")?;
         let (one, two) = told.readers;
@@ -124,13 +123,13 @@ fn main(rt: HostRuntime) -> anyhow::Result<()> {
     print_answer(
         &rt,
         "one text",
-        &in_memory::answer_to_text(&rt, alloc, &words, text)?,
+        &in_memory::answer_to_text(&rt, &words, text)?,
     )?;
 
     let first = Vec::from_slice(alloc, b"r,a,3,1,5\n")?;
     let second = Vec::from_slice(alloc, b"r,a,7,1,2\nw,a,10\nr,a,12,1,4\n")?;
-    let both = end_to_end::answer_to_both(&rt, alloc, &words, first, second)?;
+    let both = end_to_end::answer_to_both(&rt, &words, first, second)?;
     print_answer(&rt, "two texts", &both)?;
 
-    print_live_table(&rt, alloc)
+    print_live_table(&rt)
 }

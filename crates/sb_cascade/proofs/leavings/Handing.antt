@@ -1,14 +1,14 @@
 -- What a pass has in hand, and what its trace has more, after one call and then another.
 use Rattle.std.proofs.Common.{◌≡◌, ℕ, zero, suc, ◌+◌, true, List, [], ◌∷◌, ◌++◌, replicate, None, sym, ap, refl, ◌∙◌, subst, append-nil, append_assoc, ⊎_elim}
 use Rattle.std.specs.List.{AllByRecursion}
-use Rattle.sb_turn.specs.declared.turns.Entry.{Entry}
-use Rattle.sb_turn.specs.declared.turns.Entry.TheVariants as entry
-use Rattle.sb_turn.specs.Turning.{looks_from}
+use Rattle.sb_shared.specs.turn.declared.turns.Entry.{Entry}
+use Rattle.sb_shared.specs.turn.declared.turns.Entry.TheVariants as entry
+use Rattle.sb_shared.specs.turn.Turning.{looks_from}
 use Rattle.sb_hand.specs.work.declared.claim.Claim.{Claim}
 use Rattle.sb_hand.proofs.ShowsKept.{all-append}
 use Rattle.sb_cascade.specs.declared.pass.CascadePass.{CascadePass}
-use Rattle.sb_cascade.specs.declared.telling.Change.{Change}
-use Rattle.sb_cascade.specs.declared.telling.Change.TheVariants as change
+use Rattle.sb_shared.specs.declared.telling.Change.{Change}
+use Rattle.sb_shared.specs.declared.telling.Change.TheVariants as change
 use Rattle.sb_cascade.specs.Calls.{HasSame, IsEmptyHanded, IsSame, LeftBy, MayFill, view_of}
 use Rattle.sb_cascade.specs.Shelving.{EndsWith, WasIdle, is_search, is_take}
 use Rattle.sb_cascade.specs.Told.{Is, IsTake}

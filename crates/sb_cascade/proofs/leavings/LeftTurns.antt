@@ -1,19 +1,19 @@
 -- A turn that a pass entered and left again, as the clauses of calls and of leavings have it.
 use Rattle.std.proofs.Common.{◌≡◌, ℕ, List, [], ◌∷◌, ◌++◌, sym, ap, ◌∙◌, subst}
 use Rattle.atomic_table.specs.Table.{Me}
-use Rattle.sb_turn.specs.declared.turns.Entry.TheVariants as entry
-use Rattle.sb_turn.specs.declared.turns.Slot.{Slot}
-use Rattle.sb_turn.specs.declared.turns.View.{View}
-use Rattle.sb_turn.specs.Turning.{left_view, tried_view, won_view}
+use Rattle.sb_shared.specs.turn.declared.turns.Entry.TheVariants as entry
+use Rattle.sb_shared.specs.turn.declared.turns.Slot.{Slot}
+use Rattle.sb_shared.specs.turn.declared.turns.View.{View}
+use Rattle.sb_shared.specs.turn.Turning.{left_view, tried_view, won_view}
 use Rattle.sb_cascade.specs.declared.pass.CascadePass.{CascadePass}
-use Rattle.sb_cascade.specs.declared.telling.Change.{Change}
-use Rattle.sb_cascade.specs.declared.telling.Hands.{Hands}
-use Rattle.sb_cascade.specs.declared.telling.Piece.{Piece}
-use Rattle.sb_cascade.specs.declared.telling.Setting.{Setting}
+use Rattle.sb_shared.specs.declared.telling.Change.{Change}
+use Rattle.sb_shared.specs.declared.telling.Hands.{Hands}
+use Rattle.sb_shared.specs.declared.telling.Piece.{Piece}
+use Rattle.sb_shared.specs.declared.telling.Setting.{Setting}
 use Rattle.sb_cascade.specs.Calls.{LeftBy}
-use Rattle.sb_cascade.specs.Found.{IsFound}
-use Rattle.sb_cascade.specs.Leavings.{Does}
-use Rattle.sb_cascade.specs.SharedNodes.{SharedView}
+use Rattle.sb_shared.specs.Found.{IsFound}
+use Rattle.sb_shared.specs.Leavings.{Does}
+use Rattle.sb_shared.specs.SharedNodes.{SharedView}
 
 -- what a pass knows, and what is out with it
 abbrev pub Seated : Type 0

@@ -19,18 +19,18 @@ use Rattle.sb_hand.specs.node.Changes.{Absorbs, Turns}
 use Rattle.sb_hand.specs.work.declared.claim.Claim.{Claim}
 use Rattle.sb_hand.specs.work.declared.outputs.Part.{Part}
 use Rattle.sb_hand.specs.work.Processing.{IsPart}
-use Rattle.sb_cascade.specs.declared.telling.Change.TheVariants.{Deliver, Finish}
-use Rattle.sb_cascade.specs.declared.telling.Hands.{Hands}
-use Rattle.sb_cascade.specs.declared.telling.Setting.{Setting}
+use Rattle.sb_shared.specs.declared.telling.Change.TheVariants.{Deliver, Finish}
+use Rattle.sb_shared.specs.declared.telling.Hands.{Hands}
+use Rattle.sb_shared.specs.declared.telling.Setting.{Setting}
 use Rattle.sb_cascade.specs.Calls.{given_count}
-use Rattle.sb_cascade.specs.Doings.{work_of}
-use Rattle.sb_cascade.specs.SharedNodes.{ChangesOwn, SharedView}
-use Rattle.sb_cascade.specs.Shown.{operator_of}
-use Rattle.sb_cascade.specs.Views.{held_by}
+use Rattle.sb_shared.specs.Doings.{work_of}
+use Rattle.sb_shared.specs.SharedNodes.{ChangesOwn, SharedView}
+use Rattle.sb_shared.specs.Shown.{operator_of}
+use Rattle.sb_shared.specs.Views.{held_by}
 use Rattle.sb_cascade.specs.Working.{NeedsNoPart}
-use Rattle.sb_cascade.proofs.leavings.Acts.{Acts}
-use Rattle.sb_cascade.proofs.leavings.ActsOfParts.{finishes_part}
-use Rattle.sb_cascade.proofs.leavings.HeldEvents.{delivers, finishes-given}
+use Rattle.sb_shared.proofs.leavings.Acts.{Acts}
+use Rattle.sb_shared.proofs.leavings.ActsOfParts.{finishes_part}
+use Rattle.sb_shared.proofs.leavings.HeldEvents.{delivers, finishes-given}
 
 -- a list with something in it is not empty
 pub not_empty : (rows : List Record) → 0 < length rows → is_empty rows ≡ false

@@ -16,20 +16,20 @@ use Rattle.sb_hand.specs.core.declared.moment.Node.{Node}
 use Rattle.sb_hand.specs.diary.declared.event.DiaryEvent.{DiaryEvent}
 use Rattle.sb_hand.specs.tally.Tally.{IsTallied}
 use Rattle.sb_hand.specs.node.declared.state.NodeState.{NodeState}
-use Rattle.sb_hand.specs.Hands.{HandView, settings_at, settings_for}
-use Rattle.sb_hand.specs.Showing.{CanStand, ShowsNode, Stands, diaries_of, settings_of}
-use Rattle.sb_turn.specs.declared.turns.View.{View}
-use Rattle.sb_turn.specs.Turning.{log_of}
-use Rattle.sb_turn.proofs.Totals.{there}
-use Rattle.sb_cascade.specs.declared.telling.Change.{Change}
-use Rattle.sb_cascade.specs.declared.telling.Hands.{Hands}
-use Rattle.sb_cascade.specs.declared.telling.Setting.{Setting}
-use Rattle.sb_cascade.specs.Doings.{replay}
+use Rattle.sb_hand.specs.Hands.{HandView}
+use Rattle.sb_hand.specs.Showing.{CanStand, ShowsNode, Stands, diaries_of, settings_at, settings_for, settings_of}
+use Rattle.sb_shared.specs.turn.declared.turns.View.{View}
+use Rattle.sb_shared.specs.turn.Turning.{log_of}
+use Rattle.sb_shared.proofs.turn.Totals.{there}
+use Rattle.sb_shared.specs.declared.telling.Change.{Change}
+use Rattle.sb_shared.specs.declared.telling.Hands.{Hands}
+use Rattle.sb_shared.specs.declared.telling.Setting.{Setting}
+use Rattle.sb_shared.specs.Doings.{replay}
 use Rattle.sb_cascade.specs.Ends.{IsShut}
 use Rattle.sb_cascade.specs.Lives.{GivesBack, IsToldBy, ShowsAll}
-use Rattle.sb_cascade.specs.SharedNodes.{SharedView}
-use Rattle.sb_cascade.specs.Shown.{AreLater, beginning_of, diaries_in, moment_of, operator_of as operator_in, settings_in}
-use Rattle.sb_cascade.specs.Views.{feed_of}
+use Rattle.sb_shared.specs.SharedNodes.{SharedView}
+use Rattle.sb_shared.specs.Shown.{AreLater, beginning_of, diaries_in, moment_of, operator_of as operator_in, settings_in}
+use Rattle.sb_shared.specs.Views.{feed_of}
 use Rattle.sb_cascade.proofs.lives.Opening.{setting_at}
 
 -- a list is that of the images, if each image stands at its place

@@ -28,25 +28,25 @@ use Rattle.sb_hand.proofs.tally.First.{first-is_tallied}
 use Rattle.sb_hand.specs.lane.LaneView.{LaneView, lane_of}
 use Rattle.sb_hand.specs.lane.Placed.{Placed, conts_of}
 use Rattle.sb_hand.specs.node.declared.state.NodeState.{NodeState}
-use Rattle.sb_hand.specs.Hands.{HandView, IsNewHand, settings_for}
-use Rattle.sb_hand.specs.Showing.{ShowsNode, Stands, diaries_of}
+use Rattle.sb_hand.specs.Hands.{HandView, IsNewHand}
+use Rattle.sb_hand.specs.Showing.{ShowsNode, Stands, diaries_of, settings_for}
 use Rattle.sb_hand.proofs.Single.{get-map}
-use Rattle.sb_turn.specs.Held.{on_place}
-use Rattle.sb_turn.specs.Passes.{AllShort}
-use Rattle.sb_turn.specs.Turning.{log_of}
-use Rattle.sb_turn.proofs.Held.{flat_none}
-use Rattle.sb_cascade.specs.declared.telling.Change.{Change}
-use Rattle.sb_cascade.specs.declared.telling.Piece.{Piece}
-use Rattle.sb_cascade.specs.declared.telling.Setting.{Setting}
-use Rattle.sb_cascade.specs.Doings.{replay}
+use Rattle.sb_shared.specs.turn.Held.{on_place}
+use Rattle.sb_shared.specs.turn.Passes.{AllShort}
+use Rattle.sb_shared.specs.turn.Turning.{log_of}
+use Rattle.sb_shared.proofs.turn.Held.{flat_none}
+use Rattle.sb_shared.specs.declared.telling.Change.{Change}
+use Rattle.sb_shared.specs.declared.telling.Piece.{Piece}
+use Rattle.sb_shared.specs.declared.telling.Setting.{Setting}
+use Rattle.sb_shared.specs.Doings.{replay}
 use Rattle.sb_cascade.specs.Ends.{fresh_state}
-use Rattle.sb_cascade.specs.SharedNodes.{SharedView, lines_of, owed_lines, owed_in}
-use Rattle.sb_cascade.specs.Shown.{ShowsMoment, ShowsPart, beginning_of, diaries_in, moment_of, settings_in}
-use Rattle.sb_cascade.specs.Shown as shown
-use Rattle.sb_cascade.specs.Views.{all_in_hand, fed_bundle, stream_feed, feed_of, first_hands, work_on}
-use Rattle.sb_cascade.specs.Linked.{HasLaneIn}
-use Rattle.sb_cascade.proofs.links.LinkedSteps.{are-empty, bare-linked}
-use Rattle.sb_cascade.proofs.entered.Lookups.{image_at}
+use Rattle.sb_shared.specs.SharedNodes.{SharedView, lines_of, owed_lines, owed_in}
+use Rattle.sb_shared.specs.Shown.{ShowsMoment, ShowsPart, beginning_of, diaries_in, moment_of, settings_in}
+use Rattle.sb_shared.specs.Shown as shown
+use Rattle.sb_shared.specs.Views.{all_in_hand, fed_bundle, stream_feed, feed_of, first_hands, work_on}
+use Rattle.sb_shared.specs.Linked.{HasLaneIn}
+use Rattle.sb_shared.proofs.links.LinkedSteps.{are-empty, bare-linked}
+use Rattle.sb_shared.proofs.entered.Lookups.{image_at}
 
 -- no node has an event
 no_log : (n k : ℕ) → log_of {C = Change} (replicate n []) k ≡ []

@@ -9,9 +9,9 @@ use Rattle.sb_hand.specs.base.pipeline.declared.transform.Step.{Step}
 use Rattle.sb_hand.specs.base.pipeline.Operators.{operator_of}
 use Rattle.sb_hand.specs.base.pipeline.Operators.Operator.{Sink}
 use Rattle.sb_hand.specs.node.declared.state.NodeState.{NodeState}
-use Rattle.sb_hand.specs.Hands.{HandView, IsNewHand, settings_for}
-use Rattle.sb_hand.specs.Showing.{Settings, settings_of}
-use Rattle.sb_cascade.specs.declared.telling.Setting.{Setting}
+use Rattle.sb_hand.specs.Hands.{HandView, IsNewHand}
+use Rattle.sb_hand.specs.Showing.{Settings, settings_for, settings_of}
+use Rattle.sb_shared.specs.declared.telling.Setting.{Setting}
 use Rattle.sb_cascade.specs.Lives.{IsShared}
 
 -- whether the first node keeps its lines

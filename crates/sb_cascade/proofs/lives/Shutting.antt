@@ -11,24 +11,24 @@ use Rattle.sb_hand.specs.core.declared.moment.Node.{Node}
 use Rattle.sb_hand.specs.core.Exactness.{IsExact}
 use Rattle.sb_hand.specs.core.Soundness.{IsSound}
 use Rattle.sb_hand.specs.tally.Tally.{IsTallied}
-use Rattle.sb_turn.specs.declared.turns.Entry.{Entry}
-use Rattle.sb_turn.specs.declared.turns.View.{View}
-use Rattle.sb_turn.specs.Held.{flat, on_place}
-use Rattle.sb_turn.specs.Owed.{Closes}
-use Rattle.sb_turn.specs.Turning.{Listed, events, log_of, once_in}
-use Rattle.sb_turn.proofs.Held.{flat_none}
-use Rattle.sb_turn.proofs.Totals.{there}
-use Rattle.sb_cascade.specs.declared.telling.Change.{Change}
-use Rattle.sb_cascade.specs.declared.telling.Hands.{Hands}
-use Rattle.sb_cascade.specs.declared.telling.Piece.{Piece}
-use Rattle.sb_cascade.specs.declared.telling.Setting.{Setting}
-use Rattle.sb_cascade.specs.Doings.{Doing, Quiet, Fresh, Of, Story, doing_of, is_event, lines_by, part_by, replay}
+use Rattle.sb_shared.specs.turn.declared.turns.Entry.{Entry}
+use Rattle.sb_shared.specs.turn.declared.turns.View.{View}
+use Rattle.sb_shared.specs.turn.Held.{flat, on_place}
+use Rattle.sb_shared.specs.turn.Owed.{Closes}
+use Rattle.sb_shared.specs.turn.Turning.{Listed, events, log_of, once_in}
+use Rattle.sb_shared.proofs.turn.Held.{flat_none}
+use Rattle.sb_shared.proofs.turn.Totals.{there}
+use Rattle.sb_shared.specs.declared.telling.Change.{Change}
+use Rattle.sb_shared.specs.declared.telling.Hands.{Hands}
+use Rattle.sb_shared.specs.declared.telling.Piece.{Piece}
+use Rattle.sb_shared.specs.declared.telling.Setting.{Setting}
+use Rattle.sb_shared.specs.Doings.{Doing, Quiet, Fresh, Of, Story, doing_of, is_event, lines_by, part_by, replay}
 use Rattle.sb_cascade.specs.Ends.{IsShut}
-use Rattle.sb_cascade.specs.SharedNodes.{SharedView, lines_of}
-use Rattle.sb_cascade.specs.Shown.{AreLater, ShowsMoment, beginning_of, diaries_in, moment_of}
-use Rattle.sb_cascade.specs.Views.{all_in_hand, records_of_feed, feed_of, held_by, idle_hands, as_list, work_on}
-use Rattle.sb_cascade.proofs.links.LinkedSteps.{are-empty, end-linked}
-use Rattle.sb_cascade.proofs.diaries.Replaying.{next}
+use Rattle.sb_shared.specs.SharedNodes.{SharedView, lines_of}
+use Rattle.sb_shared.specs.Shown.{AreLater, ShowsMoment, beginning_of, diaries_in, moment_of}
+use Rattle.sb_shared.specs.Views.{all_in_hand, records_of_feed, feed_of, held_by, idle_hands, as_list, work_on}
+use Rattle.sb_shared.proofs.links.LinkedSteps.{are-empty, end-linked}
+use Rattle.sb_shared.proofs.diaries.Replaying.{next}
 
 -- a leaving writes at most one line
 one_line : (a : Setting) (d : Doing) (p : Node) → length (lines_by a d p) ≤ 1

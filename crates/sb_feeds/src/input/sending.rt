@@ -268,9 +268,8 @@ fn send_stop<W: Wait + Clock>(
 ///
 /// It ends without an answer once the feeder needs nothing more, or if there is no memory, of which it tells the
 /// feeder.
-pub fn feed_input<W: Wait + Clock, S: Source>(
+pub fn feed_input<W: AllocGlobal + Wait + Clock, S: Source>(
     rt: &W,
-    alloc: Global,
     plan: &Plan,
     size: u32,
     input: &mut S,
@@ -290,7 +289,7 @@ pub fn feed_input<W: Wait + Clock, S: Source>(
     let comments = u64::from(input.take_comments());
     let streams = plan.streams();
     let mut intake = Intake::new(streams, comments, plan.late(), plan.keys());
-    let mut cutters = Cutters::new(alloc, size);
+    let mut cutters = Cutters::new(rt.alloc(), size);
     let mut lines = LineBuffer::new();
     'items: loop {
         if signals.is_over() {

@@ -9,7 +9,7 @@ ghost use Rattle.sb_worker.specs.cascade.Calls.{plan_of, setting_of};
 ghost use Rattle.sb_feeds.specs.one_feed.Feeds.{nothing_fed};
 ghost use Rattle.sb_feeds.specs.one_feed.GiveCauses.{GiveCause};
 ghost use Rattle.sb_feeds.specs.Ends.{ring_in};
-ghost use Rattle.sb_run.specs.Feeders.{HasFed, IsStill};
+ghost use Rattle.sb_run.specs.Feeders.{Begins, HasFed, IsStill};
 ghost use Rattle.sb_feeds.specs.base.Inputs.{by_stream};
 ghost use Rattle.sb_run.specs.FilesFed.{FeedsValues};
 ghost use Rattle.sb_run.specs.FilesRead.{AreNewOnce, AreReadOnce};
@@ -18,64 +18,68 @@ ghost use Rattle.sb_run.specs.RunEnds.{AreSizes, OutputCause};
 ghost use Rattle.sb_run.specs.TwoEnds.{TwoEnds, as_run};
 ghost use Rattle.sb_worker.specs.Helping.{IsFirst, IsHelper};
 
+use crate::by_stream::ByStream;
 use crate::files::MAX_FILE_LENGTH;
 use crate::files::feeding::feed_files;
 use crate::files::inlets::{FilesStop, Inlets};
 use crate::files::reading::{Files, FilesDone, feed_and_help, open_files, tie_both};
 use crate::files::two_end::{TwoEnd, early_end, end_of};
+use crate::shared::common::{Common, Passes};
 use crate::shared::handing::come_back;
 use crate::sizes::Sizes;
+use crate::team::Team;
 use crate::together::{Begun, begin};
 use sb_feeds::sb_base::{Dropped, MAX_BUNDLE, NoMemory, Plan};
 use sb_feeds::sb_emit::{RowOut, Tap};
 use sb_feeds::sb_feed::GiveStop;
-use sb_worker::sb_cascade::{Cascade, CascadePass};
 use sb_worker::sb_work::Gate;
-use std::alloc::Global;
 use std::sync::Wait;
 use std::thread::{Threads, join_mut};
 use std::time::Clock;
 
+// Both files, until they are read, and the rings that they are read into.
+#[derive(Drop)]
+struct FilesPair {
+    files: Option<Files>,
+    inlets: Inlets,
+}
+
 // The feeder feeds what the files give, beside the threads of the files and the helpers, until all have ended. False
 // with a helper that found no memory.
 fn work<W: Threads + Wait + Clock + Sync, R: RowOut, G: Gate + Sync>(
-    rt: &W,
-    alloc: Global,
-    cascade: &Cascade,
-    pass: &mut CascadePass,
-    helpers: &mut Vec<CascadePass>,
-    size: u32,
-    files: &mut Option<Files>,
-    inlets: &mut Inlets,
+    common: &Common<'_, W, G>,
+    passes: &mut Passes,
+    ends: &mut FilesPair,
     out: &mut R,
     taps: &mut Vec<Box<dyn Tap>>,
-    dropped_a: &mut Vec<Dropped>,
-    dropped_b: &mut Vec<Dropped>,
-    gate: &G,
+    dropped: &mut ByStream<Vec<Dropped>>,
 ) -> ((bool, Option<FilesDone>), Result<FilesStop, GiveStop>)
-    requires begins { HasFed cascade.now pass.old nothing_fed [] }
-    requires inlets { AreInlets (streams_of (plan_of cascade.now)) inlets.old }
-    requires nothing { (s : AStream) → values_of inlets.old s ≡ [] }
-    requires new { AreNewOnce files.old }
-    requires helpers { AllByRecursion (IsHelper cascade.now) helpers.old.items }
-    requires size { (setting_of cascade.now).bundle ≡ size }
-    requires some { 1 ≤ size }
-    requires most { size ≤ MAX_BUNDLE }
+    requires begins { Begins common.now.cascade.now passes.old.feeder common.now.size }
+    requires inlets { AreInlets (streams_of (plan_of common.now.cascade.now)) ends.old.inlets }
+    requires nothing { (s : AStream) → values_of ends.old.inlets s ≡ [] }
+    requires new { AreNewOnce ends.old.files }
+    requires helpers { AllByRecursion (IsHelper common.now.cascade.now) passes.old.helpers.items }
     requires few { length taps.old.items < 2 ^ 32 }
-    ensures back { result.0.0 ≡ true → AllByRecursion (IsHelper cascade.now) helpers.new.items
-        × (length helpers.new.items ≡ length helpers.old.items) }
-    ensures read { AreReadOnce files.old result.0.1 }
-    ensures ring_a { ring_in inlets.new.a.inward ≡ ring_in inlets.old.a.inward }
-    ensures ring_b { ring_in inlets.new.b.inward ≡ ring_in inlets.old.b.inward }
-    ensures same { IsStill cascade.now pass.old pass.new }
-    ensures feeds { FeedsValues (plan_of cascade.now) (setting_of cascade.now).bundle (values_of inlets.new)
-        (HasFed cascade.now pass.new) R.after R.part out.old out.new
+    ensures back { result.0.0 ≡ true → AllByRecursion (IsHelper common.now.cascade.now) passes.new.helpers.items
+        × (length passes.new.helpers.items ≡ length passes.old.helpers.items) }
+    ensures read { AreReadOnce ends.old.files result.0.1 }
+    ensures ring_a { ring_in ends.new.inlets.a.inward ≡ ring_in ends.old.inlets.a.inward }
+    ensures ring_b { ring_in ends.new.inlets.b.inward ≡ ring_in ends.old.inlets.b.inward }
+    ensures same { IsStill common.now.cascade.now passes.old.feeder passes.new.feeder }
+    ensures feeds { FeedsValues (plan_of common.now.cascade.now) (setting_of common.now.cascade.now).bundle
+        (values_of ends.new.inlets) (HasFed common.now.cascade.now passes.new.feeder) R.after R.part out.old out.new
         (map (λ t. tap_state t) taps.old.items) (map (λ t. tap_state t) taps.new.items)
-        (by_stream dropped_a.old.items dropped_b.old.items) (by_stream dropped_a.new.items dropped_b.new.items)
+        (by_stream dropped.old.a.items dropped.old.b.items) (by_stream dropped.new.a.items dropped.new.b.items)
         result.1 }
     ensures fewer { OnOk result.1 (length taps.new.items ≤ length taps.old.items) }
     ensures cause { GiveCause (R.row_state out.old) (R.row_state out.new) result.1 }
 {
+    let (rt, alloc, cascade, gate) = (common.rt, common.alloc, common.cascade, common.gate);
+    let size = common.size;
+    let pass = &mut passes.feeder;
+    let helpers = &mut passes.helpers;
+    let files = &mut ends.files;
+    let inlets = &mut ends.inlets;
     join_mut(
         rt,
         &mut || -> (bool, Option<FilesDone>)
@@ -87,12 +91,9 @@ fn work<W: Threads + Wait + Clock + Sync, R: RowOut, G: Gate + Sync>(
             ensures read { AreReadOnce files.entry.now result.1 }
         { feed_and_help(rt, alloc, cascade, gate, helpers, files) },
         &mut || -> Result<FilesStop, GiveStop>
-            requires begins { HasFed cascade.now pass.now nothing_fed [] }
+            requires begins { Begins cascade.now pass.now size }
             requires inlets { AreInlets (streams_of (plan_of cascade.now)) inlets.now }
             requires nothing { (s : AStream) → values_of inlets.now s ≡ [] }
-            requires size { (setting_of cascade.now).bundle ≡ size }
-            requires some { 1 ≤ size }
-            requires most { size ≤ MAX_BUNDLE }
             requires few { length taps.now.items < 2 ^ 32 }
             ensures ring_a { ring_in inlets.exit.now.a.inward ≡ ring_in inlets.entry.now.a.inward }
             ensures ring_b { ring_in inlets.exit.now.b.inward ≡ ring_in inlets.entry.now.b.inward }
@@ -101,20 +102,25 @@ fn work<W: Threads + Wait + Clock + Sync, R: RowOut, G: Gate + Sync>(
                 (values_of inlets.exit.now) (HasFed cascade.entry.now pass.exit.now)
                 R.after R.part out.entry.now out.exit.now
                 (map (λ t. tap_state t) taps.entry.now.items) (map (λ t. tap_state t) taps.exit.now.items)
-                (by_stream dropped_a.entry.now.items dropped_b.entry.now.items)
-                (by_stream dropped_a.exit.now.items dropped_b.exit.now.items) result }
+                (by_stream dropped.entry.now.a.items dropped.entry.now.b.items)
+                (by_stream dropped.exit.now.a.items dropped.exit.now.b.items) result }
             ensures fewer { OnOk result (length taps.exit.now.items ≤ length taps.entry.now.items) }
             ensures cause { GiveCause (R.row_state out.entry.now) (R.row_state out.exit.now) result }
         {
-            feed_files(
-                rt, alloc, cascade, pass, gate, size, inlets, out, taps, dropped_a, dropped_b,
-            )
+            let common = Common {
+                rt,
+                alloc,
+                cascade,
+                gate,
+                size,
+            };
+            feed_files(&common, pass, inlets, out, taps, dropped)
         },
     )
 }
 
-/// Runs a plan over two record files, whose bytes are `a` and `b`: file a gives the lines of stream a, and file b those
-/// of stream b. Each file is read in a thread of its own, the caller's thread feeds, and `sizes.workers - 1` helpers
+/// Runs a plan over two record files, whose bytes are `files`: file a gives the lines of stream a, and file b those of
+/// stream b. Each file is read in a thread of its own, the caller's thread feeds, and `sizes.workers - 1` helpers
 /// help, each in a thread of its own if one can be made.
 ///
 /// What is written and offered does not depend on which file is read faster. A refused line ends its own file alone:
@@ -122,30 +128,29 @@ fn work<W: Threads + Wait + Clock + Sync, R: RowOut, G: Gate + Sync>(
 /// file b. The late records that the plan drops go to the end of the list of their file. The gate is passed with each
 /// bundle in hand, outside of every turn. Whether the call returns is not said: workers wait for one another, and the
 /// feeder waits for the files. If no thread can be made for these, it waits for ever.
-pub fn execute_two<W: Threads + Wait + Clock + Sync, R: RowOut, G: Gate + Sync>(
-    rt: &W,
-    alloc: Global,
+pub fn execute_two<W: AllocGlobal + Threads + Wait + Clock + Sync, R: RowOut, G: Gate + Sync>(
+    team: Team<'_, W, G>,
     plan: Plan,
     sizes: Sizes,
-    a: Vec<u8>,
-    b: Vec<u8>,
+    files: ByStream<Vec<u8>>,
     out: &mut R,
     taps: &mut Vec<Box<dyn Tap>>,
-    gate: &G,
-    dropped_a: &mut Vec<Dropped>,
-    dropped_b: &mut Vec<Dropped>,
+    dropped: &mut ByStream<Vec<Dropped>>,
 ) -> TwoEnd
     requires sizes { AreSizes sizes }
     requires few { length taps.old.items < 2 ^ 32 }
-    requires short_a { length a.items ≤ MAX_FILE_LENGTH }
-    requires short_b { length b.items ≤ MAX_FILE_LENGTH }
-    ensures ends { TwoEnds plan sizes (by_stream a.items b.items) R.after R.part out.old out.new
+    requires short_a { length files.a.items ≤ MAX_FILE_LENGTH }
+    requires short_b { length files.b.items ≤ MAX_FILE_LENGTH }
+    ensures ends { TwoEnds plan sizes (by_stream files.a.items files.b.items) R.after R.part out.old out.new
         (map (λ t. tap_state t) taps.old.items) (map (λ t. tap_state t) taps.new.items)
-        (by_stream dropped_a.old.items dropped_b.old.items) (by_stream dropped_a.new.items dropped_b.new.items) result }
+        (by_stream dropped.old.a.items dropped.old.b.items) (by_stream dropped.new.a.items dropped.new.b.items) result }
     ensures output { OutputCause (R.row_state out.old) (R.row_state out.new) (as_run result) }
 {
+    let Team { rt, gate } = team;
+    let alloc = rt.alloc();
     let (streams, late, keys) = (plan.streams(), plan.late(), plan.keys());
-    let Ok((files, mut inlets)) = open_files(alloc, streams, late, keys, a, b) else {
+    let ByStream { a, b } = files;
+    let Ok((files, inlets)) = open_files(alloc, streams, late, keys, a, b) else {
         return TwoEnd::Memory;
     };
     let Ok(begun) = begin(alloc, plan, sizes) else {
@@ -153,27 +158,22 @@ pub fn execute_two<W: Threads + Wait + Clock + Sync, R: RowOut, G: Gate + Sync>(
     };
     let Begun {
         cascade,
-        mut pass,
-        mut helpers,
+        mut passes,
     } = begun;
-    let mut files = Some(files);
-    let ((clear, done), fed) = work(
+    let common = Common {
         rt,
         alloc,
-        &cascade,
-        &mut pass,
-        &mut helpers,
-        sizes.bundle,
-        &mut files,
-        &mut inlets,
-        out,
-        taps,
-        dropped_a,
-        dropped_b,
+        cascade: &cascade,
         gate,
-    );
+        size: sizes.bundle,
+    };
+    let mut ends = FilesPair {
+        files: Some(files),
+        inlets,
+    };
+    let ((clear, done), fed) = work(&common, &mut passes, &mut ends, out, taps, dropped);
     let Some(done) = done else { unreachable!() };
-    tie_both(inlets, done);
+    tie_both(ends.inlets, done);
     if !clear {
         return TwoEnd::Memory;
     }
@@ -181,7 +181,7 @@ pub fn execute_two<W: Threads + Wait + Clock + Sync, R: RowOut, G: Gate + Sync>(
         Ok(stop) => stop,
         Err(why) => return early_end(why),
     };
-    match come_back(rt, alloc, cascade, pass, helpers, gate, out, taps) {
+    match come_back(rt, alloc, cascade, passes, gate, out, taps) {
         Ok(hand) => end_of(hand, stop),
         Err(why) => early_end(why),
     }

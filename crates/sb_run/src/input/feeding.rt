@@ -13,6 +13,7 @@ ghost use Rattle.sb_run.specs.Feeders.{HasFed, IsStill};
 ghost use Rattle.sb_run.specs.InputPops.{FeedsPopped};
 
 use crate::input::ahead::Ahead;
+use crate::shared::common::Common;
 use crate::shared::feeder::Feeder;
 use crate::shared::feeding::{end_work, reason_of};
 use crate::shared::pace::Pace;
@@ -21,42 +22,39 @@ use sb_feeds::sb_base::{NoMemory, Stop};
 use sb_feeds::sb_emit::{RowOut, Tap};
 use sb_feeds::sb_feed::{GiveStop, give_out};
 use sb_feeds::{InputFed, InputIn, Patience, Signals, take_value};
-use sb_worker::sb_cascade::{Cascade, CascadePass};
+use sb_worker::sb_cascade::CascadePass;
 use sb_worker::sb_hand::Did;
 use sb_worker::sb_work::Gate;
-use std::alloc::Global;
 use std::sync::Wait;
 use std::time::Clock;
 
 // Takes a value that came. The rows that come out then are given out.
 fn take<W: Wait + Clock, G: Gate, R: RowOut>(
-    rt: &W,
-    alloc: Global,
-    cascade: &Cascade,
+    common: &Common<'_, W, G>,
     pass: &mut CascadePass,
-    gate: &G,
     pace: &mut Pace,
     next: InputFed,
     out: &mut R,
     taps: &mut Vec<Box<dyn Tap>>,
 ) -> Result<(), GiveStop>
-    requires may { (f : Fed) × (rows : List ARecord) × HasFed cascade.now pass.old f rows
-        × MayCome (plan_of cascade.now) (setting_of cascade.now).bundle f next }
+    requires may { (f : Fed) × (rows : List ARecord) × HasFed common.now.cascade.now pass.old f rows
+        × MayCome (plan_of common.now.cascade.now) (setting_of common.now.cascade.now).bundle f next }
     requires few { length taps.old.items < 2 ^ 32 }
-    ensures same { IsStill cascade.now pass.old pass.new }
-    ensures gives { (f : Fed) (rows : List ARecord) → HasFed cascade.now pass.old f rows
-        → MayCome (plan_of cascade.now) (setting_of cascade.now).bundle f next
-        → Gives (plan_of cascade.now) (HasFed cascade.now pass.new (fed_with next f)) R.after R.part out.old out.new
+    ensures same { IsStill common.now.cascade.now pass.old pass.new }
+    ensures gives { (f : Fed) (rows : List ARecord) → HasFed common.now.cascade.now pass.old f rows
+        → MayCome (plan_of common.now.cascade.now) (setting_of common.now.cascade.now).bundle f next
+        → Gives (plan_of common.now.cascade.now) (HasFed common.now.cascade.now pass.new (fed_with next f))
+        R.after R.part out.old out.new
         (map (λ t. tap_state t) taps.old.items) (map (λ t. tap_state t) taps.new.items) (fed_with next f) rows result }
     ensures fewer { OnOk result (length taps.new.items ≤ length taps.old.items) }
     ensures cause { GiveCause (R.row_state out.old) (R.row_state out.new) result }
 {
     let mut engine = Feeder {
-        rt,
-        alloc,
-        cascade,
+        rt: common.rt,
+        alloc: common.alloc,
+        cascade: common.cascade,
         pass,
-        gate,
+        gate: common.gate,
         pace: *pace,
     };
     let taken = take_value(&mut engine, next, out, taps);
@@ -65,23 +63,23 @@ fn take<W: Wait + Clock, G: Gate, R: RowOut>(
 }
 
 // Gives out the rows that lie ready.
-fn give_ready<W: Wait, R: RowOut>(
-    rt: &W,
-    cascade: &Cascade,
+fn give_ready<W: Wait, G: Gate, R: RowOut>(
+    common: &Common<'_, W, G>,
     pass: &mut CascadePass,
     out: &mut R,
     taps: &mut Vec<Box<dyn Tap>>,
 ) -> Result<(), GiveStop>
-    requires feeder { (f : Fed) × (rows : List ARecord) × HasFed cascade.now pass.old f rows }
+    requires feeder { (f : Fed) × (rows : List ARecord) × HasFed common.now.cascade.now pass.old f rows }
     requires few { length taps.old.items < 2 ^ 32 }
-    ensures same { IsStill cascade.now pass.old pass.new }
-    ensures gives { (f : Fed) (rows : List ARecord) → HasFed cascade.now pass.old f rows
-        → Gives (plan_of cascade.now) (HasFed cascade.now pass.new f) R.after R.part out.old out.new
+    ensures same { IsStill common.now.cascade.now pass.old pass.new }
+    ensures gives { (f : Fed) (rows : List ARecord) → HasFed common.now.cascade.now pass.old f rows
+        → Gives (plan_of common.now.cascade.now) (HasFed common.now.cascade.now pass.new f)
+        R.after R.part out.old out.new
         (map (λ t. tap_state t) taps.old.items) (map (λ t. tap_state t) taps.new.items) f rows result }
     ensures fewer { OnOk result (length taps.new.items ≤ length taps.old.items) }
     ensures cause { GiveCause (R.row_state out.old) (R.row_state out.new) result }
 {
-    let rows = take_out(rt, cascade, pass);
+    let rows = take_out(common.rt, common.cascade, pass);
     give_out(&rows, out, taps)
 }
 
@@ -101,29 +99,27 @@ fn pop<G: Gate>(inward: &mut InputIn, gate: &Ahead<'_, G>, brought: u64) -> Opti
 // Nothing came, or enough: the feeder works as the others do. If there is nothing to do for a while, it gives out the
 // rows that lie ready, and sleeps until something comes.
 fn idle<W: Wait + Clock, G: Gate, R: RowOut>(
-    rt: &W,
-    alloc: Global,
-    cascade: &Cascade,
+    common: &Common<'_, W, G>,
     pass: &mut CascadePass,
-    gate: &G,
     inward: &mut InputIn,
     signals: &Signals,
     patience: &mut Patience,
     out: &mut R,
     taps: &mut Vec<Box<dyn Tap>>,
 ) -> Result<(), GiveStop>
-    requires feeder { (f : Fed) × (rows : List ARecord) × HasFed cascade.now pass.old f rows }
+    requires feeder { (f : Fed) × (rows : List ARecord) × HasFed common.now.cascade.now pass.old f rows }
     requires few { length taps.old.items < 2 ^ 32 }
     ensures ring { ring_in inward.new ≡ ring_in inward.old }
     ensures none { values_received inward.new ≡ values_received inward.old }
-    ensures same { IsStill cascade.now pass.old pass.new }
-    ensures gives { (f : Fed) (rows : List ARecord) → HasFed cascade.now pass.old f rows
-        → Gives (plan_of cascade.now) (HasFed cascade.now pass.new f) R.after R.part out.old out.new
+    ensures same { IsStill common.now.cascade.now pass.old pass.new }
+    ensures gives { (f : Fed) (rows : List ARecord) → HasFed common.now.cascade.now pass.old f rows
+        → Gives (plan_of common.now.cascade.now) (HasFed common.now.cascade.now pass.new f)
+        R.after R.part out.old out.new
         (map (λ t. tap_state t) taps.old.items) (map (λ t. tap_state t) taps.new.items) f rows result }
     ensures fewer { OnOk result (length taps.new.items ≤ length taps.old.items) }
     ensures cause { GiveCause (R.row_state out.old) (R.row_state out.new) result }
 {
-    match step_too(rt, alloc, cascade, pass, gate) {
+    match step_too(common.rt, common.alloc, common.cascade, pass, common.gate) {
         Ok(Did::Bundle | Did::Closing) => {
             patience.renew();
             Ok(())
@@ -133,9 +129,9 @@ fn idle<W: Wait + Clock, G: Gate, R: RowOut>(
                 patience.pause();
                 return Ok(());
             }
-            match give_ready(rt, cascade, pass, out, taps) {
+            match give_ready(common, pass, out, taps) {
                 Ok(()) => {
-                    inward.rest(rt, signals);
+                    inward.rest(common.rt, signals);
                     Ok(())
                 }
                 Err(why) => Err(why),
@@ -147,24 +143,21 @@ fn idle<W: Wait + Clock, G: Gate, R: RowOut>(
 
 // Feeds what comes out of the ring up to the stop, and answers where reading stopped.
 fn feed_values<W: Wait + Clock, G: Gate, R: RowOut>(
-    rt: &W,
-    alloc: Global,
-    cascade: &Cascade,
+    common: &Common<'_, W, Ahead<'_, G>>,
     pass: &mut CascadePass,
-    gate: &Ahead<'_, G>,
     inward: &mut InputIn,
     signals: &Signals,
     out: &mut R,
     taps: &mut Vec<Box<dyn Tap>>,
 ) -> Result<Stop, GiveStop>
-    requires begins { HasFed cascade.now pass.old nothing_fed [] }
+    requires begins { HasFed common.now.cascade.now pass.old nothing_fed [] }
     requires nothing { values_received inward.old
-        ≡ begun_values (streams_of (plan_of cascade.now)) (setting_of cascade.now).bundle }
+        ≡ begun_values (streams_of (plan_of common.now.cascade.now)) (setting_of common.now.cascade.now).bundle }
     requires few { length taps.old.items < 2 ^ 32 }
     ensures ring { ring_in inward.new ≡ ring_in inward.old }
-    ensures same { IsStill cascade.now pass.old pass.new }
-    ensures feeds { FeedsPopped (plan_of cascade.now) (setting_of cascade.now).bundle (values_received inward.new)
-        (HasFed cascade.now pass.new) R.after R.part out.old out.new
+    ensures same { IsStill common.now.cascade.now pass.old pass.new }
+    ensures feeds { FeedsPopped (plan_of common.now.cascade.now) (setting_of common.now.cascade.now).bundle
+        (values_received inward.new) (HasFed common.now.cascade.now pass.new) R.after R.part out.old out.new
         (map (λ t. tap_state t) taps.old.items) (map (λ t. tap_state t) taps.new.items) result }
     ensures fewer { OnOk result (length taps.new.items ≤ length taps.old.items) }
     ensures cause { GiveCause (R.row_state out.old) (R.row_state out.new) result }
@@ -172,8 +165,8 @@ fn feed_values<W: Wait + Clock, G: Gate, R: RowOut>(
     let mut pace = Pace::new();
     let mut patience = Patience::new();
     let mut brought = 0_u64;
-    for _ in rt.forever() {
-        match pop(inward, gate, brought) {
+    for _ in common.rt.forever() {
+        match pop(inward, common.gate, brought) {
             Some(InputFed::Stop(stop)) => return Ok(stop),
             Some(InputFed::NoMemory) => return Err(GiveStop::Memory),
             Some(next) => {
@@ -181,23 +174,12 @@ fn feed_values<W: Wait + Clock, G: Gate, R: RowOut>(
                 if matches!(&next, InputFed::Bundle(_, _)) {
                     brought = brought.wrapping_add(1);
                 }
-                match take(rt, alloc, cascade, pass, gate, &mut pace, next, out, taps) {
+                match take(common, pass, &mut pace, next, out, taps) {
                     Ok(()) => {}
                     Err(why) => return Err(why),
                 }
             }
-            None => match idle(
-                rt,
-                alloc,
-                cascade,
-                pass,
-                gate,
-                inward,
-                signals,
-                &mut patience,
-                out,
-                taps,
-            ) {
+            None => match idle(common, pass, inward, signals, &mut patience, out, taps) {
                 Ok(()) => {}
                 Err(why) => return Err(why),
             },
@@ -208,37 +190,34 @@ fn feed_values<W: Wait + Clock, G: Gate, R: RowOut>(
 
 // The feeder's work over what a reader sends that has begun.
 fn feed_begun<W: Wait + Clock, G: Gate, R: RowOut>(
-    rt: &W,
-    alloc: Global,
-    cascade: &Cascade,
+    common: &Common<'_, W, Ahead<'_, G>>,
     pass: &mut CascadePass,
-    gate: &Ahead<'_, G>,
     inward: &mut InputIn,
     signals: &Signals,
     out: &mut R,
     taps: &mut Vec<Box<dyn Tap>>,
 ) -> Result<Stop, GiveStop>
-    requires begins { HasFed cascade.now pass.old nothing_fed [] }
+    requires begins { HasFed common.now.cascade.now pass.old nothing_fed [] }
     requires nothing { values_received inward.old
-        ≡ begun_values (streams_of (plan_of cascade.now)) (setting_of cascade.now).bundle }
+        ≡ begun_values (streams_of (plan_of common.now.cascade.now)) (setting_of common.now.cascade.now).bundle }
     requires few { length taps.old.items < 2 ^ 32 }
     ensures ring { ring_in inward.new ≡ ring_in inward.old }
-    ensures same { IsStill cascade.now pass.old pass.new }
-    ensures feeds { FeedsPopped (plan_of cascade.now) (setting_of cascade.now).bundle (values_received inward.new)
-        (HasFed cascade.now pass.new) R.after R.part out.old out.new
+    ensures same { IsStill common.now.cascade.now pass.old pass.new }
+    ensures feeds { FeedsPopped (plan_of common.now.cascade.now) (setting_of common.now.cascade.now).bundle
+        (values_received inward.new) (HasFed common.now.cascade.now pass.new) R.after R.part out.old out.new
         (map (λ t. tap_state t) taps.old.items) (map (λ t. tap_state t) taps.new.items) result }
     ensures fewer { OnOk result (length taps.new.items ≤ length taps.old.items) }
     ensures cause { GiveCause (R.row_state out.old) (R.row_state out.new) result }
 {
-    let stop = match feed_values(rt, alloc, cascade, pass, gate, inward, signals, out, taps) {
+    let stop = match feed_values(common, pass, inward, signals, out, taps) {
         Ok(stop) => stop,
         Err(why) => {
             signals.end();
-            cascade.stop(pass, reason_of(why));
+            common.cascade.stop(pass, reason_of(why));
             return Err(why);
         }
     };
-    match end_work(rt, alloc, cascade, pass, gate) {
+    match end_work(common, pass) {
         Ok(()) => Ok(stop),
         Err(NoMemory) => Err(GiveStop::Memory),
     }
@@ -256,32 +235,29 @@ fn feed_begun<W: Wait + Clock, G: Gate, R: RowOut>(
 /// The first failure to write or to offer rows, or want of memory, of this worker or another. Nothing more is then
 /// written or offered, and the reader ends behind its read.
 pub(crate) fn feed_popped<W: Wait + Clock, G: Gate, R: RowOut>(
-    rt: &W,
-    alloc: Global,
-    cascade: &Cascade,
+    common: &Common<'_, W, Ahead<'_, G>>,
     pass: &mut CascadePass,
-    gate: &Ahead<'_, G>,
     inward: &mut InputIn,
     signals: &Signals,
     out: &mut R,
     taps: &mut Vec<Box<dyn Tap>>,
 ) -> (bool, Result<Stop, GiveStop>)
-    requires begins { HasFed cascade.now pass.old nothing_fed [] }
+    requires begins { HasFed common.now.cascade.now pass.old nothing_fed [] }
     requires nothing { values_received inward.old
-        ≡ begun_values (streams_of (plan_of cascade.now)) (setting_of cascade.now).bundle }
+        ≡ begun_values (streams_of (plan_of common.now.cascade.now)) (setting_of common.now.cascade.now).bundle }
     requires few { length taps.old.items < 2 ^ 32 }
     ensures ring { ring_in inward.new ≡ ring_in inward.old }
-    ensures same { IsStill cascade.now pass.old pass.new }
+    ensures same { IsStill common.now.cascade.now pass.old pass.new }
     ensures left { result.0 ≡ false → (pass.new ≡ pass.old) × (out.new ≡ out.old) × (taps.new ≡ taps.old) }
-    ensures feeds { FeedsPopped (plan_of cascade.now) (setting_of cascade.now).bundle (values_received inward.new)
-        (HasFed cascade.now pass.new) R.after R.part out.old out.new
+    ensures feeds { FeedsPopped (plan_of common.now.cascade.now) (setting_of common.now.cascade.now).bundle
+        (values_received inward.new) (HasFed common.now.cascade.now pass.new) R.after R.part out.old out.new
         (map (λ t. tap_state t) taps.old.items) (map (λ t. tap_state t) taps.new.items) result.1 }
     ensures fewer { OnOk result.1 (length taps.new.items ≤ length taps.old.items) }
     ensures cause { GiveCause (R.row_state out.old) (R.row_state out.new) result.1 }
 {
-    if !signals.has_begun(rt) {
+    if !signals.has_begun(common.rt) {
         return (false, Err(GiveStop::Memory));
     }
-    let fed = feed_begun(rt, alloc, cascade, pass, gate, inward, signals, out, taps);
+    let fed = feed_begun(common, pass, inward, signals, out, taps);
     (true, fed)
 }

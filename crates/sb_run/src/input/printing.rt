@@ -9,52 +9,45 @@ ghost use Rattle.sb_feeds.specs.RowsSends.{Prints};
 ghost use Rattle.sb_feeds.specs.one_feed.Feeds.{nothing_fed};
 ghost use Rattle.sb_feeds.specs.one_feed.GiveCauses.{GiveCause};
 ghost use Rattle.sb_feeds.specs.one_feed.InputFeeds.{Feeds};
-ghost use Rattle.sb_run.specs.Feeders.{HasFed, IsStill};
+ghost use Rattle.sb_run.specs.Feeders.{Begins, HasFed, IsStill};
 ghost use Rattle.sb_run.specs.InputPrints.{FeedsRing, ends_with};
 ghost use Rattle.sb_run.specs.RunEnds.{SharedFeedCause};
 ghost use Rattle.sb_worker.specs.Helping.{IsFirst, IsHelper};
 
+use crate::input::ahead::Ahead;
 use crate::input::working::work;
+use crate::shared::common::{Common, Passes};
 use sb_feeds::sb_base::{Dropped, MAX_BUNDLE, Stop};
 use sb_feeds::sb_emit::{RowOut, Tap};
 use sb_feeds::sb_feed::GiveStop;
 use sb_feeds::sb_outside::Source;
 use sb_feeds::{RowsIn, RowsSender, Signals, print_rows, rows_pair};
-use sb_worker::sb_cascade::{Cascade, CascadePass};
 use sb_worker::sb_work::Gate;
-use std::alloc::Global;
 use std::sync::Wait;
 use std::thread::{Threads, join_mut};
 use std::time::Clock;
 
 // Beside the printer: all that a run does but print, and its rows go into the ring. Whether it has begun, since the
 // printer may have given it up; then false with a helper that found no memory, and where reading stopped.
-fn work_for_printer<W: Threads + Wait + Clock + Sync, S: Source, G: Gate + Sync>(
-    rt: &W,
-    alloc: Global,
-    cascade: &Cascade,
-    pass: &mut CascadePass,
-    helpers: &mut Vec<CascadePass>,
-    size: u32,
+fn work_for_printer<W: AllocGlobal + Threads + Wait + Clock + Sync, S: Source, G: Gate + Sync>(
+    common: &Common<'_, W, Ahead<'_, G>>,
+    passes: &mut Passes,
     input: &mut S,
     sender: &mut RowsSender<'_, W>,
     signals: &Signals,
     dropped: &mut Vec<Dropped>,
-    gate: &G,
 ) -> (bool, bool, Result<Stop, GiveStop>)
-    requires begins { HasFed cascade.now pass.old nothing_fed [] }
-    requires pass { IsFirst cascade.now (length helpers.old.items) pass.old }
-    requires helpers { AllByRecursion (IsHelper cascade.now) helpers.old.items }
-    requires size { (setting_of cascade.now).bundle ≡ size }
-    requires some { 1 ≤ size }
-    requires most { size ≤ MAX_BUNDLE }
-    ensures unfed { result.0 ≡ false → (pass.new ≡ pass.old) × (helpers.new ≡ helpers.old)
+    requires begins { Begins common.now.cascade.now passes.old.feeder common.now.size }
+    requires pass { IsFirst common.now.cascade.now (length passes.old.helpers.items) passes.old.feeder }
+    requires helpers { AllByRecursion (IsHelper common.now.cascade.now) passes.old.helpers.items }
+    ensures unfed { result.0 ≡ false → (passes.new ≡ passes.old)
         × (input.new ≡ input.old) × (dropped.new ≡ dropped.old) }
-    ensures back { result.1 ≡ true → AllByRecursion (IsHelper cascade.now) helpers.new.items
-        × (length helpers.new.items ≡ length helpers.old.items) }
-    ensures same { IsStill cascade.now pass.old pass.new }
-    ensures feeds { FeedsRing (plan_of cascade.now) size (S.left input.old) (S.left input.new)
-        (HasFed cascade.now pass.new) sender.old.out sender.new.out dropped.old.items dropped.new.items result.2 }
+    ensures back { result.1 ≡ true → AllByRecursion (IsHelper common.now.cascade.now) passes.new.helpers.items
+        × (length passes.new.helpers.items ≡ length passes.old.helpers.items) }
+    ensures same { IsStill common.now.cascade.now passes.old.feeder passes.new.feeder }
+    ensures feeds { FeedsRing (plan_of common.now.cascade.now) common.now.size (S.left input.old) (S.left input.new)
+        (HasFed common.now.cascade.now passes.new.feeder) sender.old.out sender.new.out
+        dropped.old.items dropped.new.items result.2 }
     ensures source { SharedFeedCause (S.faults input.old) (S.faults input.new) result.2 }
     ensures end { result.2 ≡ Ok Stop.End → S.has_ended input.new }
     ensures name { S.name input.new ≡ S.name input.old }
@@ -62,10 +55,8 @@ fn work_for_printer<W: Threads + Wait + Clock + Sync, S: Source, G: Gate + Sync>
     if !signals.begin() {
         return (false, true, Err(GiveStop::Memory));
     }
-    let mut taps: Vec<Box<dyn Tap>> = Vec::new(alloc);
-    let (clear, fed) = work(
-        rt, alloc, cascade, pass, helpers, size, input, sender, &mut taps, dropped, gate,
-    );
+    let mut taps: Vec<Box<dyn Tap>> = Vec::new(common.alloc);
+    let (clear, fed) = work(common, passes, input, sender, &mut taps, dropped);
     sender.end();
     (true, clear, fed)
 }
@@ -94,78 +85,88 @@ fn print_begun<W: Wait + Clock, R: RowOut>(
     (true, print_rows(rt, inward, signals, out, taps))
 }
 
+// What the printer has: the end of the ring that rows come out of, and the signals of the feeder and the printer.
+#[derive(Drop)]
+struct Printer<'a> {
+    inward: RowsIn,
+    signals: &'a Signals,
+}
+
 // The printer prints what the feeder sends, beside it and all that works for it, until all have ended. What is said of
 // each is what `work_for_printer` and `print_begun` answer.
-fn work_beside_printer<W: Threads + Wait + Clock + Sync, S: Source, R: RowOut, G: Gate + Sync>(
-    rt: &W,
-    alloc: Global,
-    cascade: &Cascade,
-    pass: &mut CascadePass,
-    helpers: &mut Vec<CascadePass>,
-    size: u32,
+fn work_beside_printer<
+    W: AllocGlobal + Threads + Wait + Clock + Sync,
+    S: Source,
+    R: RowOut,
+    G: Gate + Sync,
+>(
+    common: &Common<'_, W, Ahead<'_, G>>,
+    passes: &mut Passes,
     input: &mut S,
     sender: &mut RowsSender<'_, W>,
-    inward: &mut RowsIn,
-    signals: &Signals,
+    printer: &mut Printer<'_>,
     out: &mut R,
     taps: &mut Vec<Box<dyn Tap>>,
     dropped: &mut Vec<Dropped>,
-    gate: &G,
 ) -> (
     (bool, bool, Result<Stop, GiveStop>),
     (bool, Result<(), GiveStop>),
 )
-    requires begins { HasFed cascade.now pass.old nothing_fed [] }
-    requires pass { IsFirst cascade.now (length helpers.old.items) pass.old }
-    requires helpers { AllByRecursion (IsHelper cascade.now) helpers.old.items }
-    requires size { (setting_of cascade.now).bundle ≡ size }
-    requires some { 1 ≤ size }
-    requires most { size ≤ MAX_BUNDLE }
-    requires nothing { rows_received inward.old ≡ [] }
+    requires begins { Begins common.now.cascade.now passes.old.feeder common.now.size }
+    requires pass { IsFirst common.now.cascade.now (length passes.old.helpers.items) passes.old.feeder }
+    requires helpers { AllByRecursion (IsHelper common.now.cascade.now) passes.old.helpers.items }
+    requires nothing { rows_received printer.old.inward ≡ [] }
     requires few { length taps.old.items < 2 ^ 32 }
-    ensures unfed { result.0.0 ≡ false → (pass.new ≡ pass.old) × (helpers.new ≡ helpers.old)
+    ensures unfed { result.0.0 ≡ false → (passes.new ≡ passes.old)
         × (input.new ≡ input.old) × (dropped.new ≡ dropped.old) }
-    ensures back { result.0.1 ≡ true → AllByRecursion (IsHelper cascade.now) helpers.new.items
-        × (length helpers.new.items ≡ length helpers.old.items) }
-    ensures same { IsStill cascade.now pass.old pass.new }
-    ensures feeds { FeedsRing (plan_of cascade.now) size (S.left input.old) (S.left input.new)
-        (HasFed cascade.now pass.new) sender.old.out sender.new.out dropped.old.items dropped.new.items result.0.2 }
+    ensures back { result.0.1 ≡ true → AllByRecursion (IsHelper common.now.cascade.now) passes.new.helpers.items
+        × (length passes.new.helpers.items ≡ length passes.old.helpers.items) }
+    ensures same { IsStill common.now.cascade.now passes.old.feeder passes.new.feeder }
+    ensures feeds { FeedsRing (plan_of common.now.cascade.now) common.now.size (S.left input.old) (S.left input.new)
+        (HasFed common.now.cascade.now passes.new.feeder) sender.old.out sender.new.out
+        dropped.old.items dropped.new.items result.0.2 }
     ensures source { SharedFeedCause (S.faults input.old) (S.faults input.new) result.0.2 }
     ensures end { result.0.2 ≡ Ok Stop.End → S.has_ended input.new }
     ensures name { S.name input.new ≡ S.name input.old }
     ensures left { result.1.0 ≡ false → (out.new ≡ out.old) × (taps.new ≡ taps.old) }
-    ensures ring { row_ring_in inward.new ≡ row_ring_in inward.old }
-    ensures prints { Prints R.after R.part out.old (map (λ t. tap_state t) taps.old.items) (rows_received inward.new)
-        out.new (map (λ t. tap_state t) taps.new.items) result.1.1 }
+    ensures ring { row_ring_in printer.new.inward ≡ row_ring_in printer.old.inward }
+    ensures prints { Prints R.after R.part out.old (map (λ t. tap_state t) taps.old.items)
+        (rows_received printer.new.inward) out.new (map (λ t. tap_state t) taps.new.items) result.1.1 }
     ensures fewer { length taps.new.items ≤ length taps.old.items }
     ensures cause { GiveCause (R.row_state out.old) (R.row_state out.new) result.1.1 }
 {
+    let (rt, alloc, cascade, gate) = (common.rt, common.alloc, common.cascade, common.gate);
+    let size = common.size;
+    let inward = &mut printer.inward;
+    let signals = printer.signals;
     join_mut(
         rt,
         &mut || -> (bool, bool, Result<Stop, GiveStop>)
-            requires begins { HasFed cascade.now pass.now nothing_fed [] }
-            requires pass { IsFirst cascade.now (length helpers.now.items) pass.now }
-            requires helpers { AllByRecursion (IsHelper cascade.now) helpers.now.items }
-            requires size { (setting_of cascade.now).bundle ≡ size }
-            requires some { 1 ≤ size }
-            requires most { size ≤ MAX_BUNDLE }
+            requires begins { Begins cascade.now passes.now.feeder size }
+            requires pass { IsFirst cascade.now (length passes.now.helpers.items) passes.now.feeder }
+            requires helpers { AllByRecursion (IsHelper cascade.now) passes.now.helpers.items }
             requires row { IsSync W.row × IsSync G.row }
-            ensures unfed { result.0 ≡ false → (pass.exit.now ≡ pass.entry.now)
-                × (helpers.exit.now ≡ helpers.entry.now) × (input.exit.now ≡ input.entry.now)
+            ensures unfed { result.0 ≡ false → (passes.exit.now ≡ passes.entry.now) × (input.exit.now ≡ input.entry.now)
                 × (dropped.exit.now ≡ dropped.entry.now) }
-            ensures back { result.1 ≡ true → AllByRecursion (IsHelper cascade.entry.now) helpers.exit.now.items
-                × (length helpers.exit.now.items ≡ length helpers.entry.now.items) }
-            ensures same { IsStill cascade.entry.now pass.entry.now pass.exit.now }
+            ensures back { result.1 ≡ true
+                → AllByRecursion (IsHelper cascade.entry.now) passes.exit.now.helpers.items
+                × (length passes.exit.now.helpers.items ≡ length passes.entry.now.helpers.items) }
+            ensures same { IsStill cascade.entry.now passes.entry.now.feeder passes.exit.now.feeder }
             ensures feeds { FeedsRing (plan_of cascade.entry.now) size (S.left input.entry.now)
-                (S.left input.exit.now) (HasFed cascade.entry.now pass.exit.now) sender.entry.now.out
-                sender.exit.now.out dropped.entry.now.items dropped.exit.now.items result.2 }
+                (S.left input.exit.now) (HasFed cascade.entry.now passes.exit.now.feeder)
+                sender.entry.now.out sender.exit.now.out dropped.entry.now.items dropped.exit.now.items result.2 }
             ensures source { SharedFeedCause (S.faults input.entry.now) (S.faults input.exit.now) result.2 }
             ensures end { result.2 ≡ Ok Stop.End → S.has_ended input.exit.now }
             ensures name { S.name input.exit.now ≡ S.name input.entry.now }
         {
-            work_for_printer(
-                rt, alloc, cascade, pass, helpers, size, input, sender, signals, dropped, gate,
-            )
+            let common = Common {
+                rt,
+                alloc,
+                cascade,
+                gate,
+                size,
+            };
+            work_for_printer(&common, passes, input, sender, signals, dropped)
         },
         &mut || -> (bool, Result<(), GiveStop>)
             requires nothing { rows_received inward.now ≡ [] }
@@ -198,35 +199,27 @@ fn end_with(fed: Result<Stop, GiveStop>, printed: Result<(), GiveStop>) -> Resul
 /// What comes out is printed by the caller's thread, and all else is done in others. False with a helper that found no
 /// memory. If the feeder doesn't begin, since there is no thread for it, the caller's thread feeds as well.
 pub(crate) fn work_and_print<
-    W: Threads + Wait + Clock + Sync,
+    W: AllocGlobal + Threads + Wait + Clock + Sync,
     S: Source,
     R: RowOut,
     G: Gate + Sync,
 >(
-    rt: &W,
-    alloc: Global,
-    cascade: &Cascade,
-    pass: &mut CascadePass,
-    helpers: &mut Vec<CascadePass>,
-    size: u32,
+    common: &Common<'_, W, Ahead<'_, G>>,
+    passes: &mut Passes,
     input: &mut S,
     out: &mut R,
     taps: &mut Vec<Box<dyn Tap>>,
     dropped: &mut Vec<Dropped>,
-    gate: &G,
 ) -> (bool, Result<Stop, GiveStop>)
-    requires begins { HasFed cascade.now pass.old nothing_fed [] }
-    requires pass { IsFirst cascade.now (length helpers.old.items) pass.old }
-    requires helpers { AllByRecursion (IsHelper cascade.now) helpers.old.items }
-    requires size { (setting_of cascade.now).bundle ≡ size }
-    requires some { 1 ≤ size }
-    requires most { size ≤ MAX_BUNDLE }
+    requires begins { Begins common.now.cascade.now passes.old.feeder common.now.size }
+    requires pass { IsFirst common.now.cascade.now (length passes.old.helpers.items) passes.old.feeder }
+    requires helpers { AllByRecursion (IsHelper common.now.cascade.now) passes.old.helpers.items }
     requires few { length taps.old.items < 2 ^ 32 }
-    ensures back { result.0 ≡ true → AllByRecursion (IsHelper cascade.now) helpers.new.items
-        × (length helpers.new.items ≡ length helpers.old.items) }
-    ensures same { IsStill cascade.now pass.old pass.new }
-    ensures feeds { Feeds (plan_of cascade.now) size (S.left input.old) (S.left input.new)
-        (HasFed cascade.now pass.new) R.after R.part out.old out.new
+    ensures back { result.0 ≡ true → AllByRecursion (IsHelper common.now.cascade.now) passes.new.helpers.items
+        × (length passes.new.helpers.items ≡ length passes.old.helpers.items) }
+    ensures same { IsStill common.now.cascade.now passes.old.feeder passes.new.feeder }
+    ensures feeds { Feeds (plan_of common.now.cascade.now) common.now.size (S.left input.old) (S.left input.new)
+        (HasFed common.now.cascade.now passes.new.feeder) R.after R.part out.old out.new
         (map (λ t. tap_state t) taps.old.items) (map (λ t. tap_state t) taps.new.items)
         dropped.old.items dropped.new.items result.1 }
     ensures fewer { OnOk result.1 (length taps.new.items ≤ length taps.old.items) }
@@ -235,32 +228,29 @@ pub(crate) fn work_and_print<
     ensures name { S.name input.new ≡ S.name input.old }
     ensures cause { GiveCause (R.row_state out.old) (R.row_state out.new) result.1 }
 {
-    let Ok((outward, mut inward)) = rows_pair(alloc) else {
+    let Ok((outward, inward)) = rows_pair(common.alloc) else {
         return (true, Err(GiveStop::Memory));
     };
     let signals = Signals::new();
-    let mut sender = RowsSender::new(rt, alloc, &signals, outward);
+    let mut sender = RowsSender::new(common.rt, common.alloc, &signals, outward);
+    let mut printer = Printer {
+        inward,
+        signals: &signals,
+    };
     let ((has_begun, clear, fed), (is_begun, printed)) = work_beside_printer(
-        rt,
-        alloc,
-        cascade,
-        pass,
-        helpers,
-        size,
+        common,
+        passes,
         input,
         &mut sender,
-        &mut inward,
-        &signals,
+        &mut printer,
         out,
         taps,
         dropped,
-        gate,
     );
+    let Printer { inward, .. } = printer;
     inward.tie(sender.into_out());
     if clear && !has_begun && !is_begun {
-        return work(
-            rt, alloc, cascade, pass, helpers, size, input, out, taps, dropped, gate,
-        );
+        return work(common, passes, input, out, taps, dropped);
     }
     (clear, end_with(fed, printed))
 }

@@ -9,43 +9,43 @@ ghost use Rattle.sb_feeds.specs.InputEnds.{begun_values, ring_out, values_sent};
 ghost use Rattle.sb_worker.specs.cascade.Calls.{plan_of};
 ghost use Rattle.sb_worker.specs.Helping.{IsHelper};
 
+use crate::shared::common::Common;
 use crate::shared::helping::help_all;
 use sb_feeds::sb_base::{Dropped, MAX_BUNDLE, Stop};
 use sb_feeds::sb_outside::Source;
 use sb_feeds::{InputOut, Signals, feed_input};
-use sb_worker::sb_cascade::{Cascade, CascadePass};
+use sb_worker::sb_cascade::CascadePass;
 use sb_worker::sb_work::Gate;
-use std::alloc::Global;
 use std::sync::Wait;
 use std::thread::{Threads, join_mut};
 use std::time::Clock;
 
 // The helpers help until the run ends, and beside them the input is read into the ring. False with a helper that found
 // no memory; and the stop that was sent, if one was.
-fn help_and_read<W: Threads + Wait + Clock + Sync, S: Source, G: Gate + Sync>(
-    rt: &W,
-    alloc: Global,
-    cascade: &Cascade,
-    gate: &G,
+fn help_and_read<W: AllocGlobal + Threads + Wait + Clock + Sync, S: Source, G: Gate + Sync>(
+    common: &Common<'_, W, G>,
     helpers: &mut Vec<CascadePass>,
-    size: u32,
     input: &mut S,
     dropped: &mut Vec<Dropped>,
     outward: &mut InputOut,
     signals: &Signals,
 ) -> (bool, Option<Stop>)
-    requires helpers { AllByRecursion (IsHelper cascade.now) helpers.old.items }
-    requires new { values_sent outward.old ≡ begun_values (streams_of (plan_of cascade.now)) size }
-    requires some { 1 ≤ size }
-    requires most { size ≤ MAX_BUNDLE }
-    ensures back { result.0 ≡ true → AllByRecursion (IsHelper cascade.now) helpers.new.items
+    requires helpers { AllByRecursion (IsHelper common.now.cascade.now) helpers.old.items }
+    requires new { values_sent outward.old
+        ≡ begun_values (streams_of (plan_of common.now.cascade.now)) common.now.size }
+    requires some { 1 ≤ common.now.size }
+    requires most { common.now.size ≤ MAX_BUNDLE }
+    ensures back { result.0 ≡ true → AllByRecursion (IsHelper common.now.cascade.now) helpers.new.items
         × (length helpers.new.items ≡ length helpers.old.items) }
     ensures ring { ring_out outward.new ≡ ring_out outward.old }
-    ensures read { IsReadOf (plan_of cascade.now) size (S.left input.old) (S.left input.new) (S.faults input.old)
-        (S.faults input.new) (values_sent outward.new) dropped.old.items dropped.new.items result.1 }
+    ensures read { IsReadOf (plan_of common.now.cascade.now) common.now.size (S.left input.old) (S.left input.new)
+        (S.faults input.old) (S.faults input.new) (values_sent outward.new)
+        dropped.old.items dropped.new.items result.1 }
     ensures end { result.1 ≡ Some Stop.End → S.has_ended input.new }
     ensures name { S.name input.new ≡ S.name input.old }
 {
+    let (rt, alloc, cascade, gate) = (common.rt, common.alloc, common.cascade, common.gate);
+    let size = common.size;
     join_mut(
         rt,
         &mut || -> bool
@@ -64,18 +64,7 @@ fn help_and_read<W: Threads + Wait + Clock + Sync, S: Source, G: Gate + Sync>(
                 dropped.entry.now.items dropped.exit.now.items result }
             ensures end { result ≡ Some Stop.End → S.has_ended input.exit.now }
             ensures name { S.name input.exit.now ≡ S.name input.entry.now }
-        {
-            feed_input(
-                rt,
-                alloc,
-                cascade.plan(),
-                size,
-                input,
-                dropped,
-                outward,
-                signals,
-            )
-        },
+        { feed_input(rt, cascade.plan(), size, input, dropped, outward, signals) },
     )
 }
 
@@ -85,36 +74,36 @@ fn help_and_read<W: Threads + Wait + Clock + Sync, S: Source, G: Gate + Sync>(
 ///
 /// The helpers come second where no second thread can be made: they end with the run, but the feeder waits for the
 /// input.
-pub(crate) fn read_and_help<W: Threads + Wait + Clock + Sync, S: Source, G: Gate + Sync>(
-    rt: &W,
-    alloc: Global,
-    cascade: &Cascade,
-    gate: &G,
+pub(crate) fn read_and_help<
+    W: AllocGlobal + Threads + Wait + Clock + Sync,
+    S: Source,
+    G: Gate + Sync,
+>(
+    common: &Common<'_, W, G>,
     helpers: &mut Vec<CascadePass>,
-    size: u32,
     input: &mut S,
     dropped: &mut Vec<Dropped>,
     outward: &mut InputOut,
     signals: &Signals,
 ) -> (bool, bool, Option<Stop>)
-    requires helpers { AllByRecursion (IsHelper cascade.now) helpers.old.items }
-    requires new { values_sent outward.old ≡ begun_values (streams_of (plan_of cascade.now)) size }
-    requires some { 1 ≤ size }
-    requires most { size ≤ MAX_BUNDLE }
-    ensures back { result.0 ≡ true → AllByRecursion (IsHelper cascade.now) helpers.new.items
+    requires helpers { AllByRecursion (IsHelper common.now.cascade.now) helpers.old.items }
+    requires new { values_sent outward.old
+        ≡ begun_values (streams_of (plan_of common.now.cascade.now)) common.now.size }
+    requires some { 1 ≤ common.now.size }
+    requires most { common.now.size ≤ MAX_BUNDLE }
+    ensures back { result.0 ≡ true → AllByRecursion (IsHelper common.now.cascade.now) helpers.new.items
         × (length helpers.new.items ≡ length helpers.old.items) }
     ensures unread { result.1 ≡ false → (input.new ≡ input.old) × (dropped.new ≡ dropped.old) }
     ensures ring { ring_out outward.new ≡ ring_out outward.old }
-    ensures read { IsReadOf (plan_of cascade.now) size (S.left input.old) (S.left input.new) (S.faults input.old)
-        (S.faults input.new) (values_sent outward.new) dropped.old.items dropped.new.items result.2 }
+    ensures read { IsReadOf (plan_of common.now.cascade.now) common.now.size (S.left input.old) (S.left input.new)
+        (S.faults input.old) (S.faults input.new) (values_sent outward.new)
+        dropped.old.items dropped.new.items result.2 }
     ensures end { result.2 ≡ Some Stop.End → S.has_ended input.new }
     ensures name { S.name input.new ≡ S.name input.old }
 {
     if !signals.begin() {
         return (true, false, None);
     }
-    let (clear, stop) = help_and_read(
-        rt, alloc, cascade, gate, helpers, size, input, dropped, outward, signals,
-    );
+    let (clear, stop) = help_and_read(common, helpers, input, dropped, outward, signals);
     (clear, true, stop)
 }

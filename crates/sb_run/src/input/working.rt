@@ -10,7 +10,7 @@ ghost use Rattle.sb_worker.specs.cascade.Calls.{plan_of, setting_of};
 ghost use Rattle.sb_feeds.specs.one_feed.Feeds.{nothing_fed};
 ghost use Rattle.sb_feeds.specs.one_feed.GiveCauses.{GiveCause};
 ghost use Rattle.sb_feeds.specs.one_feed.InputFeeds.{Feeds};
-ghost use Rattle.sb_run.specs.Feeders.{HasFed, IsStill};
+ghost use Rattle.sb_run.specs.Feeders.{Begins, HasFed, IsStill};
 ghost use Rattle.sb_run.specs.InputPops.{FeedsPopped};
 ghost use Rattle.sb_run.specs.RunEnds.{SharedFeedCause};
 ghost use Rattle.sb_worker.specs.Helping.{IsFirst, IsHelper};
@@ -18,62 +18,70 @@ ghost use Rattle.sb_worker.specs.Helping.{IsFirst, IsHelper};
 use crate::input::ahead::Ahead;
 use crate::input::feeding::feed_popped;
 use crate::input::reading::read_and_help;
+use crate::shared::common::{Common, Passes};
 use crate::shared::joining::feed_beside_helpers;
 use sb_feeds::sb_base::{Dropped, MAX_BUNDLE, Stop};
 use sb_feeds::sb_emit::{RowOut, Tap};
 use sb_feeds::sb_feed::GiveStop;
 use sb_feeds::sb_outside::Source;
 use sb_feeds::{InputIn, InputOut, Signals, input_pair};
-use sb_worker::sb_cascade::{Cascade, CascadePass};
 use sb_worker::sb_work::Gate;
-use std::alloc::Global;
 use std::sync::Wait;
 use std::thread::{Threads, join_mut};
 use std::time::Clock;
 
+// Both ends of the ring of an input, and the signals of its reader and the feeder.
+#[derive(Drop)]
+struct InputPair {
+    outward: InputOut,
+    inward: InputIn,
+    signals: Signals,
+}
+
 // The feeder feeds what the reader sends, beside the reader and the helpers, until all have ended. What is said of each
 // is what `read_and_help` and `feed_popped` answer.
-fn work_apart<W: Threads + Wait + Clock + Sync, S: Source, R: RowOut, G: Gate + Sync>(
-    rt: &W,
-    alloc: Global,
-    cascade: &Cascade,
-    pass: &mut CascadePass,
-    helpers: &mut Vec<CascadePass>,
-    size: u32,
+fn work_apart<W: AllocGlobal + Threads + Wait + Clock + Sync, S: Source, R: RowOut, G: Gate + Sync>(
+    common: &Common<'_, W, Ahead<'_, G>>,
+    passes: &mut Passes,
     input: &mut S,
-    outward: &mut InputOut,
-    inward: &mut InputIn,
-    signals: &Signals,
+    ends: &mut InputPair,
     out: &mut R,
     taps: &mut Vec<Box<dyn Tap>>,
     dropped: &mut Vec<Dropped>,
-    gate: &Ahead<'_, G>,
 ) -> ((bool, bool, Option<Stop>), (bool, Result<Stop, GiveStop>))
-    requires begins { HasFed cascade.now pass.old nothing_fed [] }
-    requires sent { values_sent outward.old ≡ begun_values (streams_of (plan_of cascade.now)) size }
-    requires received { values_received inward.old ≡ begun_values (streams_of (plan_of cascade.now)) size }
-    requires helpers { AllByRecursion (IsHelper cascade.now) helpers.old.items }
-    requires size { (setting_of cascade.now).bundle ≡ size }
-    requires some { 1 ≤ size }
-    requires most { size ≤ MAX_BUNDLE }
+    requires begins { Begins common.now.cascade.now passes.old.feeder common.now.size }
+    requires sent { values_sent ends.old.outward
+        ≡ begun_values (streams_of (plan_of common.now.cascade.now)) common.now.size }
+    requires received { values_received ends.old.inward
+        ≡ begun_values (streams_of (plan_of common.now.cascade.now)) common.now.size }
+    requires helpers { AllByRecursion (IsHelper common.now.cascade.now) passes.old.helpers.items }
     requires few { length taps.old.items < 2 ^ 32 }
-    ensures back { result.0.0 ≡ true → AllByRecursion (IsHelper cascade.now) helpers.new.items
-        × (length helpers.new.items ≡ length helpers.old.items) }
+    ensures back { result.0.0 ≡ true → AllByRecursion (IsHelper common.now.cascade.now) passes.new.helpers.items
+        × (length passes.new.helpers.items ≡ length passes.old.helpers.items) }
     ensures unread { result.0.1 ≡ false → (input.new ≡ input.old) × (dropped.new ≡ dropped.old) }
-    ensures ring_out { ring_out outward.new ≡ ring_out outward.old }
-    ensures read { IsReadOf (plan_of cascade.now) size (S.left input.old) (S.left input.new) (S.faults input.old)
-        (S.faults input.new) (values_sent outward.new) dropped.old.items dropped.new.items result.0.2 }
+    ensures ring_out { ring_out ends.new.outward ≡ ring_out ends.old.outward }
+    ensures read { IsReadOf (plan_of common.now.cascade.now) common.now.size (S.left input.old) (S.left input.new)
+        (S.faults input.old) (S.faults input.new) (values_sent ends.new.outward)
+        dropped.old.items dropped.new.items result.0.2 }
     ensures end { result.0.2 ≡ Some Stop.End → S.has_ended input.new }
     ensures name { S.name input.new ≡ S.name input.old }
-    ensures ring_in { ring_in inward.new ≡ ring_in inward.old }
-    ensures same { IsStill cascade.now pass.old pass.new }
-    ensures left { result.1.0 ≡ false → (pass.new ≡ pass.old) × (out.new ≡ out.old) × (taps.new ≡ taps.old) }
-    ensures feeds { FeedsPopped (plan_of cascade.now) (setting_of cascade.now).bundle (values_received inward.new)
-        (HasFed cascade.now pass.new) R.after R.part out.old out.new
+    ensures ring_in { ring_in ends.new.inward ≡ ring_in ends.old.inward }
+    ensures same { IsStill common.now.cascade.now passes.old.feeder passes.new.feeder }
+    ensures left { result.1.0 ≡ false → (passes.new.feeder ≡ passes.old.feeder) × (out.new ≡ out.old)
+        × (taps.new ≡ taps.old) }
+    ensures feeds { FeedsPopped (plan_of common.now.cascade.now) (setting_of common.now.cascade.now).bundle
+        (values_received ends.new.inward) (HasFed common.now.cascade.now passes.new.feeder) R.after R.part out.old out.new
         (map (λ t. tap_state t) taps.old.items) (map (λ t. tap_state t) taps.new.items) result.1.1 }
     ensures fewer { OnOk result.1.1 (length taps.new.items ≤ length taps.old.items) }
     ensures cause { GiveCause (R.row_state out.old) (R.row_state out.new) result.1.1 }
 {
+    let (rt, alloc, cascade, gate) = (common.rt, common.alloc, common.cascade, common.gate);
+    let size = common.size;
+    let pass = &mut passes.feeder;
+    let helpers = &mut passes.helpers;
+    let outward = &mut ends.outward;
+    let inward = &mut ends.inward;
+    let signals = &ends.signals;
     join_mut(
         rt,
         &mut || -> (bool, bool, Option<Stop>)
@@ -93,9 +101,14 @@ fn work_apart<W: Threads + Wait + Clock + Sync, S: Source, R: RowOut, G: Gate + 
             ensures end { result.2 ≡ Some Stop.End → S.has_ended input.exit.now }
             ensures name { S.name input.exit.now ≡ S.name input.entry.now }
         {
-            read_and_help(
-                rt, alloc, cascade, gate, helpers, size, input, dropped, outward, signals,
-            )
+            let common = Common {
+                rt,
+                alloc,
+                cascade,
+                gate,
+                size,
+            };
+            read_and_help(&common, helpers, input, dropped, outward, signals)
         },
         &mut || -> (bool, Result<Stop, GiveStop>)
             requires begins { HasFed cascade.now pass.now nothing_fed [] }
@@ -112,38 +125,44 @@ fn work_apart<W: Threads + Wait + Clock + Sync, S: Source, R: RowOut, G: Gate + 
                 (map (λ t. tap_state t) taps.entry.now.items) (map (λ t. tap_state t) taps.exit.now.items) result.1 }
             ensures fewer { OnOk result.1 (length taps.exit.now.items ≤ length taps.entry.now.items) }
             ensures cause { GiveCause (R.row_state out.entry.now) (R.row_state out.exit.now) result.1 }
-        { feed_popped(rt, alloc, cascade, pass, gate, inward, signals, out, taps) },
+        {
+            let common = Common {
+                rt,
+                alloc,
+                cascade,
+                gate,
+                size,
+            };
+            feed_popped(&common, pass, inward, signals, out, taps)
+        },
     )
 }
 
 /// The feeder feeds the input, which another thread reads, and the helpers help, until all have ended. False with a
 /// helper that found no memory. If the reader doesn't begin, since there is no thread for it, the feeder reads the input
 /// itself.
-pub(crate) fn work<W: Threads + Wait + Clock + Sync, S: Source, R: RowOut, G: Gate + Sync>(
-    rt: &W,
-    alloc: Global,
-    cascade: &Cascade,
-    pass: &mut CascadePass,
-    helpers: &mut Vec<CascadePass>,
-    size: u32,
+pub(crate) fn work<
+    W: AllocGlobal + Threads + Wait + Clock + Sync,
+    S: Source,
+    R: RowOut,
+    G: Gate + Sync,
+>(
+    common: &Common<'_, W, Ahead<'_, G>>,
+    passes: &mut Passes,
     input: &mut S,
     out: &mut R,
     taps: &mut Vec<Box<dyn Tap>>,
     dropped: &mut Vec<Dropped>,
-    gate: &G,
 ) -> (bool, Result<Stop, GiveStop>)
-    requires begins { HasFed cascade.now pass.old nothing_fed [] }
-    requires pass { IsFirst cascade.now (length helpers.old.items) pass.old }
-    requires helpers { AllByRecursion (IsHelper cascade.now) helpers.old.items }
-    requires size { (setting_of cascade.now).bundle ≡ size }
-    requires some { 1 ≤ size }
-    requires most { size ≤ MAX_BUNDLE }
+    requires begins { Begins common.now.cascade.now passes.old.feeder common.now.size }
+    requires pass { IsFirst common.now.cascade.now (length passes.old.helpers.items) passes.old.feeder }
+    requires helpers { AllByRecursion (IsHelper common.now.cascade.now) passes.old.helpers.items }
     requires few { length taps.old.items < 2 ^ 32 }
-    ensures back { result.0 ≡ true → AllByRecursion (IsHelper cascade.now) helpers.new.items
-        × (length helpers.new.items ≡ length helpers.old.items) }
-    ensures same { IsStill cascade.now pass.old pass.new }
-    ensures feeds { Feeds (plan_of cascade.now) size (S.left input.old) (S.left input.new)
-        (HasFed cascade.now pass.new) R.after R.part out.old out.new
+    ensures back { result.0 ≡ true → AllByRecursion (IsHelper common.now.cascade.now) passes.new.helpers.items
+        × (length passes.new.helpers.items ≡ length passes.old.helpers.items) }
+    ensures same { IsStill common.now.cascade.now passes.old.feeder passes.new.feeder }
+    ensures feeds { Feeds (plan_of common.now.cascade.now) common.now.size (S.left input.old) (S.left input.new)
+        (HasFed common.now.cascade.now passes.new.feeder) R.after R.part out.old out.new
         (map (λ t. tap_state t) taps.old.items) (map (λ t. tap_state t) taps.new.items)
         dropped.old.items dropped.new.items result.1 }
     ensures fewer { OnOk result.1 (length taps.new.items ≤ length taps.old.items) }
@@ -152,32 +171,26 @@ pub(crate) fn work<W: Threads + Wait + Clock + Sync, S: Source, R: RowOut, G: Ga
     ensures name { S.name input.new ≡ S.name input.old }
     ensures cause { GiveCause (R.row_state out.old) (R.row_state out.new) result.1 }
 {
-    let Ok((mut outward, mut inward)) = input_pair(alloc, cascade.plan().streams(), size) else {
+    let streams = common.cascade.plan().streams();
+    let Ok((outward, inward)) = input_pair(common.alloc, streams, common.size) else {
         return (true, Err(GiveStop::Memory));
     };
-    let signals = Signals::new();
-    let ahead = Ahead::new(gate, cascade.plan(), helpers.len());
+    let mut ends = InputPair {
+        outward,
+        inward,
+        signals: Signals::new(),
+    };
     let ((clear, has_begun, _), (is_fed, fed)) = work_apart(
-        rt,
-        alloc,
-        cascade,
-        pass,
-        helpers,
-        size,
-        input,
-        &mut outward,
-        &mut inward,
-        &signals,
-        out,
-        taps,
-        dropped,
-        &ahead,
+        common, passes, input, &mut ends, out, taps, dropped,
     );
+    let InputPair {
+        outward,
+        mut inward,
+        ..
+    } = ends;
     inward.tie(outward);
     if clear && !has_begun && !is_fed {
-        return feed_beside_helpers(
-            rt, alloc, cascade, pass, helpers, size, input, out, taps, dropped, gate,
-        );
+        return feed_beside_helpers(common, passes, input, out, taps, dropped);
     }
     (clear, fed)
 }

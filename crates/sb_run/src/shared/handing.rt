@@ -12,6 +12,7 @@ ghost use Rattle.sb_worker.specs.turn.Passes.{ShowsEmpty};
 ghost use Rattle.sb_worker.specs.turn.Reasons.{number_of};
 ghost use Rattle.sb_worker.specs.Helping.{IsFirst, IsHelper};
 
+use crate::shared::common::Passes;
 use crate::working::flow;
 use sb_feeds::sb_base::NoMemory;
 use sb_feeds::sb_emit::{RowOut, Tap};
@@ -137,23 +138,23 @@ pub(crate) fn come_back<W: Wait, G: Gate, R: RowOut>(
     rt: &W,
     alloc: Global,
     cascade: Cascade,
-    pass: CascadePass,
-    helpers: Vec<CascadePass>,
+    passes: Passes,
     gate: &G,
     out: &mut R,
     taps: &mut Vec<Box<dyn Tap>>,
 ) -> Result<Hand, GiveStop>
-    requires pass { IsFirst cascade (length helpers.items) pass }
-    requires helpers { AllByRecursion (IsHelper cascade) helpers.items }
+    requires pass { IsFirst cascade (length passes.helpers.items) passes.feeder }
+    requires helpers { AllByRecursion (IsHelper cascade) passes.helpers.items }
     requires some { 1 ≤ (setting_of cascade).pending }
-    requires feeder { (f : Fed) × (rows : List ARecord) × HasFed cascade pass f rows }
+    requires feeder { (f : Fed) × (rows : List ARecord) × HasFed cascade passes.feeder f rows }
     requires few { length taps.old.items < 2 ^ 32 }
-    ensures comes { (f : Fed) (rows : List ARecord) → HasFed cascade pass f rows
+    ensures comes { (f : Fed) (rows : List ARecord) → HasFed cascade passes.feeder f rows
         → ComesBack cascade R.after R.part out.old out.new
         (map (λ t. tap_state t) taps.old.items) (map (λ t. tap_state t) taps.new.items) f rows result }
     ensures cause { GiveCause (R.row_state out.old) (R.row_state out.new) result }
 {
-    let mut hand = match take_back(rt, alloc, cascade, pass, helpers, gate) {
+    let Passes { feeder, helpers } = passes;
+    let mut hand = match take_back(rt, alloc, cascade, feeder, helpers, gate) {
         Ok(hand) => hand,
         Err(NoMemory) => return Err(GiveStop::Memory),
     };

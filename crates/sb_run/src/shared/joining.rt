@@ -7,19 +7,18 @@ ghost use Rattle.sb_worker.specs.cascade.Calls.{plan_of, setting_of};
 ghost use Rattle.sb_feeds.specs.one_feed.Feeds.{nothing_fed};
 ghost use Rattle.sb_feeds.specs.one_feed.GiveCauses.{GiveCause};
 ghost use Rattle.sb_feeds.specs.one_feed.InputFeeds.{Feeds};
-ghost use Rattle.sb_run.specs.Feeders.{HasFed, IsStill};
+ghost use Rattle.sb_run.specs.Feeders.{Begins, HasFed, IsStill};
 ghost use Rattle.sb_run.specs.RunEnds.{SharedFeedCause};
 ghost use Rattle.sb_worker.specs.Helping.{IsFirst, IsHelper};
 
+use crate::shared::common::{Common, Passes};
 use crate::shared::feeding::feed;
 use crate::shared::helping::help_all;
 use sb_feeds::sb_base::{Dropped, MAX_BUNDLE, Stop};
 use sb_feeds::sb_emit::{RowOut, Tap};
 use sb_feeds::sb_feed::GiveStop;
 use sb_feeds::sb_outside::Source;
-use sb_worker::sb_cascade::{Cascade, CascadePass};
 use sb_worker::sb_work::Gate;
-use std::alloc::Global;
 use std::sync::Wait;
 use std::thread::{Threads, join_mut};
 use std::time::Clock;
@@ -32,30 +31,22 @@ pub(crate) fn feed_beside_helpers<
     R: RowOut,
     G: Gate + Sync,
 >(
-    rt: &W,
-    alloc: Global,
-    cascade: &Cascade,
-    pass: &mut CascadePass,
-    helpers: &mut Vec<CascadePass>,
-    size: u32,
+    common: &Common<'_, W, G>,
+    passes: &mut Passes,
     input: &mut S,
     out: &mut R,
     taps: &mut Vec<Box<dyn Tap>>,
     dropped: &mut Vec<Dropped>,
-    gate: &G,
 ) -> (bool, Result<Stop, GiveStop>)
-    requires begins { HasFed cascade.now pass.old nothing_fed [] }
-    requires pass { IsFirst cascade.now (length helpers.old.items) pass.old }
-    requires helpers { AllByRecursion (IsHelper cascade.now) helpers.old.items }
-    requires size { (setting_of cascade.now).bundle ≡ size }
-    requires some { 1 ≤ size }
-    requires most { size ≤ MAX_BUNDLE }
+    requires begins { Begins common.now.cascade.now passes.old.feeder common.now.size }
+    requires pass { IsFirst common.now.cascade.now (length passes.old.helpers.items) passes.old.feeder }
+    requires helpers { AllByRecursion (IsHelper common.now.cascade.now) passes.old.helpers.items }
     requires few { length taps.old.items < 2 ^ 32 }
-    ensures back { result.0 ≡ true → AllByRecursion (IsHelper cascade.now) helpers.new.items
-        × (length helpers.new.items ≡ length helpers.old.items) }
-    ensures same { IsStill cascade.now pass.old pass.new }
-    ensures feeds { Feeds (plan_of cascade.now) size (S.left input.old) (S.left input.new)
-        (HasFed cascade.now pass.new) R.after R.part out.old out.new
+    ensures back { result.0 ≡ true → AllByRecursion (IsHelper common.now.cascade.now) passes.new.helpers.items
+        × (length passes.new.helpers.items ≡ length passes.old.helpers.items) }
+    ensures same { IsStill common.now.cascade.now passes.old.feeder passes.new.feeder }
+    ensures feeds { Feeds (plan_of common.now.cascade.now) common.now.size (S.left input.old) (S.left input.new)
+        (HasFed common.now.cascade.now passes.new.feeder) R.after R.part out.old out.new
         (map (λ t. tap_state t) taps.old.items) (map (λ t. tap_state t) taps.new.items)
         dropped.old.items dropped.new.items result.1 }
     ensures fewer { OnOk result.1 (length taps.new.items ≤ length taps.old.items) }
@@ -64,6 +55,10 @@ pub(crate) fn feed_beside_helpers<
     ensures name { S.name input.new ≡ S.name input.old }
     ensures cause { GiveCause (R.row_state out.old) (R.row_state out.new) result.1 }
 {
+    let (rt, alloc, cascade, gate) = (common.rt, common.alloc, common.cascade, common.gate);
+    let size = common.size;
+    let pass = &mut passes.feeder;
+    let helpers = &mut passes.helpers;
     join_mut(
         rt,
         &mut || -> bool
@@ -73,10 +68,7 @@ pub(crate) fn feed_beside_helpers<
                 × (length helpers.exit.now.items ≡ length helpers.entry.now.items) }
         { help_all(rt, alloc, cascade, gate, helpers) },
         &mut || -> Result<Stop, GiveStop>
-            requires begins { HasFed cascade.now pass.now nothing_fed [] }
-            requires size { (setting_of cascade.now).bundle ≡ size }
-            requires some { 1 ≤ size }
-            requires most { size ≤ MAX_BUNDLE }
+            requires begins { Begins cascade.now pass.now size }
             requires few { length taps.now.items < 2 ^ 32 }
             ensures same { IsStill cascade.entry.now pass.entry.now pass.exit.now }
             ensures feeds { Feeds (plan_of cascade.entry.now) size (S.left input.entry.now) (S.left input.exit.now)
@@ -89,9 +81,14 @@ pub(crate) fn feed_beside_helpers<
             ensures name { S.name input.exit.now ≡ S.name input.entry.now }
             ensures cause { GiveCause (R.row_state out.entry.now) (R.row_state out.exit.now) result }
         {
-            feed(
-                rt, alloc, cascade, pass, gate, size, input, out, taps, dropped,
-            )
+            let common = Common {
+                rt,
+                alloc,
+                cascade,
+                gate,
+                size,
+            };
+            feed(&common, pass, input, out, taps, dropped)
         },
     )
 }

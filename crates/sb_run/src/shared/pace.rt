@@ -21,6 +21,9 @@ const LONG_MICROS: u64 = 500;
 /// left over of those that were left to all.
 const LONG_EPOCHS: u32 = 3;
 
+/// How many microseconds an epoch takes at least that is enough by itself: longer than others have the processor.
+const VERY_LONG_MICROS: u64 = 10_000;
+
 /// How many epochs it leaves to all then, before it tries one by itself again.
 const LEFT_EPOCHS: u32 = 64;
 
@@ -90,12 +93,13 @@ impl Pace {
         cascade: &Cascade,
         since: io::Result<Instant>,
     ) {
-        self.long = if is_long(clock, since) {
+        let took = time_since(clock, since);
+        self.long = if is_over(took, LONG_MICROS) {
             self.long.saturating_add(1)
         } else {
             0
         };
-        if self.long >= LONG_EPOCHS {
+        if self.long >= LONG_EPOCHS || is_over(took, VERY_LONG_MICROS) {
             self.long = 0;
             self.left = LEFT_EPOCHS;
         }
@@ -103,13 +107,15 @@ impl Pace {
     }
 }
 
-// Whether more time than one may work alone has gone by since then. It is, if there is no telling.
-fn is_long(clock: &impl Clock, since: io::Result<Instant>) -> bool {
-    let Ok(since) = since else {
-        return true;
-    };
-    let Ok(took) = since.elapsed(clock) else {
-        return true;
-    };
-    took > Duration::from_micros(LONG_MICROS)
+// How much time has gone by since then, if that can be told.
+fn time_since(clock: &impl Clock, since: io::Result<Instant>) -> Option<Duration> {
+    since.ok()?.elapsed(clock).ok()
+}
+
+// Whether it is more than so many microseconds. It is, if there is no telling.
+fn is_over(took: Option<Duration>, micros: u64) -> bool {
+    match took {
+        Some(took) => took > Duration::from_micros(micros),
+        None => true,
+    }
 }

@@ -3,7 +3,7 @@
 ghost use Rattle.std.specs.Prelude.{◌<◌, ◌++◌, false, List, All, IfNone, IfSome, OnOk};
 ghost use Rattle.sb_feeds.specs.base.records.declared.item.Record.{Record as ARecord};
 ghost use Rattle.sb_worker.specs.cascade.Calls.{HasBundle, IsEmptyHanded, IsReady, IsSame, plan_of, setting_of};
-ghost use Rattle.sb_worker.specs.cascade.Found.{IsClaim};
+ghost use Rattle.sb_worker.specs.cascade.shared.Found.{IsClaim};
 ghost use Rattle.sb_feeds.specs.one_feed.Feeds.{Fed, MayArrive, with_bundle};
 ghost use Rattle.sb_run.specs.Feeders.{HasFed, IsStill};
 

@@ -9,9 +9,9 @@ use Rattle.sb_answer_files.proofs.feeds.files_to.Goals as goal
 pub returns-clause-ends : goal.returns-clause-ends
 returns-clause-ends g c =
     let taken = g.K.Sink.taken in
-    let files = by_stream c.args.files.0.items c.args.files.1.items in
-    let dropped = by_stream c.args.dropped_a.now.items c.args.dropped_b.now.items in
-    let dropped' = by_stream c.execute_two.new.dropped_a.items c.execute_two.new.dropped_b.items in
+    let files = by_stream c.args.files.a.items c.args.files.b.items in
+    let dropped = by_stream c.args.dropped.now.a.items c.args.dropped.now.b.items in
+    let dropped' = by_stream c.execute_two.new.dropped.a.items c.execute_two.new.dropped.b.items in
     let is : c.execute_two.new.out.sink.now ≡ c.out-1.given.0 =
     sym (c.out-1.given.1 (sym (in_files _ _ _ _ (λ l h. h.0) (λ l h. h.0) c.args.plan files _ _ dropped dropped' c.args.sizes c.execute_two.result c.execute_two.ensures.ends))) in
     let ends = files_through _ _ (λ a l b. Wrote a b l) (λ a l b. WrotePrefix a b l) _ _ (taken c.args.out.now) (taken c.execute_two.new.out.sink.now) (λ l h. h.1) (λ l h. h.1)
@@ -20,9 +20,9 @@ returns-clause-ends g c =
 
 pub returns-clause-output : goal.returns-clause-output
 returns-clause-output g c =
-    let files = by_stream c.args.files.0.items c.args.files.1.items in
-    let dropped = by_stream c.args.dropped_a.now.items c.args.dropped_b.now.items in
-    let dropped' = by_stream c.execute_two.new.dropped_a.items c.execute_two.new.dropped_b.items in
+    let files = by_stream c.args.files.a.items c.args.files.b.items in
+    let dropped = by_stream c.args.dropped.now.a.items c.args.dropped.now.b.items in
+    let dropped' = by_stream c.execute_two.new.dropped.a.items c.execute_two.new.dropped.b.items in
     let is : c.execute_two.new.out.sink.now ≡ c.out-1.given.0 =
     sym (c.out-1.given.1 (sym (in_files _ _ _ _ (λ l h. h.0) (λ l h. h.0) c.args.plan files _ _ dropped dropped' c.args.sizes c.execute_two.result c.execute_two.ensures.ends))) in
     subst (λ k. OutputCause (g.K.Sink.sink_state c.args.out.now) (g.K.Sink.sink_state k) (as_run c.execute_two.result)) is c.execute_two.ensures.output

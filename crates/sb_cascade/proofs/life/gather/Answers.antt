@@ -1,6 +1,6 @@
 use Rattle.std.proofs.Common.{rules, ◌≡◌, ◌∙◌, ◌||◌, ◌++◌, ◌∷◌, [], sym, ap}
 use Rattle.sb_cascade.proofs.lives.GivingBack.{last_push, own_push, spent_push}
-use Rattle.sb_cascade.specs.SharedNodes.{SharedView}
+use Rattle.sb_shared.specs.SharedNodes.{SharedView}
 use Rattle.sb_cascade.proofs.life.gather.Goals as goal
 use Rattle.sb_cascade.proofs.life.gather.Goals.{then-spent, else-spent}
 

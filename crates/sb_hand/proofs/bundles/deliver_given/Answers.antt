@@ -1,7 +1,7 @@
 use Rattle.std.proofs.Common.{◌∷◌, [], true, false, length, ap, ◌∙◌}
-use Rattle.sb_tally.specs.core.declared.event.Event.TheVariants.{Deliver}
-use Rattle.sb_node.specs.diary.declared.event.DiaryEvent.TheVariants as line
-use Rattle.sb_node.proofs.lane.Results.{on_ok, both_ok}
+use Rattle.sb_shown.specs.core.declared.event.Event.TheVariants.{Deliver}
+use Rattle.sb_shown.specs.diary.declared.event.DiaryEvent.TheVariants as line
+use Rattle.sb_shown.proofs.lane.Results.{on_ok, both_ok}
 use Rattle.sb_hand.specs.Runs.{work_of}
 use Rattle.sb_hand.proofs.Composing.{can-after}
 use Rattle.sb_hand.proofs.KeptLinks.{finish-keeps}

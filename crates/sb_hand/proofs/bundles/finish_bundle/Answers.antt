@@ -1,8 +1,8 @@
 use Rattle.std.proofs.Common.{false, subst}
 use Rattle.std.specs.Prelude.{slice_get}
-use Rattle.sb_node.specs.base.pipeline.Operators.{operator_at}
-use Rattle.sb_node.specs.work.declared.outputs.Output.{Output}
-use Rattle.sb_node.proofs.lane.Results.{on_ok, both_ok}
+use Rattle.sb_shown.specs.base.pipeline.Operators.{operator_at}
+use Rattle.sb_shown.specs.work.declared.outputs.Output.{Output}
+use Rattle.sb_shown.proofs.lane.Results.{on_ok, both_ok}
 use Rattle.sb_hand.proofs.KeptLinks.{absorb-keeps}
 use Rattle.sb_hand.proofs.Outputs.{Comes, comes}
 use Rattle.sb_hand.proofs.Works.{work-lane, work-part, works-part}

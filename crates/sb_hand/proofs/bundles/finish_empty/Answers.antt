@@ -1,8 +1,8 @@
 use Rattle.std.proofs.Common.{false}
-use Rattle.sb_node.specs.diary.declared.event.DiaryEvent.TheVariants as line
+use Rattle.sb_shown.specs.diary.declared.event.DiaryEvent.TheVariants as line
 use Rattle.sb_hand.proofs.KeptLinks.{finish-keeps}
 use Rattle.sb_hand.proofs.Works.{work-lane, works-empty}
-use Rattle.sb_node.proofs.lane.Results.{on_ok, both_ok}
+use Rattle.sb_shown.proofs.lane.Results.{on_ok, both_ok}
 use Rattle.sb_hand.proofs.bundles.finish_empty.Goals as goal
 
 pub finish_at-requires : goal.finish_at-requires

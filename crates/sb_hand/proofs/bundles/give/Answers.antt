@@ -1,7 +1,7 @@
 use Rattle.std.proofs.Common.{List, sym, subst}
-use Rattle.sb_node.proofs.lane.Results.{on_ok, both_ok}
-use Rattle.sb_node.specs.declared.state.NodeState.{NodeState}
-use Rattle.sb_hand.specs.Sets.{HasLane}
+use Rattle.sb_shown.proofs.lane.Results.{on_ok, both_ok}
+use Rattle.sb_shown.specs.node.declared.state.NodeState.{NodeState}
+use Rattle.sb_shown.specs.Sets.{HasLane}
 use Rattle.sb_hand.proofs.Gives.{below, gives-first, gives-there, has-own, has-own-still, keeps-first, keeps-there, order, placed-order, there}
 use Rattle.sb_hand.proofs.bundles.give.Goals as goal
 

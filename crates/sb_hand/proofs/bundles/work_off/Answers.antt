@@ -1,11 +1,11 @@
 use Rattle.std.proofs.Common.{◌∷◌, [], false}
-use Rattle.sb_tally.specs.core.declared.event.Event.TheVariants.{Take}
+use Rattle.sb_shown.specs.core.declared.event.Event.TheVariants.{Take}
 use Rattle.sb_hand.specs.Runs.{work_of}
 use Rattle.sb_hand.proofs.Composing.{can-after}
 use Rattle.sb_hand.proofs.KeptLinks.{take-keeps}
 use Rattle.sb_hand.proofs.LinkedEvents.{keeps-then}
 use Rattle.sb_hand.proofs.Works.{work-times, taken, works}
-use Rattle.sb_node.proofs.lane.Results.{on_ok}
+use Rattle.sb_shown.proofs.lane.Results.{on_ok}
 use Rattle.sb_hand.proofs.bundles.work_off.Goals as goal
 
 pub process-requires-clause-times : goal.process-requires-clause-times

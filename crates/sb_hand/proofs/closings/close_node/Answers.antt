@@ -1,9 +1,9 @@
 use Rattle.std.proofs.Common.{◌≡◌, ◌<◌, ◌∷◌, [], sym, subst, ◌∙◌, arith, false, true, length}
-use Rattle.sb_tally.specs.core.declared.event.Event.TheVariants.{Begin}
-use Rattle.sb_node.proofs.lane.Results.{on_ok, both_ok}
+use Rattle.sb_shown.specs.core.declared.event.Event.TheVariants.{Begin}
+use Rattle.sb_shown.proofs.lane.Results.{on_ok, both_ok}
 use Rattle.sb_hand.specs.Runs.{close_of, ClosesNode}
-use Rattle.sb_node.specs.diary.declared.event.DiaryEvent.TheVariants as line
-use Rattle.sb_node.specs.LinkChanges.{LinksStay}
+use Rattle.sb_shown.specs.diary.declared.event.DiaryEvent.TheVariants as line
+use Rattle.sb_shown.specs.node.LinkChanges.{LinksStay}
 use Rattle.sb_hand.specs.LaneGoing.{LaneGoes}
 use Rattle.sb_hand.proofs.ClosingLinks.{none-yet}
 use Rattle.sb_hand.proofs.KeptLinks.{begin-keeps, end-keeps}

@@ -1,15 +1,15 @@
 use Rattle.std.proofs.Common.{◌∷◌, [], true, false, refl}
-use Rattle.sb_tally.specs.core.declared.event.Event.TheVariants.{Pass}
+use Rattle.sb_shown.specs.core.declared.event.Event.TheVariants.{Pass}
 use Rattle.sb_hand.specs.Runs.{close_of, deliveries}
-use Rattle.sb_tally.specs.core.Lanes.{next_epoch}
-use Rattle.sb_node.specs.diary.declared.event.DiaryEvent.TheVariants as line
-use Rattle.sb_node.specs.lane.LaneView.{lane_of}
+use Rattle.sb_shown.specs.core.Lanes.{next_epoch}
+use Rattle.sb_shown.specs.diary.declared.event.DiaryEvent.TheVariants as line
+use Rattle.sb_shown.specs.lane.LaneView.{lane_of}
 use Rattle.sb_hand.proofs.KeptLinks.{end-keeps, seal-keeps}
 use Rattle.sb_hand.proofs.LinkedEvents.{keeps-then}
 use Rattle.sb_hand.proofs.Composing.{can-after}
 use Rattle.sb_hand.proofs.Having.{has-down, closing-lane}
 use Rattle.sb_hand.proofs.Doing.{passes, ends}
-use Rattle.sb_node.proofs.lane.Results.{on_ok, both_ok}
+use Rattle.sb_shown.proofs.lane.Results.{on_ok, both_ok}
 use Rattle.sb_hand.proofs.closings.close_transform.Goals as goal
 
 pub seal_at-requires : goal.seal_at-requires

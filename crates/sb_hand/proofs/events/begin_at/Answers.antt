@@ -1,7 +1,7 @@
 use Rattle.std.proofs.Common.{◌≡◌, set, ap, ◌∙◌}
-use Rattle.sb_node.specs.declared.closing.Closing.{Closing}
-use Rattle.sb_node.specs.lane.LaneView.{LaneView}
-use Rattle.sb_node.specs.LinkChanges.{LinksStay}
+use Rattle.sb_shown.specs.node.declared.closing.Closing.{Closing}
+use Rattle.sb_shown.specs.lane.LaneView.{LaneView}
+use Rattle.sb_shown.specs.node.LinkChanges.{LinksStay}
 use Rattle.sb_hand.proofs.Answering.{from-two, two-ok}
 use Rattle.sb_hand.proofs.AtNodes.{begins, goes, has-lane, lane-there, own-there}
 use Rattle.sb_hand.proofs.events.begin_at.Goals as goal

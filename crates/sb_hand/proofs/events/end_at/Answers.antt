@@ -1,8 +1,8 @@
 use Rattle.std.proofs.Common.{◌+◌, drop}
-use Rattle.sb_node.specs.diary.declared.event.DiaryEvent.TheVariants as line
-use Rattle.sb_node.specs.lane.LaneView.{lane_of}
-use Rattle.sb_node.specs.lane.Placed.{conts_of}
-use Rattle.sb_node.specs.LinkChanges.{DropsLink}
+use Rattle.sb_shown.specs.diary.declared.event.DiaryEvent.TheVariants as line
+use Rattle.sb_shown.specs.lane.LaneView.{lane_of}
+use Rattle.sb_shown.specs.lane.Placed.{conts_of}
+use Rattle.sb_shown.specs.node.LinkChanges.{DropsLink}
 use Rattle.sb_hand.proofs.AtNodes.{goes, has-lane, turns}
 use Rattle.sb_hand.proofs.events.end_at.Goals as goal
 

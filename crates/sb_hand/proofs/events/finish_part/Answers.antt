@@ -1,5 +1,5 @@
-use Rattle.sb_node.proofs.lane.Results.{on_ok}
-use Rattle.sb_node.specs.LinkChanges.{LinksStay}
+use Rattle.sb_shown.proofs.lane.Results.{on_ok}
+use Rattle.sb_shown.specs.node.LinkChanges.{LinksStay}
 use Rattle.sb_hand.proofs.AtNodes.{absorbs, goes, has-lane, own-there}
 use Rattle.sb_hand.proofs.events.finish_part.Goals as goal
 

@@ -1,6 +1,6 @@
 use Rattle.std.proofs.Common.{ap}
-use Rattle.sb_node.specs.diary.Diaries.{Written}
-use Rattle.sb_node.specs.LinkChanges.{GetsLink}
+use Rattle.sb_shown.specs.diary.Diaries.{Written}
+use Rattle.sb_shown.specs.node.LinkChanges.{GetsLink}
 use Rattle.sb_hand.proofs.AtNodes.{goes, has-lane, shows-same}
 use Rattle.sb_hand.proofs.events.link_at.Goals as goal
 

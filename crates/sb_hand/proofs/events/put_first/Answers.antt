@@ -1,9 +1,9 @@
 use Rattle.std.proofs.Common.{◌+◌, length}
-use Rattle.sb_tally.specs.core.Lanes.{with_arrival}
-use Rattle.sb_node.specs.diary.declared.event.DiaryEvent.TheVariants as line
-use Rattle.sb_node.specs.lane.LaneView.{lane_of}
-use Rattle.sb_node.proofs.lane.Results.{ok-map, ok-some}
-use Rattle.sb_node.specs.LinkChanges.{FindsPlace}
+use Rattle.sb_shown.specs.core.Lanes.{with_arrival}
+use Rattle.sb_shown.specs.diary.declared.event.DiaryEvent.TheVariants as line
+use Rattle.sb_shown.specs.lane.LaneView.{lane_of}
+use Rattle.sb_shown.proofs.lane.Results.{ok-map, ok-some}
+use Rattle.sb_shown.specs.node.LinkChanges.{FindsPlace}
 use Rattle.sb_hand.proofs.AtNodes.{goes, has-lane, lane-there, turns}
 use Rattle.sb_hand.proofs.events.put_first.Goals as goal
 

@@ -1,9 +1,9 @@
 use Rattle.std.proofs.Common.{length}
-use Rattle.sb_tally.specs.core.Lanes.{next_epoch, with_seal}
-use Rattle.sb_node.specs.diary.declared.event.DiaryEvent.TheVariants as line
-use Rattle.sb_node.specs.lane.LaneView.{lane_of}
-use Rattle.sb_node.proofs.lane.Results.{on_ok}
-use Rattle.sb_node.specs.LinkChanges.{GetsPlace}
+use Rattle.sb_shown.specs.core.Lanes.{next_epoch, with_seal}
+use Rattle.sb_shown.specs.diary.declared.event.DiaryEvent.TheVariants as line
+use Rattle.sb_shown.specs.lane.LaneView.{lane_of}
+use Rattle.sb_shown.proofs.lane.Results.{on_ok}
+use Rattle.sb_shown.specs.node.LinkChanges.{GetsPlace}
 use Rattle.sb_hand.proofs.AtNodes.{goes, has-lane, turns}
 use Rattle.sb_hand.proofs.events.seal_at.Goals as goal
 

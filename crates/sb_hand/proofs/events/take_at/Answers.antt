@@ -1,4 +1,4 @@
-use Rattle.sb_node.specs.LinkChanges.{LinksStay}
+use Rattle.sb_shown.specs.node.LinkChanges.{LinksStay}
 use Rattle.sb_hand.proofs.AtNodes.{goes, has-lane, takes}
 use Rattle.sb_hand.proofs.events.take_at.Goals as goal
 

@@ -1,10 +1,10 @@
 use Rattle.std.proofs.Common.{ℕ, length, refl, set, subst}
-use Rattle.sb_tally.specs.core.Lanes.{with_arrival}
-use Rattle.sb_node.specs.diary.declared.event.DiaryEvent.TheVariants as line
-use Rattle.sb_node.specs.lane.LaneView.{lane_of}
-use Rattle.sb_node.proofs.lane.Results.{ok-some, on_err}
-use Rattle.sb_node.specs.LinkChanges.{GetsPlace, LinksStay}
-use Rattle.sb_hand.specs.Sets.{Turns}
+use Rattle.sb_shown.specs.core.Lanes.{with_arrival}
+use Rattle.sb_shown.specs.diary.declared.event.DiaryEvent.TheVariants as line
+use Rattle.sb_shown.specs.lane.LaneView.{lane_of}
+use Rattle.sb_shown.proofs.lane.Results.{ok-some, on_err}
+use Rattle.sb_shown.specs.node.LinkChanges.{GetsPlace, LinksStay}
+use Rattle.sb_shown.specs.Sets.{Turns}
 use Rattle.sb_hand.proofs.Answering.{from-both, from-three}
 use Rattle.sb_hand.proofs.AtNodes.{goes, has-lane, same-goes, shows-all, stays, turns}
 use Rattle.sb_hand.proofs.feeding.arrive_in.Goals as goal

@@ -1,9 +1,9 @@
 use Rattle.std.proofs.Common.{length, refl}
-use Rattle.sb_tally.specs.core.Lanes.{next_epoch, with_seal}
-use Rattle.sb_node.specs.diary.declared.event.DiaryEvent.TheVariants as line
-use Rattle.sb_node.specs.lane.LaneView.{lane_of}
-use Rattle.sb_node.proofs.lane.Results.{on_err, on_ok}
-use Rattle.sb_node.specs.LinkChanges.{GetsPlace, LinksStay}
+use Rattle.sb_shown.specs.core.Lanes.{next_epoch, with_seal}
+use Rattle.sb_shown.specs.diary.declared.event.DiaryEvent.TheVariants as line
+use Rattle.sb_shown.specs.lane.LaneView.{lane_of}
+use Rattle.sb_shown.proofs.lane.Results.{on_err, on_ok}
+use Rattle.sb_shown.specs.node.LinkChanges.{GetsPlace, LinksStay}
 use Rattle.sb_hand.proofs.Answering.{so-on_err}
 use Rattle.sb_hand.proofs.AtNodes.{goes, has-lane, same-goes, shows-all, stays, turns}
 use Rattle.sb_hand.proofs.feeding.seal_in.Goals as goal

@@ -1,6 +1,6 @@
 use Rattle.std.proofs.Common.{◌≡◌}
 use Rattle.std.specs.Prelude.{replicate}
-use Rattle.sb_node.specs.lane.LaneView.{empty_lane}
+use Rattle.sb_shown.specs.lane.LaneView.{empty_lane}
 use Rattle.sb_hand.proofs.making.new_lanes.Given as goal
 
 abbrev pub invariant-loop-lane : goal.invariant-loop-lane

@@ -1,9 +1,9 @@
 use Rattle.std.proofs.Common.{◌≡◌, ℕ, get_or, sym, ap, ◌∙◌, arith, ⊎_elim}
 use Rattle.std.proofs.lemmas.Bool.{cases_lt}
-use Rattle.sb_node.specs.lane.Looks.{look_of}
-use Rattle.sb_node.specs.lane.LaneView.{LaneView}
-use Rattle.sb_node.specs.lane.Placed.{conts_of}
-use Rattle.sb_node.specs.Looking.{CannotClose}
+use Rattle.sb_shown.specs.lane.Looks.{look_of}
+use Rattle.sb_shown.specs.lane.LaneView.{LaneView}
+use Rattle.sb_shown.specs.lane.Placed.{conts_of}
+use Rattle.sb_shown.specs.node.Looking.{CannotClose}
 use Rattle.sb_hand.proofs.Having.{same-get}
 use Rattle.sb_hand.proofs.steps.closable_lane.Goals as goal
 

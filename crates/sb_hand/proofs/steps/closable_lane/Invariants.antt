@@ -1,6 +1,6 @@
 use Rattle.std.proofs.Common.{ℕ, ◌<◌, get_or}
-use Rattle.sb_node.specs.lane.LaneView.{LaneView}
-use Rattle.sb_node.specs.Looking.{CannotClose}
+use Rattle.sb_shown.specs.lane.LaneView.{LaneView}
+use Rattle.sb_shown.specs.node.Looking.{CannotClose}
 use Rattle.sb_hand.proofs.steps.closable_lane.Given as goal
 
 abbrev pub invariant-loop-lane : goal.invariant-loop-lane

@@ -1,11 +1,11 @@
 use Rattle.std.proofs.Common.{◌≡◌, [], length, refl, sym, ap, subst, ◌∙◌, arith, List}
 use Rattle.std.specs.Prelude.{All, slice_get}
 use Rattle.std.proofs.lemmas.Option.{same_Some}
-use Rattle.sb_node.specs.lane.Looks.{look_of}
-use Rattle.sb_node.specs.lane.LaneView.{LaneView}
-use Rattle.sb_node.specs.lane.Placed.{conts_of}
-use Rattle.sb_node.specs.declared.state.NodeState.{NodeState}
-use Rattle.sb_node.specs.Looking.{CannotClose}
+use Rattle.sb_shown.specs.lane.Looks.{look_of}
+use Rattle.sb_shown.specs.lane.LaneView.{LaneView}
+use Rattle.sb_shown.specs.lane.Placed.{conts_of}
+use Rattle.sb_shown.specs.node.declared.state.NodeState.{NodeState}
+use Rattle.sb_shown.specs.node.Looking.{CannotClose}
 use Rattle.sb_hand.proofs.LinkedEvents.{keeps-none}
 use Rattle.sb_hand.proofs.Having.{node-there}
 use Rattle.sb_hand.proofs.steps.close_step.Goals as goal

@@ -14,5 +14,5 @@ returns c =
       setting = setting;
       first = subst (λ n. IsFirst cascade n c.split_all.new.pass) (sym helpers.helpers.1) helpers.pass;
       helpers_are = helpers.helpers.0;
-      begins = helpers.fed nothing_fed [] (new-fed c.args.plan c.transforms.ensures.sound c.args.sizes c.requires.sizes c.in_ok-hand.hand c.in_ok-hand.ensures cascade c.in_ok-cascade.pass setting pass.0 pass.1 pass.2 pass.3);
+      begins = helpers.fed nothing_fed [] (new-fed c.args.plan c.transforms.ensures.sound c.args.sizes c.requires.sizes c.in_ok-hand.hand c.in_ok-hand.ensures cascade c.in_ok-cascade.feeder setting pass.0 pass.1 pass.2 pass.3);
     }

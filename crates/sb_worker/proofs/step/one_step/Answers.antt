@@ -2,7 +2,7 @@ use Rattle.std.proofs.Common.{List, [], ◌∷◌, ap, length}
 use Rattle.sb_cascade.specs.turn.declared.turns.Entry.{Entry}
 use Rattle.sb_cascade.specs.turn.declared.turns.Entry.TheVariants.{Saw}
 use Rattle.sb_cascade.specs.turn.Reasons.{number_of}
-use Rattle.sb_cascade.specs.declared.telling.Change.{Change}
+use Rattle.sb_cascade.specs.shared.declared.telling.Change.{Change}
 use Rattle.sb_worker.specs.Entries.{Gained}
 use Rattle.sb_worker.proofs.Doing.{seen-first}
 use Rattle.sb_worker.proofs.Gaining.{gained-then}

@@ -1,22 +1,22 @@
 use Rattle.std.proofs.Common.{rules, ◌≡◌, ◌+◌, true, Some, refl, sym, ap, ◌∙◌, subst}
 use Rattle.sb_hand.specs.base.pipeline.Shapes.{source}
-use Rattle.sb_turn.specs.Passes.{about}
+use Rattle.sb_shared.specs.turn.Passes.{about}
 use Rattle.sb_hand.specs.lane.declared.answers.ArriveStop.{ArriveStop}
 use Rattle.sb_hand.specs.node.Coming.{IsBackFrom}
-use Rattle.sb_cascade.specs.declared.telling.Change.TheVariants.{Arrive, Full, Nothing}
-use Rattle.sb_cascade.specs.declared.telling.Hands.{Hands}
-use Rattle.sb_cascade.specs.declared.telling.Setting.{Setting}
-use Rattle.sb_cascade.specs.Found.{IsFound}
-use Rattle.sb_cascade.specs.Leavings.{HasRoom, IsFull}
-use Rattle.sb_cascade.specs.SharedNodes.{SharedView}
+use Rattle.sb_shared.specs.declared.telling.Change.TheVariants.{Arrive, Full, Nothing}
+use Rattle.sb_shared.specs.declared.telling.Hands.{Hands}
+use Rattle.sb_shared.specs.declared.telling.Setting.{Setting}
+use Rattle.sb_shared.specs.Found.{IsFound}
+use Rattle.sb_shared.specs.Leavings.{HasRoom, IsFull}
+use Rattle.sb_shared.specs.SharedNodes.{SharedView}
 use Rattle.sb_cascade.specs.Told.{Is}
-use Rattle.sb_cascade.specs.Views.{as_list}
-use Rattle.sb_cascade.proofs.feeds.FeedOfChanges.{feeds-bundle}
-use Rattle.sb_cascade.proofs.entered.Found.{bundles_fed}
-use Rattle.sb_cascade.proofs.entered.FoundLanes.{source_lane}
+use Rattle.sb_shared.specs.Views.{as_list}
+use Rattle.sb_shared.proofs.feeds.FeedOfChanges.{feeds-bundle}
+use Rattle.sb_shared.proofs.entered.Found.{bundles_fed}
+use Rattle.sb_shared.proofs.entered.FoundLanes.{source_lane}
 use Rattle.sb_cascade.proofs.leavings.LeftTurns.{does_at, found_by, knew, left_by}
-use Rattle.sb_cascade.proofs.links.LinksOwed.{arrive-sets}
-use Rattle.sb_cascade.proofs.feeds.ToldFeeds.{arrives_told, epoch_fed, floor_fed}
+use Rattle.sb_shared.proofs.links.LinksOwed.{arrive-sets}
+use Rattle.sb_cascade.proofs.leavings.ToldFeeds.{arrives_told, epoch_fed, floor_fed}
 use Rattle.sb_cascade.proofs.cascade.Cascade.arrive.Goals as goal
 
 pub arrive-requires : goal.arrive-requires

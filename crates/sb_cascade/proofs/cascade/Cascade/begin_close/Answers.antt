@@ -3,18 +3,18 @@ use Rattle.std.specs.Prelude.{◌==◌}
 use Rattle.sb_hand.specs.core.Closings.{is_sink}
 use Rattle.sb_hand.specs.node.Looking.{EarlierCannotClose, IsNotYet}
 use Rattle.sb_hand.specs.node.declared.closing.Closing.{Closing}
-use Rattle.sb_cascade.specs.declared.shared_node.BeginStop.TheVariants.{NotYet}
-use Rattle.sb_cascade.specs.declared.telling.Change.TheVariants.{Begin}
-use Rattle.sb_cascade.specs.Doings.{close_of}
-use Rattle.sb_cascade.specs.Shown.{operator_of}
-use Rattle.sb_cascade.specs.SharedNodes.{SharedView, StopsAt, lines_of}
+use Rattle.sb_shared.specs.declared.shared_node.BeginStop.TheVariants.{NotYet}
+use Rattle.sb_shared.specs.declared.telling.Change.TheVariants.{Begin}
+use Rattle.sb_shared.specs.Doings.{close_of}
+use Rattle.sb_shared.specs.Shown.{operator_of}
+use Rattle.sb_shared.specs.SharedNodes.{SharedView, StopsAt, lines_of}
 use Rattle.sb_cascade.specs.Told.{IsBeginning}
-use Rattle.sb_cascade.specs.Views.{after, held_by, as_list}
-use Rattle.sb_cascade.proofs.leavings.ClosingsTold.{begins_does}
-use Rattle.sb_cascade.proofs.entered.Found.{rises_here}
-use Rattle.sb_cascade.proofs.entered.FoundLanes.{lanes_few, sink_here}
+use Rattle.sb_shared.specs.Views.{after, held_by, as_list}
+use Rattle.sb_shared.proofs.leavings.ClosingsTold.{begins_does}
+use Rattle.sb_shared.proofs.entered.Found.{rises_here}
+use Rattle.sb_shared.proofs.entered.FoundLanes.{lanes_few, sink_here}
 use Rattle.sb_cascade.proofs.leavings.LeftTurns.{Seated, does_at, found_by, knew, left_by}
-use Rattle.sb_cascade.proofs.lives.Shelving.{raises_by}
+use Rattle.sb_shared.proofs.lives.Shelving.{raises_by}
 use Rattle.sb_cascade.proofs.cascade.Cascade.begin_close.Goals as goal
 
 pub begin-requires-clause-lanes : goal.begin-requires-clause-lanes

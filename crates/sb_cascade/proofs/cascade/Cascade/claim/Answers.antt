@@ -1,11 +1,11 @@
 use Rattle.std.proofs.Common.{rules, ◌≡◌, ap, inr, None, subst}
-use Rattle.sb_turn.specs.Passes.{about}
-use Rattle.sb_cascade.specs.declared.telling.Piece.{Piece}
-use Rattle.sb_cascade.specs.declared.telling.Setting.{Setting}
-use Rattle.sb_cascade.specs.Found.{IsLaid}
-use Rattle.sb_cascade.proofs.lives.Claims.{claimed}
+use Rattle.sb_shared.specs.turn.Passes.{about}
+use Rattle.sb_shared.specs.declared.telling.Piece.{Piece}
+use Rattle.sb_shared.specs.declared.telling.Setting.{Setting}
+use Rattle.sb_shared.specs.Found.{IsLaid}
+use Rattle.sb_shared.proofs.lives.Claims.{claimed}
 use Rattle.sb_cascade.proofs.leavings.Handing.{keeps-none}
-use Rattle.sb_cascade.proofs.lives.Shelving.{takes_by}
+use Rattle.sb_shared.proofs.lives.Shelving.{takes_by}
 use Rattle.sb_cascade.proofs.cascade.Cascade.claim.Goals as goal
 
 pub claim-requires-clause-rule : goal.claim-requires-clause-rule

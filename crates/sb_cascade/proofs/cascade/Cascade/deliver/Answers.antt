@@ -4,23 +4,23 @@ use Rattle.sb_hand.specs.core.Choices.{is_empty}
 use Rattle.sb_hand.specs.core.Closings.{delivery}
 use Rattle.sb_hand.specs.core.Events.{below}
 use Rattle.sb_hand.proofs.core.places.Carried.{below-down}
-use Rattle.sb_turn.specs.Passes.{about}
+use Rattle.sb_shared.specs.turn.Passes.{about}
 use Rattle.sb_hand.specs.work.declared.claim.Claim.{Claim}
-use Rattle.sb_cascade.specs.declared.telling.Hands.{Hands}
-use Rattle.sb_cascade.specs.declared.telling.Setting.{Setting}
-use Rattle.sb_cascade.specs.declared.telling.Change.TheVariants.{Deliver}
-use Rattle.sb_cascade.specs.Doings.{work_of}
-use Rattle.sb_cascade.specs.Found.{IsFound}
-use Rattle.sb_cascade.specs.Shown.{operator_of}
-use Rattle.sb_cascade.specs.Linked.{SetsLinksAt}
-use Rattle.sb_cascade.specs.SharedNodes.{PutsAt, SharedView}
-use Rattle.sb_cascade.specs.Views.{held_by, as_list}
-use Rattle.sb_cascade.proofs.feeds.FeedOfChanges.{does-so}
-use Rattle.sb_cascade.proofs.entered.FoundLanes.{below_lane}
-use Rattle.sb_cascade.proofs.entered.LinkHere.{work-link}
-use Rattle.sb_cascade.proofs.links.LinksOwed.{put-sets}
+use Rattle.sb_shared.specs.declared.telling.Hands.{Hands}
+use Rattle.sb_shared.specs.declared.telling.Setting.{Setting}
+use Rattle.sb_shared.specs.declared.telling.Change.TheVariants.{Deliver}
+use Rattle.sb_shared.specs.Doings.{work_of}
+use Rattle.sb_shared.specs.Found.{IsFound}
+use Rattle.sb_shared.specs.Shown.{operator_of}
+use Rattle.sb_shared.specs.Linked.{SetsLinksAt}
+use Rattle.sb_shared.specs.SharedNodes.{PutsAt, SharedView}
+use Rattle.sb_shared.specs.Views.{held_by, as_list}
+use Rattle.sb_shared.proofs.feeds.FeedOfChanges.{does-so}
+use Rattle.sb_shared.proofs.entered.FoundLanes.{below_lane}
+use Rattle.sb_shared.proofs.entered.LinkHere.{work-link}
+use Rattle.sb_shared.proofs.links.LinksOwed.{put-sets}
 use Rattle.sb_cascade.proofs.leavings.LeftTurns.{does_at, found_by, knew}
-use Rattle.sb_cascade.proofs.entered.OrderHere.{order_here, work_order}
+use Rattle.sb_shared.proofs.entered.OrderHere.{order_here, work_order}
 use Rattle.sb_cascade.proofs.leavings.ToldWorks.{delivers_told, not_empty}
 use Rattle.sb_cascade.proofs.cascade.Cascade.deliver.Goals as goal
 

@@ -1,19 +1,19 @@
 use Rattle.std.proofs.Common.{rules, arith, ◌≡◌, ◌<◌, ◌≤◌, ℕ, subst, ◌∷◌, [], length, drop, false, refl, sym, ap, ◌∙◌}
 use Rattle.std.specs.Prelude.{min}
 use Rattle.std.proofs.lemmas.List.{length-drop}
-use Rattle.sb_cascade.specs.declared.telling.Change.TheVariants.{Rows}
+use Rattle.sb_shared.specs.declared.telling.Change.TheVariants.{Rows}
 use Rattle.sb_cascade.specs.Calls.{rows_left}
-use Rattle.sb_cascade.specs.Doings.{close_of}
-use Rattle.sb_cascade.specs.SharedNodes.{lines_of}
+use Rattle.sb_shared.specs.Doings.{close_of}
+use Rattle.sb_shared.specs.SharedNodes.{lines_of}
 use Rattle.sb_cascade.specs.Told.{AreRows}
-use Rattle.sb_cascade.specs.Views.{after, held_by, as_list}
-use Rattle.sb_cascade.proofs.leavings.ClosingsTold.{rows_does}
-use Rattle.sb_cascade.proofs.entered.FoundLanes.{below_lane}
-use Rattle.sb_cascade.proofs.links.LanesBelow.{below_is}
-use Rattle.sb_cascade.proofs.entered.LinkHere.{close-link}
+use Rattle.sb_shared.specs.Views.{after, held_by, as_list}
+use Rattle.sb_shared.proofs.leavings.ClosingsTold.{rows_does}
+use Rattle.sb_shared.proofs.entered.FoundLanes.{below_lane}
+use Rattle.sb_shared.proofs.links.LanesBelow.{below_is}
+use Rattle.sb_shared.proofs.entered.LinkHere.{close-link}
 use Rattle.sb_cascade.proofs.leavings.LeftTurns.{does_at, found_by, knew, left_by}
-use Rattle.sb_cascade.proofs.entered.OrderHere.{order_here, rows_order}
-use Rattle.sb_cascade.proofs.leavings.RowsLeft.{next_rows, rows_fewer, rows_some}
+use Rattle.sb_shared.proofs.entered.OrderHere.{order_here, rows_order}
+use Rattle.sb_shared.proofs.leavings.RowsLeft.{next_rows, rows_fewer, rows_some}
 use Rattle.sb_cascade.proofs.cascade.Cascade.deliver_rows.Goals as goal
 
 pub put-requires-clause-lane : goal.put-requires-clause-lane

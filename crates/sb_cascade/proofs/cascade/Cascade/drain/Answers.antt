@@ -1,16 +1,16 @@
 use Rattle.std.proofs.Common.{rules, ◌≡◌, true, ap, subst, sym}
-use Rattle.sb_turn.specs.Passes.{about}
-use Rattle.sb_cascade.specs.declared.telling.Change.TheVariants.{Drain}
-use Rattle.sb_cascade.specs.declared.telling.Hands.{Hands}
-use Rattle.sb_cascade.specs.declared.telling.Setting.{Setting}
-use Rattle.sb_cascade.specs.Found.{IsDrained, IsFound}
-use Rattle.sb_cascade.specs.SharedNodes.{SharedView}
-use Rattle.sb_cascade.specs.Views.{with_drained}
-use Rattle.sb_cascade.proofs.leavings.Acts.{drains}
-use Rattle.sb_cascade.proofs.feeds.Drained.{all-drained}
-use Rattle.sb_cascade.proofs.feeds.FeedOfChanges.{feeds-drained}
+use Rattle.sb_shared.specs.turn.Passes.{about}
+use Rattle.sb_shared.specs.declared.telling.Change.TheVariants.{Drain}
+use Rattle.sb_shared.specs.declared.telling.Hands.{Hands}
+use Rattle.sb_shared.specs.declared.telling.Setting.{Setting}
+use Rattle.sb_shared.specs.Found.{IsDrained, IsFound}
+use Rattle.sb_shared.specs.SharedNodes.{SharedView}
+use Rattle.sb_shared.specs.Views.{with_drained}
+use Rattle.sb_shared.proofs.leavings.Acts.{drains}
+use Rattle.sb_shared.proofs.feeds.Drained.{all-drained}
+use Rattle.sb_shared.proofs.feeds.FeedOfChanges.{feeds-drained}
 use Rattle.sb_cascade.proofs.leavings.LeftTurns.{does_at, found_by, knew}
-use Rattle.sb_cascade.proofs.links.LinksOwed.{own-stays}
+use Rattle.sb_shared.proofs.links.LinksOwed.{own-stays}
 use Rattle.sb_cascade.proofs.cascade.Cascade.drain.Goals as goal
 
 pub leave-requires-clause-does : goal.leave-requires-clause-does

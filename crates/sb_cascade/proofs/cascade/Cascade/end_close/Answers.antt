@@ -1,12 +1,12 @@
 use Rattle.std.proofs.Common.{◌≡◌, ◌∷◌, [], true, refl, ap, ◌∙◌}
-use Rattle.sb_cascade.specs.declared.telling.Change.TheVariants.{End}
+use Rattle.sb_shared.specs.declared.telling.Change.TheVariants.{End}
 use Rattle.sb_cascade.specs.Calls.{rows_left}
-use Rattle.sb_cascade.specs.Doings.{close_of}
-use Rattle.sb_cascade.specs.SharedNodes.{lines_of}
+use Rattle.sb_shared.specs.Doings.{close_of}
+use Rattle.sb_shared.specs.SharedNodes.{lines_of}
 use Rattle.sb_cascade.specs.Told.{IsEnd}
-use Rattle.sb_cascade.specs.Views.{after, held_by, as_list}
-use Rattle.sb_cascade.proofs.leavings.ClosingsTold.{ends_does}
-use Rattle.sb_cascade.proofs.entered.HeldHere.{closing_here}
+use Rattle.sb_shared.specs.Views.{after, held_by, as_list}
+use Rattle.sb_shared.proofs.leavings.ClosingsTold.{ends_does}
+use Rattle.sb_shared.proofs.entered.HeldHere.{closing_here}
 use Rattle.sb_cascade.proofs.leavings.LeftTurns.{does_at, found_by, knew, left_by}
 use Rattle.sb_cascade.proofs.cascade.Cascade.end_close.Goals as goal
 

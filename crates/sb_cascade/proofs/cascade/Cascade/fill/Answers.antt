@@ -1,11 +1,11 @@
 use Rattle.std.proofs.Common.{rules, ◌≡◌, [], ◌∷◌, None, Some, inr, sym, ap, refl, subst, ◌∙◌, false}
-use Rattle.sb_turn.specs.declared.turns.Entry.TheVariants as entry
-use Rattle.sb_turn.specs.Turning.{looks_from}
+use Rattle.sb_shared.specs.turn.declared.turns.Entry.TheVariants as entry
+use Rattle.sb_shared.specs.turn.Turning.{looks_from}
 use Rattle.sb_hand.specs.work.declared.claim.Claim.{Claim}
-use Rattle.sb_cascade.specs.declared.telling.Change.TheVariants as change
+use Rattle.sb_shared.specs.declared.telling.Change.TheVariants as change
 use Rattle.sb_cascade.specs.Calls.{IsSame}
-use Rattle.sb_cascade.specs.Doings.{work_of}
-use Rattle.sb_cascade.specs.Found.{IsClaim}
+use Rattle.sb_shared.specs.Doings.{work_of}
+use Rattle.sb_shared.specs.Found.{IsClaim}
 use Rattle.sb_cascade.specs.Shelving.{EndsWith}
 use Rattle.sb_cascade.proofs.leavings.Handing.{empty-still, ends-none, ends-then, keeps-none, left-idle, left-take, same-still, same-then}
 use Rattle.sb_cascade.proofs.cascade.Cascade.fill.Goals as goal

@@ -5,21 +5,21 @@ use Rattle.sb_hand.specs.lane.Placed.{conts_of}
 use Rattle.sb_hand.specs.lane.Taking.{finish_first}
 use Rattle.sb_hand.specs.node.Changes.{Turns}
 use Rattle.std.specs.Prelude.{is_some}
-use Rattle.sb_turn.specs.Passes.{about}
+use Rattle.sb_shared.specs.turn.Passes.{about}
 use Rattle.sb_hand.specs.work.declared.claim.Claim.{Claim}
-use Rattle.sb_cascade.specs.declared.telling.Change.TheVariants.{Finish}
-use Rattle.sb_cascade.specs.declared.telling.Hands.{Hands}
-use Rattle.sb_cascade.specs.declared.telling.Setting.{Setting}
+use Rattle.sb_shared.specs.declared.telling.Change.TheVariants.{Finish}
+use Rattle.sb_shared.specs.declared.telling.Hands.{Hands}
+use Rattle.sb_shared.specs.declared.telling.Setting.{Setting}
 use Rattle.sb_cascade.specs.Calls.{given_count}
-use Rattle.sb_cascade.specs.Doings.{work_of}
-use Rattle.sb_cascade.specs.Found.{IsFound}
-use Rattle.sb_cascade.specs.Linked.{SetsLinks, link_left}
-use Rattle.sb_cascade.specs.SharedNodes.{ChangesOwn, FinishesLinked, SharedView}
-use Rattle.sb_cascade.specs.Views.{held_by, as_list}
-use Rattle.sb_cascade.proofs.feeds.FeedOfChanges.{does-so}
-use Rattle.sb_cascade.proofs.entered.HeldHere.{lane_is_first, out_here}
+use Rattle.sb_shared.specs.Doings.{work_of}
+use Rattle.sb_shared.specs.Found.{IsFound}
+use Rattle.sb_shared.specs.Linked.{SetsLinks, link_left}
+use Rattle.sb_shared.specs.SharedNodes.{ChangesOwn, FinishesLinked, SharedView}
+use Rattle.sb_shared.specs.Views.{held_by, as_list}
+use Rattle.sb_shared.proofs.feeds.FeedOfChanges.{does-so}
+use Rattle.sb_shared.proofs.entered.HeldHere.{lane_is_first, out_here}
 use Rattle.sb_cascade.proofs.leavings.LeftTurns.{does_at, found_by, knew, left_by}
-use Rattle.sb_cascade.proofs.links.LinksOwed.{finish-sets}
+use Rattle.sb_shared.proofs.links.LinksOwed.{finish-sets}
 use Rattle.sb_cascade.proofs.leavings.ToldWorks.{anyway, finishes_given_told, counts_given}
 use Rattle.sb_cascade.specs.Told.{IsFinish}
 use Rattle.sb_cascade.proofs.cascade.Cascade.finish_given.Goals as goal

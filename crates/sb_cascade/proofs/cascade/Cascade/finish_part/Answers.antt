@@ -1,22 +1,22 @@
 use Rattle.std.proofs.Common.{rules, ◌≡◌, false, [], ◌∷◌, refl, sym, ap, subst, arith}
-use Rattle.sb_turn.specs.Passes.{about}
-use Rattle.sb_cascade.specs.declared.telling.Change.TheVariants.{Finish}
-use Rattle.sb_cascade.specs.declared.telling.Hands.{Hands}
-use Rattle.sb_cascade.specs.declared.telling.Setting.{Setting}
-use Rattle.sb_cascade.specs.Doings.{work_of}
-use Rattle.sb_cascade.specs.Found.{IsFound}
-use Rattle.sb_cascade.specs.Linked.{SetsLinks, link_left}
-use Rattle.sb_cascade.specs.Shown.{operator_of}
+use Rattle.sb_shared.specs.turn.Passes.{about}
+use Rattle.sb_shared.specs.declared.telling.Change.TheVariants.{Finish}
+use Rattle.sb_shared.specs.declared.telling.Hands.{Hands}
+use Rattle.sb_shared.specs.declared.telling.Setting.{Setting}
+use Rattle.sb_shared.specs.Doings.{work_of}
+use Rattle.sb_shared.specs.Found.{IsFound}
+use Rattle.sb_shared.specs.Linked.{SetsLinks, link_left}
+use Rattle.sb_shared.specs.Shown.{operator_of}
 use Rattle.sb_hand.specs.work.declared.claim.Claim.{Claim}
-use Rattle.sb_cascade.proofs.links.LinksOwed.{absorb-sets, finish-stays}
+use Rattle.sb_shared.proofs.links.LinksOwed.{absorb-sets, finish-stays}
 use Rattle.sb_cascade.proofs.leavings.ToldWorks.{part_gathers}
-use Rattle.sb_cascade.specs.SharedNodes.{FinishesLinked, SharedView}
-use Rattle.sb_cascade.specs.Views.{held_by, as_list}
-use Rattle.sb_cascade.proofs.feeds.FeedOfChanges.{does-so}
-use Rattle.sb_cascade.proofs.entered.Found.{part_here}
-use Rattle.sb_cascade.proofs.entered.HeldHere.{out_here}
+use Rattle.sb_shared.specs.SharedNodes.{FinishesLinked, SharedView}
+use Rattle.sb_shared.specs.Views.{held_by, as_list}
+use Rattle.sb_shared.proofs.feeds.FeedOfChanges.{does-so}
+use Rattle.sb_shared.proofs.entered.Found.{part_here}
+use Rattle.sb_shared.proofs.entered.HeldHere.{out_here}
 use Rattle.sb_cascade.proofs.leavings.LeftTurns.{does_at, found_by, knew}
-use Rattle.sb_cascade.proofs.lives.Shelving.{raises_by}
+use Rattle.sb_shared.proofs.lives.Shelving.{raises_by}
 use Rattle.sb_cascade.proofs.leavings.ToldWorks.{finishes_part_told}
 use Rattle.sb_cascade.proofs.cascade.Cascade.finish_part.Goals as goal
 

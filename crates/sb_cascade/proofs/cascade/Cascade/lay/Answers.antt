@@ -1,9 +1,9 @@
 use Rattle.std.proofs.Common.{◌++◌, sym, ap, ◌∙◌, append-nil}
-use Rattle.sb_turn.specs.Passes.{about}
-use Rattle.sb_turn.specs.Turning.{looks_from}
-use Rattle.sb_cascade.specs.declared.telling.Piece.{Piece}
+use Rattle.sb_shared.specs.turn.Passes.{about}
+use Rattle.sb_shared.specs.turn.Turning.{looks_from}
+use Rattle.sb_shared.specs.declared.telling.Piece.{Piece}
 use Rattle.sb_cascade.proofs.leavings.Handing.{looks-search}
-use Rattle.sb_cascade.proofs.lives.Shelving.{lays_by}
+use Rattle.sb_shared.proofs.lives.Shelving.{lays_by}
 use Rattle.sb_cascade.proofs.cascade.Cascade.lay.Goals as goal
 
 pub put-requires-clause-rule : goal.put-requires-clause-rule

@@ -1,14 +1,14 @@
 use Rattle.std.proofs.Common.{rules, ◌≡◌, ◌≤◌, sym, arith, subst}
-use Rattle.sb_turn.specs.Owed.{Leaves}
-use Rattle.sb_turn.specs.Passes.{about}
-use Rattle.sb_cascade.specs.declared.telling.Setting.{Setting}
-use Rattle.sb_cascade.specs.Doings.{is_event}
-use Rattle.sb_cascade.specs.Leavings.{Looks}
-use Rattle.sb_cascade.specs.Shown.{ShowsMoment}
-use Rattle.sb_cascade.specs.SharedNodes.{lines_of}
-use Rattle.sb_cascade.specs.Views.{after}
-use Rattle.sb_cascade.proofs.leavings.Leaving.{leaves_by}
-use Rattle.sb_cascade.proofs.diaries.LinesGrow.{line_more}
+use Rattle.sb_shared.specs.turn.Owed.{Leaves}
+use Rattle.sb_shared.specs.turn.Passes.{about}
+use Rattle.sb_shared.specs.declared.telling.Setting.{Setting}
+use Rattle.sb_shared.specs.Doings.{is_event}
+use Rattle.sb_shared.specs.Leavings.{Looks}
+use Rattle.sb_shared.specs.Shown.{ShowsMoment}
+use Rattle.sb_shared.specs.SharedNodes.{lines_of}
+use Rattle.sb_shared.specs.Views.{after}
+use Rattle.sb_shared.proofs.leavings.Leaving.{leaves_by}
+use Rattle.sb_shared.proofs.diaries.LinesGrow.{line_more}
 use Rattle.sb_cascade.proofs.cascade.Cascade.leave.Goals as goal
 
 pub leave-requires-clause-lines : goal.leave-requires-clause-lines

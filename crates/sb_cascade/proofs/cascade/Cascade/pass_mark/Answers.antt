@@ -1,14 +1,14 @@
 use Rattle.std.proofs.Common.{◌≡◌, ◌∷◌, [], Some, false, true, refl, sym, ap, ◌∙◌}
 use Rattle.sb_hand.specs.node.declared.closing.Closing.{Closing}
-use Rattle.sb_cascade.specs.declared.telling.Change.TheVariants.{Pass}
+use Rattle.sb_shared.specs.declared.telling.Change.TheVariants.{Pass}
 use Rattle.sb_cascade.specs.Calls.{rows_left}
-use Rattle.sb_cascade.specs.Doings.{close_of}
-use Rattle.sb_cascade.specs.SharedNodes.{lines_of}
+use Rattle.sb_shared.specs.Doings.{close_of}
+use Rattle.sb_shared.specs.SharedNodes.{lines_of}
 use Rattle.sb_cascade.specs.Told.{IsPassing}
-use Rattle.sb_cascade.specs.Views.{after, held_by, as_list}
-use Rattle.sb_cascade.proofs.leavings.ClosingsTold.{passes_does}
-use Rattle.sb_cascade.proofs.entered.FoundLanes.{below_lane}
-use Rattle.sb_cascade.proofs.links.LanesBelow.{below_is}
+use Rattle.sb_shared.specs.Views.{after, held_by, as_list}
+use Rattle.sb_shared.proofs.leavings.ClosingsTold.{passes_does}
+use Rattle.sb_shared.proofs.entered.FoundLanes.{below_lane}
+use Rattle.sb_shared.proofs.links.LanesBelow.{below_is}
 use Rattle.sb_cascade.proofs.leavings.LeftTurns.{Seated, does_at, found_by, knew, left_by}
 use Rattle.sb_cascade.proofs.cascade.Cascade.pass_mark.Goals as goal
 

@@ -1,8 +1,8 @@
 use Rattle.std.proofs.Common.{rules, ◌≡◌, subst}
-use Rattle.sb_turn.specs.Passes.{about}
-use Rattle.sb_cascade.specs.declared.telling.Setting.{Setting}
-use Rattle.sb_cascade.specs.Found.{IsShown}
-use Rattle.sb_cascade.proofs.lives.HeldOnce.{shows}
+use Rattle.sb_shared.specs.turn.Passes.{about}
+use Rattle.sb_shared.specs.declared.telling.Setting.{Setting}
+use Rattle.sb_shared.specs.Found.{IsShown}
+use Rattle.sb_shared.proofs.lives.HeldOnce.{shows}
 use Rattle.sb_cascade.proofs.cascade.Cascade.reason.Goals as goal
 
 pub reason_as-requires-clause-rule : goal.reason_as-requires-clause-rule

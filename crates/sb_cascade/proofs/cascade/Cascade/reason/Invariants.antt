@@ -1,5 +1,5 @@
-use Rattle.sb_turn.specs.Passes.{about}
-use Rattle.sb_cascade.specs.Found.{IsShown}
+use Rattle.sb_shared.specs.turn.Passes.{about}
+use Rattle.sb_shared.specs.Found.{IsShown}
 use Rattle.sb_cascade.proofs.cascade.Cascade.reason.Given as goal
 
 abbrev pub ghosts-reason_as : goal.ghosts-reason_as

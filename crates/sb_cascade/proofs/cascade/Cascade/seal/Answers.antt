@@ -1,18 +1,18 @@
 use Rattle.std.proofs.Common.{rules, ◌≡◌, ◌≤◌, true, Some, refl, sym, ap, ◌∙◌, subst}
 use Rattle.sb_hand.specs.base.pipeline.Shapes.{source}
-use Rattle.sb_turn.specs.Passes.{about}
-use Rattle.sb_cascade.specs.declared.telling.Change.TheVariants.{Seal}
-use Rattle.sb_cascade.specs.declared.telling.Hands.{Hands}
-use Rattle.sb_cascade.specs.declared.telling.Setting.{Setting}
-use Rattle.sb_cascade.specs.Found.{IsFound}
-use Rattle.sb_cascade.specs.SharedNodes.{SharedView}
-use Rattle.sb_cascade.specs.Views.{as_list}
-use Rattle.sb_cascade.proofs.feeds.FeedOfChanges.{feeds-mark}
-use Rattle.sb_cascade.proofs.entered.FoundLanes.{source_lane}
-use Rattle.sb_cascade.proofs.leavings.FreshEvents.{seals}
+use Rattle.sb_shared.specs.turn.Passes.{about}
+use Rattle.sb_shared.specs.declared.telling.Change.TheVariants.{Seal}
+use Rattle.sb_shared.specs.declared.telling.Hands.{Hands}
+use Rattle.sb_shared.specs.declared.telling.Setting.{Setting}
+use Rattle.sb_shared.specs.Found.{IsFound}
+use Rattle.sb_shared.specs.SharedNodes.{SharedView}
+use Rattle.sb_shared.specs.Views.{as_list}
+use Rattle.sb_shared.proofs.feeds.FeedOfChanges.{feeds-mark}
+use Rattle.sb_shared.proofs.entered.FoundLanes.{source_lane}
+use Rattle.sb_shared.proofs.leavings.FreshEvents.{seals}
 use Rattle.sb_cascade.proofs.leavings.LeftTurns.{does_at, found_by, knew}
-use Rattle.sb_cascade.proofs.links.LinksOwed.{seal-sets}
-use Rattle.sb_cascade.proofs.feeds.ToldFeeds.{floor_fed}
+use Rattle.sb_shared.proofs.links.LinksOwed.{seal-sets}
+use Rattle.sb_cascade.proofs.leavings.ToldFeeds.{floor_fed}
 use Rattle.sb_cascade.proofs.cascade.Cascade.seal.Goals as goal
 
 pub seal-requires : goal.seal-requires

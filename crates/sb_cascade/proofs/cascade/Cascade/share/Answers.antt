@@ -2,10 +2,10 @@ use Rattle.std.proofs.Common.{rules, ◌∙◌, sym, ap, subst}
 use Rattle.std.specs.Prelude.{slice_get, map}
 use Rattle.sb_hand.specs.base.pipeline.Plans.{IsPlan}
 use Rattle.sb_hand.specs.Hands.{HandView}
-use Rattle.sb_turn.specs.Passes.{AllShort}
-use Rattle.sb_cascade.specs.declared.telling.Setting.{Setting}
+use Rattle.sb_shared.specs.turn.Passes.{AllShort}
+use Rattle.sb_shared.specs.declared.telling.Setting.{Setting}
 use Rattle.sb_cascade.specs.Ends.{fresh_state}
-use Rattle.sb_cascade.specs.SharedNodes.{lines_of}
+use Rattle.sb_shared.specs.SharedNodes.{lines_of}
 use Rattle.sb_cascade.proofs.lives.Opening.{fresh_owes_none, fresh_short, starts}
 use Rattle.sb_cascade.proofs.lives.Sharing.{first_says, new_for, shared}
 use Rattle.sb_cascade.proofs.cascade.Cascade.share.Goals as goal

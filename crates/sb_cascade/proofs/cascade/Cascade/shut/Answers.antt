@@ -2,11 +2,11 @@ use Rattle.std.proofs.Common.{◌≡◌, ◌∙◌, List, [], sym, subst}
 use Rattle.sb_hand.specs.node.declared.state.NodeState.{NodeState}
 use Rattle.sb_hand.specs.Linking.{AreLinked}
 use Rattle.sb_hand.specs.Showing.{CanStand}
-use Rattle.sb_turn.specs.Passes.{about}
-use Rattle.sb_cascade.specs.declared.telling.Setting.{Setting}
+use Rattle.sb_shared.specs.turn.Passes.{about}
+use Rattle.sb_shared.specs.declared.telling.Setting.{Setting}
 use Rattle.sb_cascade.specs.Calls.{view_of}
 use Rattle.sb_cascade.specs.Ends.{IsShut}
-use Rattle.sb_cascade.specs.SharedNodes.{SharedView}
+use Rattle.sb_shared.specs.SharedNodes.{SharedView}
 use Rattle.sb_cascade.proofs.lives.GivingBack.{gives_back, shut_can}
 use Rattle.sb_cascade.proofs.lives.Shutting.{shuts}
 use Rattle.sb_cascade.proofs.cascade.Cascade.shut.Goals as goal

@@ -1,7 +1,7 @@
 use Rattle.std.proofs.Common.{◌≡◌, ap, arith}
-use Rattle.sb_turn.specs.Passes.{about}
-use Rattle.sb_turn.specs.Reasons.{number_of}
-use Rattle.sb_cascade.proofs.lives.Shelving.{raises_by}
+use Rattle.sb_shared.specs.turn.Passes.{about}
+use Rattle.sb_shared.specs.turn.Reasons.{number_of}
+use Rattle.sb_shared.proofs.lives.Shelving.{raises_by}
 use Rattle.sb_cascade.proofs.cascade.Cascade.stop.Goals as goal
 
 pub stop-requires-clause-rule : goal.stop-requires-clause-rule

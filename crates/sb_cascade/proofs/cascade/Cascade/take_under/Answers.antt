@@ -1,15 +1,15 @@
 use Rattle.std.proofs.Common.{ℕ, false, [], ◌∷◌, ◌++◌, Some, sym, ap, ◌∙◌, refl, subst}
 use Rattle.sb_hand.specs.node.Changes.{Takes}
-use Rattle.sb_turn.specs.declared.turns.Entry.TheVariants as entry
+use Rattle.sb_shared.specs.turn.declared.turns.Entry.TheVariants as entry
 use Rattle.sb_hand.specs.work.declared.claim.Claim.{Claim}
-use Rattle.sb_cascade.specs.declared.telling.Change.TheVariants.{Take}
-use Rattle.sb_cascade.specs.Doings.{work_of}
-use Rattle.sb_cascade.specs.Found.{IsFound}
-use Rattle.sb_cascade.specs.SharedNodes.{ChangesOwn, SharedView, lines_of}
-use Rattle.sb_cascade.specs.Views.{as_list}
-use Rattle.sb_cascade.proofs.lives.Claims.{taken}
-use Rattle.sb_cascade.proofs.entered.FoundLanes.{lanes_few}
-use Rattle.sb_cascade.proofs.entered.Taken.{takes-told}
+use Rattle.sb_shared.specs.declared.telling.Change.TheVariants.{Take}
+use Rattle.sb_shared.specs.Doings.{work_of}
+use Rattle.sb_shared.specs.Found.{IsFound}
+use Rattle.sb_shared.specs.SharedNodes.{ChangesOwn, SharedView, lines_of}
+use Rattle.sb_shared.specs.Views.{as_list}
+use Rattle.sb_shared.proofs.lives.Claims.{taken}
+use Rattle.sb_shared.proofs.entered.FoundLanes.{lanes_few}
+use Rattle.sb_shared.proofs.entered.Taken.{takes-told}
 use Rattle.sb_cascade.proofs.cascade.Cascade.take_under.Goals as goal
 
 pub take-requires : goal.take-requires

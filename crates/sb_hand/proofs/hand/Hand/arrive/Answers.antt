@@ -1,10 +1,10 @@
 use Rattle.std.proofs.Common.{◌≡◌, ◌+◌, ◌<◌, ap, sym, subst, ◌∙◌}
 use Rattle.std.specs.Prelude.{IfOk, OnOk}
-use Rattle.sb_node.specs.lane.Placed.{conts_of}
-use Rattle.sb_node.specs.lane.Unfinished.{unfinished_of}
+use Rattle.sb_shown.specs.lane.Placed.{conts_of}
+use Rattle.sb_shown.specs.lane.Unfinished.{unfinished_of}
 use Rattle.sb_hand.specs.Feeding.{MayArrive, TakesStream}
 use Rattle.sb_hand.specs.Hands.{HandView}
-use Rattle.sb_hand.specs.Searching.{SearchesStay}
+use Rattle.sb_shown.specs.Searching.{SearchesStay}
 use Rattle.sb_hand.proofs.hand.Hand.arrive.Goals as goal
 
 pub arrive-requires-clause-may : goal.arrive-requires-clause-may

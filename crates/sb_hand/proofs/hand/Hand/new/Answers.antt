@@ -1,7 +1,7 @@
 use Rattle.std.proofs.Common.{◌+◌, List, [], length, refl, sym, subst}
-use Rattle.sb_node.specs.base.records.declared.item.Record.{Record}
-use Rattle.sb_tally.specs.core.Moments.{first}
-use Rattle.sb_hand.specs.Showing.{Stands}
+use Rattle.sb_shown.specs.base.records.declared.item.Record.{Record}
+use Rattle.sb_shown.specs.core.Moments.{first}
+use Rattle.sb_shown.specs.Showing.{Stands}
 use Rattle.sb_hand.proofs.NewLinks.{new-linked}
 use Rattle.sb_hand.proofs.NewHands.{new-shows, new-diaries, new-settings}
 use Rattle.sb_hand.proofs.hand.Hand.new.Goals as goal

@@ -1,7 +1,7 @@
 use Rattle.std.proofs.Common.{ap, sym, subst, ◌∙◌}
 use Rattle.sb_hand.specs.Feeding.{MaySeal}
 use Rattle.sb_hand.specs.Hands.{HandView}
-use Rattle.sb_hand.specs.Searching.{SearchesStay}
+use Rattle.sb_shown.specs.Searching.{SearchesStay}
 use Rattle.sb_hand.proofs.hand.Hand.seal.Goals as goal
 
 pub seal-requires-clause-may : goal.seal-requires-clause-may

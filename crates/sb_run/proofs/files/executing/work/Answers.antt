@@ -11,30 +11,18 @@ join_mut-requires-send-F g c κs within =
     search (param_send, arg_send, mut_send, Vec-send, Six-send, Files-send, Bound-lent, Heap-lent, Cascade-lent, Mut-lent, Pass-send, c.type_bounds.sync-W, c.type_bounds.sync-G) depth 20
 
 -- what the feeder left is what is there behind the join
-same-pass : (g : Over) (c : goal.After-dropped_b-1 g) → c.pass-1.given.0 ≡ c.join_mut.new.g.3.now
-same-pass g c = search rules
-
-same-inlets : (g : Over) (c : goal.After-dropped_b-1 g) → c.inlets-1.given.0 ≡ c.join_mut.new.g.6.now
-same-inlets g c = search rules
-
-same-out : (g : Over) (c : goal.After-dropped_b-1 g) → c.out-1.given.0 ≡ c.join_mut.new.g.7.now
+same-out : (g : Over) (c : goal.After-dropped-1 g) → c.out-1.given.0 ≡ c.join_mut.new.g.7.now
 same-out g c = search rules
 
-same-taps : (g : Over) (c : goal.After-dropped_b-1 g) → c.taps-1.given.0 ≡ c.join_mut.new.g.8.now
+same-taps : (g : Over) (c : goal.After-dropped-1 g) → c.taps-1.given.0 ≡ c.join_mut.new.g.8.now
 same-taps g c = search rules
 
-same-dropped_a : (g : Over) (c : goal.After-dropped_b-1 g) → c.dropped_a-1.given.0 ≡ c.join_mut.new.g.9.now
-same-dropped_a g c = search rules
-
-same-dropped_b : (g : Over) (c : goal.After-dropped_b-1 g) → c.dropped_b-1.given.0 ≡ c.join_mut.new.g.10.now
-same-dropped_b g c = search rules
+same-dropped : (g : Over) (c : goal.After-dropped-1 g) → c.dropped-1.given.0 ≡ c.join_mut.new.g.9.now
+same-dropped g c = search rules
 
 pub returns-clause-feeds : goal.returns-clause-feeds
 returns-clause-feeds g c =
-    rw (same-pass g c)
-    (rw (same-inlets g c)
-    (rw (same-out g c)
+    rw (same-out g c)
     (rw (same-taps g c)
-    (rw (same-dropped_a g c)
-    (rw (same-dropped_b g c)
-    c.join_mut.ensures.1.met.1.1.1.1.0)))))
+    (rw (same-dropped g c)
+    c.join_mut.ensures.1.met.1.1.1.1.0))

@@ -9,12 +9,12 @@ use Rattle.sb_run.proofs.input.feeding.feed_values.Given as goal
 abbrev pub invariant-loop : goal.invariant-loop
 invariant-loop g l =
     record {
-      fed : PoppedSoFar g.R.RowOut.after (plan_of l.cascade) (setting_of l.cascade).bundle (HasFed l.cascade l.pass)
+      fed : PoppedSoFar g.R.RowOut.after (plan_of l.common.cascade.now) (setting_of l.common.cascade.now).bundle (HasFed l.common.cascade.now l.pass)
           (record { out = l.fn.out; taps = map (λ t. (goal.Tap-dyn g (t.vtable, t.value)).tap_state t.value) l.fn.taps.items })
           (record { out = l.out; taps = map (λ t. (goal.Tap-dyn g (t.vtable, t.value)).tap_state t.value) l.taps.items })
           (values_received l.inward);
       ring : ring_in l.inward ≡ ring_in l.fn.inward;
-      same : IsStill l.cascade l.fn.pass l.pass;
+      same : IsStill l.common.cascade.now l.fn.pass l.pass;
       cause : GiveCause {T = Unit {0}} (g.R.RowOut.row_state l.fn.out) (g.R.RowOut.row_state l.out) (Ok tt);
       fewer : length l.taps.items ≤ length l.fn.taps.items;
     }

@@ -3,7 +3,7 @@ use Rattle.sb_run.proofs.shared.feeding.end_work.Goals as goal
 
 pub returns-in-Ok-clause-feeder : goal.returns-in-Ok-clause-feeder
 returns-in-Ok-clause-feeder g c f rows h =
-    let cascade = c.args.cascade.now in
+    let cascade = c.args.common.now.cascade.now in
     let p = c.settle.new.pass in
     let q = c.stop.new.pass in
     let stopped = c.stop.ensures in

@@ -1,9 +1,9 @@
 use Rattle.std.proofs.Common.{ap, sym, ◌∙◌, refl, subst}
 use Rattle.sb_feeds.specs.base.bundle.declared.bundle.Bundle.{Bundle}
 use Rattle.sb_feeds.specs.one_feed.Feeds.{MayArrive}
-use Rattle.sb_worker.specs.cascade.declared.telling.Hands.{Hands}
+use Rattle.sb_worker.specs.cascade.shared.declared.telling.Hands.{Hands}
 use Rattle.sb_worker.specs.cascade.Calls.{hands}
-use Rattle.sb_worker.specs.cascade.Views as view
+use Rattle.sb_worker.specs.cascade.shared.Views as view
 use Rattle.sb_run.specs.EngineLaws.{still_here, still_then}
 use Rattle.sb_run.proofs.FedMore.{fed-arrived, fed-still, may-bring}
 use Rattle.sb_run.proofs.shared.working.bring.Goals as goal

@@ -1,5 +1,0 @@
--- What the feeder has fed and drained.
-pub mod FedViews
-pub mod FeedOfChanges
-pub mod ToldFeeds
-pub mod Drained

@@ -1,5 +1,0 @@
-use Rattle.sb_cascade.proofs.lives.HeldOnce.{held_once}
-use Rattle.sb_cascade.proofs.laws.each_is_held_once.Goals as goal
-
-pub returns : goal.returns
-returns c = held_once

@@ -1,5 +1,0 @@
-use Rattle.sb_cascade.proofs.lives.OnlyLeavings.{only_leavings}
-use Rattle.sb_cascade.proofs.laws.only_leavings_change_what_is_shown.Goals as goal
-
-pub returns : goal.returns
-returns c = only_leavings

@@ -1,0 +1,42 @@
+use Rattle.std.proofs.Common.{rules, ◌+◌, max, arith, ap, ◌∙◌}
+use Rattle.sb_shown.specs.core.declared.moment.CoreLane.{CoreLane}
+use Rattle.sb_shown.specs.core.Lanes.{next_epoch, next_floor}
+use Rattle.sb_shown.specs.lane.LaneView.{lane_of}
+use Rattle.sb_shown.specs.lane.Placed.{conts_of}
+use Rattle.sb_shown.specs.node.declared.state.NodeState.{NodeState}
+use Rattle.sb_shared.proofs.diaries.Promises.{owed_of, owed-sealed}
+use Rattle.sb_shared.proofs.diaries.Rooms.{room-set, room-stays, room-reserved, shows-stays, room-is}
+use Rattle.sb_shared.proofs.shared_node.SharedNode.seal.Goals as goal
+
+pub overflow_add-self-inside : goal.overflow_add-self-inside
+overflow_add-self-inside c =
+    let has_room = room-is c.self.inside.promised c.deref_mut-own.result.now c.self.inside.own.value c.deref_mut-own.ensures.value c.self.invariant in
+    omega (arith, has_room.1, has_room.2)
+
+pub invariant_of-self-in_err-seal : goal.invariant_of-self-in_err-seal
+invariant_of-self-in_err-seal c =
+    let has_room = room-is c.self.inside.promised c.deref_mut-own.result.now c.self.inside.own.value c.deref_mut-own.ensures.value c.self.invariant in
+    let own = c.deref_mut-own.result.now in
+    let mid : NodeState = record own { diary = c.reserve.new.self } in
+    let room = room-reserved c.self.inside.promised own c.reserve.new.self _ c.in_ok-reserve.ensures.ok c.reserve.ensures.most has_room in
+    let at = c.requires.lane in
+    room-stays c.self.inside.promised c.args.lane at.0 mid c.seal.new.self (c.in_err-seal.ensures.same at.0 (search rules)) room.0
+
+pub returns-in_err-seal-clause-same : goal.returns-in_err-seal-clause-same
+returns-in_err-seal-clause-same c =
+    let own = c.deref_mut-own.result.now in
+    let mid : NodeState = record own { diary = c.reserve.new.self } in
+    let at = c.requires.lane in
+    let same = shows-stays c.args.self.now mid c.seal.new.self (max own.diary.spare (c.self.inside.promised + 1)) c.args.lane at.0 (search rules) (c.in_err-seal.ensures.same at.0 (search rules)) in
+    search rules
+
+pub invariant_of-self-2 : goal.invariant_of-self-2
+invariant_of-self-2 c =
+    let has_room = room-is c.self.inside.promised c.deref_mut-own.result.now c.self.inside.own.value c.deref_mut-own.ensures.value c.self.invariant in
+    let own = c.deref_mut-own.result.now in
+    let mid : NodeState = record own { diary = c.reserve.new.self } in
+    let room = room-reserved c.self.inside.promised own c.reserve.new.self _ c.in_ok-reserve.ensures.ok c.reserve.ensures.most has_room in
+    let at = c.requires.lane in
+    let turn = c.in_ok-seal.ensures.seals at.0 (search rules) in
+    let n = ap (λ (l : CoreLane). owed_of l.conts) turn.is ∙ owed-sealed (next_epoch (lane_of at.0)) (next_floor (lane_of at.0)) c.args.mark (conts_of at.0.containers) in
+    room-set c.self.inside.promised c.self.inside.promised c.args.lane at.0 turn.now _ mid c.seal.new.self turn.sets room.0 (omega (arith, n)) (omega (arith, room.1))
