@@ -43,9 +43,10 @@ pub fn answer_feeds<W: AllocGlobal + Threads + Wait + Clock + Sync, K: Sink, F: 
     requires range { AreInRange options }
     requires few { length taps.old.items < 2 ^ 32 }
     ensures answer { (left : Option (List ℕ)) → IsAnswer (F.files folder.old)
-        (Feeds name.now names.a.now names.b.now options) left left (K.taken out.old) (K.taken out.new) result }
+        (Feeds name.now names.entry.a.now names.entry.b.now options) left left
+        (K.taken out.old) (K.taken out.new) result }
     ensures offered { (left : Option (List ℕ)) → IsTrue options.taps → IsOffered (F.files folder.old)
-        (Feeds name.now names.a.now names.b.now options) left left (K.taken out.old) (K.taken out.new)
+        (Feeds name.now names.entry.a.now names.entry.b.now options) left left (K.taken out.old) (K.taken out.new)
         (map (λ t. tap_state t) taps.old.items) (map (λ t. tap_state t) taps.new.items) result.status }
     ensures unoffered { options.taps ≡ false → (taps.new ≡ taps.old) × IsNoTap result.status }
     ensures unread { IsUnread result.status → (out.new ≡ out.old) × (taps.new ≡ taps.old) }
@@ -54,7 +55,7 @@ pub fn answer_feeds<W: AllocGlobal + Threads + Wait + Clock + Sync, K: Sink, F: 
         (faults_of reads (K.sink_state out.old) (F.failed folder.old))
         (faults_of reads (K.sink_state out.new) (F.failed folder.new)) result.status }
     ensures blames { result.status ≡ Status.Folder → BlamesFile (F.files folder.old)
-        (Feeds name.now names.a.now names.b.now options) (F.failed folder.old) (F.failed folder.new) }
+        (Feeds name.now names.entry.a.now names.entry.b.now options) (F.failed folder.old) (F.failed folder.new) }
     ensures blames_tap { (place : ℕ) → result.status ≡ Status.Tap place → BlamesTap place
         (map (λ t. tap_state t) taps.old.items) (map (λ t. tap_state t) taps.new.items) }
     ensures no_fault_hidden { (reads : ℕ) → HidesNoFault
