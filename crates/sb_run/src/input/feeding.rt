@@ -179,10 +179,13 @@ fn feed_values<W: Wait + Clock, G: Gate, R: RowOut>(
                     Err(why) => return Err(why),
                 }
             }
-            None => match idle(common, pass, inward, signals, &mut patience, out, taps) {
-                Ok(()) => {}
-                Err(why) => return Err(why),
-            },
+            None => {
+                pace.waited();
+                match idle(common, pass, inward, signals, &mut patience, out, taps) {
+                    Ok(()) => {}
+                    Err(why) => return Err(why),
+                }
+            }
         }
     }
     unreachable!()

@@ -51,7 +51,8 @@ impl<'a, W: Wait + Clock, G: Gate> Engine for Feeder<'a, W, G> {
     }
 
     fn arrive(&mut self, stream: Stream, bundle: Bundle) -> Result<Vec<Record>, NoMemory> {
-        self.pace.came(self.cascade, bundle.records.items.len());
+        self.pace
+            .came(self.rt, self.cascade, bundle.records.items.len());
         match bring(
             self.rt,
             self.alloc,

@@ -18,7 +18,7 @@ use sb_worker::{First, OneStop, one_step, settle_node, work_off};
 use std::alloc::Global;
 use std::sync::Wait;
 use std::thread;
-use std::time::{Clock, Instant};
+use std::time::Clock;
 
 /// Takes the rows out that lie ready.
 pub(crate) fn take_out<W: Wait>(rt: &W, cascade: &Cascade, pass: &mut CascadePass) -> Vec<Record>
@@ -240,12 +240,10 @@ pub(crate) fn keep_up<W: Wait + Clock, G: Gate>(
     ensures feeder { OnOk result ((f : Fed) (rows : List ARecord) → HasFed cascade.now pass.old f rows
         → HasFed cascade.now pass.new f rows) }
 {
-    if !pace.is_own() {
-        return Ok(());
+    if pace.is_own() {
+        settle_alone(rt, alloc, cascade, pass, gate)?;
     }
-    let begun = Instant::now(rt);
-    settle_alone(rt, alloc, cascade, pass, gate)?;
-    pace.worked(rt, cascade, begun);
+    pace.end_epoch(rt, cascade);
     Ok(())
 }
 
