@@ -2,7 +2,7 @@
 
 ghost use Rattle.std.specs.Prelude.{◌≤◌, IfOk, IfSome, length};
 ghost use Rattle.sb_cut.specs.checkpoint.Saved.{items_in};
-ghost use Rattle.sb_run.specs.RunEnds.{AreSizes};
+ghost use Rattle.sb_run.specs.engines.RunEnds.{AreSizes};
 
 use sb_cut::sb_checkpoint::{RowsFrom, has_session, write_checkpoint};
 use sb_cut::{CutEnd, Saved, run_part, run_rest, save};

@@ -6,8 +6,8 @@ use Rattle.sb_answers.specs.outside.Folders.{Files}
 use Rattle.sb_answers.specs.outside.Sources.{Rose}
 use Rattle.sb_answers.specs.base.pipeline.Shapes.{Shape}
 use Rattle.sb_answers.specs.emit.Taps.{TapState}
-use Rattle.sb_answers.specs.run.declared.files.TheConstants.{MAX_FILE_LENGTH}
-use Rattle.sb_answers.specs.run.Files.{NoneRefused, accepted_of_file}
+use Rattle.sb_answers.specs.run.files.declared.limits.TheConstants.{MAX_FILE_LENGTH}
+use Rattle.sb_answers.specs.run.files.Files.{NoneRefused, accepted_of_file}
 use Rattle.sb_answers.specs.words.Words.Asked.{Feeds}
 use Rattle.sb_answers.specs.words.declared.options.Options.{Options}
 use Rattle.sb_answers.specs.declared.ending.Ending.{Ending}

@@ -22,11 +22,11 @@ use Rattle.sb_answers.specs.base.pipeline.Shapes.{Shape, streams_of}
 use Rattle.sb_answers.specs.emit.Taps.{TapState}
 use Rattle.sb_answers.specs.emit.TextLaws.{part_of_more}
 use Rattle.sb_answers.specs.one_feed.Due.{AreFirstDropped, AreFirstRows, due_rows}
-use Rattle.sb_answers.specs.run.declared.files.two_end.TwoEnd.{TwoEnd}
-use Rattle.sb_answers.specs.run.declared.files.two_end.TwoEnd.TheVariants as two
-use Rattle.sb_answers.specs.run.Files.{items_of_file, items_of_files, stream_alone}
+use Rattle.sb_answers.specs.run.files.declared.two_end.TwoEnd.{TwoEnd}
+use Rattle.sb_answers.specs.run.files.declared.two_end.TwoEnd.TheVariants as two
+use Rattle.sb_answers.specs.run.files.Files.{items_of_file, items_of_files, stream_alone}
 use Rattle.sb_answers.specs.base.Inputs.{by_stream}
-use Rattle.sb_answers.specs.run.TwoEnds.{FilesEndAt, FilesEndEarly, TwoEnds, as_run}
+use Rattle.sb_answers.specs.run.files.TwoEnds.{FilesEndAt, FilesEndEarly, TwoEnds, as_run}
 use Rattle.sb_answers.specs.words.declared.options.Options.{Options}
 use Rattle.sb_answers.specs.told.declared.late.LateRecords.TheVariants.{OfFiles}
 use Rattle.sb_answers.specs.told.declared.status.Status.TheVariants.{Tap}

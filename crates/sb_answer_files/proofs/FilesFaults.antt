@@ -5,10 +5,10 @@ use Rattle.sb_answers.specs.outside.Folders.{Load}
 use Rattle.sb_answers.specs.outside.Sinks.{SinkCause, SinkState}
 use Rattle.sb_answers.specs.outside.declared.sink.SinkFault.{SinkFault}
 use Rattle.sb_answers.specs.outside.declared.sink.SinkFault.TheVariants as fault
-use Rattle.sb_answers.specs.run.declared.files.two_end.TwoEnd.{TwoEnd}
-use Rattle.sb_answers.specs.run.declared.files.two_end.TwoEnd.TheVariants as two
-use Rattle.sb_answers.specs.run.RunEnds.{IsWritten, OutputCause}
-use Rattle.sb_answers.specs.run.TwoEnds.{as_run}
+use Rattle.sb_answers.specs.run.files.declared.two_end.TwoEnd.{TwoEnd}
+use Rattle.sb_answers.specs.run.files.declared.two_end.TwoEnd.TheVariants as two
+use Rattle.sb_answers.specs.run.engines.RunEnds.{IsWritten, OutputCause}
+use Rattle.sb_answers.specs.run.files.TwoEnds.{as_run}
 use Rattle.sb_answers.specs.Faults.{HasCause, HidesNoFault, faults_of}
 use Rattle.sb_answers.specs.FileSteps.{status_after_two}
 use Rattle.sb_answers.proofs.RunFaults.{rose_before, rose_later, same_faults, writes_same}

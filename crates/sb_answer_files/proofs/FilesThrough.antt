@@ -7,10 +7,10 @@ use Rattle.sb_answers.specs.base.records.declared.item.Stream.{Stream}
 use Rattle.sb_answers.specs.base.pipeline.Shapes.{Shape}
 use Rattle.sb_answers.specs.emit.LentLaws.{After, Part}
 use Rattle.sb_answers.specs.emit.Taps.{TapState}
-use Rattle.sb_answers.specs.run.declared.files.two_end.TwoEnd.{TwoEnd}
-use Rattle.sb_answers.specs.run.declared.files.two_end.TwoEnd.TheVariants.{Done, Refused, Output, Tap, Memory}
-use Rattle.sb_answers.specs.run.declared.sizes.Sizes.{Sizes}
-use Rattle.sb_answers.specs.run.TwoEnds.{FilesEndAt, FilesEndEarly, TwoEnds}
+use Rattle.sb_answers.specs.run.files.declared.two_end.TwoEnd.{TwoEnd}
+use Rattle.sb_answers.specs.run.files.declared.two_end.TwoEnd.TheVariants.{Done, Refused, Output, Tap, Memory}
+use Rattle.sb_answers.specs.run.engines.declared.sizes.Sizes.{Sizes}
+use Rattle.sb_answers.specs.run.files.TwoEnds.{FilesEndAt, FilesEndEarly, TwoEnds}
 use Rattle.sb_answers.specs.Answers.{Wrote, WrotePrefix}
 
 -- what is said of an output by two relations is said by two others that follow from them

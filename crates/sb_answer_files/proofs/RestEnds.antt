@@ -11,9 +11,9 @@ use Rattle.sb_answers.specs.base.pipeline.Shapes.{Shape}
 use Rattle.sb_answers.specs.checkpoint.Ahead.{AllReadOrNoneOfTheSource}
 use Rattle.sb_answers.specs.checkpoint.Checkpoints.{with_comments}
 use Rattle.sb_answers.specs.checkpoint.Texts.{items_text}
-use Rattle.sb_answers.specs.run.declared.run_end.RunEnd.{RunEnd}
-use Rattle.sb_answers.specs.run.declared.run_end.RunEnd.TheVariants as run
-use Rattle.sb_answers.specs.run.RunEnds.{Ends}
+use Rattle.sb_answers.specs.run.engines.declared.run_end.RunEnd.{RunEnd}
+use Rattle.sb_answers.specs.run.engines.declared.run_end.RunEnd.TheVariants as run
+use Rattle.sb_answers.specs.run.engines.RunEnds.{Ends}
 use Rattle.sb_answers.specs.words.declared.options.Options.{Options}
 use Rattle.sb_answers.specs.told.declared.status.Status.{Status}
 use Rattle.sb_answers.specs.told.declared.status.Status.TheVariants.{Done, Words, Plan, Line, Input, Output, Folder, Memory, Tap, Audit, FileTooLong, FileLine, Checkpoint}

@@ -6,7 +6,7 @@ ghost use Rattle.sb_answers.specs.outside.Folders.{Load};
 ghost use Rattle.sb_answers.specs.outside.Sinks.{SinkCause, WritesAll};
 ghost use Rattle.sb_answers.specs.outside.Sources.{Rose};
 ghost use Rattle.sb_answers.specs.checkpoint.Reach.{HasNoSession};
-ghost use Rattle.sb_answers.specs.run.RunEnds as ends;
+ghost use Rattle.sb_answers.specs.run.engines.RunEnds as ends;
 ghost use Rattle.sb_answers.specs.cut.CutEnds as cuts;
 ghost use Rattle.sb_answers.specs.words.Options.{AreInRange, defaults};
 ghost use Rattle.sb_answers.specs.words.Words.Asked.{Part, Save};

@@ -8,7 +8,7 @@ ghost use Rattle.sb_answers.specs.checkpoint.Ahead.{AllReadOrNoneOfTheSource};
 ghost use Rattle.sb_answers.specs.checkpoint.Checkpoints.{with_comments};
 ghost use Rattle.sb_answers.specs.checkpoint.Saved.{items_in};
 ghost use Rattle.sb_answers.specs.checkpoint.Texts.{items_text};
-ghost use Rattle.sb_answers.specs.run.RunEnds as ends;
+ghost use Rattle.sb_answers.specs.run.engines.RunEnds as ends;
 ghost use Rattle.sb_answers.specs.words.Options.{AreInRange};
 ghost use Rattle.sb_answers.specs.words.Words.Asked.{Resume};
 ghost use Rattle.sb_answers.specs.Answers.{IsAnswer, IsRestAnswer, Wrote, WrotePrefix};

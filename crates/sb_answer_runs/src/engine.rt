@@ -2,7 +2,7 @@
 
 ghost use Rattle.std.specs.Prelude.{◌≡◌, ◌<◌, ◌^◌, ◌⊎◌, false, IsTrue, List, ℕ, length, map};
 ghost use Rattle.sb_answers.specs.outside.Folders.{Load};
-ghost use Rattle.sb_answers.specs.run.RunEnds as ends;
+ghost use Rattle.sb_answers.specs.run.engines.RunEnds as ends;
 ghost use Rattle.sb_answers.specs.words.Options.{AreInRange};
 ghost use Rattle.sb_answers.specs.Answers.{IsAnswerOf, Wrote, WroteAllDue, WrotePrefix};
 ghost use Rattle.sb_answers.specs.told.Outcomes.{IsNoTap, IsRead};

@@ -3,7 +3,7 @@
 ghost use Rattle.std.specs.Prelude.{◌≡◌, IfOk};
 ghost use Rattle.sb_answers.specs.live.Changes.{rows_in};
 ghost use Rattle.sb_answers.specs.live.Lasts as spec;
-ghost use Rattle.sb_answers.specs.run.RunEnds.{AreSizes};
+ghost use Rattle.sb_answers.specs.run.engines.RunEnds.{AreSizes};
 ghost use Rattle.sb_answer_runs.specs.Watches.{WatchCause, Watches};
 
 use sb_answers::sb_base::{Dropped, Key, NoMemory, Plan, Record, Stop};

@@ -6,7 +6,7 @@
 ghost use Rattle.std.specs.Prelude.{◌≡◌, ℕ, List, IfOk};
 ghost use Rattle.sb_answers.specs.outside.Folders.{Load};
 ghost use Rattle.sb_answers.specs.base.pipeline.Shapes.{sum_shape};
-ghost use Rattle.sb_answers.specs.run.RunEnds as ends;
+ghost use Rattle.sb_answers.specs.run.engines.RunEnds as ends;
 ghost use Rattle.sb_answers.specs.words.Options.{AreInRange};
 ghost use Rattle.sb_answers.specs.words.Words.{IsAmount};
 ghost use Rattle.sb_answers.specs.told.Outcomes.{IsNoTap, IsRead};

@@ -10,9 +10,9 @@ use Rattle.sb_cut.specs.base.pipeline.Shapes.{Shape}
 use Rattle.sb_cut.specs.base.pipeline.declared.transform.Step.{Step}
 use Rattle.sb_cut.specs.hand.Hands.{HandView}
 use Rattle.sb_cut.specs.hand.Showing.{Settings, diaries_of, settings_at, settings_for}
-use Rattle.sb_cut.specs.run.declared.run_end.RunEnd.{RunEnd}
-use Rattle.sb_cut.specs.run.declared.run_end.RunEnd.TheVariants as run
-use Rattle.sb_cut.specs.run.RunEnds.{IsDoneHand}
+use Rattle.sb_cut.specs.run.engines.declared.run_end.RunEnd.{RunEnd}
+use Rattle.sb_cut.specs.run.engines.declared.run_end.RunEnd.TheVariants as run
+use Rattle.sb_cut.specs.run.engines.RunEnds.{IsDoneHand}
 use Rattle.sb_words.specs.declared.options.Options.{Options}
 use Rattle.sb_answers.specs.RunSteps.{CanTellAt, kept_at, sizes_from}
 use Rattle.sb_answers.specs.Telling.{diaries_of_hand}

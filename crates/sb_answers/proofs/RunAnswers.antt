@@ -24,9 +24,9 @@ use Rattle.sb_cut.specs.emit.TextLaws.{part_of_more}
 use Rattle.sb_cut.specs.one_feed.Due.{AreFirstDropped, AreFirstRows, due_rows, rows_below, streams_in}
 use Rattle.sb_cut.specs.one_feed.Given.{Given, items_of, stop_at}
 use Rattle.sb_cut.specs.one_feed.TapLists.{LeavesThoseThatStay}
-use Rattle.sb_cut.specs.run.declared.run_end.RunEnd.{RunEnd}
-use Rattle.sb_cut.specs.run.declared.run_end.RunEnd.TheVariants as run
-use Rattle.sb_cut.specs.run.RunEnds.{Ends, EndsAt, EndsEarly, InputCause}
+use Rattle.sb_cut.specs.run.engines.declared.run_end.RunEnd.{RunEnd}
+use Rattle.sb_cut.specs.run.engines.declared.run_end.RunEnd.TheVariants as run
+use Rattle.sb_cut.specs.run.engines.RunEnds.{Ends, EndsAt, EndsEarly, InputCause}
 use Rattle.sb_words.specs.declared.options.Options.{Options}
 use Rattle.sb_told.specs.declared.status.Status.{Status}
 use Rattle.sb_told.specs.declared.status.Status.TheVariants.{Done, Words, Plan, Line, Input, Output, Folder, Memory, Tap, Audit, FileTooLong, FileLine, Checkpoint}

@@ -6,9 +6,9 @@ use Rattle.sb_cut.specs.outside.Sinks.{SinkCause, SinkState}
 use Rattle.sb_cut.specs.outside.Sources.{Rose}
 use Rattle.sb_cut.specs.outside.declared.sink.SinkFault.{SinkFault}
 use Rattle.sb_cut.specs.outside.declared.sink.SinkFault.TheVariants as fault
-use Rattle.sb_cut.specs.run.declared.run_end.RunEnd.{RunEnd}
-use Rattle.sb_cut.specs.run.declared.run_end.RunEnd.TheVariants as run
-use Rattle.sb_cut.specs.run.RunEnds.{InputCause, IsDone, IsWritten, OutputCause, SharedInputCause}
+use Rattle.sb_cut.specs.run.engines.declared.run_end.RunEnd.{RunEnd}
+use Rattle.sb_cut.specs.run.engines.declared.run_end.RunEnd.TheVariants as run
+use Rattle.sb_cut.specs.run.engines.RunEnds.{InputCause, IsDone, IsWritten, OutputCause, SharedInputCause}
 use Rattle.sb_answers.specs.Faults.{HasCause, HidesNoFault, faults_of}
 use Rattle.sb_told.specs.declared.status.Status.TheVariants.{Done, Tap}
 use Rattle.sb_answers.specs.RunSteps.{status_after}

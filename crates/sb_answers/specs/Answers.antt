@@ -21,7 +21,7 @@ use Rattle.sb_cut.specs.one_feed.Due.{AreFirstDropped, due_rows}
 use Rattle.sb_cut.specs.one_feed.Given.{Given, lines_of}
 use Rattle.sb_cut.specs.outside.Folders.{Files}
 use Rattle.sb_words.specs.Words.{Asked, Asked as ask}
-use Rattle.sb_cut.specs.run.Files.{IsFirstRefused, NoneRefused, items_of_file, items_of_files}
+use Rattle.sb_cut.specs.run.files.Files.{IsFirstRefused, NoneRefused, items_of_file, items_of_files}
 use Rattle.sb_words.specs.Words.Asked.{Sum, Run, Slow, Work, Watch, Feeds, Part, Save, Resume}
 use Rattle.sb_words.specs.declared.options.Options.{Options}
 use Rattle.sb_told.specs.DiaryReads.{IsRefusedAmong}

@@ -24,7 +24,7 @@ use Rattle.sb_answers.specs.Pipelines.{HasCutPlan, HasPlan}
 use Rattle.sb_answers.specs.RecordFiles.{IsLoadOfFile}
 use Rattle.sb_cut.specs.one_feed.Given.{Given, lines_of, stop_at}
 use Rattle.sb_cut.specs.base.records.declared.item.Stream.{Stream}
-use Rattle.sb_cut.specs.run.Files.{NoneRefused}
+use Rattle.sb_cut.specs.run.files.Files.{NoneRefused}
 use Rattle.sb_words.specs.Words.{Asked, Asked as ask}
 use Rattle.sb_words.specs.Words.Asked.{Sum, Run, Slow, Work, Watch, Feeds, Part, Save, Resume}
 

@@ -14,7 +14,7 @@ use Rattle.sb_cut.specs.emit.Taps.{TapState}
 use Rattle.sb_cut.specs.one_feed.Due.{AreFirstRows, due_rows}
 use Rattle.sb_cut.specs.one_feed.Given.{Given, items_of, stop_at}
 use Rattle.sb_cut.specs.one_feed.TapLists.{LeavesThoseThatStay, SawRows, StopsIn}
-use Rattle.sb_cut.specs.run.Files.{IsFirstRefused, NoneRefused, items_of_files}
+use Rattle.sb_cut.specs.run.files.Files.{IsFirstRefused, NoneRefused, items_of_files}
 use Rattle.sb_words.specs.Words.{Asked, Asked as ask}
 use Rattle.sb_words.specs.Words.Asked.{Sum, Run, Slow, Work, Watch, Feeds, Part, Save, Resume}
 use Rattle.sb_told.specs.declared.status.Status.{Status}

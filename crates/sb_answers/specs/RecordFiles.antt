@@ -3,7 +3,7 @@ use Rattle.std.specs.Prelude.{◌≡◌, ◌≤◌, ◌<◌, ◌⊎◌, ℕ, ◌
 use Rattle.sb_cut.specs.base.records.declared.item.Stream.{Stream}
 use Rattle.sb_cut.specs.base.records.declared.item.Stream.TheVariants.{A, B}
 use Rattle.sb_cut.specs.outside.Folders.{Files, Load}
-use Rattle.sb_cut.specs.run.declared.files.TheConstants.{MAX_FILE_LENGTH}
+use Rattle.sb_cut.specs.run.files.declared.limits.TheConstants.{MAX_FILE_LENGTH}
 
 -- the load of a record file: one byte more than it may have shows that it is too long
 abbrev pub record_load : List ℕ → Load

@@ -3,7 +3,7 @@
 ghost use Rattle.std.specs.Prelude.{◌≡◌, false, OnOk};
 ghost use Rattle.std.specs.Io.KnownBytes.{Keeps};
 ghost use Rattle.sb_cut.specs.outside.Sinks.{SinkCause};
-ghost use Rattle.sb_cut.specs.run.RunEnds as ends;
+ghost use Rattle.sb_cut.specs.run.engines.RunEnds as ends;
 ghost use Rattle.sb_answers.specs.RunSteps.{sizes_from, status_after, status_at};
 
 use sb_cut::sb_run::sb_outside::{Sink, SinkFault};

@@ -10,9 +10,9 @@ use Rattle.sb_run.specs.base.pipeline.Shapes.{Shape}
 use Rattle.sb_run.specs.one_feed.Due.{AreFirstDropped, AreFirstRows, rows_below}
 use Rattle.sb_run.specs.one_feed.Given.{Given}
 use Rattle.sb_checkpoint.specs.Checkpoints.{low_of}
-use Rattle.sb_run.specs.declared.run_end.RunEnd.{RunEnd}
-use Rattle.sb_run.specs.declared.run_end.RunEnd.TheVariants as run
-use Rattle.sb_run.specs.RunEnds.{MayHaveFailed}
+use Rattle.sb_run.specs.engines.declared.run_end.RunEnd.{RunEnd}
+use Rattle.sb_run.specs.engines.declared.run_end.RunEnd.TheVariants as run
+use Rattle.sb_run.specs.engines.RunEnds.{MayHaveFailed}
 use Rattle.sb_cut.specs.declared.cut_end.CutEnd.{CutEnd}
 use Rattle.sb_cut.specs.declared.cut_end.CutEnd.TheVariants.{Done, Refused, Input, Output, Memory}
 use Rattle.sb_cut.specs.Parts.{part_accepted, part_items}

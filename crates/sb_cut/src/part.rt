@@ -1,7 +1,7 @@
 //! Running a plan over a first part of an input.
 
 ghost use Rattle.std.specs.Prelude.{◌≡◌};
-ghost use Rattle.sb_run.specs.RunEnds.{AreSizes};
+ghost use Rattle.sb_run.specs.engines.RunEnds.{AreSizes};
 ghost use Rattle.sb_cut.specs.CutEnds.{CutCause, CutOutputCause, PartEnds};
 
 use crate::cut_end::CutEnd;

@@ -7,7 +7,7 @@ ghost use Rattle.sb_checkpoint.specs.Checkpoints.{with_comments};
 ghost use Rattle.sb_checkpoint.specs.LaterRows.{Hands};
 ghost use Rattle.sb_checkpoint.specs.Saved.{items_in};
 ghost use Rattle.sb_checkpoint.specs.Texts.{items_text};
-ghost use Rattle.sb_run.specs.RunEnds.{AreSizes, Ends, IsDone, OutputCause, SharedInputCause};
+ghost use Rattle.sb_run.specs.engines.RunEnds.{AreSizes, Ends, IsDone, OutputCause, SharedInputCause};
 
 use sb_checkpoint::{Checkpoint, Resumed, RowsFrom};
 use sb_run::sb_base::{Dropped, Plan};

@@ -1,17 +1,14 @@
 //! A run by as many workers as its sizes say.
 
 ghost use Rattle.std.specs.Prelude.{◌≡◌, ◌<◌, ◌^◌, map, length};
-ghost use Rattle.sb_run.specs.RunEnds.{AreSizes, Ends, InputCause, IsDone, OutputCause, SharedInputCause};
+ghost use Rattle.sb_files.specs.engines.RunEnds.{AreSizes, Ends, InputCause, IsDone, OutputCause, SharedInputCause};
 
-use crate::alone::execute_alone;
-use crate::run_end::RunEnd;
-use crate::sizes::Sizes;
-use crate::team::Team;
 use crate::together::execute;
-use sb_feeds::sb_base::{Dropped, Plan};
-use sb_feeds::sb_emit::{RowOut, Tap};
-use sb_feeds::sb_outside::Source;
-use sb_worker::sb_work::OpenGate;
+use sb_files::sb_engines::{RunEnd, Sizes, Team, execute_alone};
+use sb_files::sb_feeds::sb_base::{Dropped, Plan};
+use sb_files::sb_feeds::sb_emit::{RowOut, Tap};
+use sb_files::sb_feeds::sb_outside::Source;
+use sb_files::sb_worker::sb_work::OpenGate;
 use std::sync::Wait;
 use std::thread::Threads;
 use std::time::Clock;

@@ -1,58 +1,20 @@
 //! A run by several workers.
 
-ghost use Rattle.std.specs.Prelude.{◌≡◌, ◌<◌, ◌^◌, map, length, IfOk};
-ghost use Rattle.sb_run.specs.Feeders.{IsBegun};
-ghost use Rattle.sb_run.specs.RunEnds.{AreSizes, Ends, IsDone, OutputCause, SharedInputCause};
+ghost use Rattle.std.specs.Prelude.{◌≡◌, ◌<◌, ◌^◌, map, length};
+ghost use Rattle.sb_files.specs.engines.RunEnds.{AreSizes, Ends, IsDone, OutputCause, SharedInputCause};
 
-use crate::ending::{early_end, end_of};
-use crate::input::ahead::Ahead;
-use crate::input::printing::work_and_print;
-use crate::run_end::RunEnd;
-use crate::shared::common::{Common, Passes};
-use crate::shared::handing::{come_back, split_all};
-use crate::sizes::Sizes;
-use crate::team::Team;
-use sb_feeds::sb_base::{Dropped, NoMemory, Plan};
-use sb_feeds::sb_emit::{RowOut, Tap};
-use sb_feeds::sb_outside::Source;
-use sb_worker::sb_cascade::Cascade;
-use sb_worker::sb_hand::Hand;
-use sb_worker::sb_work::Gate;
-use std::alloc::Global;
+use crate::ahead::Ahead;
+use crate::printing::work_and_print;
+use sb_files::sb_engines::{
+    Begun, Common, RunEnd, Sizes, Team, begin, come_back, early_end, end_of,
+};
+use sb_files::sb_feeds::sb_base::{Dropped, NoMemory, Plan};
+use sb_files::sb_feeds::sb_emit::{RowOut, Tap};
+use sb_files::sb_feeds::sb_outside::Source;
+use sb_files::sb_worker::sb_work::Gate;
 use std::sync::Wait;
 use std::thread::Threads;
 use std::time::Clock;
-
-/// A cascade, and the passes of its workers.
-#[derive(Drop)]
-pub(crate) struct Begun {
-    pub(crate) cascade: Cascade,
-    pub(crate) passes: Passes,
-}
-
-/// A cascade of the plan, for so many workers.
-///
-/// # Errors
-///
-/// [`NoMemory`].
-pub(crate) fn begin(alloc: Global, plan: Plan, sizes: Sizes) -> Result<Begun, NoMemory>
-    requires sizes { AreSizes sizes }
-    ensures { IfOk result (λ b. IsBegun plan sizes b.cascade b.passes.feeder b.passes.helpers.items) }
-{
-    // For the proof: a plan keeps its rules.
-    let _ = plan.transforms();
-    let hand = Hand::new(
-        alloc,
-        plan,
-        sizes.bundle,
-        sizes.pending,
-        sizes.keeps_diaries,
-    )?;
-    let (cascade, mut feeder) = Cascade::share(alloc, hand)?;
-    let helpers = split_all(alloc, &cascade, &mut feeder, sizes.workers - 1)?;
-    let passes = Passes { feeder, helpers };
-    Ok(Begun { cascade, passes })
-}
 
 /// Runs a plan over an input with `sizes.workers` workers, one of which feeds, while the others help, each in a thread of
 /// its own if one can be made. The input is read in another thread, and what comes out is written and offered by the

@@ -7,7 +7,7 @@ ghost use Rattle.std.specs.Prelude.{◌≡◌, ◌≤◌, [], None, Some, false,
 ghost use Rattle.sb_cli.specs.generator.declared.pattern.TheConstants.{MAX_RECORDS};
 ghost use Rattle.sb_cli.specs.live.Lasts.{last_row};
 ghost use Rattle.sb_cli.specs.live.Rising.{IsNoEarlier};
-ghost use Rattle.sb_cli.specs.run.RunEnds.{AreSizes};
+ghost use Rattle.sb_cli.specs.run.engines.RunEnds.{AreSizes};
 ghost use Rattle.sb_cli.specs.base.window.declared.windows.TheConstants.{MAX_SIZE};
 ghost use Rattle.uses.specs.LiveTable.{TellsLast, made_sums};
 

@@ -1,5 +1,5 @@
 use Rattle.std.proofs.Common.{◌≡◌, sym, subst}
-use Rattle.sb_answers.specs.run.RunEnds.{OutputCause}
+use Rattle.sb_answers.specs.run.engines.RunEnds.{OutputCause}
 use Rattle.sb_answers.proofs.run.Through.{ends_through, in_ends}
 use Rattle.sb_answers.specs.Answers.{Wrote, WrotePrefix}
 use Rattle.sb_answer_runs.proofs.engine.run_to.Goals as goal

@@ -1,0 +1,12 @@
+use Rattle.std.proofs.Common.{◌≡◌, List}
+use Rattle.sb_feeds.specs.base.records.declared.item.Record.{Record}
+use Rattle.sb_feeds.specs.one_feed.Feeds.{Fed}
+use Rattle.sb_engines.specs.Feeders.{HasFed, IsStill}
+use Rattle.sb_engines.proofs.shared.working.bring.Given as goal
+
+abbrev pub invariant-loop : goal.invariant-loop
+invariant-loop g l = record {
+  feeder : (f : Fed) (rows : List Record) → HasFed l.cascade l.fn.pass f rows → HasFed l.cascade l.pass f rows;
+  same : IsStill l.cascade l.fn.pass l.pass;
+  bundle : l.waiting ≡ l.fn.bundle;
+}

@@ -1,7 +1,0 @@
-use Rattle.sb_worker.specs.cascade.Calls.{plan_of}
-use Rattle.sb_feeds.specs.InputEnds.{values_sent}
-use Rattle.sb_run.proofs.Tied.{unread}
-use Rattle.sb_run.proofs.input.reading.read_and_help.Goals as goal
-
-pub returns-then-not-begin-clause-read : goal.returns-then-not-begin-clause-read
-returns-then-not-begin-clause-read g c = unread (plan_of c.args.common.now.cascade.now) c.args.common.now.size (g.S.Source.left c.args.input.now) (g.S.Source.faults c.args.input.now) (values_sent c.args.outward.now) c.args.dropped.now.items c.requires.new
