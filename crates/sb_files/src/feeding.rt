@@ -59,11 +59,8 @@ fn take_of<W: Wait + Clock, G: Gate, R: RowOut>(
     ensures cause { GiveCause (R.row_state out.old) (R.row_state out.new) result }
 {
     let mut engine = Feeder {
-        rt: common.rt,
-        alloc: common.alloc,
-        cascade: common.cascade,
+        common,
         pass,
-        gate: common.gate,
         pace: Pace::leaving(),
     };
     let (stream, item) = next;
@@ -100,11 +97,8 @@ fn end_both<W: Wait + Clock, G: Gate, R: RowOut>(
 {
     let at = as_stop(stop);
     let mut engine = Feeder {
-        rt: common.rt,
-        alloc: common.alloc,
-        cascade: common.cascade,
+        common,
         pass,
-        gate: common.gate,
         pace: Pace::leaving(),
     };
     match end_input(&mut engine, cutters, at, out, taps) {
@@ -148,13 +142,7 @@ fn feed_values<W: Wait + Clock, G: Gate, R: RowOut>(
                 Some(stop) => {
                     return end_both(common, pass, &mut cutters, stop, out, taps);
                 }
-                None => match step_or_yield(
-                    common.rt,
-                    common.alloc,
-                    common.cascade,
-                    pass,
-                    common.gate,
-                ) {
+                None => match step_or_yield(common, pass) {
                     Ok(()) => {}
                     Err(NoMemory) => return Err(GiveStop::Memory),
                 },

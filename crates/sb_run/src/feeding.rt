@@ -46,11 +46,8 @@ fn take<W: Wait + Clock, G: Gate, R: RowOut>(
     ensures cause { GiveCause (R.row_state out.old) (R.row_state out.new) result }
 {
     let mut engine = Feeder {
-        rt: common.rt,
-        alloc: common.alloc,
-        cascade: common.cascade,
+        common,
         pass,
-        gate: common.gate,
         pace: *pace,
     };
     let taken = take_value(&mut engine, next, out, taps);
@@ -75,7 +72,7 @@ fn give_ready<W: Wait, G: Gate, R: RowOut>(
     ensures fewer { OnOk result (length taps.new.items ≤ length taps.old.items) }
     ensures cause { GiveCause (R.row_state out.old) (R.row_state out.new) result }
 {
-    let rows = take_out(common.rt, common.cascade, pass);
+    let rows = take_out(common, pass);
     give_out(&rows, out, taps)
 }
 
@@ -115,7 +112,7 @@ fn idle<W: Wait + Clock, G: Gate, R: RowOut>(
     ensures fewer { OnOk result (length taps.new.items ≤ length taps.old.items) }
     ensures cause { GiveCause (R.row_state out.old) (R.row_state out.new) result }
 {
-    match step_too(common.rt, common.alloc, common.cascade, pass, common.gate) {
+    match step_too(common, pass) {
         Ok(Did::Bundle | Did::Closing) => {
             patience.renew();
             Ok(())

@@ -6,24 +6,22 @@ ghost use Rattle.sb_feeds.specs.one_feed.Feeds.{Fed, MayArrive, MaySeal, with_bu
 ghost use Rattle.sb_worker.specs.cascade.Calls.{plan_of, setting_of};
 ghost use Rattle.sb_engines.specs.Feeders.{HasFed, IsStill};
 
+use crate::shared::common::Common;
 use crate::shared::pace::Pace;
 use crate::shared::working::{bring, keep_up, take_out};
 use sb_feeds::sb_base::{Bundle, END_MARK, NoMemory, Plan, Record, Stream};
 use sb_feeds::sb_feed::Engine;
-use sb_worker::sb_cascade::{Cascade, CascadePass};
+use sb_worker::sb_cascade::CascadePass;
 use sb_worker::sb_work::Gate;
-use std::alloc::Global;
 use std::sync::Wait;
 use std::time::Clock;
 
 /// The engine of several workers, as its feeder has it.
 #[derive(Drop)]
 pub struct Feeder<'a, W, G> {
-    pub rt: &'a W,
-    pub alloc: Global,
-    pub cascade: &'a Cascade,
+    pub common: &'a Common<'a, W, G>,
     pub pass: &'a mut CascadePass,
-    pub gate: &'a G,
+    /// Who works off little epochs.
     pub pace: Pace,
 }
 
@@ -37,61 +35,48 @@ impl<'a, W: Wait + Clock, G: Gate> Engine for Feeder<'a, W, G> {
     ghost use Rattle.sb_engines.specs.Feeders.{HasFed, IsStill};
     ghost use Rattle.sb_engines.specs.EngineLaws.{bundle_of_same, plan_of_same, still_here, still_of_same};
 
-    ghost stands = { λ e f rows. HasFed e.cascade.now e.pass.now f rows };
+    ghost stands = { λ e f rows. HasFed e.common.now.cascade.now e.pass.now f rows };
 
-    ghost same = { λ a b. (b.cascade.now ≡ a.cascade.now) × (b.pass.ghost_name ≡ a.pass.ghost_name)
-        × IsStill a.cascade.now a.pass.now b.pass.now };
+    ghost same = { λ a b. (b.common.now.cascade.now ≡ a.common.now.cascade.now) × (b.pass.ghost_name ≡ a.pass.ghost_name)
+        × IsStill a.common.now.cascade.now a.pass.now b.pass.now };
 
-    ghost plan = { λ e. plan_of e.cascade.now };
+    ghost plan = { λ e. plan_of e.common.now.cascade.now };
 
-    ghost size = { λ e. (setting_of e.cascade.now).bundle };
+    ghost size = { λ e. (setting_of e.common.now.cascade.now).bundle };
 
     fn plan(&self) -> &Plan {
-        self.cascade.plan()
+        self.common.cascade.plan()
     }
 
     fn arrive(&mut self, stream: Stream, bundle: Bundle) -> Result<Vec<Record>, NoMemory> {
+        let common = self.common;
         self.pace
-            .came(self.rt, self.cascade, bundle.records.items.len());
-        match bring(
-            self.rt,
-            self.alloc,
-            self.cascade,
-            self.pass,
-            self.gate,
-            stream,
-            bundle,
-        ) {
-            Ok(true) => Ok(take_out(self.rt, self.cascade, self.pass)),
-            Ok(false) => Ok(Vec::new(self.alloc)),
+            .came(common.rt, common.cascade, bundle.records.items.len());
+        match bring(common, self.pass, stream, bundle) {
+            Ok(true) => Ok(take_out(common, self.pass)),
+            Ok(false) => Ok(Vec::new(common.alloc)),
             Err(NoMemory) => Err(NoMemory),
         }
     }
 
     fn seal(&mut self, stream: Stream, mark: u64) -> Result<Vec<Record>, NoMemory> {
-        self.cascade.seal(self.rt, self.pass, stream, mark)?;
-        keep_up(
-            self.rt,
-            self.alloc,
-            self.cascade,
-            self.pass,
-            self.gate,
-            &mut self.pace,
-        )?;
-        Ok(take_out(self.rt, self.cascade, self.pass))
+        let common = self.common;
+        common.cascade.seal(common.rt, self.pass, stream, mark)?;
+        keep_up(common, self.pass, &mut self.pace)?;
+        Ok(take_out(common, self.pass))
     }
 
     ghost so_far = { λ e f rows h. h.so_far };
 
-    ghost same_here = { λ e f rows h. (refl, refl, still_here e.cascade.now e.pass.now h.ready) };
+    ghost same_here = { λ e f rows h. (refl, refl, still_here e.common.now.cascade.now e.pass.now h.ready) };
 
     ghost same_then = { λ a b c p q. (
       q.0 ∙ p.0,
       q.1 ∙ p.1,
-      still_of_same a.cascade.now b.cascade.now a.pass.now b.pass.now c.pass.now p.0 p.2 q.2,
+      still_of_same a.common.now.cascade.now b.common.now.cascade.now a.pass.now b.pass.now c.pass.now p.0 p.2 q.2,
     ) };
 
-    ghost same_plan = { λ a b p. plan_of_same a.cascade.now b.cascade.now p.0 };
+    ghost same_plan = { λ a b p. plan_of_same a.common.now.cascade.now b.common.now.cascade.now p.0 };
 
-    ghost same_size = { λ a b p. bundle_of_same a.cascade.now b.cascade.now p.0 };
+    ghost same_size = { λ a b p. bundle_of_same a.common.now.cascade.now b.common.now.cascade.now p.0 };
 }

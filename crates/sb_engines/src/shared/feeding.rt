@@ -46,11 +46,8 @@ fn feed_lines<W: Wait + Clock, G: Gate, S: Source, R: RowOut>(
     ensures cause { GiveCause (R.row_state out.old) (R.row_state out.new) result }
 {
     let mut engine = Feeder {
-        rt: common.rt,
-        alloc: common.alloc,
-        cascade: common.cascade,
+        common,
         pass,
-        gate: common.gate,
         pace: Pace::new(),
     };
     sb_feed::feed(
@@ -86,7 +83,7 @@ pub fn end_work<W: Wait, G: Gate>(
     ensures feeder { OnOk result ((f : Fed) (rows : List ARecord) → HasFed common.now.cascade.now pass.old f rows
         → HasFed common.now.cascade.now pass.new f rows) }
 {
-    match settle(common.rt, common.alloc, common.cascade, pass, common.gate) {
+    match settle(common, pass) {
         Ok(()) => {
             common.cascade.stop(pass, Reason::Ended);
             Ok(())

@@ -7,6 +7,7 @@ ghost use Rattle.sb_worker.specs.cascade.shared.Found.{IsClaim};
 ghost use Rattle.sb_feeds.specs.one_feed.Feeds.{Fed, MayArrive, with_bundle};
 ghost use Rattle.sb_engines.specs.Feeders.{HasFed, IsStill};
 
+use crate::shared::common::Common;
 use crate::shared::pace::Pace;
 use sb_feeds::sb_base::{Bundle, END_MARK, NoMemory, Record, Stream};
 use sb_worker::sb_cascade::{Cascade, CascadePass, TryTake};
@@ -15,20 +16,19 @@ use sb_worker::sb_lane::ArriveStop;
 use sb_worker::sb_turn::Reason;
 use sb_worker::sb_work::{Claim, Gate};
 use sb_worker::{First, OneStop, one_step, settle_node, work_off};
-use std::alloc::Global;
 use std::sync::Wait;
 use std::thread;
 use std::time::Clock;
 
 /// Takes the rows out that lie ready.
-pub fn take_out<W: Wait>(rt: &W, cascade: &Cascade, pass: &mut CascadePass) -> Vec<Record>
-    requires feeder { (f : Fed) × (rows : List ARecord) × HasFed cascade.now pass.old f rows }
-    ensures same { IsStill cascade.now pass.old pass.new }
-    ensures feeder { (f : Fed) (rows : List ARecord) → HasFed cascade.now pass.old f rows
-        → HasFed cascade.now pass.new f (rows ++ result.items) }
+pub fn take_out<W: Wait, G>(common: &Common<'_, W, G>, pass: &mut CascadePass) -> Vec<Record>
+    requires feeder { (f : Fed) × (rows : List ARecord) × HasFed common.now.cascade.now pass.old f rows }
+    ensures same { IsStill common.now.cascade.now pass.old pass.new }
+    ensures feeder { (f : Fed) (rows : List ARecord) → HasFed common.now.cascade.now pass.old f rows
+        → HasFed common.now.cascade.now pass.new f (rows ++ result.items) }
     ensures times { All (λ r. r.time < END_MARK) result.items }
 {
-    cascade.drain(rt, pass)
+    common.cascade.drain(common.rt, pass)
 }
 
 /// A step of the feeder as a worker.
@@ -37,19 +37,23 @@ pub fn take_out<W: Wait>(rt: &W, cascade: &Cascade, pass: &mut CascadePass) -> V
 ///
 /// This worker or another found no memory.
 pub fn step_too<W: Wait, G: Gate>(
-    rt: &W,
-    alloc: Global,
-    cascade: &Cascade,
+    common: &Common<'_, W, G>,
     pass: &mut CascadePass,
-    gate: &G,
 ) -> Result<Did, NoMemory>
-    requires pass { IsReady cascade.now pass.old × IsEmptyHanded pass.old }
-    ensures same { IsStill cascade.now pass.old pass.new }
+    requires pass { IsReady common.now.cascade.now pass.old × IsEmptyHanded pass.old }
+    ensures same { IsStill common.now.cascade.now pass.old pass.new }
     ensures empty { OnOk result (IsEmptyHanded pass.new) }
-    ensures feeder { OnOk result ((f : Fed) (rows : List ARecord) → HasFed cascade.now pass.old f rows
-        → HasFed cascade.now pass.new f rows) }
+    ensures feeder { OnOk result ((f : Fed) (rows : List ARecord) → HasFed common.now.cascade.now pass.old f rows
+        → HasFed common.now.cascade.now pass.new f rows) }
 {
-    match one_step(rt, alloc, cascade, pass, gate, First::Closing) {
+    match one_step(
+        common.rt,
+        common.alloc,
+        common.cascade,
+        pass,
+        common.gate,
+        First::Closing,
+    ) {
         Ok(did) => Ok(did),
         Err(OneStop::Stopped | OneStop::Memory) => Err(NoMemory),
     }
@@ -71,21 +75,18 @@ fn try_there(cascade: &Cascade, pass: &mut CascadePass, stream: Stream) -> Optio
 
 // Works off a bundle of the node that takes the stream, if its turn is free and one waits.
 fn work_there<W: Wait, G: Gate>(
-    rt: &W,
-    alloc: Global,
-    cascade: &Cascade,
+    common: &Common<'_, W, G>,
     pass: &mut CascadePass,
-    gate: &G,
     stream: Stream,
 ) -> Result<(), NoMemory>
-    requires pass { IsReady cascade.now pass.old × IsEmptyHanded pass.old }
-    ensures same { IsStill cascade.now pass.old pass.new }
+    requires pass { IsReady common.now.cascade.now pass.old × IsEmptyHanded pass.old }
+    ensures same { IsStill common.now.cascade.now pass.old pass.new }
     ensures empty { OnOk result (IsEmptyHanded pass.new) }
-    ensures feeder { OnOk result ((f : Fed) (rows : List ARecord) → HasFed cascade.now pass.old f rows
-        → HasFed cascade.now pass.new f rows) }
+    ensures feeder { OnOk result ((f : Fed) (rows : List ARecord) → HasFed common.now.cascade.now pass.old f rows
+        → HasFed common.now.cascade.now pass.new f rows) }
 {
-    match try_there(cascade, pass, stream) {
-        Some(claim) => match work_off(rt, alloc, cascade, pass, gate, claim) {
+    match try_there(common.cascade, pass, stream) {
+        Some(claim) => match work_off(common.rt, common.alloc, common.cascade, pass, common.gate, claim) {
             Ok(()) => Ok(()),
             Err(NoMemory) => Err(NoMemory),
         },
@@ -100,18 +101,15 @@ fn work_there<W: Wait, G: Gate>(
 ///
 /// This worker or another found no memory.
 pub fn step_or_yield<W: Wait, G: Gate>(
-    rt: &W,
-    alloc: Global,
-    cascade: &Cascade,
+    common: &Common<'_, W, G>,
     pass: &mut CascadePass,
-    gate: &G,
 ) -> Result<(), NoMemory>
-    requires pass { IsReady cascade.now pass.old × IsEmptyHanded pass.old }
-    ensures same { IsStill cascade.now pass.old pass.new }
-    ensures feeder { OnOk result ((f : Fed) (rows : List ARecord) → HasFed cascade.now pass.old f rows
-        → HasFed cascade.now pass.new f rows) }
+    requires pass { IsReady common.now.cascade.now pass.old × IsEmptyHanded pass.old }
+    ensures same { IsStill common.now.cascade.now pass.old pass.new }
+    ensures feeder { OnOk result ((f : Fed) (rows : List ARecord) → HasFed common.now.cascade.now pass.old f rows
+        → HasFed common.now.cascade.now pass.new f rows) }
 {
-    match step_too(rt, alloc, cascade, pass, gate) {
+    match step_too(common, pass) {
         Ok(Did::Bundle | Did::Closing) => Ok(()),
         Ok(Did::Nothing) => {
             thread::yield_now();
@@ -124,20 +122,17 @@ pub fn step_or_yield<W: Wait, G: Gate>(
 // Works off a bundle of the node that takes the stream, and makes a step: so bundles do not gather behind that node
 // while the feeder makes room in it.
 fn make_room<W: Wait, G: Gate>(
-    rt: &W,
-    alloc: Global,
-    cascade: &Cascade,
+    common: &Common<'_, W, G>,
     pass: &mut CascadePass,
-    gate: &G,
     stream: Stream,
 ) -> Result<(), NoMemory>
-    requires pass { IsReady cascade.now pass.old × IsEmptyHanded pass.old }
-    ensures same { IsStill cascade.now pass.old pass.new }
-    ensures feeder { OnOk result ((f : Fed) (rows : List ARecord) → HasFed cascade.now pass.old f rows
-        → HasFed cascade.now pass.new f rows) }
+    requires pass { IsReady common.now.cascade.now pass.old × IsEmptyHanded pass.old }
+    ensures same { IsStill common.now.cascade.now pass.old pass.new }
+    ensures feeder { OnOk result ((f : Fed) (rows : List ARecord) → HasFed common.now.cascade.now pass.old f rows
+        → HasFed common.now.cascade.now pass.new f rows) }
 {
-    match work_there(rt, alloc, cascade, pass, gate, stream) {
-        Ok(()) => step_or_yield(rt, alloc, cascade, pass, gate),
+    match work_there(common, pass, stream) {
+        Ok(()) => step_or_yield(common, pass),
         Err(NoMemory) => Err(NoMemory),
     }
 }
@@ -148,30 +143,27 @@ fn make_room<W: Wait, G: Gate>(
 ///
 /// This worker or another found no memory.
 pub(crate) fn bring<W: Wait, G: Gate>(
-    rt: &W,
-    alloc: Global,
-    cascade: &Cascade,
+    common: &Common<'_, W, G>,
     pass: &mut CascadePass,
-    gate: &G,
     stream: Stream,
     bundle: Bundle,
 ) -> Result<bool, NoMemory>
-    requires may { (f : Fed) × (rows : List ARecord) × HasFed cascade.now pass.old f rows
-        × MayArrive (plan_of cascade.now) (setting_of cascade.now).bundle f stream bundle }
-    ensures same { IsStill cascade.now pass.old pass.new }
-    ensures feeder { OnOk result ((f : Fed) (rows : List ARecord) → HasFed cascade.now pass.old f rows
-        → MayArrive (plan_of cascade.now) (setting_of cascade.now).bundle f stream bundle
-        → HasFed cascade.now pass.new (with_bundle stream bundle f) rows) }
+    requires may { (f : Fed) × (rows : List ARecord) × HasFed common.now.cascade.now pass.old f rows
+        × MayArrive (plan_of common.now.cascade.now) (setting_of common.now.cascade.now).bundle f stream bundle }
+    ensures same { IsStill common.now.cascade.now pass.old pass.new }
+    ensures feeder { OnOk result ((f : Fed) (rows : List ARecord) → HasFed common.now.cascade.now pass.old f rows
+        → MayArrive (plan_of common.now.cascade.now) (setting_of common.now.cascade.now).bundle f stream bundle
+        → HasFed common.now.cascade.now pass.new (with_bundle stream bundle f) rows) }
 {
     let mut waiting = bundle;
     let mut has_waited = false;
-    for _ in rt.forever() {
-        match cascade.arrive(rt, pass, stream, waiting) {
+    for _ in common.rt.forever() {
+        match common.cascade.arrive(common.rt, pass, stream, waiting) {
             Ok(_) => return Ok(has_waited),
             Err(ArriveStop::Memory(_)) => return Err(NoMemory),
             Err(ArriveStop::Full(back)) => waiting = back,
         }
-        match make_room(rt, alloc, cascade, pass, gate, stream) {
+        match make_room(common, pass, stream) {
             Ok(()) => has_waited = true,
             Err(NoMemory) => return Err(NoMemory),
         }
@@ -182,20 +174,17 @@ pub(crate) fn bring<W: Wait, G: Gate>(
 // Works off what waits in each node, and makes the closings that can begin there, in the order of the nodes: so what
 // came leaves the engine, but for what others have in hand.
 fn settle_each<W: Wait, G: Gate>(
-    rt: &W,
-    alloc: Global,
-    cascade: &Cascade,
+    common: &Common<'_, W, G>,
     pass: &mut CascadePass,
-    gate: &G,
 ) -> Result<(), NoMemory>
-    requires pass { IsReady cascade.now pass.old × IsEmptyHanded pass.old }
-    ensures same { IsStill cascade.now pass.old pass.new }
-    ensures feeder { OnOk result ((f : Fed) (rows : List ARecord) → HasFed cascade.now pass.old f rows
-        → HasFed cascade.now pass.new f rows) }
+    requires pass { IsReady common.now.cascade.now pass.old × IsEmptyHanded pass.old }
+    ensures same { IsStill common.now.cascade.now pass.old pass.new }
+    ensures feeder { OnOk result ((f : Fed) (rows : List ARecord) → HasFed common.now.cascade.now pass.old f rows
+        → HasFed common.now.cascade.now pass.new f rows) }
 {
-    let sink = cascade.plan().transforms();
+    let sink = common.cascade.plan().transforms();
     'nodes: for node in 0..=sink {
-        match settle_node(rt, alloc, cascade, pass, gate, node) {
+        match settle_node(common.rt, common.alloc, common.cascade, pass, common.gate, node) {
             Ok(()) => {}
             Err(NoMemory) => return Err(NoMemory),
         }
@@ -205,19 +194,16 @@ fn settle_each<W: Wait, G: Gate>(
 
 // The feeder works off by itself what came, if the work goes on.
 fn settle_alone<W: Wait, G: Gate>(
-    rt: &W,
-    alloc: Global,
-    cascade: &Cascade,
+    common: &Common<'_, W, G>,
     pass: &mut CascadePass,
-    gate: &G,
 ) -> Result<(), NoMemory>
-    requires pass { IsReady cascade.now pass.old × IsEmptyHanded pass.old }
-    ensures same { IsStill cascade.now pass.old pass.new }
-    ensures feeder { OnOk result ((f : Fed) (rows : List ARecord) → HasFed cascade.now pass.old f rows
-        → HasFed cascade.now pass.new f rows) }
+    requires pass { IsReady common.now.cascade.now pass.old × IsEmptyHanded pass.old }
+    ensures same { IsStill common.now.cascade.now pass.old pass.new }
+    ensures feeder { OnOk result ((f : Fed) (rows : List ARecord) → HasFed common.now.cascade.now pass.old f rows
+        → HasFed common.now.cascade.now pass.new f rows) }
 {
-    match cascade.reason(pass) {
-        Reason::Running => settle_each(rt, alloc, cascade, pass, gate),
+    match common.cascade.reason(pass) {
+        Reason::Running => settle_each(common, pass),
         Reason::Ended | Reason::Fault | Reason::Memory => Err(NoMemory),
     }
 }
@@ -228,22 +214,19 @@ fn settle_alone<W: Wait, G: Gate>(
 ///
 /// This worker or another found no memory.
 pub(crate) fn keep_up<W: Wait + Clock, G: Gate>(
-    rt: &W,
-    alloc: Global,
-    cascade: &Cascade,
+    common: &Common<'_, W, G>,
     pass: &mut CascadePass,
-    gate: &G,
     pace: &mut Pace,
 ) -> Result<(), NoMemory>
-    requires pass { IsReady cascade.now pass.old × IsEmptyHanded pass.old }
-    ensures same { IsStill cascade.now pass.old pass.new }
-    ensures feeder { OnOk result ((f : Fed) (rows : List ARecord) → HasFed cascade.now pass.old f rows
-        → HasFed cascade.now pass.new f rows) }
+    requires pass { IsReady common.now.cascade.now pass.old × IsEmptyHanded pass.old }
+    ensures same { IsStill common.now.cascade.now pass.old pass.new }
+    ensures feeder { OnOk result ((f : Fed) (rows : List ARecord) → HasFed common.now.cascade.now pass.old f rows
+        → HasFed common.now.cascade.now pass.new f rows) }
 {
     if pace.is_own() {
-        settle_alone(rt, alloc, cascade, pass, gate)?;
+        settle_alone(common, pass)?;
     }
-    pace.end_epoch(rt, cascade);
+    pace.end_epoch(common.rt, common.cascade);
     Ok(())
 }
 
@@ -253,19 +236,16 @@ pub(crate) fn keep_up<W: Wait + Clock, G: Gate>(
 ///
 /// This worker or another found no memory.
 pub(crate) fn settle<W: Wait, G: Gate>(
-    rt: &W,
-    alloc: Global,
-    cascade: &Cascade,
+    common: &Common<'_, W, G>,
     pass: &mut CascadePass,
-    gate: &G,
 ) -> Result<(), NoMemory>
-    requires pass { IsReady cascade.now pass.old × IsEmptyHanded pass.old }
-    ensures same { IsStill cascade.now pass.old pass.new }
-    ensures feeder { OnOk result ((f : Fed) (rows : List ARecord) → HasFed cascade.now pass.old f rows
-        → HasFed cascade.now pass.new f rows) }
+    requires pass { IsReady common.now.cascade.now pass.old × IsEmptyHanded pass.old }
+    ensures same { IsStill common.now.cascade.now pass.old pass.new }
+    ensures feeder { OnOk result ((f : Fed) (rows : List ARecord) → HasFed common.now.cascade.now pass.old f rows
+        → HasFed common.now.cascade.now pass.new f rows) }
 {
-    for _ in rt.forever() {
-        match step_too(rt, alloc, cascade, pass, gate) {
+    for _ in common.rt.forever() {
+        match step_too(common, pass) {
             Ok(Did::Nothing) => return Ok(()),
             Ok(Did::Bundle | Did::Closing) => {}
             Err(NoMemory) => return Err(NoMemory),

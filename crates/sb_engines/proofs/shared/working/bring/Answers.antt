@@ -13,7 +13,7 @@ loop-init g c =
     let (f, rows, h, may) = c.requires.may in
     record {
       feeder = λ f rows h. h;
-      same = still_here c.args.cascade.now c.args.pass.now h.ready;
+      same = still_here c.args.common.now.cascade.now c.args.pass.now h.ready;
       bundle = refl;
     }
 
@@ -26,18 +26,18 @@ arrive-requires-clause-pass g c =
 pub arrive-requires-clause-bundle : goal.arrive-requires-clause-bundle
 arrive-requires-clause-bundle g c =
     let (f, rows, h, may) = c.requires.may in
-    may-bring c.args.cascade.now c.loop.pass f rows (c.loop.invariant.feeder f rows h) c.args.stream c.loop.waiting
-    (subst (λ (b : Bundle). MayArrive c.args.cascade.now.setting.plan c.args.cascade.now.setting.bundle f c.args.stream b) (sym c.loop.invariant.bundle) may)
+    may-bring c.args.common.now.cascade.now c.loop.pass f rows (c.loop.invariant.feeder f rows h) c.args.stream c.loop.waiting
+    (subst (λ (b : Bundle). MayArrive c.args.common.now.cascade.now.setting.plan c.args.common.now.cascade.now.setting.bundle f c.args.stream b) (sym c.loop.invariant.bundle) may)
 
 pub returns-in-Ok-clause-feeder : goal.returns-in-Ok-clause-feeder
 returns-in-Ok-clause-feeder g c = λ f rows h may.
     let pass = c.arrive.ensures.pass in
     let knows = c.in-Ok.ensures.fed ∙ ap (λ (b : Bundle). record (hands c.loop.pass) { feed = view.with_bundle c.args.stream b.records (hands c.loop.pass).feed }) c.loop.invariant.bundle in
-    fed-arrived c.args.cascade.now c.loop.pass c.arrive.new.pass f rows (c.loop.invariant.feeder f rows h) c.args.stream c.args.bundle pass.0 pass.1 pass.2 knows may
+    fed-arrived c.args.common.now.cascade.now c.loop.pass c.arrive.new.pass f rows (c.loop.invariant.feeder f rows h) c.args.stream c.args.bundle pass.0 pass.1 pass.2 knows may
 
 pub loop-preserved : goal.loop-preserved
 loop-preserved g c =
-    let cascade = c.args.cascade.now in
+    let cascade = c.args.common.now.cascade.now in
     let pass = c.arrive.ensures.pass in
     let inv = c.loop.invariant in
     let full = c.in-Err-Full.ensures in

@@ -6,7 +6,7 @@ use Rattle.sb_engines.proofs.shared.working.bring.Given as goal
 
 abbrev pub invariant-loop : goal.invariant-loop
 invariant-loop g l = record {
-  feeder : (f : Fed) (rows : List Record) → HasFed l.cascade l.fn.pass f rows → HasFed l.cascade l.pass f rows;
-  same : IsStill l.cascade l.fn.pass l.pass;
+  feeder : (f : Fed) (rows : List Record) → HasFed l.common.cascade.now l.fn.pass f rows → HasFed l.common.cascade.now l.pass f rows;
+  same : IsStill l.common.cascade.now l.fn.pass l.pass;
   bundle : l.waiting ≡ l.fn.bundle;
 }

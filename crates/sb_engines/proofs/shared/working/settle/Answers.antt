@@ -9,7 +9,7 @@ loop-preserved g c =
     let inv = c.loop.invariant in
     let stepped = c.in-Ok-Bundle.ensures in
     record {
-      same = still_then c.args.cascade.now c.args.pass.now c.loop.pass c.step_too.new.pass inv.same stepped.same;
+      same = still_then c.args.common.now.cascade.now c.args.pass.now c.loop.pass c.step_too.new.pass inv.same stepped.same;
       empty = stepped.empty;
       feeder = λ f rows h. stepped.feeder f rows (inv.feeder f rows h);
     }

@@ -7,7 +7,7 @@ use Rattle.sb_engines.proofs.shared.working.settle.Given as goal
 
 abbrev pub invariant-loop : goal.invariant-loop
 invariant-loop g l = record {
-  same : IsStill l.cascade l.fn.pass l.pass;
+  same : IsStill l.common.cascade.now l.fn.pass l.pass;
   empty : IsEmptyHanded l.pass;
-  feeder : (f : Fed) (rows : List Record) → HasFed l.cascade l.fn.pass f rows → HasFed l.cascade l.pass f rows;
+  feeder : (f : Fed) (rows : List Record) → HasFed l.common.cascade.now l.fn.pass f rows → HasFed l.common.cascade.now l.pass f rows;
 }

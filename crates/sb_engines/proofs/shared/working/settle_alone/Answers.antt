@@ -9,4 +9,4 @@ returns-in-Running-clause-feeder g c =
     let q = c.reason.new.pass in
     let seen = c.reason.ensures.pass in
     on_ok_weaker c.settle_each.result (λ settled f rows h. settled f rows
-    (fed-stepped c.args.cascade.now p q f rows h seen.0 (empty-still p q seen.2 c.requires.pass.1) seen.1)) c.settle_each.ensures.feeder
+    (fed-stepped c.args.common.now.cascade.now p q f rows h seen.0 (empty-still p q seen.2 c.requires.pass.1) seen.1)) c.settle_each.ensures.feeder

@@ -4,7 +4,7 @@ use Rattle.sb_engines.proofs.shared.working.settle_each.Goals as goal
 
 pub nodes-preserved : goal.nodes-preserved
 nodes-preserved g c =
-    let cascade = c.args.cascade.now in
+    let cascade = c.args.common.now.cascade.now in
     let p = c.args.pass.now in
     let q = c.nodes.pass in
     let r = c.settle_node.new.pass in
@@ -20,4 +20,4 @@ nodes-preserved g c =
 pub returns-in-Ok-clause-feeder : goal.returns-in-Ok-clause-feeder
 returns-in-Ok-clause-feeder g c = λ f rows h.
     let done = c.settle_node.ensures in
-    fed-stepped c.args.cascade.now c.nodes.pass c.settle_node.new.pass f rows (c.nodes.invariant.feeder f rows h) done.pass.0 c.in-Ok.ensures.settled.0 done.pass.1
+    fed-stepped c.args.common.now.cascade.now c.nodes.pass c.settle_node.new.pass f rows (c.nodes.invariant.feeder f rows h) done.pass.0 c.in-Ok.ensures.settled.0 done.pass.1

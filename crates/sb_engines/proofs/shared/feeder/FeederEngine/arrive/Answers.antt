@@ -14,6 +14,6 @@ returns-in-Ok-true-clause-gives g c = λ f rows h may.
 
 pub returns-in-Ok-false-clause-gives : goal.returns-in-Ok-false-clause-gives
 returns-in-Ok-false-clause-gives g c = λ f rows h may.
-    let stands = HasFed c.args.self.now.cascade.now c.bring.new.pass (with_bundle c.args.stream c.args.bundle f) in
+    let stands = HasFed c.args.self.now.common.now.cascade.now c.bring.new.pass (with_bundle c.args.stream c.args.bundle f) in
     subst (λ l. stands (rows ++ l)) (sym c.new.ensures.items)
     (subst stands (sym (append-nil rows)) (c.in-Ok-false.ensures.feeder f rows h may))
