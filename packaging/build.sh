@@ -86,10 +86,10 @@ count_checks() {
   echo $((most > 1 ? most : 1))
 }
 
-# How many crates are proved at a time.
+# How many crates are proved at a time: one more than that, since one lane is kept free for a crate that leads.
 count_lanes() {
   local most
-  most=${STREAMBOX_LANES-$(count_checks)}
+  most=${STREAMBOX_LANES-$(($(count_checks) + 1))}
   echo $((most > 1 ? most : 1))
 }
 
@@ -142,15 +142,15 @@ next_crate() {
   [[ -n $best ]] && echo "$best"
 }
 
-# Whether no crate that is not built has a longer chain.
+# Whether no crate that is not built has a much longer chain: by a tenth of it.
 leads() {
   local crate
   for crate in "${crates[@]}"; do
-    [[ ${state[$crate]-} == built ]] || ((chain[$crate] <= chain[$1])) || return
+    [[ ${state[$crate]-} == built ]] || ((chain[$crate] * 9 <= chain[$1] * 10)) || return
   done
 }
 
-# begin CRATE LANE: the crate that leads takes all processors, and others what that leaves. By itself rt would give a large
+# begin CRATE LANE: the crates that lead take all processors, and others what that leaves. By itself rt would give a large
 # crate few, since it reckons with more memory than a check takes.
 begin() {
   local call=(rt lib --jobs "$(count_checks)")
@@ -191,10 +191,12 @@ end_one() {
   free=("$lane" "${free[@]}")
 }
 
+# The last lane is for a crate that leads. If none runs, the next crate is one.
 prove_crates() {
   local crate
   while :; do
     while ((${#free[@]})) && crate=$(next_crate); do
+      ((${#free[@]} > 1)) || leads "$crate" || break
       begin "$crate" "${free[0]}"
       free=("${free[@]:1}")
     done

@@ -147,7 +147,7 @@ check_side_by_side() {
   rm -rf "$out" crates/*/out
   STREAMBOX_LANES=1 MEET='left beside' starts 70 'is not proved or not built; log: '"$out/build.log" 'version lib lib ' --build
   rm -f "$CALLS".begun.*
-  STREAMBOX_LANES=2 MEET='left beside' starts 0 '4 of 4: streambox' 'version lib lib lib run ' --build
+  STREAMBOX_LANES=3 MEET='left beside' starts 0 '4 of 4: streambox' 'version lib lib lib run ' --build
   leaves './build.log ./proved ./rlib ./streambox'
   [ "$(cat crates/{low,left,beside}/out/rlib/from | grep -c "^$tree/crates/[a-z]*$")" = 2 ] || fail 'built elsewhere'
   rm -rf "$out" crates/*/out

@@ -25,12 +25,7 @@ use std::time::Clock;
 
 /// The feeder reads and feeds the input, and the helpers help, until all have ended. False with a helper that found no
 /// memory.
-pub fn feed_beside_helpers<
-    W: Threads + Wait + Clock + Sync,
-    S: Source,
-    R: RowOut,
-    G: Gate + Sync,
->(
+pub fn feed_beside_helpers<W: Threads + Wait + Clock + Sync, S: Source, R: RowOut, G: Gate + Sync>(
     common: &Common<'_, W, G>,
     passes: &mut Passes,
     input: &mut S,

@@ -15,6 +15,7 @@ const LITTLE_RECORDS: usize = 2_048;
 
 /// Behind how many records, or how many epochs, a stretch ends.
 const STRETCH_RECORDS: u64 = 16_384;
+
 const STRETCH_EPOCHS: u32 = 256;
 
 /// Behind how many microseconds a stretch ends too that the feeder works off by itself: so help comes soon if the plan
@@ -29,6 +30,7 @@ const WORTH_MICROS: u64 = 20;
 
 /// For how many stretches the feeder goes on with a way before it tries both again: at first, and at most.
 const FIRST_HOLD: u32 = 16;
+
 const MOST_HOLD: u32 = 256;
 
 /// All have to be faster than the feeder by one part in so many.
@@ -182,7 +184,7 @@ impl Pace {
         self.has_waited = false;
         let now = Instant::now(clock).ok();
         match self.way {
-            Way::Alone if is_own => self.end_alone(cascade, now),
+            Way::Alone if is_own => self.end_alone(now),
             Way::Alone => self.stretch = Stretch::since(now),
             Way::Together => self.end_together(now),
             Way::Left => {}
@@ -228,7 +230,11 @@ impl Pace {
         }
         self.left = self.hold;
         self.hold = min(self.hold.saturating_add(self.hold), MOST_HOLD);
-        if nanos >= self.alone_nanos.saturating_sub(self.alone_nanos / GAIN_PARTS) {
+        if nanos
+            >= self
+                .alone_nanos
+                .saturating_sub(self.alone_nanos / GAIN_PARTS)
+        {
             self.way = Way::Alone;
         }
     }

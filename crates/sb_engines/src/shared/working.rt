@@ -86,7 +86,14 @@ fn work_there<W: Wait, G: Gate>(
         → HasFed common.now.cascade.now pass.new f rows) }
 {
     match try_there(common.cascade, pass, stream) {
-        Some(claim) => match work_off(common.rt, common.alloc, common.cascade, pass, common.gate, claim) {
+        Some(claim) => match work_off(
+            common.rt,
+            common.alloc,
+            common.cascade,
+            pass,
+            common.gate,
+            claim,
+        ) {
             Ok(()) => Ok(()),
             Err(NoMemory) => Err(NoMemory),
         },
@@ -184,7 +191,14 @@ fn settle_each<W: Wait, G: Gate>(
 {
     let sink = common.cascade.plan().transforms();
     'nodes: for node in 0..=sink {
-        match settle_node(common.rt, common.alloc, common.cascade, pass, common.gate, node) {
+        match settle_node(
+            common.rt,
+            common.alloc,
+            common.cascade,
+            pass,
+            common.gate,
+            node,
+        ) {
             Ok(()) => {}
             Err(NoMemory) => return Err(NoMemory),
         }
