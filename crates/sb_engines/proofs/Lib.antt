@@ -4,7 +4,7 @@ pub mod Coming
 pub mod Ended
 pub mod FedMore
 pub mod Flowing
-pub mod Passes
+pub mod PassesHeld
 pub mod Returned
 pub mod Settings
 pub mod Settling

@@ -49,21 +49,24 @@ impl<'a, W: Wait + Clock, G: Gate> Engine for Feeder<'a, W, G> {
     }
 
     fn arrive(&mut self, stream: Stream, bundle: Bundle) -> Result<Vec<Record>, NoMemory> {
-        let common = self.common;
-        self.pace
-            .came(common.rt, common.cascade, bundle.records.items.len());
-        match bring(common, self.pass, stream, bundle) {
-            Ok(true) => Ok(take_out(common, self.pass)),
-            Ok(false) => Ok(Vec::new(common.alloc)),
+        self.pace.came(
+            self.common.rt,
+            self.common.cascade,
+            bundle.records.items.len(),
+        );
+        match bring(self.common, self.pass, stream, bundle) {
+            Ok(true) => Ok(take_out(self.common, self.pass)),
+            Ok(false) => Ok(Vec::new(self.common.alloc)),
             Err(NoMemory) => Err(NoMemory),
         }
     }
 
     fn seal(&mut self, stream: Stream, mark: u64) -> Result<Vec<Record>, NoMemory> {
-        let common = self.common;
-        common.cascade.seal(common.rt, self.pass, stream, mark)?;
-        keep_up(common, self.pass, &mut self.pace)?;
-        Ok(take_out(common, self.pass))
+        self.common
+            .cascade
+            .seal(self.common.rt, self.pass, stream, mark)?;
+        keep_up(self.common, self.pass, &mut self.pace)?;
+        Ok(take_out(self.common, self.pass))
     }
 
     ghost so_far = { λ e f rows h. h.so_far };

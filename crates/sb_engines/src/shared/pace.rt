@@ -189,8 +189,9 @@ impl Pace {
             Way::Together => self.end_together(now),
             Way::Left => {}
         }
-        if is_own || self.way == Way::Together {
-            self.tell(cascade, self.way == Way::Together);
+        let is_wanted = self.way == Way::Together;
+        if is_own || is_wanted {
+            self.tell(cascade, is_wanted);
         }
     }
 

@@ -237,9 +237,11 @@ pub(crate) fn keep_up<W: Wait + Clock, G: Gate>(
     ensures feeder { OnOk result ((f : Fed) (rows : List ARecord) → HasFed common.now.cascade.now pass.old f rows
         → HasFed common.now.cascade.now pass.new f rows) }
 {
-    if pace.is_own() {
-        settle_alone(common, pass)?;
+    if !pace.is_own() {
+        pace.end_epoch(common.rt, common.cascade);
+        return Ok(());
     }
+    settle_alone(common, pass)?;
     pace.end_epoch(common.rt, common.cascade);
     Ok(())
 }

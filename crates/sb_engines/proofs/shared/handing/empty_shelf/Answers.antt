@@ -1,6 +1,6 @@
 use Rattle.sb_worker.proofs.cascade.leavings.Handing.{same-then}
 use Rattle.sb_engines.proofs.FedMore.{fed-stepped}
-use Rattle.sb_engines.proofs.Passes.{first-stepped}
+use Rattle.sb_engines.proofs.PassesHeld.{first-stepped}
 use Rattle.sb_engines.proofs.shared.handing.empty_shelf.Goals as goal
 
 pub returns-in-None-claim-clause-fed : goal.returns-in-None-claim-clause-fed

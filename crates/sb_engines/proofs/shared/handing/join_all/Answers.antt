@@ -2,7 +2,7 @@ use Rattle.std.proofs.Common.{rules, ◌≡◌, ◌+◌, length, subst}
 use Rattle.std.specs.List.{AllByRecursion}
 use Rattle.sb_worker.specs.cascade.Calls.{view_of}
 use Rattle.sb_worker.specs.Helping.{IsFirst, IsHelper}
-use Rattle.sb_engines.proofs.Passes.{All-front, fed-same, first-joined}
+use Rattle.sb_engines.proofs.PassesHeld.{All-front, fed-same, first-joined}
 use Rattle.sb_engines.proofs.shared.handing.join_all.Goals as goal
 
 pub helpers-preserved : goal.helpers-preserved

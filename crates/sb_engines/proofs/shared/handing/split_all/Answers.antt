@@ -3,7 +3,7 @@ use Rattle.std.specs.List.{AllByRecursion}
 use Rattle.std.specs.Vec.{vec_capacity}
 use Rattle.sb_feeds.proofs.base.records.Elements.{All-join}
 use Rattle.sb_worker.specs.Helping.{IsFirst, IsHelper}
-use Rattle.sb_engines.proofs.Passes.{fed-same, first-split, new-helper}
+use Rattle.sb_engines.proofs.PassesHeld.{fed-same, first-split, new-helper}
 use Rattle.sb_engines.proofs.shared.handing.split_all.Goals as goal
 
 pub helpers-preserved : goal.helpers-preserved

@@ -1,7 +1,7 @@
 use Rattle.std.proofs.Common.{◌<◌, rules}
 use Rattle.sb_worker.specs.turn.Reasons.{number_of}
 use Rattle.sb_engines.proofs.FedMore.{fed-stepped}
-use Rattle.sb_engines.proofs.Passes.{empty-same, known-exactly, still-empty}
+use Rattle.sb_engines.proofs.PassesHeld.{empty-same, known-exactly, still-empty}
 use Rattle.sb_engines.proofs.Returned.{whole-back}
 use Rattle.sb_engines.proofs.shared.handing.take_back.Goals as goal
 

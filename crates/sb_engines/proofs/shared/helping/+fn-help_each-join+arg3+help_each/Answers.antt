@@ -4,7 +4,7 @@ use Rattle.std.proofs.Crossing.{crosses}
 use Rattle.std.specs.List.{AllByRecursion}
 use Rattle.sb_worker.proofs.Crossing.{Bound-lent, Cascade-lent, Five-send, Heap-lent, Pass-send}
 use Rattle.sb_worker.specs.Helping.{IsHelper}
-use Rattle.sb_engines.proofs.Passes.{All-front, All-last}
+use Rattle.sb_engines.proofs.PassesHeld.{All-front, All-last}
 use Rattle.sb_engines.proofs.shared.helping.+fn-help_each-join+arg3+help_each.Goals as goal
 
 pub join-one-requires-send-F : goal.join-one-requires-send-F
