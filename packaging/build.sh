@@ -17,6 +17,8 @@ out=$home/crates/streambox/out
 lanes=
 # A check takes up to so many KiB of memory, for each process that it is given.
 readonly MEMORY_OF_A_LANE=3500000
+# How much a crate would give way that has no chain at all, and the most that nice takes.
+readonly WAY_OF_NONE=40 MOST_WAY=19
 
 # By crate: those of this repository that it stands on; the bytes of the sources that are proved one after the other from
 # it up to the program, itself among them; and how far it is: nothing yet, `runs` or `built`.
@@ -142,19 +144,27 @@ next_crate() {
   [[ -n $best ]] && echo "$best"
 }
 
-# Whether no crate that is not built has a much longer chain: by a tenth of it.
-leads() {
-  local crate
+# way_of CRATE: how much it gives way to others, in steps of nice: not at all if no crate that is not built has a chain that
+# is longer by more than a tenth, and the more the shorter its own chain is.
+way_of() {
+  local crate longest=0 way
   for crate in "${crates[@]}"; do
-    [[ ${state[$crate]-} == built ]] || ((chain[$crate] * 9 <= chain[$1] * 10)) || return
+    [[ ${state[$crate]-} == built ]] || ((chain[$crate] <= longest)) || longest=${chain[$crate]}
   done
+  way=$((WAY_OF_NONE * (longest - chain[$1]) / longest))
+  ((way > WAY_OF_NONE / 10)) || way=0
+  echo $((way < MOST_WAY ? way : MOST_WAY))
 }
 
-# begin CRATE LANE: the crates that lead take all processors, and others what that leaves. By itself rt would give a large
-# crate few, since it reckons with more memory than a check takes.
+# Whether a crate gives way to none.
+leads() {
+  (($(way_of "$1") == 0))
+}
+
+# begin CRATE LANE: each crate may take all processors, and gives way to those that lead. By itself rt would give a large
+# crate few processes, since it reckons with more memory than a check takes.
 begin() {
-  local call=(rt lib --jobs "$(count_checks)")
-  leads "$1" || call=(nice -n 10 rt lib --jobs 1)
+  local call=(nice -n "$(way_of "$1")" rt lib --jobs "$(count_checks)")
   started=$((started + 1))
   say "$started of $((${#crates[@]} + 1)): $1"
   (cd "$2/crates/$1" && exec "${call[@]}") < /dev/null > "$lanes/$1.log" 2>&1 &
