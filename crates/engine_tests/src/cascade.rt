@@ -7,10 +7,8 @@ ghost use Rattle.sb_worker.specs.cascade.Calls.{IsEmptyHanded, IsFeeder, IsReady
 ghost use Rattle.sb_worker.specs.cascade.Calls.{hands, passes_out, plan_of, setting_of, view_of};
 ghost use Rattle.sb_worker.specs.cascade.shared.Views.{first_hands, nothing_fed};
 
-use sb_worker::sb_cascade::{Cascade, CascadePass, TryTake};
-use sb_worker::sb_hand::Hand;
-use sb_worker::sb_hand::sb_base::{Bundle, END_MARK, Key, Record, Sequence, Stream, sum_plan};
-use sb_worker::sb_work::{Output, process};
+use sb_base::{Bundle, END_MARK, Key, Record, Sequence, Stream, sum_plan};
+use sb_worker::{Cascade, CascadePass, Hand, Output, TryTake, process};
 use std::alloc::Global;
 use std::sync::Wait;
 use std::test::Fail;

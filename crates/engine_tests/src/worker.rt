@@ -6,12 +6,8 @@ ghost use Rattle.sb_worker.specs.hand.base.pipeline.Shapes.{sum_shape};
 ghost use Rattle.sb_worker.specs.cascade.Calls.{hands, plan_of, setting_of};
 ghost use Rattle.sb_worker.specs.Helping.{IsFirst, IsHelper};
 
-use sb_worker::sb_cascade::{Cascade, CascadePass};
-use sb_worker::sb_diary::DiaryEvent;
-use sb_worker::sb_hand::sb_base::{Bundle, Key, Record, Sequence, Stream, sum_plan};
-use sb_worker::sb_hand::{Did, Hand};
-use sb_worker::sb_work::OpenGate;
-use sb_worker::{First, one_step};
+use sb_base::{Bundle, Key, Record, Sequence, Stream, sum_plan};
+use sb_worker::{Cascade, CascadePass, DiaryEvent, Did, First, Hand, OpenGate, one_step};
 use std::alloc::Global;
 use std::sync::Wait;
 use std::test::Fail;

@@ -2,10 +2,9 @@
 
 ghost use Rattle.std.specs.Prelude.{◌≡◌, ◌<◌, All, IsTrue};
 
-use sb_feeds::sb_base::{END_MARK, Key, Record};
-use sb_feeds::sb_emit::{CountTap, HeadTap, Printing, Tap};
-use sb_feeds::sb_feed::{GiveStop, give_out};
-use sb_feeds::sb_outside::MemSink;
+use sb_feeds::{
+    CountTap, END_MARK, GiveStop, HeadTap, Key, MemSink, Printing, Record, Tap, give_out,
+};
 use std::alloc::{AllocError, Global};
 use std::test::Fail;
 

@@ -4,8 +4,10 @@ ghost use Rattle.std.specs.Prelude.{◌≡◌, []};
 ghost use Rattle.sb_feeds.specs.Ends.{ring_in, ring_of, ring_out, values_sent};
 ghost use Rattle.sb_feeds.specs.Fed.{IsNew};
 
-use sb_feeds::sb_base::{Intake, Item, Key, Keys, LatePolicy, Record, Refusal, Stream, Streams};
-use sb_feeds::{Fed, FeedIn, FeedStop, feed, feed_pair};
+use sb_feeds::{
+    Fed, FeedIn, FeedStop, Intake, Item, Key, Keys, LatePolicy, Record, Refusal, Stream, Streams,
+    feed_file, feed_pair,
+};
 use std::alloc::{AllocError, Global};
 use std::sync::Wait;
 use std::test::Fail;
@@ -73,7 +75,7 @@ fn values_across<R: Threads + Wait + Sync>(
         move ||
             requires { IsNew intake × (values_sent out ≡ []) }
             ensures { ring_of result ≡ ring_out out }
-        { feed(rt, bytes, intake, out) },
+        { feed_file(rt, bytes, intake, out) },
         move ||
             ensures { ring_in result.0 ≡ ring_in inward }
         {

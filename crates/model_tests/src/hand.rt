@@ -9,12 +9,11 @@ ghost use Rattle.sb_hand.specs.base.records.declared.item.Stream.TheVariants as 
 ghost use Rattle.sb_hand.specs.Hands.{Shows};
 
 use crate::plans::expanded;
-use sb_hand::sb_base::{
+use sb_base::{
     Agg, Bundle, END_MARK, Key, MAX_BUNDLE, MAX_TIME, NoMemory, Plan, Record, Sequence, Stream,
     sum_plan,
 };
-use sb_hand::sb_lane::ArriveStop;
-use sb_hand::{Did, Hand, MAX_PENDING};
+use sb_hand::{ArriveStop, Did, Hand, MAX_PENDING};
 use std::alloc::Global;
 use std::test::Fail;
 

@@ -5,11 +5,8 @@ ghost use Rattle.sb_hand.specs.base.pipeline.Operators.{operator_at};
 ghost use Rattle.sb_hand.specs.kept.Keeping.{IsMadeFor, closed_mark};
 
 use crate::plans::{alone, expanded, join, joined};
-use sb_hand::sb_base::{
-    Agg, Bundle, Combine, END_MARK, Key, Kind, NoMemory, Plan, Record, Sequence,
-};
-use sb_hand::sb_node::sb_kept::Kept;
-use sb_hand::sb_work::{Claim, Output, process};
+use sb_base::{Agg, Bundle, Combine, END_MARK, Key, Kind, NoMemory, Plan, Record, Sequence};
+use sb_hand::{Claim, Kept, Output, process};
 use std::alloc::Global;
 use std::test::Fail;
 

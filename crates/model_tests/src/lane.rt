@@ -2,8 +2,8 @@
 
 ghost use Rattle.std.specs.Prelude.{◌≡◌};
 
-use sb_hand::sb_base::{Bundle, Sequence};
-use sb_hand::sb_lane::{ArriveStop, Lane, LaneClose, NotYet};
+use sb_base::{Bundle, Sequence};
+use sb_hand::{ArriveStop, Lane, LaneClose, NotYet};
 use std::alloc::{AllocError, Global};
 use std::test::Fail;
 

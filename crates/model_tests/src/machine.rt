@@ -1,7 +1,7 @@
 //! The machine by example.
 
-use sb_hand::sb_base::{END_MARK, Key, NoMemory, Record, Sequence, Stream, sum_plan};
-use sb_hand::sb_core::{Event, Moment};
+use sb_base::{END_MARK, Key, NoMemory, Record, Sequence, Stream, sum_plan};
+use sb_hand::{Event, Moment};
 use sb_machine::{RunStop, StepStop, first, run, step};
 use std::alloc::Global;
 

@@ -6,12 +6,10 @@ ghost use Rattle.sb_hand.specs.lane.LaneView.{LaneView, empty_lane};
 ghost use Rattle.sb_hand.specs.node.Changes.{HasLane};
 ghost use Rattle.sb_hand.specs.base.pipeline.Operators.{operator_at};
 
-use sb_hand::sb_base::{Bundle, END_MARK, Key, NoMemory, Plan, Record, Sequence, sum_plan};
-use sb_hand::sb_diary::{Diary, DiaryEvent};
-use sb_hand::sb_lane::{ArriveStop, Lane, NotYet};
-use sb_hand::sb_node::sb_kept::Kept;
-use sb_hand::sb_node::{Closing, NodeState};
-use sb_hand::sb_work::{Claim, Output, process};
+use sb_base::{Bundle, END_MARK, Key, NoMemory, Plan, Record, Sequence, sum_plan};
+use sb_hand::{
+    ArriveStop, Claim, Closing, Diary, DiaryEvent, Kept, Lane, NodeState, NotYet, Output, process,
+};
 use std::alloc::Global;
 use std::test::Fail;
 

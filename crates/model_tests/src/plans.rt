@@ -1,6 +1,6 @@
 //! Plans of a few transforms, which the tests share.
 
-use sb_hand::sb_base::{Agg, BadWindow, Combine, Down, Kind, Op, Plan, Sequence, Step, Windows};
+use sb_base::{Agg, BadWindow, Combine, Down, Kind, Op, Plan, Sequence, Step, Windows};
 use std::alloc::{AllocError, Global};
 use std::test::Fail;
 

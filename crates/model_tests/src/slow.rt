@@ -4,11 +4,11 @@ ghost use Rattle.std.specs.Prelude.{All, IfOk};
 ghost use Rattle.sb_hand.specs.base.records.Lines.{IsItemInRange};
 
 use crate::plans::{alone, chain, expanded, group, join, joined, place};
-use sb_hand::sb_base::{
+use sb_base::{
     Agg, Change, Combine, END_MARK, Field, Item, Key, Keys, Kind, MAX_KEY, MAX_TOP, Op, Plan,
     Record, Step, Table, Test, read_line,
 };
-use sb_machine::sb_slow::slow_rows;
+use sb_machine::slow_rows;
 use std::alloc::Global;
 use std::test::Fail;
 

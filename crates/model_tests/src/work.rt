@@ -1,10 +1,8 @@
 //! Bundles at a node of each kind.
 
 use crate::plans::{alone, expanded, join, joined};
-use sb_hand::sb_base::{
-    Agg, Bundle, Combine, END_MARK, Key, Kind, NoMemory, Plan, Record, Sequence,
-};
-use sb_hand::sb_work::{Claim, Gate, OpenGate, Output, Part, Receipt, process};
+use sb_base::{Agg, Bundle, Combine, END_MARK, Key, Kind, NoMemory, Plan, Record, Sequence};
+use sb_hand::{Claim, Gate, OpenGate, Output, Part, Receipt, process};
 use std::alloc::Global;
 use std::test::Fail;
 

@@ -2,14 +2,15 @@
 
 ghost use Rattle.std.specs.Prelude.{◌≤◌, IfOk, IfSome, length};
 ghost use Rattle.sb_cut.specs.checkpoint.Saved.{items_in};
-ghost use Rattle.sb_run.specs.engines.RunEnds.{AreSizes};
+ghost use Rattle.sb_cut.specs.run.specs.alone.RunEnds.{AreSizes};
 
-use sb_cut::sb_checkpoint::{RowsFrom, has_session, write_checkpoint};
-use sb_cut::{CutEnd, Saved, run_part, run_rest, save};
-use sb_run::sb_base::{Refusal, Stop, sum_plan};
-use sb_run::sb_emit::Printing;
-use sb_run::sb_outside::{MemSink, MemSource};
-use sb_run::{MAX_WORKERS, RunEnd, Sizes};
+use sb_base::{Refusal, Stop, sum_plan};
+use sb_cut::{
+    CutEnd, MAX_WORKERS, RowsFrom, RunEnd, Saved, Sizes, has_session, run_part, run_rest, save,
+    write_checkpoint,
+};
+use sb_emit::Printing;
+use sb_outside::{MemSink, MemSource};
 use std::alloc::{AllocError, Global};
 use std::sync::Wait;
 use std::test::Fail;

@@ -1,9 +1,8 @@
 //! Two workers have a bundle in hand at the same time: the gate holds the first of them until the other comes.
 
 use crate::one_input::{FIRST, run, said, source, sums};
-use sb_run::Team;
-use sb_run::sb_base::LatePolicy;
-use sb_run::sb_work::Gate;
+use sb_base::LatePolicy;
+use sb_cut::{Gate, Team};
 use std::sync::atomic::{AtomicU64, Ordering};
 use std::test::Fail;
 use std::thread;

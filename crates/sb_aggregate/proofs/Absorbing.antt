@@ -24,7 +24,7 @@ use Rattle.sb_aggregate.specs.Groups.{HasPartials, HasPartialsFrom}
 use Rattle.sb_runs.specs.Runs.{IsRun, found, found_in}
 use Rattle.sb_aggregate.specs.Orderless.{aggregate_rows-orderless}
 use Rattle.sb_aggregate.proofs.PartialValues.{final-partial}
-use Rattle.sb_aggregate.proofs.Ends.{partial_from-append, partials-closed, partials-open}
+use Rattle.sb_aggregate.proofs.EndsPassed.{partial_from-append, partials-closed, partials-open}
 use Rattle.sb_runs.proofs.RunRows.{rows-when}
 
 -- one list more after others

@@ -11,7 +11,7 @@ pub mod SortedLists
 pub mod Unions
 pub mod InPlace
 pub mod Panes
-pub mod Ends
+pub mod EndsPassed
 pub mod Absorbing
 pub use Rattle.sb_runs.proofs.records
 pub use Rattle.sb_runs.proofs.window

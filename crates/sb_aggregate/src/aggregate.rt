@@ -6,7 +6,7 @@ ghost use Rattle.sb_runs.specs.records.Orders.{distinct, in_order};
 ghost use Rattle.sb_runs.specs.window.Aggregations.{sum_values};
 ghost use Rattle.sb_aggregate.specs.Aggregates.{IsValid, aggregate_values, greatest_first, signed_value};
 
-use sb_runs::sb_record::NoMemory;
+use sb_runs::NoMemory;
 
 /// How many of the greatest values [`Agg::Top`] may ask for.
 pub const MAX_TOP: u32 = 16;

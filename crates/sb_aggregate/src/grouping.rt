@@ -8,8 +8,7 @@ ghost use Rattle.sb_aggregate.specs.Orderless.{given-orderless};
 use crate::aggregate::Agg;
 use crate::part::AggPart;
 use crate::partials::KeptPartials;
-use sb_runs::sb_record::{NoMemory, Record, Trail};
-use sb_runs::sb_window::{Grouping, Windows};
+use sb_runs::{Grouping, NoMemory, Record, Trail, Windows};
 use std::alloc::Global;
 use std::marker::Model;
 

@@ -32,4 +32,10 @@ pub use part::{AggPart, part_of};
 pub use session::MAX_GAP;
 
 // What the crates above name of the crates below.
-pub use sb_runs::{sb_record, sb_window};
+pub use sb_runs::{
+    BadWindow, Dropped, END_MARK, Ends, Grouping, Intake, Item, KeptRec, Key, KeyedWindow, Keys,
+    LatePolicy, MAX_KEY, MAX_LINE_LENGTH, MAX_LINES, MAX_ROW_LENGTH, MAX_SIZE, MAX_TIME,
+    MAX_WINDOWS_OF_A_TIME, MAX_WORD_LENGTH, Malformed, NoMemory, Record, Refusal, RowBuf, Sequence,
+    Stop, Stream, Streams, TextBuf, Trail, UsualRecord, Windows, Word, read_line, read_number,
+    row_bytes,
+};

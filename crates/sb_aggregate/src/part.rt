@@ -11,8 +11,7 @@ ghost use Rattle.sb_runs.specs.Placed.{placed_first, placed_value};
 use crate::aggregate::Agg;
 use crate::partials::Partials;
 use crate::placing::{Placing, SLOTS};
-use sb_runs::sb_record::{END_MARK, NoMemory, Record, Trail};
-use sb_runs::sb_window::{KeyedWindow, Windows};
+use sb_runs::{END_MARK, KeyedWindow, NoMemory, Record, Trail, Windows};
 use std::alloc::Global;
 use std::marker::Model;
 

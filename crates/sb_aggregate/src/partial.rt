@@ -7,9 +7,7 @@ ghost use Rattle.sb_aggregate.specs.Held.{held_values};
 
 use crate::aggregate::{Agg, aggregated};
 use crate::value_set::ValueSet;
-use sb_runs::sb_record::{NoMemory, Record};
-use sb_runs::sb_window::KeyedWindow;
-use sb_runs::{Joiner, compare_windows, later_window};
+use sb_runs::{Joiner, KeyedWindow, NoMemory, Record, compare_windows, later_window};
 use std::alloc::Global;
 use std::cmp::Ordering;
 use std::marker::Model;

@@ -16,8 +16,7 @@ use crate::aggregate::Agg;
 use crate::partial::{Partial, PartialJoiner};
 use crate::rows::{rows_of, rows_of_singles};
 use crate::single::SingleJoiner;
-use sb_runs::sb_record::{NoMemory, Record};
-use sb_runs::{Run, Runs, spread};
+use sb_runs::{NoMemory, Record, Run, Runs, spread};
 use std::alloc::Global;
 use std::collections::VecDeque;
 

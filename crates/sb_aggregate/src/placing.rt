@@ -20,9 +20,7 @@ use crate::partial::{Partial, PartialJoiner};
 use crate::partials::Partials;
 use crate::ranking::sort_numbers;
 use crate::single::SingleJoiner;
-use sb_runs::Run;
-use sb_runs::sb_record::{Key, NoMemory};
-use sb_runs::sb_window::KeyedWindow;
+use sb_runs::{Key, KeyedWindow, NoMemory, Run};
 use std::alloc::Global;
 use std::marker::Model;
 

@@ -9,7 +9,7 @@ ghost use Rattle.sb_runs.specs.records.Reorderings.{IsReordered};
 ghost use Rattle.sb_aggregate.specs.Numbers.{ranked};
 
 use crate::placing::Numbered;
-use sb_runs::sb_record::NoMemory;
+use sb_runs::NoMemory;
 use std::alloc::Global;
 
 /// How many values have ranks at most.

@@ -8,8 +8,7 @@ ghost use Rattle.sb_runs.specs.Merged.{merged};
 
 use crate::partial::{PartialJoiner, push_row};
 use crate::single::SingleJoiner;
-use sb_runs::Closed;
-use sb_runs::sb_record::{NoMemory, Record};
+use sb_runs::{Closed, NoMemory, Record};
 use std::alloc::Global;
 
 /// The rows of what closed, in order.

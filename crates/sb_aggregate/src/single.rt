@@ -7,8 +7,7 @@ ghost use Rattle.sb_aggregate.specs.Numbers.{single_entry};
 use crate::aggregate::Agg;
 use crate::partial::Partial;
 use crate::placing::Numbered;
-use sb_runs::Joiner;
-use sb_runs::sb_record::NoMemory;
+use sb_runs::{Joiner, NoMemory};
 use std::cmp::Ordering;
 use std::marker::Model;
 

@@ -6,7 +6,7 @@ ghost use Rattle.std.specs.Ordering.{int_cmp};
 ghost use Rattle.sb_runs.specs.records.Orders.{distinct};
 
 use crate::aggregate::keep_distinct;
-use sb_runs::sb_record::NoMemory;
+use sb_runs::NoMemory;
 use std::alloc::Global;
 use std::collections::BTreeSet;
 use std::marker::Model;

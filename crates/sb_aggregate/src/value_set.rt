@@ -6,7 +6,7 @@ ghost use Rattle.sb_runs.specs.records.Orders.{distinct};
 ghost use Rattle.sb_aggregate.specs.Held.{set_values};
 
 use crate::sorted_list::SortedList;
-use sb_runs::sb_record::NoMemory;
+use sb_runs::NoMemory;
 use std::alloc::Global;
 use std::collections::BTreeSet;
 

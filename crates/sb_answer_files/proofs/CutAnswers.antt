@@ -1,31 +1,30 @@
 -- From the end of a run over a first part of an input to its answer.
 use Rattle.std.proofs.Common.{◌≡◌, ℕ, false, List, [], ◌++◌, Option, Some, None, Result, Ok, Err, refl, sym, ap, subst, ◌∙◌, append-nil}
 use Rattle.std.specs.Io.KnownBytes.{Appends, Keeps}
-use Rattle.sb_answers.specs.base.records.declared.intake.Refusal.{Refusal}
-use Rattle.sb_answers.specs.base.records.declared.item.Dropped.{Dropped}
-use Rattle.sb_answers.specs.base.records.declared.item.Record.{Record}
-use Rattle.sb_answers.specs.base.records.Inputs.{stop_of}
-use Rattle.sb_answers.specs.base.records.Rows.{text_of}
-use Rattle.sb_answers.specs.outside.Lines.{lines}
-use Rattle.sb_answers.specs.outside.declared.sink.SinkFault.{SinkFault}
-use Rattle.sb_answers.specs.outside.declared.sink.SinkFault.TheVariants as fault
-use Rattle.sb_answers.proofs.outside.Appending.{appends_kept}
-use Rattle.sb_answers.specs.base.pipeline.Shapes.{Shape}
-use Rattle.sb_answers.specs.checkpoint.Checkpoints.{low_of}
-use Rattle.sb_answers.specs.one_feed.Due.{AreFirstRows, rows_below}
-use Rattle.sb_answers.specs.one_feed.Given.{Given}
-use Rattle.sb_answers.specs.cut.declared.cut_end.CutEnd.{CutEnd}
-use Rattle.sb_answers.specs.cut.declared.cut_end.CutEnd.TheVariants as cut
-use Rattle.sb_answers.specs.cut.CutEnds.{EndsCut, EndsCutEarly, PartEnds}
-use Rattle.sb_answers.specs.cut.Parts.{part_items}
-use Rattle.sb_answers.specs.words.declared.options.Options.{Options}
-use Rattle.sb_answers.specs.told.declared.status.Status.{Status}
-use Rattle.sb_answers.specs.told.declared.status.Status.TheVariants.{Output, Memory}
-use Rattle.sb_answers.specs.Answers.{IsAnswerBy, Wrote, WrotePrefix, ending_of}
-use Rattle.sb_answers.specs.Courses.{Course, part_course}
+use Rattle.sb_answer_runs.specs.answers.base.records.declared.intake.Refusal.{Refusal}
+use Rattle.sb_answer_runs.specs.answers.base.records.declared.item.Dropped.{Dropped}
+use Rattle.sb_answer_runs.specs.answers.base.records.declared.item.Record.{Record}
+use Rattle.sb_answer_runs.specs.answers.base.records.Inputs.{stop_of}
+use Rattle.sb_answer_runs.specs.answers.base.records.Rows.{text_of}
+use Rattle.sb_answer_runs.specs.answers.outside.Lines.{lines}
+use Rattle.sb_answer_runs.specs.answers.outside.declared.sink.SinkFault.{SinkFault}
+use Rattle.sb_answer_runs.specs.answers.outside.declared.sink.SinkFault.TheVariants as fault
+use Rattle.sb_answer_runs.proofs.answers.outside.Appending.{appends_kept}
+use Rattle.sb_answer_runs.specs.answers.base.pipeline.Shapes.{Shape}
+use Rattle.sb_answer_runs.specs.answers.checkpoint.Checkpoints.{low_of}
+use Rattle.sb_answer_runs.specs.answers.one_feed.Due.{AreFirstRows, rows_below}
+use Rattle.sb_answer_runs.specs.answers.one_feed.Given.{Given, part_items}
+use Rattle.sb_answer_runs.specs.cut.declared.cut_end.CutEnd.{CutEnd}
+use Rattle.sb_answer_runs.specs.cut.declared.cut_end.CutEnd.TheVariants as cut
+use Rattle.sb_answer_runs.specs.cut.CutEnds.{EndsCut, EndsCutEarly, PartEnds}
+use Rattle.sb_answer_runs.specs.answers.words.declared.options.Options.{Options}
+use Rattle.sb_answer_runs.specs.answers.told.declared.status.Status.{Status}
+use Rattle.sb_answer_runs.specs.answers.told.declared.status.Status.TheVariants.{Output, Memory}
+use Rattle.sb_answer_runs.specs.answers.Answers.{IsAnswerBy, Wrote, WrotePrefix, ending_of}
+use Rattle.sb_answer_runs.specs.answers.Courses.{Course, part_course}
 use Rattle.sb_answer_files.specs.CutSteps.{status_after_cut}
-use Rattle.sb_answers.specs.Told.{AreToldIf}
-use Rattle.sb_answers.proofs.RunAnswers.{AnswersSome, WroteSome, answers_some, below_are_first, low_at_most, part_of_shown, prefix_kept, wrote_is_prefix}
+use Rattle.sb_answer_runs.specs.answers.Told.{AreToldIf}
+use Rattle.sb_answer_runs.proofs.answers.RunAnswers.{AnswersSome, WroteSome, answers_some, below_are_first, low_at_most, part_of_shown, prefix_kept, wrote_is_prefix}
 
 module _ (plan : Shape) (options : Options) (left left' taken taken1 taken2 : Option (List ℕ)) (dropped : List Dropped) (no : options.diary ≡ false) (keeps : Keeps taken1 taken2) where
   abbrev W : Option (List ℕ) → List Record → Option (List ℕ) → Type 0

@@ -1,18 +1,18 @@
 -- The faults that a run over a first part of an input tells.
 use Rattle.std.proofs.Common.{◌≡◌, ℕ, List, Result, Ok, Err, refl, ◌∙◌}
 use Rattle.std.specs.Prelude.{OnOk, false}
-use Rattle.sb_answers.specs.outside.Folders.{Load}
-use Rattle.sb_answers.specs.outside.Sinks.{SinkCause, SinkState}
-use Rattle.sb_answers.specs.outside.declared.sink.SinkFault.{SinkFault}
-use Rattle.sb_answers.specs.outside.declared.sink.SinkFault.TheVariants as fault
-use Rattle.sb_answers.specs.cut.declared.cut_end.CutEnd.{CutEnd}
-use Rattle.sb_answers.specs.cut.declared.cut_end.CutEnd.TheVariants as cut
-use Rattle.sb_answers.specs.cut.CutEnds.{CutCause, CutOutputCause, IsCutWritten}
-use Rattle.sb_answers.specs.told.Outcomes.{IsNoTap, IsRead}
-use Rattle.sb_answers.specs.told.declared.status.Status.TheVariants.{Done}
+use Rattle.sb_answer_runs.specs.answers.outside.Folders.{Load}
+use Rattle.sb_answer_runs.specs.answers.outside.Sinks.{SinkCause, SinkState}
+use Rattle.sb_answer_runs.specs.answers.outside.declared.sink.SinkFault.{SinkFault}
+use Rattle.sb_answer_runs.specs.answers.outside.declared.sink.SinkFault.TheVariants as fault
+use Rattle.sb_answer_runs.specs.cut.declared.cut_end.CutEnd.{CutEnd}
+use Rattle.sb_answer_runs.specs.cut.declared.cut_end.CutEnd.TheVariants as cut
+use Rattle.sb_answer_runs.specs.cut.CutEnds.{CutCause, CutOutputCause, IsCutWritten}
+use Rattle.sb_answer_runs.specs.answers.told.Outcomes.{IsNoTap, IsRead}
+use Rattle.sb_answer_runs.specs.answers.told.declared.status.Status.TheVariants.{Done}
 use Rattle.sb_answer_files.specs.CutSteps.{status_after_cut}
-use Rattle.sb_answers.specs.Faults.{HasCause, HidesNoFault, faults_of}
-use Rattle.sb_answers.proofs.RunFaults.{rose_before, rose_later, same_faults, still_open}
+use Rattle.sb_answer_runs.specs.answers.Faults.{HasCause, HidesNoFault, faults_of}
+use Rattle.sb_answer_runs.proofs.answers.RunFaults.{rose_before, rose_later, same_faults, still_open}
 
 pub cut_read : (end : CutEnd) (passed : Result (Unit {0}) SinkFault) → IsRead (status_after_cut end passed)
 cut_read end (Err fault.Failed) = tt

@@ -1,12 +1,12 @@
 -- How a run over a first part of an input ends, said in other words.
 use Rattle.std.proofs.Common.{ℕ, List, Option, Some, None}
-use Rattle.sb_answers.specs.base.records.declared.intake.Refusal.{Refusal}
-use Rattle.sb_answers.specs.base.records.declared.item.Dropped.{Dropped}
-use Rattle.sb_answers.specs.base.records.declared.item.Record.{Record}
-use Rattle.sb_answers.specs.base.pipeline.Shapes.{Shape}
-use Rattle.sb_answers.specs.cut.declared.cut_end.CutEnd.{CutEnd}
-use Rattle.sb_answers.specs.cut.declared.cut_end.CutEnd.TheVariants.{Done, Refused, Input, Output, Memory}
-use Rattle.sb_answers.specs.cut.CutEnds.{EndsCut, EndsCutEarly, PartEnds}
+use Rattle.sb_answer_runs.specs.answers.base.records.declared.intake.Refusal.{Refusal}
+use Rattle.sb_answer_runs.specs.answers.base.records.declared.item.Dropped.{Dropped}
+use Rattle.sb_answer_runs.specs.answers.base.records.declared.item.Record.{Record}
+use Rattle.sb_answer_runs.specs.answers.base.pipeline.Shapes.{Shape}
+use Rattle.sb_answer_runs.specs.cut.declared.cut_end.CutEnd.{CutEnd}
+use Rattle.sb_answer_runs.specs.cut.declared.cut_end.CutEnd.TheVariants.{Done, Refused, Input, Output, Memory}
+use Rattle.sb_answer_runs.specs.cut.CutEnds.{EndsCut, EndsCutEarly, PartEnds}
 
 -- what is said of an output by two relations is said by two others that follow from them
 module _ {O P : Type 0} (after part : O → List Record → O → Type 0) (after' part' : P → List Record → P → Type 0) (o p : O) (o' p' : P)

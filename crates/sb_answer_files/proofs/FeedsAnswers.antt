@@ -1,26 +1,26 @@
 -- Why a run over two files is done if nothing fails, and that no run begins without them.
 use Rattle.std.proofs.Common.{inl, inr, ◌≡◌, ◌<◌, ℕ, List, Option, length, refl, sym, ap, subst, arith, ◌∙◌}
-use Rattle.sb_answers.specs.base.records.declared.item.Stream.{Stream}
-use Rattle.sb_answers.specs.base.records.declared.item.Stream.TheVariants.{A, B}
-use Rattle.sb_answers.specs.outside.Folders.{Files}
-use Rattle.sb_answers.specs.outside.Sources.{Rose}
-use Rattle.sb_answers.specs.base.pipeline.Shapes.{Shape}
-use Rattle.sb_answers.specs.emit.Taps.{TapState}
-use Rattle.sb_answers.specs.run.files.declared.limits.TheConstants.{MAX_FILE_LENGTH}
-use Rattle.sb_answers.specs.run.files.Files.{NoneRefused, accepted_of_file}
-use Rattle.sb_answers.specs.words.Words.Asked.{Feeds}
-use Rattle.sb_answers.specs.words.declared.options.Options.{Options}
-use Rattle.sb_answers.specs.declared.ending.Ending.{Ending}
-use Rattle.sb_answers.specs.told.declared.status.Status.{Status}
-use Rattle.sb_answers.specs.told.declared.status.Status.TheVariants.{Done, Words, Plan, Line, Input, Output, Folder, Memory, Tap, Audit, FileTooLong, FileLine, Checkpoint}
-use Rattle.sb_answers.specs.Answers.{HasNoPlan, HasWrittenOfFiles, IsAnswer}
-use Rattle.sb_answers.specs.Faults.{BlamesFile, Faults, HasCause, HidesNoFault, IsDoneOrMemory, NothingFailsInFiles}
-use Rattle.sb_answers.specs.FileSteps.{HaveNoBytes}
-use Rattle.sb_answers.specs.Offered.{BlamesTap}
-use Rattle.sb_answers.specs.told.Outcomes.{IsNoTap}
-use Rattle.sb_answers.specs.Pipelines.{HasPlan, TellsPlanIn}
-use Rattle.sb_answers.specs.RecordFiles.{HasBytes, HasLongFile, HaveBytes, IsLong, TellsBoth, TellsBytes}
-use Rattle.sb_answers.proofs.Answering.{no_fault, not_blamed, same_plan}
+use Rattle.sb_answer_runs.specs.answers.base.records.declared.item.Stream.{Stream}
+use Rattle.sb_answer_runs.specs.answers.base.records.declared.item.Stream.TheVariants.{A, B}
+use Rattle.sb_answer_runs.specs.answers.outside.Folders.{Files}
+use Rattle.sb_answer_runs.specs.answers.outside.Sources.{Rose}
+use Rattle.sb_answer_runs.specs.answers.base.pipeline.Shapes.{Shape}
+use Rattle.sb_answer_runs.specs.answers.emit.Taps.{TapState}
+use Rattle.sb_answer_runs.specs.answers.alone.feeds.declared.limits.TheConstants.{MAX_FILE_LENGTH}
+use Rattle.sb_answer_runs.specs.answers.alone.feeds.Files.{NoneRefused, accepted_of_file}
+use Rattle.sb_answer_runs.specs.answers.words.Words.Asked.{Feeds}
+use Rattle.sb_answer_runs.specs.answers.words.declared.options.Options.{Options}
+use Rattle.sb_answer_runs.specs.answers.declared.ending.Ending.{Ending}
+use Rattle.sb_answer_runs.specs.answers.told.declared.status.Status.{Status}
+use Rattle.sb_answer_runs.specs.answers.told.declared.status.Status.TheVariants.{Done, Words, Plan, Line, Input, Output, Folder, Memory, Tap, Audit, FileTooLong, FileLine, Checkpoint}
+use Rattle.sb_answer_runs.specs.answers.Answers.{HasNoPlan, HasWrittenOfFiles, IsAnswer}
+use Rattle.sb_answer_runs.specs.answers.Faults.{BlamesFile, Faults, HasCause, HidesNoFault, IsDoneOrMemory, NothingFailsInFiles}
+use Rattle.sb_answer_runs.specs.answers.FileSteps.{HaveNoBytes}
+use Rattle.sb_answer_runs.specs.answers.Offered.{BlamesTap}
+use Rattle.sb_answer_runs.specs.answers.told.Outcomes.{IsNoTap}
+use Rattle.sb_answer_runs.specs.answers.Pipelines.{HasPlan, TellsPlanIn}
+use Rattle.sb_answer_runs.specs.answers.RecordFiles.{HasBytes, HasLongFile, HaveBytes, IsLong, TellsBoth, TellsBytes}
+use Rattle.sb_answer_runs.proofs.answers.Answering.{no_fault, not_blamed, same_plan}
 
 -- there is a plan, and no bytes of one of the files
 pub no_bytes : (folder : Option Files) (name file_a file_b : List ℕ) (options : Options) (status : Status) → HasPlan folder name → HaveNoBytes folder file_a file_b status

@@ -1,44 +1,44 @@
 -- From how a run over two files ended to its answer.
 use Rattle.std.proofs.Common.{◌≡◌, ◌≤◌, ℕ, true, List, [], Option, Result, Ok, Err, refl, sym, ap, subst, ◌∙◌, arith, append-nil, ◌++◌}
 use Rattle.std.specs.Io.KnownBytes.{Keeps}
-use Rattle.sb_answers.specs.base.records.declared.intake.Stop.{Stop}
-use Rattle.sb_answers.specs.base.records.declared.intake.Stop.TheVariants as at
-use Rattle.sb_answers.specs.base.records.declared.item.Dropped.{Dropped}
-use Rattle.sb_answers.specs.base.records.declared.item.Item.{Item}
-use Rattle.sb_answers.specs.base.records.declared.item.Record.{Record}
-use Rattle.sb_answers.specs.base.records.declared.item.Stream.{Stream}
-use Rattle.sb_answers.specs.base.records.declared.item.Stream.TheVariants.{A, B}
-use Rattle.sb_answers.specs.base.records.declared.item.TheConstants.{END_MARK}
-use Rattle.sb_answers.specs.base.records.Lines.{IsItemInRange}
-use Rattle.sb_answers.specs.base.records.Rows.{text_of}
-use Rattle.sb_answers.specs.base.records.Streams.{dropped_of, low_watermark}
-use Rattle.sb_answers.proofs.base.records.Elements.{All-join}
-use Rattle.sb_answers.proofs.base.records.InputLemmas.{accepted-in_range, low_watermark-in_range}
-use Rattle.sb_answers.specs.outside.Lines.{lines}
-use Rattle.sb_answers.proofs.outside.Appending.{appends_kept}
-use Rattle.sb_answers.specs.outside.declared.sink.SinkFault.{SinkFault}
-use Rattle.sb_answers.specs.outside.declared.sink.SinkFault.TheVariants as fault
-use Rattle.sb_answers.specs.base.pipeline.Shapes.{Shape, streams_of}
-use Rattle.sb_answers.specs.emit.Taps.{TapState}
-use Rattle.sb_answers.specs.emit.TextLaws.{part_of_more}
-use Rattle.sb_answers.specs.one_feed.Due.{AreFirstDropped, AreFirstRows, due_rows}
-use Rattle.sb_answers.specs.run.files.declared.two_end.TwoEnd.{TwoEnd}
-use Rattle.sb_answers.specs.run.files.declared.two_end.TwoEnd.TheVariants as two
-use Rattle.sb_answers.specs.run.files.Files.{items_of_file, items_of_files, stream_alone}
-use Rattle.sb_answers.specs.base.Inputs.{by_stream}
-use Rattle.sb_answers.specs.run.files.TwoEnds.{FilesEndAt, FilesEndEarly, TwoEnds, as_run}
-use Rattle.sb_answers.specs.words.declared.options.Options.{Options}
-use Rattle.sb_answers.specs.told.declared.late.LateRecords.TheVariants.{OfFiles}
-use Rattle.sb_answers.specs.told.declared.status.Status.TheVariants.{Tap}
-use Rattle.sb_answers.specs.Answers.{IsAnswerToTwo, Wrote, WrotePrefix, ending_with}
-use Rattle.sb_answers.specs.told.Outcomes.{IsRead}
-use Rattle.sb_answers.specs.FileSteps.{status_after_two}
-use Rattle.sb_answers.specs.Offered.{BlamesTap, HasOfferedOfFiles, IsOfferedOfBytes}
-use Rattle.sb_answers.specs.Pipelines.{all_rows}
-use Rattle.sb_answers.specs.RunSteps.{CanTellAt, diaries_told, sizes_from}
-use Rattle.sb_answers.proofs.Blaming.{stops_blames}
-use Rattle.sb_answers.proofs.DoneHands.{can_tell_if, other_ends, told_if}
-use Rattle.sb_answers.proofs.RunAnswers.{below_are_first, prefix_kept, wrote_is_prefix}
+use Rattle.sb_answer_runs.specs.answers.base.records.declared.intake.Stop.{Stop}
+use Rattle.sb_answer_runs.specs.answers.base.records.declared.intake.Stop.TheVariants as at
+use Rattle.sb_answer_runs.specs.answers.base.records.declared.item.Dropped.{Dropped}
+use Rattle.sb_answer_runs.specs.answers.base.records.declared.item.Item.{Item}
+use Rattle.sb_answer_runs.specs.answers.base.records.declared.item.Record.{Record}
+use Rattle.sb_answer_runs.specs.answers.base.records.declared.item.Stream.{Stream}
+use Rattle.sb_answer_runs.specs.answers.base.records.declared.item.Stream.TheVariants.{A, B}
+use Rattle.sb_answer_runs.specs.answers.base.records.declared.item.TheConstants.{END_MARK}
+use Rattle.sb_answer_runs.specs.answers.base.records.Lines.{IsItemInRange}
+use Rattle.sb_answer_runs.specs.answers.base.records.Rows.{text_of}
+use Rattle.sb_answer_runs.specs.answers.base.records.Streams.{dropped_of, low_watermark}
+use Rattle.sb_answer_runs.proofs.answers.base.records.Elements.{All-join}
+use Rattle.sb_answer_runs.proofs.answers.base.records.InputLemmas.{accepted-in_range, low_watermark-in_range}
+use Rattle.sb_answer_runs.specs.answers.outside.Lines.{lines}
+use Rattle.sb_answer_runs.proofs.answers.outside.Appending.{appends_kept}
+use Rattle.sb_answer_runs.specs.answers.outside.declared.sink.SinkFault.{SinkFault}
+use Rattle.sb_answer_runs.specs.answers.outside.declared.sink.SinkFault.TheVariants as fault
+use Rattle.sb_answer_runs.specs.answers.base.pipeline.Shapes.{Shape, streams_of}
+use Rattle.sb_answer_runs.specs.answers.emit.Taps.{TapState}
+use Rattle.sb_answer_runs.specs.answers.emit.TextLaws.{part_of_more}
+use Rattle.sb_answer_runs.specs.answers.one_feed.Due.{AreFirstDropped, AreFirstRows, due_rows}
+use Rattle.sb_answer_runs.specs.answers.alone.declared.two_end.TwoEnd.{TwoEnd}
+use Rattle.sb_answer_runs.specs.answers.alone.declared.two_end.TwoEnd.TheVariants as two
+use Rattle.sb_answer_runs.specs.answers.alone.feeds.Files.{items_of_file, items_of_files, stream_alone}
+use Rattle.sb_answer_runs.specs.answers.base.Inputs.{by_stream}
+use Rattle.sb_answer_runs.specs.run.files.TwoEnds.{FilesEndAt, FilesEndEarly, TwoEnds, as_run}
+use Rattle.sb_answer_runs.specs.answers.words.declared.options.Options.{Options}
+use Rattle.sb_answer_runs.specs.answers.told.declared.late.LateRecords.TheVariants.{OfFiles}
+use Rattle.sb_answer_runs.specs.answers.told.declared.status.Status.TheVariants.{Tap}
+use Rattle.sb_answer_runs.specs.answers.Answers.{IsAnswerToTwo, Wrote, WrotePrefix, ending_with}
+use Rattle.sb_answer_runs.specs.answers.told.Outcomes.{IsRead}
+use Rattle.sb_answer_runs.specs.answers.FileSteps.{status_after_two}
+use Rattle.sb_answer_runs.specs.answers.Offered.{BlamesTap, HasOfferedOfFiles, IsOfferedOfBytes}
+use Rattle.sb_answer_runs.specs.answers.Pipelines.{all_rows}
+use Rattle.sb_answer_runs.specs.answers.RunSteps.{CanTellAt, diaries_told, sizes_from}
+use Rattle.sb_answer_runs.proofs.answers.Blaming.{stops_blames}
+use Rattle.sb_answer_runs.proofs.answers.DoneHands.{can_tell_if, other_ends, told_if}
+use Rattle.sb_answer_runs.proofs.answers.RunAnswers.{below_are_first, prefix_kept, wrote_is_prefix}
 
 -- the low watermark of both files comes before the end
 low_of_files : (plan : Shape) (files : Stream → List ℕ) → low_watermark (streams_of plan) (items_of_files plan files) ≤ END_MARK

@@ -1,17 +1,17 @@
 -- The faults that a run over two files tells.
 use Rattle.std.proofs.Common.{◌≡◌, ℕ, false, List, Result, Ok, Err, refl}
 use Rattle.std.specs.Prelude.{OnOk}
-use Rattle.sb_answers.specs.outside.Folders.{Load}
-use Rattle.sb_answers.specs.outside.Sinks.{SinkCause, SinkState}
-use Rattle.sb_answers.specs.outside.declared.sink.SinkFault.{SinkFault}
-use Rattle.sb_answers.specs.outside.declared.sink.SinkFault.TheVariants as fault
-use Rattle.sb_answers.specs.run.files.declared.two_end.TwoEnd.{TwoEnd}
-use Rattle.sb_answers.specs.run.files.declared.two_end.TwoEnd.TheVariants as two
-use Rattle.sb_answers.specs.run.engines.RunEnds.{IsWritten, OutputCause}
-use Rattle.sb_answers.specs.run.files.TwoEnds.{as_run}
-use Rattle.sb_answers.specs.Faults.{HasCause, HidesNoFault, faults_of}
-use Rattle.sb_answers.specs.FileSteps.{status_after_two}
-use Rattle.sb_answers.proofs.RunFaults.{rose_before, rose_later, same_faults, writes_same}
+use Rattle.sb_answer_runs.specs.answers.outside.Folders.{Load}
+use Rattle.sb_answer_runs.specs.answers.outside.Sinks.{SinkCause, SinkState}
+use Rattle.sb_answer_runs.specs.answers.outside.declared.sink.SinkFault.{SinkFault}
+use Rattle.sb_answer_runs.specs.answers.outside.declared.sink.SinkFault.TheVariants as fault
+use Rattle.sb_answer_runs.specs.answers.alone.declared.two_end.TwoEnd.{TwoEnd}
+use Rattle.sb_answer_runs.specs.answers.alone.declared.two_end.TwoEnd.TheVariants as two
+use Rattle.sb_answer_runs.specs.answers.alone.RunEnds.{IsWritten, OutputCause}
+use Rattle.sb_answer_runs.specs.run.files.TwoEnds.{as_run}
+use Rattle.sb_answer_runs.specs.answers.Faults.{HasCause, HidesNoFault, faults_of}
+use Rattle.sb_answer_runs.specs.answers.FileSteps.{status_after_two}
+use Rattle.sb_answer_runs.proofs.answers.RunFaults.{rose_before, rose_later, same_faults, writes_same}
 
 module _ (reads : ℕ) (sink sink1 sink2 : SinkState) where
   pub files_cause : (end : TwoEnd) (passed : Result (Unit {0}) SinkFault) (loads : List Load) → OutputCause sink sink1 (as_run end) → SinkCause sink1 sink2 passed

@@ -1,17 +1,17 @@
 -- How a run over two files ends, said in other words.
 use Rattle.std.proofs.Common.{◌≡◌, ℕ, List, Option}
-use Rattle.sb_answers.specs.base.records.declared.intake.Stop.{Stop}
-use Rattle.sb_answers.specs.base.records.declared.item.Dropped.{Dropped}
-use Rattle.sb_answers.specs.base.records.declared.item.Record.{Record}
-use Rattle.sb_answers.specs.base.records.declared.item.Stream.{Stream}
-use Rattle.sb_answers.specs.base.pipeline.Shapes.{Shape}
-use Rattle.sb_answers.specs.emit.LentLaws.{After, Part}
-use Rattle.sb_answers.specs.emit.Taps.{TapState}
-use Rattle.sb_answers.specs.run.files.declared.two_end.TwoEnd.{TwoEnd}
-use Rattle.sb_answers.specs.run.files.declared.two_end.TwoEnd.TheVariants.{Done, Refused, Output, Tap, Memory}
-use Rattle.sb_answers.specs.run.engines.declared.sizes.Sizes.{Sizes}
-use Rattle.sb_answers.specs.run.files.TwoEnds.{FilesEndAt, FilesEndEarly, TwoEnds}
-use Rattle.sb_answers.specs.Answers.{Wrote, WrotePrefix}
+use Rattle.sb_answer_runs.specs.answers.base.records.declared.intake.Stop.{Stop}
+use Rattle.sb_answer_runs.specs.answers.base.records.declared.item.Dropped.{Dropped}
+use Rattle.sb_answer_runs.specs.answers.base.records.declared.item.Record.{Record}
+use Rattle.sb_answer_runs.specs.answers.base.records.declared.item.Stream.{Stream}
+use Rattle.sb_answer_runs.specs.answers.base.pipeline.Shapes.{Shape}
+use Rattle.sb_answer_runs.specs.answers.emit.LentLaws.{After, Part}
+use Rattle.sb_answer_runs.specs.answers.emit.Taps.{TapState}
+use Rattle.sb_answer_runs.specs.answers.alone.declared.two_end.TwoEnd.{TwoEnd}
+use Rattle.sb_answer_runs.specs.answers.alone.declared.two_end.TwoEnd.TheVariants.{Done, Refused, Output, Tap, Memory}
+use Rattle.sb_answer_runs.specs.answers.alone.declared.sizes.Sizes.{Sizes}
+use Rattle.sb_answer_runs.specs.run.files.TwoEnds.{FilesEndAt, FilesEndEarly, TwoEnds}
+use Rattle.sb_answer_runs.specs.answers.Answers.{Wrote, WrotePrefix}
 
 -- what is said of an output by two relations is said by two others that follow from them
 module _ {O P : Type 0} (after part : O → List Record → O → Type 0) (after' part' : P → List Record → P → Type 0) (o p : O) (o' p' : P)

@@ -8,10 +8,11 @@ pub mod FilesFaults
 pub mod FilesThrough
 pub mod FeedsAnswers
 pub mod SaveAnswers
-pub use Rattle.sb_answers.proofs.outside
-pub use Rattle.sb_answers.proofs.live
-pub use Rattle.sb_answers.proofs.base
-pub use Rattle.sb_answers.proofs.generator
-pub use Rattle.sb_answers.proofs.checkpoint
-pub use Rattle.sb_answers.proofs.told
-pub use Rattle.sb_answers.proofs as answers
+pub use Rattle.sb_answer_runs.proofs.answers.outside
+pub use Rattle.sb_answer_runs.proofs.answers.live_table
+pub use Rattle.sb_answer_runs.proofs.answers.base
+pub use Rattle.sb_answer_runs.proofs.answers.generator
+pub use Rattle.sb_answer_runs.proofs.answers.checkpoint
+pub use Rattle.sb_answer_runs.proofs.answers.told
+pub use Rattle.sb_answer_runs.proofs.answers
+pub use Rattle.sb_answer_runs.proofs as answer_runs

@@ -1,28 +1,28 @@
 -- Why a run behind a checkpoint is done if nothing fails.
 use Rattle.std.proofs.Common.{inl, inr, ◌≡◌, ◌<◌, ℕ, List, Option, Some, length, refl, sym, ap, subst, subst₂, arith, ◌∙◌}
 use Rattle.std.specs.Io.KnownBytes.{prepend_known}
-use Rattle.sb_answers.specs.base.records.declared.intake.Refusal.{Refusal}
-use Rattle.sb_answers.specs.base.records.declared.intake.Stop.TheVariants.{Refused}
-use Rattle.sb_answers.specs.outside.Folders.{Files}
-use Rattle.sb_answers.specs.base.pipeline.Shapes.{Shape}
-use Rattle.sb_answers.specs.checkpoint.Checkpoints.{with_comments}
-use Rattle.sb_answers.specs.checkpoint.Texts.{IsFaultAt, IsRead, items_text, pieces}
-use Rattle.sb_answers.proofs.checkpoint.ReadOrFaulty.{read-or_faulty}
-use Rattle.sb_answers.specs.one_feed.Given.{Given, stop_at}
-use Rattle.sb_answers.specs.words.Words.Asked.{Resume}
-use Rattle.sb_answers.specs.words.declared.options.Options.{Options}
-use Rattle.sb_answers.specs.declared.ending.Ending.{Ending}
-use Rattle.sb_answers.specs.declared.limits.TheConstants.{MAX_CHECKPOINT_BYTES}
-use Rattle.sb_answers.specs.told.declared.status.Status.{Status}
-use Rattle.sb_answers.specs.told.declared.status.Status.TheVariants.{Done, Words, Plan, Line, Input, Output, Folder, Memory, Tap, Audit, FileTooLong, FileLine, Checkpoint}
-use Rattle.sb_answers.specs.Answers.{HasNoPlan, IsAnswer}
-use Rattle.sb_answers.specs.CheckpointFiles.{GivesCheckpoint, HasFaultyLine, IsTooLong, Said, TellsCheckpoint}
-use Rattle.sb_answers.specs.Courses.{rest_course}
-use Rattle.sb_answers.specs.Faults.{BlamesFile, Faults, HasCause, IsDoneOrMemory, NothingFailsBehind}
-use Rattle.sb_answers.specs.told.Outcomes.{IsNoTap}
-use Rattle.sb_answers.specs.Pipelines.{TellsCutPlan}
-use Rattle.sb_answers.proofs.Answering.{complete_for, no_fault_of_cut, not_blamed, same_plan}
-use Rattle.sb_answers.proofs.Blaming.{none_to_blame}
+use Rattle.sb_answer_runs.specs.answers.base.records.declared.intake.Refusal.{Refusal}
+use Rattle.sb_answer_runs.specs.answers.base.records.declared.intake.Stop.TheVariants.{Refused}
+use Rattle.sb_answer_runs.specs.answers.outside.Folders.{Files}
+use Rattle.sb_answer_runs.specs.answers.base.pipeline.Shapes.{Shape}
+use Rattle.sb_answer_runs.specs.answers.checkpoint.Checkpoints.{with_comments}
+use Rattle.sb_answer_runs.specs.answers.checkpoint.Texts.{IsFaultAt, IsRead, items_text, pieces}
+use Rattle.sb_answer_runs.proofs.answers.checkpoint.ReadOrFaulty.{read-or_faulty}
+use Rattle.sb_answer_runs.specs.answers.one_feed.Given.{Given, stop_at}
+use Rattle.sb_answer_runs.specs.answers.words.Words.Asked.{Resume}
+use Rattle.sb_answer_runs.specs.answers.words.declared.options.Options.{Options}
+use Rattle.sb_answer_runs.specs.answers.declared.ending.Ending.{Ending}
+use Rattle.sb_answer_runs.specs.answers.declared.limits.TheConstants.{MAX_CHECKPOINT_BYTES}
+use Rattle.sb_answer_runs.specs.answers.told.declared.status.Status.{Status}
+use Rattle.sb_answer_runs.specs.answers.told.declared.status.Status.TheVariants.{Done, Words, Plan, Line, Input, Output, Folder, Memory, Tap, Audit, FileTooLong, FileLine, Checkpoint}
+use Rattle.sb_answer_runs.specs.answers.Answers.{HasNoPlan, IsAnswer}
+use Rattle.sb_answer_runs.specs.answers.CheckpointFiles.{GivesCheckpoint, HasFaultyLine, IsTooLong, Said, TellsCheckpoint}
+use Rattle.sb_answer_runs.specs.answers.Courses.{rest_course}
+use Rattle.sb_answer_runs.specs.answers.Faults.{BlamesFile, Faults, HasCause, IsDoneOrMemory, NothingFailsBehind}
+use Rattle.sb_answer_runs.specs.answers.told.Outcomes.{IsNoTap}
+use Rattle.sb_answer_runs.specs.answers.Pipelines.{TellsCutPlan}
+use Rattle.sb_answer_runs.proofs.answers.Answering.{complete_for, no_fault_of_cut, not_blamed, same_plan}
+use Rattle.sb_answer_runs.proofs.answers.Blaming.{none_to_blame}
 
 -- a file has one text
 same_bytes : (folder : Option Files) (name : List ℕ) (files other : Files) (bytes more : List ℕ) → folder ≡ Some files → folder ≡ Some other → files name ≡ Some bytes → other name ≡ Some more → bytes ≡ more

@@ -3,27 +3,27 @@ use Rattle.std.proofs.Common.{◌≡◌, ℕ, false, not, List, [], Option, Resu
 use Rattle.std.specs.Prelude.{nat_lt}
 use Rattle.std.specs.Io.KnownBytes.{Keeps, prepend_known}
 use Rattle.std.proofs.lemmas.List.Elements.{filter-append}
-use Rattle.sb_answers.specs.base.records.declared.item.Dropped.{Dropped}
-use Rattle.sb_answers.specs.base.records.Records.{at_least}
-use Rattle.sb_answers.specs.outside.declared.sink.SinkFault.{SinkFault}
-use Rattle.sb_answers.specs.outside.declared.sink.SinkFault.TheVariants as fault
-use Rattle.sb_answers.specs.base.pipeline.Shapes.{Shape}
-use Rattle.sb_answers.specs.checkpoint.Ahead.{AllReadOrNoneOfTheSource}
-use Rattle.sb_answers.specs.checkpoint.Checkpoints.{with_comments}
-use Rattle.sb_answers.specs.checkpoint.Texts.{items_text}
-use Rattle.sb_answers.specs.run.engines.declared.run_end.RunEnd.{RunEnd}
-use Rattle.sb_answers.specs.run.engines.declared.run_end.RunEnd.TheVariants as run
-use Rattle.sb_answers.specs.run.engines.RunEnds.{Ends}
-use Rattle.sb_answers.specs.words.declared.options.Options.{Options}
-use Rattle.sb_answers.specs.told.declared.status.Status.{Status}
-use Rattle.sb_answers.specs.told.declared.status.Status.TheVariants.{Done, Words, Plan, Line, Input, Output, Folder, Memory, Tap, Audit, FileTooLong, FileLine, Checkpoint}
-use Rattle.sb_answers.specs.Answers.{IsAnswerBy, IsRestAnswer, Wrote, WrotePrefix, ending_of}
-use Rattle.sb_answers.specs.CheckpointFiles.{Said}
-use Rattle.sb_answers.specs.Courses.{rest_course}
-use Rattle.sb_answers.specs.told.Outcomes.{IsNoTap}
-use Rattle.sb_answers.specs.RunSteps.{diaries_told, sizes_from, status_after}
-use Rattle.sb_answers.proofs.Blaming.{none_stops}
-use Rattle.sb_answers.proofs.RunAnswers.{run_answer}
+use Rattle.sb_answer_runs.specs.answers.base.records.declared.item.Dropped.{Dropped}
+use Rattle.sb_answer_runs.specs.answers.base.records.Records.{at_least}
+use Rattle.sb_answer_runs.specs.answers.outside.declared.sink.SinkFault.{SinkFault}
+use Rattle.sb_answer_runs.specs.answers.outside.declared.sink.SinkFault.TheVariants as fault
+use Rattle.sb_answer_runs.specs.answers.base.pipeline.Shapes.{Shape}
+use Rattle.sb_answer_runs.specs.answers.checkpoint.Ahead.{AllReadOrNoneOfTheSource}
+use Rattle.sb_answer_runs.specs.answers.checkpoint.Checkpoints.{with_comments}
+use Rattle.sb_answer_runs.specs.answers.checkpoint.Texts.{items_text}
+use Rattle.sb_answer_runs.specs.answers.alone.declared.run_end.RunEnd.{RunEnd}
+use Rattle.sb_answer_runs.specs.answers.alone.declared.run_end.RunEnd.TheVariants as run
+use Rattle.sb_answer_runs.specs.answers.alone.RunEnds.{Ends}
+use Rattle.sb_answer_runs.specs.answers.words.declared.options.Options.{Options}
+use Rattle.sb_answer_runs.specs.answers.told.declared.status.Status.{Status}
+use Rattle.sb_answer_runs.specs.answers.told.declared.status.Status.TheVariants.{Done, Words, Plan, Line, Input, Output, Folder, Memory, Tap, Audit, FileTooLong, FileLine, Checkpoint}
+use Rattle.sb_answer_runs.specs.answers.Answers.{IsAnswerBy, IsRestAnswer, Wrote, WrotePrefix, ending_of}
+use Rattle.sb_answer_runs.specs.answers.CheckpointFiles.{Said}
+use Rattle.sb_answer_runs.specs.answers.Courses.{rest_course}
+use Rattle.sb_answer_runs.specs.answers.told.Outcomes.{IsNoTap}
+use Rattle.sb_answer_runs.specs.answers.RunSteps.{diaries_told, sizes_from, status_after}
+use Rattle.sb_answer_runs.proofs.answers.Blaming.{none_stops}
+use Rattle.sb_answer_runs.proofs.answers.RunAnswers.{run_answer}
 
 -- no diary is told if none is kept
 none_kept : (end : RunEnd) (status : Status) → diaries_told false end status ≡ []

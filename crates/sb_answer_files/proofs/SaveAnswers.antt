@@ -1,23 +1,22 @@
 -- From the checkpoint of a first part of an input to its answer.
 use Rattle.std.proofs.Common.{◌≡◌, ℕ, List, [], ◌++◌, Option, refl, sym, ap, subst, ◌∙◌}
-use Rattle.sb_answers.specs.base.records.declared.intake.Stop.{Stop}
-use Rattle.sb_answers.specs.base.records.declared.item.Dropped.{Dropped}
-use Rattle.sb_answers.specs.base.records.declared.item.Item.{Item}
-use Rattle.sb_answers.specs.base.pipeline.Shapes.{Shape}
-use Rattle.sb_answers.specs.checkpoint.declared.checkpoint.Checkpoint.{Checkpoint}
-use Rattle.sb_answers.specs.checkpoint.Keeping.{IsCheckpointOf}
-use Rattle.sb_answers.specs.checkpoint.Texts.{checkpoint_text}
-use Rattle.sb_answers.specs.cut.Parts.{part_items}
-use Rattle.sb_answers.specs.cut.Saves.{Saves, SavesNone}
-use Rattle.sb_answers.specs.one_feed.Given.{Given}
-use Rattle.sb_answers.specs.words.Options.{defaults}
-use Rattle.sb_answers.specs.told.declared.status.Status.{Status}
-use Rattle.sb_answers.specs.told.declared.status.Status.TheVariants.{Memory}
-use Rattle.sb_answers.specs.Answers.{HasWritten, IsAnswerBy, ending_of}
-use Rattle.sb_answers.specs.Courses.{Course, if_ended, save_course, saved_text}
+use Rattle.sb_answer_runs.specs.answers.base.records.declared.intake.Stop.{Stop}
+use Rattle.sb_answer_runs.specs.answers.base.records.declared.item.Dropped.{Dropped}
+use Rattle.sb_answer_runs.specs.answers.base.records.declared.item.Item.{Item}
+use Rattle.sb_answer_runs.specs.answers.base.pipeline.Shapes.{Shape}
+use Rattle.sb_answer_runs.specs.answers.checkpoint.declared.checkpoint.Checkpoint.{Checkpoint}
+use Rattle.sb_answer_runs.specs.answers.checkpoint.Keeping.{IsCheckpointOf}
+use Rattle.sb_answer_runs.specs.answers.checkpoint.Texts.{checkpoint_text}
+use Rattle.sb_answer_runs.specs.cut.Saves.{Saves, SavesNone}
+use Rattle.sb_answer_runs.specs.answers.one_feed.Given.{Given, part_items}
+use Rattle.sb_answer_runs.specs.answers.words.Options.{defaults}
+use Rattle.sb_answer_runs.specs.answers.told.declared.status.Status.{Status}
+use Rattle.sb_answer_runs.specs.answers.told.declared.status.Status.TheVariants.{Memory}
+use Rattle.sb_answer_runs.specs.answers.Answers.{HasWritten, IsAnswerBy, ending_of}
+use Rattle.sb_answer_runs.specs.answers.Courses.{Course, if_ended, save_course, saved_text}
 use Rattle.sb_answer_files.specs.CutSteps.{text_in}
-use Rattle.sb_answers.proofs.Answering.{nothing_printed, plain_answer}
-use Rattle.sb_answers.proofs.RunAnswers.{answers_some}
+use Rattle.sb_answer_runs.proofs.answers.Answering.{nothing_printed, plain_answer}
+use Rattle.sb_answer_runs.proofs.answers.RunAnswers.{answers_some}
 
 -- the text of a checkpoint of these items
 text_of_checkpoint : (plan : Shape) (items : List Item) (c : Checkpoint) → IsCheckpointOf plan items c → text_in c ≡ saved_text plan items

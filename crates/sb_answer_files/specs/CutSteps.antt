@@ -1,14 +1,14 @@
 -- From the end of a run over a first part of an input to its answer.
 use Rattle.std.specs.Prelude.{ℕ, List, Result, Ok, Err}
-use Rattle.sb_answers.specs.checkpoint.declared.checkpoint.Checkpoint.{Checkpoint}
-use Rattle.sb_answers.specs.checkpoint.Saved.{items_in}
-use Rattle.sb_answers.specs.checkpoint.Texts.{checkpoint_text}
-use Rattle.sb_answers.specs.outside.declared.sink.SinkFault.{SinkFault}
-use Rattle.sb_answers.specs.outside.declared.sink.SinkFault.TheVariants as fault
-use Rattle.sb_answers.specs.cut.declared.cut_end.CutEnd.{CutEnd}
-use Rattle.sb_answers.specs.cut.declared.cut_end.CutEnd.TheVariants as cut
-use Rattle.sb_answers.specs.told.declared.status.Status.{Status}
-use Rattle.sb_answers.specs.told.declared.status.Status.TheVariants.{Done, Line, Input, Output, Memory}
+use Rattle.sb_answer_runs.specs.answers.checkpoint.declared.checkpoint.Checkpoint.{Checkpoint}
+use Rattle.sb_answer_runs.specs.answers.checkpoint.Saved.{items_in}
+use Rattle.sb_answer_runs.specs.answers.checkpoint.Texts.{checkpoint_text}
+use Rattle.sb_answer_runs.specs.answers.outside.declared.sink.SinkFault.{SinkFault}
+use Rattle.sb_answer_runs.specs.answers.outside.declared.sink.SinkFault.TheVariants as fault
+use Rattle.sb_answer_runs.specs.cut.declared.cut_end.CutEnd.{CutEnd}
+use Rattle.sb_answer_runs.specs.cut.declared.cut_end.CutEnd.TheVariants as cut
+use Rattle.sb_answer_runs.specs.answers.told.declared.status.Status.{Status}
+use Rattle.sb_answer_runs.specs.answers.told.declared.status.Status.TheVariants.{Done, Line, Input, Output, Memory}
 
 -- the status of a run over a part whose rows were passed on
 abbrev pub status_of_cut : CutEnd → Status

@@ -2,30 +2,25 @@
 
 ghost use Rattle.std.specs.Prelude.{◌≡◌, false, List, OnOk, Ok, Err};
 ghost use Rattle.std.specs.Io.KnownBytes.{Keeps};
-ghost use Rattle.sb_answers.specs.outside.Folders.{Load};
-ghost use Rattle.sb_answers.specs.outside.Sinks.{SinkCause, WritesAll};
-ghost use Rattle.sb_answers.specs.outside.Sources.{Rose};
-ghost use Rattle.sb_answers.specs.checkpoint.Reach.{HasNoSession};
-ghost use Rattle.sb_answers.specs.run.engines.RunEnds as ends;
-ghost use Rattle.sb_answers.specs.cut.CutEnds as cuts;
-ghost use Rattle.sb_answers.specs.words.Options.{AreInRange, defaults};
-ghost use Rattle.sb_answers.specs.words.Words.Asked.{Part, Save};
-ghost use Rattle.sb_answers.specs.told.Outcomes.{HasPrinted, IsNoTap, IsRead, IsUnread, IsWritten};
-ghost use Rattle.sb_answers.specs.Answers.{HasWritten, IsAnswer, IsAnswerBy, Wrote, WrotePrefix};
-ghost use Rattle.sb_answers.specs.Courses.{if_ended, part_course, save_course};
+ghost use Rattle.sb_answer_runs.specs.answers.outside.Folders.{Load};
+ghost use Rattle.sb_answer_runs.specs.answers.outside.Sinks.{SinkCause, WritesAll};
+ghost use Rattle.sb_answer_runs.specs.answers.outside.Sources.{Rose};
+ghost use Rattle.sb_answer_runs.specs.answers.checkpoint.Reach.{HasNoSession};
+ghost use Rattle.sb_answer_runs.specs.answers.alone.RunEnds as ends;
+ghost use Rattle.sb_answer_runs.specs.cut.CutEnds as cuts;
+ghost use Rattle.sb_answer_runs.specs.answers.words.Options.{AreInRange, defaults};
+ghost use Rattle.sb_answer_runs.specs.answers.words.Words.Asked.{Part, Save};
+ghost use Rattle.sb_answer_runs.specs.answers.told.Outcomes.{HasPrinted, IsNoTap, IsRead, IsUnread, IsWritten};
+ghost use Rattle.sb_answer_runs.specs.answers.Answers.{HasWritten, IsAnswer, IsAnswerBy, Wrote, WrotePrefix};
+ghost use Rattle.sb_answer_runs.specs.answers.Courses.{if_ended, part_course, save_course};
 ghost use Rattle.sb_answer_files.specs.CutSteps.{status_after_cut, status_of_cut, text_in};
-ghost use Rattle.sb_answers.specs.Faults.{BlamesFile, HasCause, HidesNoFault, faults_of};
+ghost use Rattle.sb_answer_runs.specs.answers.Faults.{BlamesFile, HasCause, HidesNoFault, faults_of};
 
-use sb_answers::sb_base::{Dropped, NoMemory, Plan, Sequence, Stop};
-use sb_answers::sb_checkpoint::{Checkpoint, write_checkpoint};
-use sb_answers::sb_cut::{CutEnd, Saved, run_part, save};
-use sb_answers::sb_emit::Lent;
-use sb_answers::sb_outside::{Folder, Sink, SinkFault, Source};
-use sb_answers::sb_plan::PlanStop;
-use sb_answers::sb_run::Sizes;
-use sb_answers::sb_told::{LateRecords, Status};
-use sb_answers::sb_words::Options;
-use sb_answers::{Diaries, Ending, load_plan, plan_to_cut, sizes_of};
+use sb_answer_runs::{
+    Checkpoint, CutEnd, Diaries, Dropped, Ending, Folder, LateRecords, Lent, NoMemory, Options,
+    Plan, PlanStop, Saved, Sequence, Sink, SinkFault, Sizes, Source, Status, Stop, load_plan,
+    plan_to_cut, run_part, save, sizes_of, write_checkpoint,
+};
 use std::alloc::Global;
 use std::sync::Wait;
 use std::thread::Threads;

@@ -2,29 +2,25 @@
 
 ghost use Rattle.std.specs.Prelude.{◌≡◌, ◌≤◌, ◌<◌, ◌^◌, false, IsTrue, List, ℕ, length, map, Option, Err, OnOk};
 ghost use Rattle.std.specs.Io.KnownBytes.{Keeps};
-ghost use Rattle.sb_answers.specs.outside.Folders.{Load};
-ghost use Rattle.sb_answers.specs.outside.Sinks.{SinkCause};
-ghost use Rattle.sb_answers.specs.base.Inputs.{by_stream};
-ghost use Rattle.sb_answers.specs.run.engines.RunEnds as ends;
-ghost use Rattle.sb_answers.specs.run.files.TwoEnds.{TwoEnds, as_run};
-ghost use Rattle.sb_answers.specs.words.Options.{AreInRange};
-ghost use Rattle.sb_answers.specs.words.Words.Asked.{Feeds};
-ghost use Rattle.sb_answers.specs.Answers.{IsAnswer, IsAnswerToTwo, Wrote, WrotePrefix};
-ghost use Rattle.sb_answers.specs.told.Outcomes.{IsNoTap, IsRead, IsUnread};
-ghost use Rattle.sb_answers.specs.Faults.{BlamesFile, HasCause, HidesNoFault, faults_of};
-ghost use Rattle.sb_answers.specs.FileSteps.{status_after_two, status_of_two};
-ghost use Rattle.sb_answers.specs.Offered.{BlamesTap, IsOfferedOfBytes, IsOffered};
-ghost use Rattle.sb_answers.specs.RunSteps.{CanTellAt, diaries_told};
+ghost use Rattle.sb_answer_runs.specs.answers.outside.Folders.{Load};
+ghost use Rattle.sb_answer_runs.specs.answers.outside.Sinks.{SinkCause};
+ghost use Rattle.sb_answer_runs.specs.answers.base.Inputs.{by_stream};
+ghost use Rattle.sb_answer_runs.specs.answers.alone.RunEnds as ends;
+ghost use Rattle.sb_answer_runs.specs.run.files.TwoEnds.{TwoEnds, as_run};
+ghost use Rattle.sb_answer_runs.specs.answers.words.Options.{AreInRange};
+ghost use Rattle.sb_answer_runs.specs.answers.words.Words.Asked.{Feeds};
+ghost use Rattle.sb_answer_runs.specs.answers.Answers.{IsAnswer, IsAnswerToTwo, Wrote, WrotePrefix};
+ghost use Rattle.sb_answer_runs.specs.answers.told.Outcomes.{IsNoTap, IsRead, IsUnread};
+ghost use Rattle.sb_answer_runs.specs.answers.Faults.{BlamesFile, HasCause, HidesNoFault, faults_of};
+ghost use Rattle.sb_answer_runs.specs.answers.FileSteps.{status_after_two, status_of_two};
+ghost use Rattle.sb_answer_runs.specs.answers.Offered.{BlamesTap, IsOfferedOfBytes, IsOffered};
+ghost use Rattle.sb_answer_runs.specs.answers.RunSteps.{CanTellAt, diaries_told};
 
-use sb_answers::sb_base::{Dropped, Plan, Sequence};
-use sb_answers::sb_emit::{Lent, Tap};
-use sb_answers::sb_outside::{Folder, Sink, SinkFault};
-use sb_answers::sb_plan::PlanStop;
-use sb_answers::sb_run::{ByStream, MAX_FILE_LENGTH, Sizes, Team, TwoEnd, execute_two};
-use sb_answers::sb_told::{LateRecords, Status};
-use sb_answers::sb_words::Options;
-use sb_answers::sb_work::OpenGate;
-use sb_answers::{Diaries, Ending, load_both, load_plan, sizes_of};
+use sb_answer_runs::{
+    ByStream, Diaries, Dropped, Ending, Folder, LateRecords, Lent, MAX_FILE_LENGTH, OpenGate,
+    Options, Plan, PlanStop, Sequence, Sink, SinkFault, Sizes, Status, Tap, Team, TwoEnd,
+    execute_two, load_both, load_plan, sizes_of,
+};
 use std::sync::Wait;
 use std::thread::Threads;
 use std::time::Clock;

@@ -11,7 +11,8 @@ pub use feeds::answer_feeds;
 pub use resuming::answer_resume;
 
 // What the crates above name of the crates below.
-pub use sb_answers;
-pub use sb_answers::{
-    sb_base, sb_emit, sb_generator, sb_live, sb_outside, sb_run, sb_slow, sb_told, sb_words,
+pub use sb_answer_runs::{
+    ByStream, Ending, LateRecords, MAX_CHECKPOINT_BYTES, Request, RunEnd, Sizes, Status, Tap,
+    WORK_WINDOW, answer_audit, answer_file, answer_slow, answer_sum, answer_watch, answer_work,
+    note_of, run,
 };

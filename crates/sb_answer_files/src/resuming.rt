@@ -2,31 +2,24 @@
 
 ghost use Rattle.std.specs.Prelude.{◌≡◌, ◌≤◌, false, List, ℕ, [], length, Err};
 ghost use Rattle.std.specs.Io.KnownBytes.{prepend_known};
-ghost use Rattle.sb_answers.specs.base.records.Records.{at_least};
-ghost use Rattle.sb_answers.specs.outside.Folders.{Load};
-ghost use Rattle.sb_answers.specs.checkpoint.Ahead.{AllReadOrNoneOfTheSource};
-ghost use Rattle.sb_answers.specs.checkpoint.Checkpoints.{with_comments};
-ghost use Rattle.sb_answers.specs.checkpoint.Saved.{items_in};
-ghost use Rattle.sb_answers.specs.checkpoint.Texts.{items_text};
-ghost use Rattle.sb_answers.specs.run.engines.RunEnds as ends;
-ghost use Rattle.sb_answers.specs.words.Options.{AreInRange};
-ghost use Rattle.sb_answers.specs.words.Words.Asked.{Resume};
-ghost use Rattle.sb_answers.specs.Answers.{IsAnswer, IsRestAnswer, Wrote, WrotePrefix};
-ghost use Rattle.sb_answers.specs.told.Outcomes.{IsNoTap, IsRead, IsUnread};
-ghost use Rattle.sb_answers.specs.Faults.{BlamesFile, HasCause, HidesNoFault, faults_of};
-ghost use Rattle.sb_answers.specs.RestSteps.{said_by};
+ghost use Rattle.sb_answer_runs.specs.answers.base.records.Records.{at_least};
+ghost use Rattle.sb_answer_runs.specs.answers.outside.Folders.{Load};
+ghost use Rattle.sb_answer_runs.specs.answers.checkpoint.Ahead.{AllReadOrNoneOfTheSource};
+ghost use Rattle.sb_answer_runs.specs.answers.checkpoint.Checkpoints.{with_comments};
+ghost use Rattle.sb_answer_runs.specs.answers.checkpoint.Saved.{items_in};
+ghost use Rattle.sb_answer_runs.specs.answers.checkpoint.Texts.{items_text};
+ghost use Rattle.sb_answer_runs.specs.answers.alone.RunEnds as ends;
+ghost use Rattle.sb_answer_runs.specs.answers.words.Options.{AreInRange};
+ghost use Rattle.sb_answer_runs.specs.answers.words.Words.Asked.{Resume};
+ghost use Rattle.sb_answer_runs.specs.answers.Answers.{IsAnswer, IsRestAnswer, Wrote, WrotePrefix};
+ghost use Rattle.sb_answer_runs.specs.answers.told.Outcomes.{IsNoTap, IsRead, IsUnread};
+ghost use Rattle.sb_answer_runs.specs.answers.Faults.{BlamesFile, HasCause, HidesNoFault, faults_of};
+ghost use Rattle.sb_answer_runs.specs.answers.RestSteps.{said_by};
 
-use sb_answers::sb_base::{Dropped, Plan, Sequence};
-use sb_answers::sb_checkpoint::{Checkpoint, RowsFrom};
-use sb_answers::sb_cut::run_rest;
-use sb_answers::sb_emit::Lent;
-use sb_answers::sb_outside::{Folder, Sink, Source};
-use sb_answers::sb_plan::PlanStop;
-use sb_answers::sb_run::{RunEnd, Sizes};
-use sb_answers::sb_told::{LateRecords, Status};
-use sb_answers::sb_words::Options;
-use sb_answers::{
-    Diaries, Ending, finish_after, load_checkpoint, plan_to_cut, sizes_of, status_behind,
+use sb_answer_runs::{
+    Checkpoint, Diaries, Dropped, Ending, Folder, LateRecords, Lent, Options, Plan, PlanStop,
+    RowsFrom, RunEnd, Sequence, Sink, Sizes, Source, Status, finish_after, load_checkpoint,
+    plan_to_cut, run_rest, sizes_of, status_behind,
 };
 use std::sync::Wait;
 use std::thread::Threads;

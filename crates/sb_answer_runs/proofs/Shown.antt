@@ -24,12 +24,12 @@ use Rattle.sb_answers.specs.live.Lasts.{last_if_any, last_of}
 use Rattle.sb_answers.specs.live.Naming.{key_named}
 use Rattle.sb_answers.specs.live.Rising.{RiseFrom, next_in}
 use Rattle.sb_answers.specs.live.Showings.{Showing, ShowsAll, ShowsSome, ShownRows, counts_of}
-use Rattle.sb_answers.proofs.live.Earlier.{never_refused, rows_fold}
-use Rattle.sb_answers.proofs.live.Rises.{first_sorted_rise}
-use Rattle.sb_answers.specs.run.engines.RunEnds.{Ends, EndsAt, EndsEarly, OutputCause}
-use Rattle.sb_answers.specs.run.engines.declared.run_end.RunEnd.{RunEnd}
-use Rattle.sb_answers.specs.run.engines.declared.run_end.RunEnd.TheVariants as run
-use Rattle.sb_answers.specs.run.engines.declared.sizes.Sizes.{Sizes}
+use Rattle.sb_answers.proofs.live_table.Earlier.{never_refused, rows_fold}
+use Rattle.sb_answers.proofs.live_table.Rises.{first_sorted_rise}
+use Rattle.sb_answers.specs.alone.RunEnds.{Ends, EndsAt, EndsEarly, OutputCause}
+use Rattle.sb_answers.specs.alone.declared.run_end.RunEnd.{RunEnd}
+use Rattle.sb_answers.specs.alone.declared.run_end.RunEnd.TheVariants as run
+use Rattle.sb_answers.specs.alone.declared.sizes.Sizes.{Sizes}
 use Rattle.sb_answer_runs.specs.declared.watched.Watched.{Watched}
 use Rattle.sb_answer_runs.specs.Watches.{Tells, Watches}
 

@@ -12,10 +12,10 @@ use Rattle.sb_answers.specs.one_feed.Given.{Given, accepted_of, items_of, stop_a
 use Rattle.sb_answers.specs.generator.Generated.{generated_items, generated_text}
 use Rattle.sb_answers.specs.generator.Laws.{AreAccepted}
 use Rattle.sb_answers.proofs.generator.Acceptance.{text_accepted}
-use Rattle.sb_answers.specs.run.engines.declared.run_end.RunEnd.{RunEnd}
-use Rattle.sb_answers.specs.run.engines.declared.run_end.RunEnd.TheVariants.{Done, Refused, Input, Output, Tap, Memory}
-use Rattle.sb_answers.specs.run.engines.declared.sizes.Sizes.{Sizes}
-use Rattle.sb_answers.specs.run.engines.RunEnds.{Ends, OutputCause, SharedInputCause}
+use Rattle.sb_answers.specs.alone.declared.run_end.RunEnd.{RunEnd}
+use Rattle.sb_answers.specs.alone.declared.run_end.RunEnd.TheVariants.{Done, Refused, Input, Output, Tap, Memory}
+use Rattle.sb_answers.specs.alone.declared.sizes.Sizes.{Sizes}
+use Rattle.sb_answers.specs.alone.RunEnds.{Ends, OutputCause, SharedInputCause}
 use Rattle.sb_answers.specs.words.Words.{IsAmount}
 use Rattle.sb_answers.specs.declared.limits.TheConstants.{WORK_WINDOW}
 use Rattle.sb_answers.specs.Pipelines.{all_rows}

@@ -8,7 +8,7 @@ use Rattle.sb_answers.specs.live.Naming.{key_named}
 use Rattle.sb_answers.specs.one_feed.Due.{AreFirstDropped, due_rows}
 use Rattle.sb_answers.specs.one_feed.Given.{Given, items_of, stop_at}
 use Rattle.sb_answers.specs.one_feed.Reads.{FaultCause}
-use Rattle.sb_answers.specs.run.engines.RunEnds.{MayHaveFailed}
+use Rattle.sb_answers.specs.alone.RunEnds.{MayHaveFailed}
 use Rattle.sb_answer_runs.specs.declared.watched.Watched.{Watched}
 
 -- told are where reading stopped, and the last row of the key that the text names among the rows that are due there;

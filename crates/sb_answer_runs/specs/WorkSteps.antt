@@ -1,8 +1,8 @@
 -- From the end of a run over the records that are made to its summary.
 use Rattle.std.specs.Prelude.{ℕ, ⊤}
 use Rattle.sb_answers.specs.emit.Summaries.{Adds, Sums}
-use Rattle.sb_answers.specs.run.engines.declared.run_end.RunEnd.{RunEnd}
-use Rattle.sb_answers.specs.run.engines.declared.run_end.RunEnd.TheVariants.{Done, Refused, Input, Output, Tap, Memory}
+use Rattle.sb_answers.specs.alone.declared.run_end.RunEnd.{RunEnd}
+use Rattle.sb_answers.specs.alone.declared.run_end.RunEnd.TheVariants.{Done, Refused, Input, Output, Tap, Memory}
 use Rattle.sb_answers.specs.Summaries.{work_rows}
 
 -- a run that is done has added the numbers of all rows over the records that are made, and none but one without memory

@@ -14,13 +14,10 @@ ghost use Rattle.sb_answers.specs.Offered.{BlamesTap, IsOffered, IsOfferedOf};
 
 use crate::engine::answer_run;
 use crate::plain::answer_plain;
-use sb_answers::sb_base::{NoMemory, Plan, sum_plan};
-use sb_answers::sb_emit::Tap;
-use sb_answers::sb_outside::{Folder, Sink, Source};
-use sb_answers::sb_plan::PlanStop;
-use sb_answers::sb_told::Status;
-use sb_answers::sb_words::Options;
-use sb_answers::{Ending, load_plan};
+use sb_answers::{
+    Ending, Folder, NoMemory, Options, Plan, PlanStop, Sink, Source, Status, Tap, load_plan,
+    sum_plan,
+};
 use std::alloc::Global;
 use std::sync::Wait;
 use std::thread::Threads;

@@ -6,9 +6,7 @@ ghost use Rattle.sb_answers.specs.Answers.{IsAuditAnswer};
 ghost use Rattle.sb_answers.specs.told.Outcomes.{IsNoTap, IsRead};
 ghost use Rattle.sb_answers.specs.Faults.{HasCause, HidesNoFault, faults_of};
 
-use sb_answers::Ending;
-use sb_answers::sb_outside::{Sink, Source};
-use sb_answers::sb_told::{DiaryHalt, Status, audit_line, print, read_diary};
+use sb_answers::{DiaryHalt, Ending, Sink, Source, Status, audit_line, print, read_diary};
 use std::alloc::Global;
 
 /// Answers with what a diary text says.

@@ -2,7 +2,7 @@
 
 ghost use Rattle.std.specs.Prelude.{◌≡◌, ◌<◌, ◌^◌, ◌⊎◌, false, IsTrue, List, ℕ, length, map};
 ghost use Rattle.sb_answers.specs.outside.Folders.{Load};
-ghost use Rattle.sb_answers.specs.run.engines.RunEnds as ends;
+ghost use Rattle.sb_answers.specs.alone.RunEnds as ends;
 ghost use Rattle.sb_answers.specs.words.Options.{AreInRange};
 ghost use Rattle.sb_answers.specs.Answers.{IsAnswerOf, Wrote, WroteAllDue, WrotePrefix};
 ghost use Rattle.sb_answers.specs.told.Outcomes.{IsNoTap, IsRead};
@@ -11,13 +11,11 @@ ghost use Rattle.sb_answers.specs.Faults.{HasCause, HidesNoFault, faults_of};
 ghost use Rattle.sb_answers.specs.Offered.{BlamesTap, IsOfferedOf};
 ghost use Rattle.sb_answers.specs.RunSteps.{CanTellAt, diaries_told};
 
-use sb_answers::sb_base::{Dropped, Plan, Sequence};
-use sb_answers::sb_emit::{Lent, Tap};
-use sb_answers::sb_outside::{Sink, Source};
-use sb_answers::sb_run::{RunEnd, Sizes, run};
-use sb_answers::sb_told::{LateRecords, Status};
-use sb_answers::sb_words::Options;
-use sb_answers::{Diaries, Ending, finish_after, sizes_of, status_behind};
+use sb_answers::{
+    Diaries, Dropped, Ending, LateRecords, Lent, Options, Plan, Sequence, Sink, Source, Status,
+    Tap, finish_after, sizes_of, status_behind,
+};
+use sb_cut::{RunEnd, Sizes, run};
 use std::sync::Wait;
 use std::thread::Threads;
 use std::time::Clock;

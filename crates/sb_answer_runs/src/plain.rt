@@ -10,11 +10,10 @@ ghost use Rattle.sb_answers.specs.Answers.{HasWritten, IsAnswerOf};
 ghost use Rattle.sb_answers.specs.told.Outcomes.{IsNoTap, IsRead, IsWritten};
 ghost use Rattle.sb_answers.specs.Faults.{HasCause, HidesNoFault, faults_of};
 
-use sb_answers::sb_base::{END_MARK, NoMemory, Plan, Record, Stop};
-use sb_answers::sb_outside::{Sink, SinkFault, Source};
-use sb_answers::sb_slow::rows_of_streams;
-use sb_answers::sb_told::{Input, Kept, LateRecords, Status, read_input, write_rows};
-use sb_answers::{Diaries, Ending};
+use sb_answers::{
+    Diaries, END_MARK, Ending, Input, Kept, LateRecords, NoMemory, Plan, Record, Sink, SinkFault,
+    Source, Status, Stop, read_input, rows_of_streams, write_rows,
+};
 use std::alloc::Global;
 
 /// Answers with the rows of a plan.

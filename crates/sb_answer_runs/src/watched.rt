@@ -3,13 +3,13 @@
 ghost use Rattle.std.specs.Prelude.{◌≡◌, IfOk};
 ghost use Rattle.sb_answers.specs.live.Changes.{rows_in};
 ghost use Rattle.sb_answers.specs.live.Lasts as spec;
-ghost use Rattle.sb_answers.specs.run.engines.RunEnds.{AreSizes};
+ghost use Rattle.sb_answers.specs.alone.RunEnds.{AreSizes};
 ghost use Rattle.sb_answer_runs.specs.Watches.{WatchCause, Watches};
 
-use sb_answers::sb_base::{Dropped, Key, NoMemory, Plan, Record, Stop};
-use sb_answers::sb_live::{LiveOut, LiveRows, key_named, live};
-use sb_answers::sb_outside::Source;
-use sb_answers::sb_run::{RunEnd, Sizes, run};
+use sb_answers::{
+    Dropped, Key, LiveOut, LiveRows, NoMemory, Plan, Record, Source, Stop, key_named, live,
+};
+use sb_cut::{RunEnd, Sizes, run};
 use std::sync::Wait;
 use std::thread::Threads;
 use std::time::Clock;

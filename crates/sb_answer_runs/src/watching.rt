@@ -13,12 +13,10 @@ ghost use Rattle.sb_answers.specs.Faults.{BlamesFile, HasCause, HidesNoFault, fa
 
 use crate::plain::write_due;
 use crate::watched::{Watched, watch};
-use sb_answers::sb_base::{END_MARK, NoMemory, Plan, Sequence, Stop};
-use sb_answers::sb_outside::{Folder, Sink, Source};
-use sb_answers::sb_plan::PlanStop;
-use sb_answers::sb_told::{LateRecords, Status};
-use sb_answers::sb_words::Options;
-use sb_answers::{Diaries, Ending, load_plan, sizes_of};
+use sb_answers::{
+    Diaries, END_MARK, Ending, Folder, LateRecords, NoMemory, Options, Plan, PlanStop, Sequence,
+    Sink, Source, Status, Stop, load_plan, sizes_of,
+};
 use std::sync::Wait;
 use std::thread::Threads;
 use std::time::Clock;

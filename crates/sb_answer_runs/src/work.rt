@@ -6,7 +6,7 @@
 ghost use Rattle.std.specs.Prelude.{◌≡◌, ℕ, List, IfOk};
 ghost use Rattle.sb_answers.specs.outside.Folders.{Load};
 ghost use Rattle.sb_answers.specs.base.pipeline.Shapes.{sum_shape};
-ghost use Rattle.sb_answers.specs.run.engines.RunEnds as ends;
+ghost use Rattle.sb_answers.specs.alone.RunEnds as ends;
 ghost use Rattle.sb_answers.specs.words.Options.{AreInRange};
 ghost use Rattle.sb_answers.specs.words.Words.{IsAmount};
 ghost use Rattle.sb_answers.specs.told.Outcomes.{IsNoTap, IsRead};
@@ -15,14 +15,11 @@ ghost use Rattle.sb_answers.specs.Faults.{HasCause, HidesNoFault, faults_of};
 ghost use Rattle.sb_answers.specs.Summaries.{summary_text, sums_text, work_rows};
 ghost use Rattle.sb_answer_runs.specs.WorkSteps.{SumsWork};
 
-use sb_answers::sb_base::{NoMemory, Plan, sum_plan};
-use sb_answers::sb_emit::Summary;
-use sb_answers::sb_generator::GenSource;
-use sb_answers::sb_outside::Sink;
-use sb_answers::sb_run::{RunEnd, Sizes, run};
-use sb_answers::sb_told::{Note, Status, print};
-use sb_answers::sb_words::Options;
-use sb_answers::{Ending, WORK_WINDOW, sizes_of};
+use sb_answers::{
+    Ending, GenSource, NoMemory, Note, Options, Plan, Sink, Status, Summary, WORK_WINDOW, print,
+    sizes_of, sum_plan,
+};
+use sb_cut::{RunEnd, Sizes, run};
 use std::sync::Wait;
 use std::thread::Threads;
 use std::time::Clock;

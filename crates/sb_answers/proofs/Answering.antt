@@ -2,29 +2,29 @@
 use Rattle.std.proofs.Common.{true, false, inl, inr, ◌≡◌, ℕ, List, [], ◌∷◌, ◌++◌, length, Option, Some, Ok, Err, slice_get, refl, sym, ap, subst, ◌∙◌, arith, append-nil, length-append}
 use Rattle.std.specs.Prelude.{All}
 use Rattle.std.proofs.KnownBytes.{Appends-nil, Consumes-nil}
-use Rattle.sb_cut.specs.base.records.declared.item.Dropped.{Dropped}
-use Rattle.sb_cut.specs.base.records.declared.item.Item.{Item}
-use Rattle.sb_cut.specs.base.records.declared.item.Record.{Record}
-use Rattle.sb_cut.specs.base.records.declared.intake.Refusal.{Refusal}
-use Rattle.sb_cut.specs.base.records.declared.intake.Stop.{Stop}
-use Rattle.sb_cut.specs.base.records.declared.intake.Stop.TheVariants.{Refused}
-use Rattle.sb_cut.specs.base.records.Records.{sorted_records, before}
-use Rattle.sb_cut.specs.base.records.Rows.{text_of}
-use Rattle.sb_cut.specs.base.records.declared.item.Stream.{Stream}
-use Rattle.sb_cut.specs.base.records.declared.item.Stream.TheVariants.{A, B}
-use Rattle.sb_cut.specs.base.records.Streams.{dropped_of, low_watermark, records_of}
-use Rattle.sb_cut.specs.base.pipeline.Shapes.{Shape, streams_of}
-use Rattle.sb_cut.specs.base.pipeline.declared.transform.Step.{Step}
-use Rattle.sb_cut.proofs.base.pipeline.Steps.{All-at}
-use Rattle.sb_cut.specs.checkpoint.Reach.{HasNoSession, is_session}
+use Rattle.sb_alone.specs.base.records.declared.item.Dropped.{Dropped}
+use Rattle.sb_alone.specs.base.records.declared.item.Item.{Item}
+use Rattle.sb_alone.specs.base.records.declared.item.Record.{Record}
+use Rattle.sb_alone.specs.base.records.declared.intake.Refusal.{Refusal}
+use Rattle.sb_alone.specs.base.records.declared.intake.Stop.{Stop}
+use Rattle.sb_alone.specs.base.records.declared.intake.Stop.TheVariants.{Refused}
+use Rattle.sb_alone.specs.base.records.Records.{sorted_records, before}
+use Rattle.sb_alone.specs.base.records.Rows.{text_of}
+use Rattle.sb_alone.specs.base.records.declared.item.Stream.{Stream}
+use Rattle.sb_alone.specs.base.records.declared.item.Stream.TheVariants.{A, B}
+use Rattle.sb_alone.specs.base.records.Streams.{dropped_of, low_watermark, records_of}
+use Rattle.sb_alone.specs.base.pipeline.Shapes.{Shape, streams_of}
+use Rattle.sb_alone.specs.base.pipeline.declared.transform.Step.{Step}
+use Rattle.sb_alone.proofs.base.pipeline.Steps.{All-at}
+use Rattle.sb_checkpoint.specs.Reach.{HasNoSession, is_session}
 use Rattle.sb_told.specs.plan.declared.fault.PlanFault.{PlanFault}
 use Rattle.sb_told.specs.plan.Failures.Failure.{Fails}
-use Rattle.sb_cut.specs.base.pipeline.Results.{output_of}
-use Rattle.sb_cut.specs.base.Inputs.{by_stream}
-use Rattle.sb_cut.specs.outside.Folders.{Files, Load}
-use Rattle.sb_cut.specs.outside.Sinks.{AppendsPrefix}
-use Rattle.sb_cut.specs.outside.Sources.{Rose}
-use Rattle.sb_cut.proofs.outside.Appending.{prefix_of_more}
+use Rattle.sb_alone.specs.base.pipeline.Results.{output_of}
+use Rattle.sb_alone.specs.base.Inputs.{by_stream}
+use Rattle.sb_alone.specs.outside.Folders.{Files, Load}
+use Rattle.sb_alone.specs.outside.Sinks.{AppendsPrefix}
+use Rattle.sb_alone.specs.outside.Sources.{Rose}
+use Rattle.sb_alone.proofs.outside.Appending.{prefix_of_more}
 use Rattle.sb_answers.specs.declared.ending.Ending.{Ending}
 use Rattle.sb_told.specs.declared.late.LateRecords.TheVariants.{OfInput}
 use Rattle.sb_told.specs.declared.status.Status.{Status}
@@ -32,14 +32,14 @@ use Rattle.sb_told.specs.declared.status.Status.TheVariants.{Done, Words, Plan, 
 use Rattle.sb_words.specs.Words.{Asked, Asked as ask}
 use Rattle.sb_words.specs.Words.Asked.{Sum, Run, Slow, Work, Watch, Feeds, Part, Save, Resume}
 use Rattle.sb_words.specs.declared.options.Options.{Options}
-use Rattle.sb_cut.specs.emit.Taps.{TapState}
-use Rattle.sb_cut.specs.one_feed.Due.{due_mark, due_rows, streams_in}
+use Rattle.sb_alone.specs.emit.Taps.{TapState}
+use Rattle.sb_alone.specs.one_feed.Due.{due_mark, due_rows, streams_in}
 use Rattle.sb_answers.specs.Courses.{Course, course_in}
 use Rattle.sb_answers.specs.Offered.{BlamesTap, IsOfferedOf}
 use Rattle.sb_answers.specs.Pipelines.{GivesPlan, IsFaultOfCut, IsPlanFor, TellsCutPlan, TellsPlan, TellsPlanIn, all_rows}
 use Rattle.sb_answers.specs.Summaries.{summary_text, work_rows}
 use Rattle.sb_answers.specs.Told.{AreToldIf, TellsDiaries}
-use Rattle.sb_cut.specs.one_feed.Given.{Given, items_of, lines_of}
+use Rattle.sb_alone.specs.one_feed.Given.{Given, items_of, lines_of}
 use Rattle.sb_answers.specs.Answers.{ending_of, ending_with, HasWritten, ListsDropped, WrotePrefix, HasNoPlan, IsAnswer, IsAnswerBy, IsAnswerOf, IsAuditAnswer, IsPlanAnswer, HasAudited}
 use Rattle.sb_told.specs.Outcomes.{HasPrinted}
 use Rattle.sb_answers.specs.Faults.{BlamesFile, Faults, HasCause, IsDoneOrMemory, NothingFails, NothingFailsInAudit}

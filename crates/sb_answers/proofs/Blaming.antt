@@ -1,12 +1,12 @@
 -- Which tap has failed: one of those that were handed in.
 use Rattle.std.proofs.Common.{◌≡◌, ℕ, ◌≤◌, Bool, true, false, cond, Option, List, [], ◌∷◌, ◌++◌, refl, ap, subst, arith}
 use Rattle.std.specs.List.{AllZip, filter}
-use Rattle.sb_cut.specs.base.records.declared.item.Record.{Record}
-use Rattle.sb_cut.specs.base.records.declared.item.Stream.{Stream}
-use Rattle.sb_cut.specs.outside.Sources.{Rose}
-use Rattle.sb_cut.specs.emit.Taps.{TapState}
-use Rattle.sb_cut.specs.one_feed.TapLists.{SawRows, StopsIn, stays_for}
-use Rattle.sb_cut.specs.base.pipeline.Shapes.{Shape}
+use Rattle.sb_alone.specs.base.records.declared.item.Record.{Record}
+use Rattle.sb_alone.specs.base.records.declared.item.Stream.{Stream}
+use Rattle.sb_alone.specs.outside.Sources.{Rose}
+use Rattle.sb_alone.specs.emit.Taps.{TapState}
+use Rattle.sb_alone.specs.one_feed.TapLists.{SawRows, StopsIn, stays_for}
+use Rattle.sb_alone.specs.base.pipeline.Shapes.{Shape}
 use Rattle.sb_told.specs.declared.status.Status.{Status}
 use Rattle.sb_told.specs.declared.status.Status.TheVariants.{Done, Words, Plan, Line, Input, Output, Folder, Memory, Tap, Audit, FileTooLong, FileLine, Checkpoint}
 use Rattle.sb_answers.specs.Offered.{BlamesTap, HasOfferedOfFiles, IsOfferedOf}

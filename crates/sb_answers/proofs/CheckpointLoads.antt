@@ -2,9 +2,9 @@
 use Rattle.std.proofs.Common.{◌≡◌, ◌≤◌, ◌<◌, ◌+◌, ℕ, List, take, Option, Some, length, ap, subst, arith, ◌∙◌}
 use Rattle.std.specs.Prelude.{min}
 use Rattle.std.proofs.lemmas.List.{length-take, take_all}
-use Rattle.sb_cut.specs.outside.Folders.{Files, IsFile}
-use Rattle.sb_cut.specs.base.pipeline.Shapes.{Shape}
-use Rattle.sb_cut.specs.checkpoint.Texts.{IsFaultAt, IsRead, pieces}
+use Rattle.sb_alone.specs.outside.Folders.{Files, IsFile}
+use Rattle.sb_alone.specs.base.pipeline.Shapes.{Shape}
+use Rattle.sb_checkpoint.specs.Texts.{IsFaultAt, IsRead, pieces}
 use Rattle.sb_answers.specs.declared.limits.TheConstants.{MAX_CHECKPOINT_BYTES}
 use Rattle.sb_told.specs.declared.status.Status.{Status}
 use Rattle.sb_told.specs.declared.status.Status.TheVariants.{Done, Words, Plan, Line, Input, Output, Folder, Memory, Tap, Audit, FileTooLong, FileLine, Checkpoint}

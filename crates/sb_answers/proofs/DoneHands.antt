@@ -3,16 +3,16 @@ use Rattle.std.proofs.Common.{◌≡◌, ℕ, ◌+◌, Bool, true, false, List, 
 use Rattle.std.specs.Option.{option_map}
 use Rattle.std.proofs.lemmas.Option.{same_Some, slice_get-map}
 use Rattle.std.proofs.lemmas.List.{length-map}
-use Rattle.sb_cut.specs.base.records.declared.item.Item.{Item}
-use Rattle.sb_cut.specs.base.pipeline.Operators.{operator_of}
-use Rattle.sb_cut.specs.base.pipeline.Operators.Operator.{Sink}
-use Rattle.sb_cut.specs.base.pipeline.Shapes.{Shape}
-use Rattle.sb_cut.specs.base.pipeline.declared.transform.Step.{Step}
-use Rattle.sb_cut.specs.hand.Hands.{HandView}
-use Rattle.sb_cut.specs.hand.Showing.{Settings, diaries_of, settings_at, settings_for}
-use Rattle.sb_cut.specs.run.engines.declared.run_end.RunEnd.{RunEnd}
-use Rattle.sb_cut.specs.run.engines.declared.run_end.RunEnd.TheVariants as run
-use Rattle.sb_cut.specs.run.engines.RunEnds.{IsDoneHand}
+use Rattle.sb_alone.specs.base.records.declared.item.Item.{Item}
+use Rattle.sb_alone.specs.base.pipeline.Operators.{operator_of}
+use Rattle.sb_alone.specs.base.pipeline.Operators.Operator.{Sink}
+use Rattle.sb_alone.specs.base.pipeline.Shapes.{Shape}
+use Rattle.sb_alone.specs.base.pipeline.declared.transform.Step.{Step}
+use Rattle.sb_alone.specs.hand.Hands.{HandView}
+use Rattle.sb_alone.specs.hand.Showing.{Settings, diaries_of, settings_at, settings_for}
+use Rattle.sb_alone.specs.declared.run_end.RunEnd.{RunEnd}
+use Rattle.sb_alone.specs.declared.run_end.RunEnd.TheVariants as run
+use Rattle.sb_alone.specs.RunEnds.{IsDoneHand}
 use Rattle.sb_words.specs.declared.options.Options.{Options}
 use Rattle.sb_answers.specs.RunSteps.{CanTellAt, kept_at, sizes_from}
 use Rattle.sb_answers.specs.Telling.{diaries_of_hand}

@@ -2,8 +2,8 @@
 use Rattle.std.proofs.Common.{◌≡◌, ◌≤◌, ◌<◌, ◌+◌, ℕ, List, take, Option, Some, inl, inr, length, sym, ap, subst, arith, ◌∙◌}
 use Rattle.std.specs.Prelude.{min}
 use Rattle.std.proofs.lemmas.List.{length-take, take_all}
-use Rattle.sb_cut.specs.outside.Folders.{Files, IsFile}
-use Rattle.sb_cut.specs.run.files.declared.limits.TheConstants.{MAX_FILE_LENGTH}
+use Rattle.sb_alone.specs.outside.Folders.{Files, IsFile}
+use Rattle.sb_alone.specs.feeds.declared.limits.TheConstants.{MAX_FILE_LENGTH}
 use Rattle.sb_told.specs.declared.status.Status.{Status}
 use Rattle.sb_told.specs.declared.status.Status.TheVariants.{Done, Words, Plan, Line, Input, Output, Folder, Memory, Tap, Audit, FileTooLong, FileLine, Checkpoint}
 use Rattle.sb_answers.specs.FileSteps.{HasNoBytes, HaveNoBytes}

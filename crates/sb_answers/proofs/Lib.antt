@@ -9,10 +9,10 @@ pub mod Sessions
 pub mod DoneHands
 pub mod RunAnswers
 pub mod RunFaults
-pub use Rattle.sb_cut.proofs.outside
-pub use Rattle.sb_live.proofs as live
-pub use Rattle.sb_cut.proofs.base
-pub use Rattle.sb_cut.proofs.run
+pub use Rattle.sb_alone.proofs.outside
+pub use Rattle.sb_live.proofs as live_table
+pub use Rattle.sb_alone.proofs.base
+pub use Rattle.sb_alone.proofs as alone
 pub use Rattle.sb_generator.proofs as generator
-pub use Rattle.sb_cut.proofs.checkpoint
+pub use Rattle.sb_checkpoint.proofs as checkpoint
 pub use Rattle.sb_told.proofs as told

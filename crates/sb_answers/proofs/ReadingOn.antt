@@ -1,7 +1,7 @@
 -- That reading stops at a failed write, said of what the words ask for.
 use Rattle.std.proofs.Common.{◌≡◌, ◌⊎◌, inl, inr, ℕ, List, Option, subst}
-use Rattle.sb_cut.specs.outside.Folders.{Files}
-use Rattle.sb_cut.specs.base.pipeline.Shapes.{Shape}
+use Rattle.sb_alone.specs.outside.Folders.{Files}
+use Rattle.sb_alone.specs.base.pipeline.Shapes.{Shape}
 use Rattle.sb_words.specs.Words.{Asked}
 use Rattle.sb_answers.specs.Answers.{ReadsNoMore, WroteAllDue}
 use Rattle.sb_answers.specs.Courses.{course_in}

@@ -1,32 +1,32 @@
 -- From how a run of the engine ended to its answer.
 use Rattle.std.proofs.Common.{◌≡◌, ◌⊎◌, inl, inr, ℕ, ◌≤◌, List, [], ◌++◌, Option, Result, Ok, Err, refl, sym, ap, subst, ◌∙◌, arith, append-nil}
 use Rattle.std.specs.Io.KnownBytes.{Appends, Keeps}
-use Rattle.sb_cut.specs.base.records.declared.intake.Stop.{Stop}
-use Rattle.sb_cut.specs.base.records.declared.intake.Stop.TheVariants as at
-use Rattle.sb_cut.specs.base.records.declared.item.Dropped.{Dropped}
-use Rattle.sb_cut.specs.base.records.declared.item.Item.{Item}
-use Rattle.sb_cut.specs.base.records.declared.item.Record.{Record}
-use Rattle.sb_cut.specs.base.records.declared.item.TheConstants.{END_MARK}
-use Rattle.sb_cut.specs.base.records.Rows.{text_of}
-use Rattle.sb_cut.specs.base.records.Streams.{low_watermark}
-use Rattle.sb_cut.proofs.base.records.Earlier.{sorted_before-front}
-use Rattle.sb_cut.proofs.base.records.InputLemmas.{accepted-in_range, low_watermark-in_range}
-use Rattle.sb_cut.specs.outside.Lines.{lines}
-use Rattle.sb_cut.specs.outside.Sinks.{AppendsPrefix}
-use Rattle.sb_cut.proofs.outside.Appending.{appends_kept}
-use Rattle.sb_cut.specs.outside.declared.sink.SinkFault.{SinkFault}
-use Rattle.sb_cut.specs.outside.declared.sink.SinkFault.TheVariants as fault
-use Rattle.sb_cut.specs.base.pipeline.Results.{output_of}
-use Rattle.sb_cut.specs.base.pipeline.Shapes.{Shape, streams_of}
-use Rattle.sb_cut.specs.checkpoint.Laws.{accepted_in}
-use Rattle.sb_cut.specs.emit.Taps.{TapState}
-use Rattle.sb_cut.specs.emit.TextLaws.{part_of_more}
-use Rattle.sb_cut.specs.one_feed.Due.{AreFirstDropped, AreFirstRows, due_rows, rows_below, streams_in}
-use Rattle.sb_cut.specs.one_feed.Given.{Given, items_of, stop_at}
-use Rattle.sb_cut.specs.one_feed.TapLists.{LeavesThoseThatStay}
-use Rattle.sb_cut.specs.run.engines.declared.run_end.RunEnd.{RunEnd}
-use Rattle.sb_cut.specs.run.engines.declared.run_end.RunEnd.TheVariants as run
-use Rattle.sb_cut.specs.run.engines.RunEnds.{Ends, EndsAt, EndsEarly, InputCause}
+use Rattle.sb_alone.specs.base.records.declared.intake.Stop.{Stop}
+use Rattle.sb_alone.specs.base.records.declared.intake.Stop.TheVariants as at
+use Rattle.sb_alone.specs.base.records.declared.item.Dropped.{Dropped}
+use Rattle.sb_alone.specs.base.records.declared.item.Item.{Item}
+use Rattle.sb_alone.specs.base.records.declared.item.Record.{Record}
+use Rattle.sb_alone.specs.base.records.declared.item.TheConstants.{END_MARK}
+use Rattle.sb_alone.specs.base.records.Rows.{text_of}
+use Rattle.sb_alone.specs.base.records.Streams.{low_watermark}
+use Rattle.sb_alone.proofs.base.records.Earlier.{sorted_before-front}
+use Rattle.sb_alone.proofs.base.records.InputLemmas.{accepted-in_range, low_watermark-in_range}
+use Rattle.sb_alone.specs.outside.Lines.{lines}
+use Rattle.sb_alone.specs.outside.Sinks.{AppendsPrefix}
+use Rattle.sb_alone.proofs.outside.Appending.{appends_kept}
+use Rattle.sb_alone.specs.outside.declared.sink.SinkFault.{SinkFault}
+use Rattle.sb_alone.specs.outside.declared.sink.SinkFault.TheVariants as fault
+use Rattle.sb_alone.specs.base.pipeline.Results.{output_of}
+use Rattle.sb_alone.specs.base.pipeline.Shapes.{Shape, streams_of}
+use Rattle.sb_checkpoint.specs.Laws.{accepted_in}
+use Rattle.sb_alone.specs.emit.Taps.{TapState}
+use Rattle.sb_alone.specs.emit.TextLaws.{part_of_more}
+use Rattle.sb_alone.specs.one_feed.Due.{AreFirstDropped, AreFirstRows, due_rows, rows_below, streams_in}
+use Rattle.sb_alone.specs.one_feed.Given.{Given, items_of, stop_at}
+use Rattle.sb_alone.specs.one_feed.TapLists.{LeavesThoseThatStay}
+use Rattle.sb_alone.specs.declared.run_end.RunEnd.{RunEnd}
+use Rattle.sb_alone.specs.declared.run_end.RunEnd.TheVariants as run
+use Rattle.sb_alone.specs.RunEnds.{Ends, EndsAt, EndsEarly, InputCause}
 use Rattle.sb_words.specs.declared.options.Options.{Options}
 use Rattle.sb_told.specs.declared.status.Status.{Status}
 use Rattle.sb_told.specs.declared.status.Status.TheVariants.{Done, Words, Plan, Line, Input, Output, Folder, Memory, Tap, Audit, FileTooLong, FileLine, Checkpoint}

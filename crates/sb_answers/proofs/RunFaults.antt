@@ -1,14 +1,14 @@
 -- The faults that a run of the engine tells.
 use Rattle.std.proofs.Common.{◌≡◌, ℕ, ◌≤◌, Bool, true, false, List, Result, Ok, Err, refl, ◌∙◌, arith}
 use Rattle.std.specs.Prelude.{OnOk}
-use Rattle.sb_cut.specs.outside.Folders.{Load}
-use Rattle.sb_cut.specs.outside.Sinks.{SinkCause, SinkState}
-use Rattle.sb_cut.specs.outside.Sources.{Rose}
-use Rattle.sb_cut.specs.outside.declared.sink.SinkFault.{SinkFault}
-use Rattle.sb_cut.specs.outside.declared.sink.SinkFault.TheVariants as fault
-use Rattle.sb_cut.specs.run.engines.declared.run_end.RunEnd.{RunEnd}
-use Rattle.sb_cut.specs.run.engines.declared.run_end.RunEnd.TheVariants as run
-use Rattle.sb_cut.specs.run.engines.RunEnds.{InputCause, IsDone, IsWritten, OutputCause, SharedInputCause}
+use Rattle.sb_alone.specs.outside.Folders.{Load}
+use Rattle.sb_alone.specs.outside.Sinks.{SinkCause, SinkState}
+use Rattle.sb_alone.specs.outside.Sources.{Rose}
+use Rattle.sb_alone.specs.outside.declared.sink.SinkFault.{SinkFault}
+use Rattle.sb_alone.specs.outside.declared.sink.SinkFault.TheVariants as fault
+use Rattle.sb_alone.specs.declared.run_end.RunEnd.{RunEnd}
+use Rattle.sb_alone.specs.declared.run_end.RunEnd.TheVariants as run
+use Rattle.sb_alone.specs.RunEnds.{InputCause, IsDone, IsWritten, OutputCause, SharedInputCause}
 use Rattle.sb_answers.specs.Faults.{HasCause, HidesNoFault, faults_of}
 use Rattle.sb_told.specs.declared.status.Status.TheVariants.{Done, Tap}
 use Rattle.sb_answers.specs.RunSteps.{status_after}

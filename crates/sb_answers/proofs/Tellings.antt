@@ -9,19 +9,19 @@ use Rattle.std.proofs.lemmas.List.{drop_all}
 use Rattle.std.proofs.Math.Seq.{drop-cons}
 use Rattle.std.proofs.lemmas.List.Concat.{flat_map-append}
 use Rattle.std.proofs.lemmas.Option.{same_Some}
-use Rattle.sb_cut.specs.diary.Diaries.{Written}
-use Rattle.sb_cut.specs.node.declared.state.NodeState.{NodeState}
-use Rattle.sb_cut.specs.hand.Showing.{diaries_of}
-use Rattle.sb_cut.proofs.outside.Appending.{prefix_later, prefix_of_more}
-use Rattle.sb_cut.proofs.outside.SinkCauses.{calls_then, no_call}
-use Rattle.sb_cut.specs.outside.Sinks.{AppendsPrefix, SinkCause, SinkState}
-use Rattle.sb_cut.specs.diary.declared.event.DiaryEvent.{DiaryEvent}
-use Rattle.sb_cut.specs.diary.declared.text.DiaryLine.{DiaryLine}
-use Rattle.sb_cut.specs.diary.declared.text.DiaryLine.TheVariants.{Event}
-use Rattle.sb_cut.specs.diary.Texts.{lines_from, text_of}
-use Rattle.sb_cut.specs.base.pipeline.Operators.{lanes_of, operator_at}
-use Rattle.sb_cut.specs.base.pipeline.Shapes.{Shape}
-use Rattle.sb_cut.specs.tally.Written.{diary_at}
+use Rattle.sb_alone.specs.diary.Diaries.{Written}
+use Rattle.sb_alone.specs.node.declared.state.NodeState.{NodeState}
+use Rattle.sb_alone.specs.hand.Showing.{diaries_of}
+use Rattle.sb_alone.proofs.outside.Appending.{prefix_later, prefix_of_more}
+use Rattle.sb_alone.proofs.outside.SinkCauses.{calls_then, no_call}
+use Rattle.sb_alone.specs.outside.Sinks.{AppendsPrefix, SinkCause, SinkState}
+use Rattle.sb_alone.specs.diary.declared.event.DiaryEvent.{DiaryEvent}
+use Rattle.sb_alone.specs.diary.declared.text.DiaryLine.{DiaryLine}
+use Rattle.sb_alone.specs.diary.declared.text.DiaryLine.TheVariants.{Event}
+use Rattle.sb_alone.specs.diary.Texts.{lines_from, text_of}
+use Rattle.sb_alone.specs.base.pipeline.Operators.{lanes_of, operator_at}
+use Rattle.sb_alone.specs.base.pipeline.Shapes.{Shape}
+use Rattle.sb_alone.specs.tally.Written.{diary_at}
 use Rattle.sb_answers.specs.Told.{node_diaries}
 use Rattle.sb_answers.specs.Telling.{event_line, head_line}
 

@@ -1,7 +1,7 @@
 -- Which loads a plan file wants.
 use Rattle.std.proofs.Common.{◌≡◌, ℕ, ◌+◌, List, take, Option, inl, inr, refl, sym, ap, subst, ◌∙◌}
 use Rattle.std.specs.Prelude.{Result, Ok, Err}
-use Rattle.sb_cut.specs.outside.Folders.{Files, IsFile, Load, without}
+use Rattle.sb_alone.specs.outside.Folders.{Files, IsFile, Load, without}
 use Rattle.sb_told.specs.plan.declared.fault.PlanStop.{PlanStop}
 use Rattle.sb_told.specs.plan.declared.fault.PlanStop.TheVariants as stop
 use Rattle.sb_told.specs.plan.declared.TheConstants.{MAX_PLAN_BYTES}

@@ -1,38 +1,38 @@
 -- The answer to an input.
 use Rattle.std.specs.Prelude.{◌≡◌, ◌⊎◌, ℕ, Bool, true, false, List, [], Option, ⊤}
 use Rattle.std.specs.Io.KnownBytes.{Appends, prepend_known}
-use Rattle.sb_cut.specs.base.records.declared.intake.Stop.{Stop}
-use Rattle.sb_cut.specs.base.records.declared.intake.Stop.TheVariants.{End, Refused, Fault}
-use Rattle.sb_cut.specs.base.records.declared.item.Dropped.{Dropped}
-use Rattle.sb_cut.specs.base.records.declared.item.Item.{Item}
-use Rattle.sb_cut.specs.base.records.declared.item.Record.{Record}
-use Rattle.sb_cut.specs.base.records.declared.item.Stream.{Stream}
-use Rattle.sb_cut.specs.base.records.declared.item.Stream.TheVariants.{A, B}
-use Rattle.sb_cut.specs.base.records.Rows.{text_of}
-use Rattle.sb_cut.specs.base.records.Streams.{dropped_of}
-use Rattle.sb_cut.specs.base.pipeline.Shapes.{Shape}
-use Rattle.sb_cut.specs.outside.Sinks.{AppendsPrefix}
+use Rattle.sb_alone.specs.base.records.declared.intake.Stop.{Stop}
+use Rattle.sb_alone.specs.base.records.declared.intake.Stop.TheVariants.{End, Refused, Fault}
+use Rattle.sb_alone.specs.base.records.declared.item.Dropped.{Dropped}
+use Rattle.sb_alone.specs.base.records.declared.item.Item.{Item}
+use Rattle.sb_alone.specs.base.records.declared.item.Record.{Record}
+use Rattle.sb_alone.specs.base.records.declared.item.Stream.{Stream}
+use Rattle.sb_alone.specs.base.records.declared.item.Stream.TheVariants.{A, B}
+use Rattle.sb_alone.specs.base.records.Rows.{text_of}
+use Rattle.sb_alone.specs.base.records.Streams.{dropped_of}
+use Rattle.sb_alone.specs.base.pipeline.Shapes.{Shape}
+use Rattle.sb_alone.specs.outside.Sinks.{AppendsPrefix}
 use Rattle.sb_answers.specs.declared.ending.Ending.{Ending}
 use Rattle.sb_told.specs.declared.late.LateRecords.{LateRecords}
 use Rattle.sb_told.specs.declared.late.LateRecords.TheVariants.{OfInput, OfFiles}
 use Rattle.sb_told.specs.declared.status.Status.{Status}
 use Rattle.sb_told.specs.declared.status.Status.TheVariants.{Done, Words, Plan, Line, Input, Output, Folder, Memory, Tap, Audit, FileTooLong, FileLine, Checkpoint}
-use Rattle.sb_cut.specs.one_feed.Due.{AreFirstDropped, due_rows}
-use Rattle.sb_cut.specs.one_feed.Given.{Given, lines_of}
-use Rattle.sb_cut.specs.outside.Folders.{Files}
+use Rattle.sb_alone.specs.one_feed.Due.{AreFirstDropped, due_rows}
+use Rattle.sb_alone.specs.one_feed.Given.{Given, lines_of}
+use Rattle.sb_alone.specs.outside.Folders.{Files}
 use Rattle.sb_words.specs.Words.{Asked, Asked as ask}
-use Rattle.sb_cut.specs.run.files.Files.{IsFirstRefused, NoneRefused, items_of_file, items_of_files}
+use Rattle.sb_alone.specs.feeds.Files.{IsFirstRefused, NoneRefused, items_of_file, items_of_files}
 use Rattle.sb_words.specs.Words.Asked.{Sum, Run, Slow, Work, Watch, Feeds, Part, Save, Resume}
 use Rattle.sb_words.specs.declared.options.Options.{Options}
 use Rattle.sb_told.specs.DiaryReads.{IsRefusedAmong}
 use Rattle.sb_told.specs.Outcomes.{HasPrinted}
 use Rattle.sb_told.specs.Statuses.{audit_text}
 use Rattle.sb_answers.specs.Told.{TellsDiaries}
-use Rattle.sb_cut.specs.diary.Audits.{TextAudit, AreLegalTexts, first_text_audit, end_of}
-use Rattle.sb_cut.specs.diary.Texts.{NodeDiary}
-use Rattle.sb_cut.specs.checkpoint.Ahead.{AllReadOrNoneOfTheSource}
-use Rattle.sb_cut.specs.checkpoint.Checkpoints.{with_comments}
-use Rattle.sb_cut.specs.checkpoint.Texts.{items_text}
+use Rattle.sb_alone.specs.diary.Audits.{TextAudit, AreLegalTexts, first_text_audit, end_of}
+use Rattle.sb_alone.specs.diary.Texts.{NodeDiary}
+use Rattle.sb_checkpoint.specs.Ahead.{AllReadOrNoneOfTheSource}
+use Rattle.sb_checkpoint.specs.Checkpoints.{with_comments}
+use Rattle.sb_checkpoint.specs.Texts.{items_text}
 use Rattle.sb_answers.specs.CheckpointFiles.{GivesCheckpoint, HasFaultyLine, IsTooLong, Said}
 use Rattle.sb_answers.specs.Courses.{Course, course_in, rest_course, run_course}
 use Rattle.sb_answers.specs.Pipelines.{HasCutPlan, HasPlan, IsCutPlan, IsPlanFor, IsFaultFor, AsksForFile, all_rows, options_in}

@@ -1,9 +1,9 @@
 -- What is read in the file of a checkpoint.
 use Rattle.std.specs.Prelude.{◌≡◌, ◌≤◌, ◌<◌, ℕ, ◌+◌, List, Option, Some, length}
-use Rattle.sb_cut.specs.base.records.declared.item.Item.{Item}
-use Rattle.sb_cut.specs.outside.Folders.{Files, Load}
-use Rattle.sb_cut.specs.base.pipeline.Shapes.{Shape}
-use Rattle.sb_cut.specs.checkpoint.Texts.{IsFaultAt, IsRead, pieces}
+use Rattle.sb_alone.specs.base.records.declared.item.Item.{Item}
+use Rattle.sb_alone.specs.outside.Folders.{Files, Load}
+use Rattle.sb_alone.specs.base.pipeline.Shapes.{Shape}
+use Rattle.sb_checkpoint.specs.Texts.{IsFaultAt, IsRead, pieces}
 use Rattle.sb_answers.specs.declared.limits.TheConstants.{MAX_CHECKPOINT_BYTES}
 
 -- the load of the file: one byte more than it may have shows that it is too long

@@ -1,20 +1,19 @@
 -- What a run has to write of what its source gave.
 use Rattle.std.specs.Prelude.{ℕ, List, [], ◌∷◌, Option, Some, None, length}
-use Rattle.sb_cut.specs.base.records.declared.intake.Stop.{Stop}
-use Rattle.sb_cut.specs.base.records.declared.intake.Stop.TheVariants.{End, Refused, Fault}
-use Rattle.sb_cut.specs.base.records.declared.item.Item.{Item}
-use Rattle.sb_cut.specs.base.records.declared.item.Record.{Record}
-use Rattle.sb_cut.specs.base.records.Inputs.{stop_of}
-use Rattle.sb_cut.specs.base.records.Records.{at_least}
-use Rattle.sb_cut.specs.base.records.Rows.{text_of}
-use Rattle.sb_cut.specs.base.pipeline.Shapes.{Shape}
+use Rattle.sb_alone.specs.base.records.declared.intake.Stop.{Stop}
+use Rattle.sb_alone.specs.base.records.declared.intake.Stop.TheVariants.{End, Refused, Fault}
+use Rattle.sb_alone.specs.base.records.declared.item.Item.{Item}
+use Rattle.sb_alone.specs.base.records.declared.item.Record.{Record}
+use Rattle.sb_alone.specs.base.records.Inputs.{stop_of}
+use Rattle.sb_alone.specs.base.records.Records.{at_least}
+use Rattle.sb_alone.specs.base.records.Rows.{text_of}
+use Rattle.sb_alone.specs.base.pipeline.Shapes.{Shape}
 use Rattle.sb_live.specs.Lasts.{last_if_any}
 use Rattle.sb_live.specs.Naming.{key_named}
-use Rattle.sb_cut.specs.one_feed.Due.{due_rows, rows_below}
-use Rattle.sb_cut.specs.one_feed.Given.{Given, items_of, stop_at}
-use Rattle.sb_cut.specs.checkpoint.Checkpoints.{low_of, saved_items}
-use Rattle.sb_cut.specs.checkpoint.Texts.{checkpoint_text}
-use Rattle.sb_cut.specs.Parts.{part_accepted, part_items}
+use Rattle.sb_alone.specs.one_feed.Due.{due_rows, rows_below}
+use Rattle.sb_alone.specs.one_feed.Given.{Given, items_of, part_accepted, part_items, stop_at}
+use Rattle.sb_checkpoint.specs.Checkpoints.{low_of, saved_items}
+use Rattle.sb_checkpoint.specs.Texts.{checkpoint_text}
 use Rattle.sb_words.specs.Words.{Asked}
 use Rattle.sb_words.specs.Words.Asked.{Sum, Run, Slow, Audit, Work, Watch, Feeds, Part, Save, Resume}
 use Rattle.sb_answers.specs.Pipelines.{all_rows}

@@ -1,30 +1,30 @@
 -- The faults of what a run was handed, and which of them its status tells.
 use Rattle.std.specs.Prelude.{◌≡◌, ◌⊎◌, ◌+◌, ℕ, List, [], ◌∷◌, ◌++◌, take, Option, Some, Err, ⊤}
-use Rattle.sb_cut.specs.base.records.declared.intake.Refusal.{Refusal}
-use Rattle.sb_cut.specs.base.records.declared.intake.Stop.TheVariants.{Refused}
-use Rattle.sb_cut.specs.outside.Folders.{Files, Load, without}
-use Rattle.sb_cut.specs.outside.Sinks.{SinkState}
-use Rattle.sb_cut.specs.outside.Sources.{Rose}
-use Rattle.sb_cut.specs.base.pipeline.Shapes.{Shape}
+use Rattle.sb_alone.specs.base.records.declared.intake.Refusal.{Refusal}
+use Rattle.sb_alone.specs.base.records.declared.intake.Stop.TheVariants.{Refused}
+use Rattle.sb_alone.specs.outside.Folders.{Files, Load, without}
+use Rattle.sb_alone.specs.outside.Sinks.{SinkState}
+use Rattle.sb_alone.specs.outside.Sources.{Rose}
+use Rattle.sb_alone.specs.base.pipeline.Shapes.{Shape}
 use Rattle.sb_told.specs.plan.Failures.Failure.{NoFile}
 use Rattle.sb_told.specs.plan.PlanFiles.{plan_of}
 use Rattle.sb_told.specs.plan.declared.TheConstants.{MAX_PLAN_BYTES, MAX_TABLE_BYTES}
 use Rattle.sb_told.specs.declared.status.Status.{Status}
 use Rattle.sb_told.specs.declared.status.Status.TheVariants.{Done, Words, Plan, Line, Input, Output, Folder, Memory, Tap, Audit, FileTooLong, FileLine, Checkpoint}
-use Rattle.sb_cut.specs.diary.declared.audit.AuditFault.{AuditFault}
-use Rattle.sb_cut.specs.emit.Taps.{TapState}
+use Rattle.sb_alone.specs.diary.declared.audit.AuditFault.{AuditFault}
+use Rattle.sb_alone.specs.emit.Taps.{TapState}
 use Rattle.std.specs.Io.KnownBytes.{prepend_known}
-use Rattle.sb_cut.specs.checkpoint.Checkpoints.{with_comments}
-use Rattle.sb_cut.specs.checkpoint.Texts.{items_text}
+use Rattle.sb_checkpoint.specs.Checkpoints.{with_comments}
+use Rattle.sb_checkpoint.specs.Texts.{items_text}
 use Rattle.sb_answers.specs.CheckpointFiles.{Said, checkpoint_load}
 use Rattle.sb_answers.specs.Courses.{Course}
 use Rattle.sb_told.specs.DiaryReads.{IsRefusedAmong}
 use Rattle.sb_answers.specs.Offered.{BlamesTap}
 use Rattle.sb_answers.specs.Pipelines.{HasCutPlan, HasPlan}
 use Rattle.sb_answers.specs.RecordFiles.{IsLoadOfFile}
-use Rattle.sb_cut.specs.one_feed.Given.{Given, lines_of, stop_at}
-use Rattle.sb_cut.specs.base.records.declared.item.Stream.{Stream}
-use Rattle.sb_cut.specs.run.files.Files.{NoneRefused}
+use Rattle.sb_alone.specs.one_feed.Given.{Given, lines_of, stop_at}
+use Rattle.sb_alone.specs.base.records.declared.item.Stream.{Stream}
+use Rattle.sb_alone.specs.feeds.Files.{NoneRefused}
 use Rattle.sb_words.specs.Words.{Asked, Asked as ask}
 use Rattle.sb_words.specs.Words.Asked.{Sum, Run, Slow, Work, Watch, Feeds, Part, Save, Resume}
 

@@ -1,10 +1,10 @@
 -- From the end of a run over two files to its answer, and from a file to its bytes.
 use Rattle.std.specs.Prelude.{ℕ, List, Option, Result, Ok, Err, ⊤}
-use Rattle.sb_cut.specs.outside.declared.sink.SinkFault.{SinkFault}
-use Rattle.sb_cut.specs.outside.declared.sink.SinkFault.TheVariants as fault
-use Rattle.sb_cut.specs.outside.Folders.{Files}
-use Rattle.sb_cut.specs.run.files.declared.two_end.TwoEnd.{TwoEnd}
-use Rattle.sb_cut.specs.run.files.declared.two_end.TwoEnd.TheVariants as two
+use Rattle.sb_alone.specs.outside.declared.sink.SinkFault.{SinkFault}
+use Rattle.sb_alone.specs.outside.declared.sink.SinkFault.TheVariants as fault
+use Rattle.sb_alone.specs.outside.Folders.{Files}
+use Rattle.sb_alone.specs.declared.two_end.TwoEnd.{TwoEnd}
+use Rattle.sb_alone.specs.declared.two_end.TwoEnd.TheVariants as two
 use Rattle.sb_told.specs.declared.status.Status.{Status}
 use Rattle.sb_told.specs.declared.status.Status.TheVariants.{Done, Words, Plan, Line, Input, Output, Folder, Memory, Tap, Audit, FileTooLong, FileLine, Checkpoint}
 use Rattle.sb_answers.specs.RecordFiles.{HasLongFile, IsLong}

@@ -1,20 +1,20 @@
 -- What a run has written and what its taps were offered of the same, and which of them has failed.
 use Rattle.std.specs.Prelude.{◌≡◌, ◌⊎◌, ℕ, List, ◌∷◌, ◌++◌, Option, ⊤}
 use Rattle.std.specs.Io.KnownBytes.{Appends}
-use Rattle.sb_cut.specs.base.records.declared.intake.Stop.{Stop}
-use Rattle.sb_cut.specs.base.records.declared.intake.Stop.TheVariants.{End, Refused, Fault}
-use Rattle.sb_cut.specs.base.records.declared.item.Item.{Item}
-use Rattle.sb_cut.specs.base.records.declared.item.Record.{Record}
-use Rattle.sb_cut.specs.base.records.declared.item.Stream.{Stream}
-use Rattle.sb_cut.specs.base.records.Rows.{text_of}
-use Rattle.sb_cut.specs.outside.Folders.{Files}
-use Rattle.sb_cut.specs.outside.Sources.{Rose}
-use Rattle.sb_cut.specs.base.pipeline.Shapes.{Shape}
-use Rattle.sb_cut.specs.emit.Taps.{TapState}
-use Rattle.sb_cut.specs.one_feed.Due.{AreFirstRows, due_rows}
-use Rattle.sb_cut.specs.one_feed.Given.{Given, items_of, stop_at}
-use Rattle.sb_cut.specs.one_feed.TapLists.{LeavesThoseThatStay, SawRows, StopsIn}
-use Rattle.sb_cut.specs.run.files.Files.{IsFirstRefused, NoneRefused, items_of_files}
+use Rattle.sb_alone.specs.base.records.declared.intake.Stop.{Stop}
+use Rattle.sb_alone.specs.base.records.declared.intake.Stop.TheVariants.{End, Refused, Fault}
+use Rattle.sb_alone.specs.base.records.declared.item.Item.{Item}
+use Rattle.sb_alone.specs.base.records.declared.item.Record.{Record}
+use Rattle.sb_alone.specs.base.records.declared.item.Stream.{Stream}
+use Rattle.sb_alone.specs.base.records.Rows.{text_of}
+use Rattle.sb_alone.specs.outside.Folders.{Files}
+use Rattle.sb_alone.specs.outside.Sources.{Rose}
+use Rattle.sb_alone.specs.base.pipeline.Shapes.{Shape}
+use Rattle.sb_alone.specs.emit.Taps.{TapState}
+use Rattle.sb_alone.specs.one_feed.Due.{AreFirstRows, due_rows}
+use Rattle.sb_alone.specs.one_feed.Given.{Given, items_of, stop_at}
+use Rattle.sb_alone.specs.one_feed.TapLists.{LeavesThoseThatStay, SawRows, StopsIn}
+use Rattle.sb_alone.specs.feeds.Files.{IsFirstRefused, NoneRefused, items_of_files}
 use Rattle.sb_words.specs.Words.{Asked, Asked as ask}
 use Rattle.sb_words.specs.Words.Asked.{Sum, Run, Slow, Work, Watch, Feeds, Part, Save, Resume}
 use Rattle.sb_told.specs.declared.status.Status.{Status}

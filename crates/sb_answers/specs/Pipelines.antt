@@ -1,13 +1,13 @@
 -- What is asked of an input.
 use Rattle.std.specs.Prelude.{◌≡◌, ◌⊎◌, ℕ, ◌+◌, List, take, Option, Some, Result, Ok, Err}
-use Rattle.sb_cut.specs.base.records.declared.item.Item.{Item}
-use Rattle.sb_cut.specs.base.records.declared.item.Record.{Record}
-use Rattle.sb_cut.specs.base.records.declared.item.TheConstants.{END_MARK}
-use Rattle.sb_cut.specs.outside.Folders.{Files}
-use Rattle.sb_cut.specs.base.pipeline.Plans.{IsPlan}
-use Rattle.sb_cut.specs.base.pipeline.Shapes.{Shape, sum_shape}
-use Rattle.sb_cut.specs.one_feed.Due.{rows_below}
-use Rattle.sb_cut.specs.checkpoint.Reach.{HasNoSession, IsFirstSession}
+use Rattle.sb_alone.specs.base.records.declared.item.Item.{Item}
+use Rattle.sb_alone.specs.base.records.declared.item.Record.{Record}
+use Rattle.sb_alone.specs.base.records.declared.item.TheConstants.{END_MARK}
+use Rattle.sb_alone.specs.outside.Folders.{Files}
+use Rattle.sb_alone.specs.base.pipeline.Plans.{IsPlan}
+use Rattle.sb_alone.specs.base.pipeline.Shapes.{Shape, sum_shape}
+use Rattle.sb_alone.specs.one_feed.Due.{rows_below}
+use Rattle.sb_checkpoint.specs.Reach.{HasNoSession, IsFirstSession}
 use Rattle.sb_told.specs.plan.declared.fault.PlanCause.TheVariants.{HasSession}
 use Rattle.sb_told.specs.plan.declared.fault.PlanFault.{PlanFault}
 use Rattle.sb_told.specs.plan.declared.TheConstants.{MAX_PLAN_BYTES}

@@ -1,9 +1,9 @@
 -- What is read in the files of two streams.
 use Rattle.std.specs.Prelude.{◌≡◌, ◌≤◌, ◌<◌, ◌⊎◌, ℕ, ◌+◌, List, Option, Some, length}
-use Rattle.sb_cut.specs.base.records.declared.item.Stream.{Stream}
-use Rattle.sb_cut.specs.base.records.declared.item.Stream.TheVariants.{A, B}
-use Rattle.sb_cut.specs.outside.Folders.{Files, Load}
-use Rattle.sb_cut.specs.run.files.declared.limits.TheConstants.{MAX_FILE_LENGTH}
+use Rattle.sb_alone.specs.base.records.declared.item.Stream.{Stream}
+use Rattle.sb_alone.specs.base.records.declared.item.Stream.TheVariants.{A, B}
+use Rattle.sb_alone.specs.outside.Folders.{Files, Load}
+use Rattle.sb_alone.specs.feeds.declared.limits.TheConstants.{MAX_FILE_LENGTH}
 
 -- the load of a record file: one byte more than it may have shows that it is too long
 abbrev pub record_load : List ℕ → Load

@@ -1,10 +1,10 @@
 -- From the file of a checkpoint to what it says.
 use Rattle.std.specs.Prelude.{◌≤◌, ◌<◌, ℕ, List, Option, length, ⊤}
-use Rattle.sb_cut.specs.outside.Folders.{Files}
-use Rattle.sb_cut.specs.base.pipeline.Shapes.{Shape}
-use Rattle.sb_cut.specs.checkpoint.declared.checkpoint.Checkpoint.{Checkpoint}
-use Rattle.sb_cut.specs.checkpoint.Saved.{items_in}
-use Rattle.sb_cut.specs.checkpoint.Texts.{IsFaultAt, IsRead, pieces}
+use Rattle.sb_alone.specs.outside.Folders.{Files}
+use Rattle.sb_alone.specs.base.pipeline.Shapes.{Shape}
+use Rattle.sb_checkpoint.specs.declared.checkpoint.Checkpoint.{Checkpoint}
+use Rattle.sb_checkpoint.specs.Saved.{items_in}
+use Rattle.sb_checkpoint.specs.Texts.{IsFaultAt, IsRead, pieces}
 use Rattle.sb_answers.specs.declared.limits.TheConstants.{MAX_CHECKPOINT_BYTES}
 use Rattle.sb_told.specs.declared.status.Status.{Status}
 use Rattle.sb_told.specs.declared.status.Status.TheVariants.{Done, Words, Plan, Line, Input, Output, Folder, Memory, Tap, Audit, FileTooLong, FileLine, Checkpoint as Faulty}

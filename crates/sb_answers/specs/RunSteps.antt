@@ -1,11 +1,11 @@
 -- From the end of a run of the engine to its answer.
 use Rattle.std.specs.Prelude.{Bool, true, false, List, [], Result, Ok, Err, ⊤}
-use Rattle.sb_cut.specs.outside.declared.sink.SinkFault.{SinkFault}
-use Rattle.sb_cut.specs.outside.declared.sink.SinkFault.TheVariants as fault
-use Rattle.sb_cut.specs.diary.Texts.{NodeDiary}
-use Rattle.sb_cut.specs.run.engines.declared.run_end.RunEnd.{RunEnd}
-use Rattle.sb_cut.specs.run.engines.declared.run_end.RunEnd.TheVariants as run
-use Rattle.sb_cut.specs.run.engines.declared.sizes.Sizes.{Sizes}
+use Rattle.sb_alone.specs.outside.declared.sink.SinkFault.{SinkFault}
+use Rattle.sb_alone.specs.outside.declared.sink.SinkFault.TheVariants as fault
+use Rattle.sb_alone.specs.diary.Texts.{NodeDiary}
+use Rattle.sb_alone.specs.declared.run_end.RunEnd.{RunEnd}
+use Rattle.sb_alone.specs.declared.run_end.RunEnd.TheVariants as run
+use Rattle.sb_alone.specs.declared.sizes.Sizes.{Sizes}
 use Rattle.sb_words.specs.declared.options.Options.{Options}
 use Rattle.sb_told.specs.declared.status.Status.{Status}
 use Rattle.sb_told.specs.declared.status.Status.TheVariants.{Done, Words, Plan, Line, Input, Output, Folder, Memory, Tap, Audit, FileTooLong, FileLine, Checkpoint}

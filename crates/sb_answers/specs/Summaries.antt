@@ -2,9 +2,9 @@
 use Rattle.std.specs.Prelude.{ℕ, ◌%◌, ◌^◌, List, [], ◌∷◌, ◌++◌, length, sum_by, decimal, codes}
 use Rattle.std.specs.Fmt.{signed_decimal}
 use Rattle.std.specs.Int.{cast_signed, w64}
-use Rattle.sb_cut.specs.base.records.declared.item.Record.{Record}
-use Rattle.sb_cut.specs.base.pipeline.Shapes.{sum_shape}
-use Rattle.sb_cut.specs.emit.Summaries.{Sums, check_of, value_of}
+use Rattle.sb_alone.specs.base.records.declared.item.Record.{Record}
+use Rattle.sb_alone.specs.base.pipeline.Shapes.{sum_shape}
+use Rattle.sb_alone.specs.emit.Summaries.{Sums, check_of, value_of}
 use Rattle.sb_generator.specs.Generated.{generated_items}
 use Rattle.sb_answers.specs.declared.limits.TheConstants.{WORK_WINDOW}
 use Rattle.sb_answers.specs.Pipelines.{all_rows}

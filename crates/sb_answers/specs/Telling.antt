@@ -1,13 +1,13 @@
 -- A hand whose diaries can be told, and their text.
 use Rattle.std.specs.Prelude.{◌≡◌, ℕ, ◌+◌, true, List, [], ◌∷◌, ◌++◌, false, Option, Some, None, flat_map, length, slice_get}
-use Rattle.sb_cut.specs.diary.declared.event.DiaryEvent.{DiaryEvent}
-use Rattle.sb_cut.specs.diary.declared.text.DiaryLine.TheVariants.{Head, Event}
-use Rattle.sb_cut.specs.diary.Texts.{NodeDiary, text_of}
-use Rattle.sb_cut.specs.base.pipeline.Operators.{lanes_of, operator_at}
-use Rattle.sb_cut.specs.tally.Written.{diary_at}
-use Rattle.sb_cut.specs.node.declared.state.NodeState.{NodeState}
-use Rattle.sb_cut.specs.hand.Hands.{HandView}
-use Rattle.sb_cut.specs.hand.Showing.{diaries_of}
+use Rattle.sb_alone.specs.diary.declared.event.DiaryEvent.{DiaryEvent}
+use Rattle.sb_alone.specs.diary.declared.text.DiaryLine.TheVariants.{Head, Event}
+use Rattle.sb_alone.specs.diary.Texts.{NodeDiary, text_of}
+use Rattle.sb_alone.specs.base.pipeline.Operators.{lanes_of, operator_at}
+use Rattle.sb_alone.specs.tally.Written.{diary_at}
+use Rattle.sb_alone.specs.node.declared.state.NodeState.{NodeState}
+use Rattle.sb_alone.specs.hand.Hands.{HandView}
+use Rattle.sb_alone.specs.hand.Showing.{diaries_of}
 use Rattle.sb_answers.specs.Told.{node_diaries}
 
 -- the hand is not spent, and each diary has kept its lines

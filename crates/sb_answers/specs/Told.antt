@@ -1,14 +1,14 @@
 -- The diaries that a run tells.
 use Rattle.std.specs.Prelude.{◌≡◌, ◌≤◌, ℕ, ◌+◌, Bool, true, false, List, [], ◌∷◌, length, slice_get}
-use Rattle.sb_cut.specs.base.records.declared.item.Item.{Item}
-use Rattle.sb_cut.specs.base.pipeline.Operators.{lanes_of, operator_at}
-use Rattle.sb_cut.specs.base.pipeline.Shapes.{Shape}
-use Rattle.sb_cut.specs.diary.declared.event.DiaryEvent.{DiaryEvent}
-use Rattle.sb_cut.specs.diary.Legal.{IsLegal, IsSettled}
-use Rattle.sb_cut.specs.diary.Texts.{NodeDiary}
-use Rattle.sb_cut.specs.tally.Whole.{Tallies}
-use Rattle.sb_cut.specs.tally.Written.{diary_at}
-use Rattle.sb_cut.specs.one_feed.Calls.{calls_of}
+use Rattle.sb_alone.specs.base.records.declared.item.Item.{Item}
+use Rattle.sb_alone.specs.base.pipeline.Operators.{lanes_of, operator_at}
+use Rattle.sb_alone.specs.base.pipeline.Shapes.{Shape}
+use Rattle.sb_alone.specs.diary.declared.event.DiaryEvent.{DiaryEvent}
+use Rattle.sb_alone.specs.diary.Legal.{IsLegal, IsSettled}
+use Rattle.sb_alone.specs.diary.Texts.{NodeDiary}
+use Rattle.sb_alone.specs.tally.Whole.{Tallies}
+use Rattle.sb_alone.specs.tally.Written.{diary_at}
+use Rattle.sb_alone.specs.one_feed.Calls.{calls_of}
 use Rattle.sb_words.specs.declared.options.Options.{Options}
 use Rattle.sb_told.specs.declared.status.Status.{Status}
 use Rattle.sb_told.specs.declared.status.Status.TheVariants.{Done, Words, Plan, Line, Input, Output, Folder, Memory, Tap, Audit, FileTooLong, FileLine, Checkpoint}

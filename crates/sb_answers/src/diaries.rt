@@ -1,14 +1,11 @@
 //! The diaries that a run tells: its engine has them until they are written.
 
 ghost use Rattle.std.specs.Prelude.{◌≡◌, ◌≤◌, ◌∷◌, [], ◌++◌, OnOk, flat_map, length, slice_get};
-ghost use Rattle.sb_cut.specs.outside.Sinks.{SinkCause, WritesAll};
-ghost use Rattle.sb_cut.specs.diary.Texts.{diary_text, text_of};
+ghost use Rattle.sb_alone.specs.outside.Sinks.{SinkCause, WritesAll};
+ghost use Rattle.sb_alone.specs.diary.Texts.{diary_text, text_of};
 ghost use Rattle.sb_answers.specs.Telling.{CanTell, diaries_of_hand, event_line, head_line, node_text};
 
-use sb_cut::sb_run::sb_base::TextBuf;
-use sb_cut::sb_run::sb_diary::{DiaryEvent, DiaryLine, line_bytes};
-use sb_cut::sb_run::sb_hand::Hand;
-use sb_cut::sb_run::sb_outside::{Sink, SinkFault, write_all_of};
+use sb_alone::{DiaryEvent, DiaryLine, Hand, Sink, SinkFault, TextBuf, line_bytes, write_all_of};
 use sb_told::{BATCH, MAX_TEXT, make_room};
 use std::marker::Model;
 
@@ -20,7 +17,7 @@ pub struct Diaries {
 
 impl Model for Diaries {
     ghost use Rattle.std.specs.Prelude.{List, IfSome};
-    ghost use Rattle.sb_cut.specs.diary.Texts.{NodeDiary};
+    ghost use Rattle.sb_alone.specs.diary.Texts.{NodeDiary};
     ghost use Rattle.sb_answers.specs.Telling.{CanTell, diaries_in};
 
     ghost Value = { List NodeDiary };

@@ -14,11 +14,14 @@ pub use loading::{load_both, load_checkpoint, load_plan, plan_to_cut};
 pub use running::{finish_after, sizes_of, status_behind};
 
 // What the crates above name of the crates below.
-pub use sb_cut;
-pub use sb_cut::sb_run::{sb_base, sb_diary, sb_emit, sb_outside, sb_work};
-pub use sb_cut::{sb_checkpoint, sb_run};
-pub use sb_generator;
-pub use sb_live;
-pub use sb_told;
-pub use sb_told::{sb_plan, sb_slow};
-pub use sb_words;
+pub use sb_alone::{
+    Dropped, END_MARK, Folder, Key, Lent, NoMemory, OpenGate, Plan, Record, Sequence, Sink,
+    SinkFault, Source, Stop, Summary, Tap, sum_plan,
+};
+pub use sb_generator::GenSource;
+pub use sb_live::{LiveOut, LiveRows, key_named, live};
+pub use sb_told::{
+    DiaryHalt, Input, Kept, LateRecords, Note, PlanStop, Status, audit_line, note_of, print,
+    read_diary, read_input, rows_of_streams, write_rows,
+};
+pub use sb_words::{Options, Request};

@@ -1,28 +1,25 @@
 //! What is loaded from a folder: the plan in a file, the bytes of record files, a checkpoint.
 
 ghost use Rattle.std.specs.Prelude.{◌≡◌, ◌<◌, IfOk, Some, length, Ok, Err, ◌≢◌, ◌≤◌, ◌∷◌, ◌++◌, [], IfErr};
-ghost use Rattle.sb_cut.specs.outside.Folders.{Files, Load};
-ghost use Rattle.sb_cut.specs.base.pipeline.Plans.{IsPlan};
+ghost use Rattle.sb_alone.specs.outside.Folders.{Files, Load};
+ghost use Rattle.sb_alone.specs.base.pipeline.Plans.{IsPlan};
 ghost use Rattle.sb_told.specs.plan.PlanFiles.{AnswersPlan};
 ghost use Rattle.sb_told.specs.plan.Wants.{BlamesLoad};
 ghost use Rattle.sb_answers.specs.Faults.{IsWantedFor};
 ghost use Rattle.sb_answers.specs.Pipelines.{plan_in, GivesPlan, IsFaultOfCut};
 ghost use Rattle.sb_told.specs.plan.declared.fault.PlanFault.{PlanFault as APlanFault};
-ghost use Rattle.sb_cut.specs.checkpoint.Reach.{HasNoSession};
-ghost use Rattle.sb_cut.specs.base.Inputs.{by_stream};
+ghost use Rattle.sb_checkpoint.specs.Reach.{HasNoSession};
+ghost use Rattle.sb_alone.specs.base.Inputs.{by_stream};
 ghost use Rattle.sb_answers.specs.FileSteps.{HasNoBytes, HaveNoBytes};
 ghost use Rattle.sb_answers.specs.RecordFiles.{HasBytes, HaveBytes, IsLoadOfFile, record_load};
-ghost use Rattle.sb_cut.specs.checkpoint.Saved.{items_in};
+ghost use Rattle.sb_checkpoint.specs.Saved.{items_in};
 ghost use Rattle.sb_answers.specs.CheckpointFiles.{GivesCheckpoint, checkpoint_load};
 ghost use Rattle.sb_answers.specs.RestSteps.{HasNoCheckpoint, IsNoneIn, IsSaidIn, said_by};
 
 use crate::limits::MAX_CHECKPOINT_BYTES;
-use sb_cut::sb_checkpoint::{Checkpoint, CheckpointStop, first_session, read_checkpoint};
-use sb_cut::sb_run::sb_base::Plan;
-use sb_cut::sb_run::sb_outside::{Folder, FolderFault};
-use sb_cut::sb_run::{ByStream, MAX_FILE_LENGTH};
-use sb_told::Status;
-use sb_told::sb_plan::{MAX_PLAN_BYTES, PlanCause, PlanFault, PlanStop, plan_of};
+use sb_alone::{ByStream, Folder, FolderFault, MAX_FILE_LENGTH, Plan};
+use sb_checkpoint::{Checkpoint, CheckpointStop, first_session, read_checkpoint};
+use sb_told::{MAX_PLAN_BYTES, PlanCause, PlanFault, PlanStop, Status, plan_of};
 use std::alloc::Global;
 
 /// The plan in a file.

@@ -2,12 +2,11 @@
 
 ghost use Rattle.std.specs.Prelude.{◌≡◌, false, OnOk};
 ghost use Rattle.std.specs.Io.KnownBytes.{Keeps};
-ghost use Rattle.sb_cut.specs.outside.Sinks.{SinkCause};
-ghost use Rattle.sb_cut.specs.run.engines.RunEnds as ends;
+ghost use Rattle.sb_alone.specs.outside.Sinks.{SinkCause};
+ghost use Rattle.sb_alone.specs.RunEnds as ends;
 ghost use Rattle.sb_answers.specs.RunSteps.{sizes_from, status_after, status_at};
 
-use sb_cut::sb_run::sb_outside::{Sink, SinkFault};
-use sb_cut::sb_run::{RunEnd, Sizes};
+use sb_alone::{RunEnd, Sink, SinkFault, Sizes};
 use sb_told::Status;
 use sb_words::Options;
 

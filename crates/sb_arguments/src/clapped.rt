@@ -11,8 +11,7 @@ ghost use Rattle.sb_words.specs.Words.{Asked, IsCommand, asked_of};
 use crate::matched::request_of;
 use clap::error::ErrorKind;
 use clap::{Arg, ArgAction, Command, Error};
-use sb_words::Request;
-use sb_words::sb_record::NoMemory;
+use sb_words::{NoMemory, Request};
 use std::alloc::{AllocError, Global};
 
 /// An option with a value.

@@ -7,12 +7,9 @@ ghost use Rattle.sb_arguments.specs.Readings.{AreRead, IsFlag, IsRead, IsReadAs,
 ghost use Rattle.sb_words.specs.Words.{Asked, asked_of};
 
 use clap::ArgMatches;
-use sb_words::sb_bundle::MAX_BUNDLE;
-use sb_words::sb_generator::MAX_RECORDS;
-use sb_words::sb_window::MAX_SIZE;
 use sb_words::{
-    DEFAULT_BUNDLE, DEFAULT_PENDING, DEFAULT_WORKERS, MAX_PENDING, MAX_WORKERS, Options, Request,
-    read_amount, read_count,
+    DEFAULT_BUNDLE, DEFAULT_PENDING, DEFAULT_WORKERS, MAX_BUNDLE, MAX_PENDING, MAX_RECORDS,
+    MAX_SIZE, MAX_WORKERS, Options, Request, read_amount, read_count,
 };
 
 /// The text of an argument, if it has one.

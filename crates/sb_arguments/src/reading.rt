@@ -6,8 +6,7 @@ ghost use Rattle.sb_words.specs.Texts.{texts};
 ghost use Rattle.sb_words.specs.Words.{Asked, IsCommand, IsNoCommand, IsValid, asked_of};
 
 use crate::clapped::read_by_clap;
-use sb_words::sb_record::NoMemory;
-use sb_words::{Request, command_of};
+use sb_words::{NoMemory, Request, command_of};
 use std::alloc::Global;
 
 /// What the words ask for: none if they are no command. They are read with `clap`, and compared with the commands,

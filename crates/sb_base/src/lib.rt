@@ -7,21 +7,13 @@
 #![tactic(auto)]
 
 pub use sb_bundle::{Bundle, Cutter, MAX_BUNDLE};
-pub use sb_pipeline::sb_aggregate::{
-    Agg, AggPart, Aggregate, MAX_GAP, MAX_TOP, aggregated, part_of,
+pub use sb_pipeline::{
+    Agg, AggPart, Aggregate, BadWindow, Change, Combine, Down, Dropped, END_MARK, Ends, Field,
+    Grouping, Intake, Item, JoinKept, JoinPart, KeptRec, Key, KeyedWindow, Keys, Kind, LatePolicy,
+    MAX_ADDENDS, MAX_GAP, MAX_KEY, MAX_LINE_LENGTH, MAX_LINES, MAX_ROW_LENGTH, MAX_ROWS, MAX_SIZE,
+    MAX_TIME, MAX_TOP, MAX_TRANSFORMS, MAX_WINDOWS_OF_A_TIME, MAX_WORD_LENGTH, Malformed, NoMemory,
+    Op, Plan, Record, Refusal, RowBuf, RowFault, Sequence, Side, Step, Stop, Stream, Streams,
+    Table, TableFault, TableStop, Test, TextBuf, Trail, UsualRecord, Windows, Word, aggregated,
+    apply, is_valid, join_part_of, pair_values, part_of, read_line, read_number, row_bytes,
+    sum_plan,
 };
-pub use sb_pipeline::sb_join::{Combine, JoinKept, JoinPart, Side, join_part_of, pair_values};
-pub use sb_pipeline::sb_pardo::{
-    Change, Field, MAX_ADDENDS, MAX_ROWS, Op, RowFault, Table, TableFault, TableStop, Test, apply,
-    is_valid,
-};
-pub use sb_pipeline::sb_record::{
-    Dropped, END_MARK, Intake, Item, KeptRec, Key, Keys, LatePolicy, MAX_KEY, MAX_LINE_LENGTH,
-    MAX_LINES, MAX_ROW_LENGTH, MAX_TIME, MAX_WORD_LENGTH, Malformed, NoMemory, Record, Refusal,
-    RowBuf, Sequence, Stop, Stream, Streams, TextBuf, Trail, UsualRecord, Word, read_line,
-    read_number, row_bytes,
-};
-pub use sb_pipeline::sb_window::{
-    BadWindow, Ends, Grouping, KeyedWindow, MAX_SIZE, MAX_WINDOWS_OF_A_TIME, Windows,
-};
-pub use sb_pipeline::{Down, Kind, MAX_TRANSFORMS, Plan, Step, sum_plan};

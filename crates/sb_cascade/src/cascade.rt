@@ -9,10 +9,8 @@ ghost use Rattle.sb_shared.specs.Leavings.{Does, Looks};
 ghost use Rattle.sb_shared.specs.SharedNodes.{lines_of};
 ghost use Rattle.sb_shared.specs.Views.{after};
 
-use sb_hand::sb_base::Plan;
-use sb_hand::sb_node::NodeState;
-use sb_shared::sb_turn::{Guard, Pass, Turns};
-use sb_shared::{Change, Keeping, Setting};
+use sb_hand::{NodeState, Plan};
+use sb_shared::{Change, Guard, Keeping, Pass, Setting, Turns};
 use std::alloc::Global;
 use std::sync::Wait;
 use std::time::Duration;

@@ -13,11 +13,8 @@ ghost use Rattle.sb_shared.specs.declared.telling.Change.TheVariants as change;
 
 use crate::cascade::Cascade;
 use crate::pass::CascadePass;
-use sb_hand::sb_base::{Bundle, NoMemory, Record, Sequence};
-use sb_hand::sb_lane::NotYet;
-use sb_hand::sb_node::Closing;
-use sb_shared::sb_turn::Reason;
-use sb_shared::{BeginStop, Change};
+use sb_hand::{Bundle, Closing, NoMemory, NotYet, Record, Sequence};
+use sb_shared::{BeginStop, Change, Reason};
 use std::alloc::Global;
 use std::snapshot::Snapshot;
 use std::sync::Wait;

@@ -12,8 +12,7 @@ ghost use Rattle.sb_shared.specs.declared.telling.Change.TheVariants as change;
 
 use crate::cascade::Cascade;
 use crate::pass::CascadePass;
-use sb_hand::sb_base::{Bundle, NoMemory, Record, Sequence, Stream};
-use sb_hand::sb_lane::ArriveStop;
+use sb_hand::{ArriveStop, Bundle, NoMemory, Record, Sequence, Stream};
 use sb_shared::Change;
 use std::snapshot::Snapshot;
 use std::sync::Wait;

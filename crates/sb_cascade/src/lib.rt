@@ -21,6 +21,9 @@ pub use pass::CascadePass;
 pub use taking::TryTake;
 
 // What the crates above name of the crates below.
-pub use sb_hand;
-pub use sb_hand::{sb_base, sb_diary, sb_lane, sb_node, sb_work};
-pub use sb_shared::sb_turn;
+pub use sb_hand::{
+    ArriveStop, Claim, Closing, DiaryEvent, Did, Down, Dropped, END_MARK, Gate, Hand, Intake, Item,
+    Keys, LatePolicy, MAX_BUNDLE, MAX_LINES, MAX_TIME, NoMemory, OpenGate, Output, Plan, Receipt,
+    Record, Refusal, Stop, Stream, Streams, process,
+};
+pub use sb_shared::Reason;

@@ -19,11 +19,8 @@ ghost use Rattle.sb_shared.specs.Views.{first_hands, idle_hands, no_feed};
 
 use crate::cascade::Cascade;
 use crate::pass::CascadePass;
-use sb_hand::sb_base::{NoMemory, Record};
-use sb_hand::sb_node::NodeState;
-use sb_hand::{Hand, HandParts};
-use sb_shared::sb_turn::{Pass, Turns};
-use sb_shared::{Keeping, Setting, SharedNode};
+use sb_hand::{Hand, HandParts, NoMemory, NodeState, Record};
+use sb_shared::{Keeping, Pass, Setting, SharedNode, Turns};
 use std::alloc::Global;
 
 /// A pass that has nothing in hand.

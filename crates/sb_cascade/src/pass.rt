@@ -1,8 +1,7 @@
 //! The right to take steps in a cascade, and what goes with it.
 
-use sb_hand::sb_work::Claim;
-use sb_shared::Keeping;
-use sb_shared::sb_turn::Pass;
+use sb_hand::Claim;
+use sb_shared::{Keeping, Pass};
 
 /// The right of one worker to take steps in a cascade. It has at most one bundle or closing in hand.
 #[derive(Drop)]

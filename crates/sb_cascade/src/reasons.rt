@@ -10,7 +10,7 @@ ghost use Rattle.sb_shared.specs.Views.{hands_after_raise};
 
 use crate::cascade::Cascade;
 use crate::pass::CascadePass;
-use sb_shared::sb_turn::Reason;
+use sb_shared::Reason;
 use std::marker::Brand;
 
 impl Cascade {

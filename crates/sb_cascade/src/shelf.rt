@@ -9,7 +9,7 @@ ghost use Rattle.sb_cascade.specs.Shelving.{ClaimedOne, EndsWith, FoundNoneFree,
 
 use crate::cascade::Cascade;
 use crate::pass::CascadePass;
-use sb_hand::sb_work::Claim;
+use sb_hand::Claim;
 use sb_shared::Piece;
 use std::sync::Wait;
 

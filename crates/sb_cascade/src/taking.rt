@@ -10,9 +10,8 @@ ghost use Rattle.sb_hand.specs.work.declared.claim.Claim.{Claim as AClaim};
 
 use crate::cascade::Cascade;
 use crate::pass::CascadePass;
-use sb_hand::sb_work::Claim;
-use sb_shared::sb_turn::Guard;
-use sb_shared::{Change, Keeping, Taken};
+use sb_hand::Claim;
+use sb_shared::{Change, Guard, Keeping, Taken};
 use std::snapshot::Snapshot;
 use std::sync::Wait;
 

@@ -13,10 +13,8 @@ ghost use Rattle.sb_hand.specs.work.Processing.{IsPart};
 
 use crate::cascade::Cascade;
 use crate::pass::CascadePass;
-use sb_hand::sb_base::{Bundle, NoMemory, Record, Sequence};
-use sb_hand::sb_work::{Part, Receipt};
-use sb_shared::Change;
-use sb_shared::sb_turn::Reason;
+use sb_hand::{Bundle, NoMemory, Part, Receipt, Record, Sequence};
+use sb_shared::{Change, Reason};
 use std::snapshot::Snapshot;
 use std::sync::Wait;
 

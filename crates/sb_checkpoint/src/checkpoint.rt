@@ -8,8 +8,7 @@ ghost use Rattle.sb_checkpoint.specs.Keeping.{IsRecord};
 ghost use Rattle.sb_checkpoint.specs.Saved.{record_item, items_in};
 
 use crate::reaching::reach;
-use sb_pipeline::Plan;
-use sb_pipeline::sb_record::{Item, NoMemory, Record, Stream, Streams};
+use sb_pipeline::{Item, NoMemory, Plan, Record, Stream, Streams};
 use std::alloc::Global;
 
 /// A record, and the stream that it came by.

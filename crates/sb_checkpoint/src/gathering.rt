@@ -8,8 +8,7 @@ ghost use Rattle.sb_checkpoint.specs.Texts as spec;
 
 use crate::checkpoint::{Checkpoint, StreamRec, least};
 use crate::line_text::item_count;
-use sb_pipeline::Plan;
-use sb_pipeline::sb_record::{Item, MAX_LINES, NoMemory, Stream, Streams};
+use sb_pipeline::{Item, MAX_LINES, NoMemory, Plan, Stream, Streams};
 
 /// Whether the stream is one of these.
 fn uses(streams: Streams, stream: Stream) -> bool

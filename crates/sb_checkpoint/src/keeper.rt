@@ -12,8 +12,7 @@ ghost use Rattle.sb_checkpoint.specs.Keeping.{IsRecord};
 
 use crate::checkpoint::{Checkpoint, StreamRec, least, push};
 use crate::reaching::reach;
-use sb_pipeline::Plan;
-use sb_pipeline::sb_record::{Item, NoMemory, Stream, Streams};
+use sb_pipeline::{Item, NoMemory, Plan, Stream, Streams};
 use std::alloc::Global;
 use std::marker::Model;
 

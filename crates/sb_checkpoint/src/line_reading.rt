@@ -6,7 +6,7 @@ ghost use Rattle.std.specs.Prelude.{◌≡◌, ◌==◌, ◌↔◌, ◌++◌, �
 ghost use Rattle.std.specs.List.{position};
 ghost use Rattle.sb_checkpoint.specs.Texts as spec;
 
-use sb_pipeline::sb_record::TextBuf;
+use sb_pipeline::TextBuf;
 use std::str;
 
 /// What stands before the numbers of the first line.

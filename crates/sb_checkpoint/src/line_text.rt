@@ -8,7 +8,7 @@ ghost use Rattle.sb_checkpoint.specs.Checkpoints.{mark_items};
 ghost use Rattle.sb_checkpoint.specs.Saved.{items_in};
 
 use crate::checkpoint::Checkpoint;
-use sb_pipeline::sb_record::{Item, Key, Record, Stream, TextBuf};
+use sb_pipeline::{Item, Key, Record, Stream, TextBuf};
 
 /// The most bytes of a line of a checkpoint, with its end.
 pub(crate) const LINE_ROOM: usize = 72;

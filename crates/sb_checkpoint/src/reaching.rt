@@ -3,8 +3,7 @@
 ghost use Rattle.std.specs.Prelude.{◌≡◌, ◌≤◌, ◌↔◌, ℕ, None, Some, false};
 ghost use Rattle.sb_checkpoint.specs.Reach as spec;
 
-use sb_pipeline::sb_window::MAX_SIZE;
-use sb_pipeline::{Kind, MAX_TRANSFORMS, Plan};
+use sb_pipeline::{Kind, MAX_SIZE, MAX_TRANSFORMS, Plan};
 
 /// The most that a plan reaches back.
 pub const MAX_REACH: u64 = MAX_TRANSFORMS as u64 * MAX_SIZE;

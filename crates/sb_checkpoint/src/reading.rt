@@ -13,8 +13,7 @@ use crate::gathering::{add, is_whole};
 use crate::line_reading::{is_end, read_head};
 use crate::line_text::item_count;
 use crate::reaching::reach;
-use sb_pipeline::Plan;
-use sb_pipeline::sb_record::{Malformed, NoMemory, read_line};
+use sb_pipeline::{Malformed, NoMemory, Plan, read_line};
 use std::alloc::Global;
 
 /// Why a checkpoint can't be read.

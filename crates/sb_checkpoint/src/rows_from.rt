@@ -5,7 +5,7 @@ ghost use Rattle.sb_checkpoint.specs.LaterRows.{from_first};
 
 use sb_emit::RowOut;
 use sb_outside::SinkFault;
-use sb_pipeline::sb_record::Record;
+use sb_pipeline::Record;
 use std::marker::Model;
 
 /// Hands on the rows of a call from the first one on that has a time at least `low`, in one call, and leaves out those

@@ -20,8 +20,7 @@ use Rattle.sb_answer_files.proofs.checkpoint.CutInputs.{cut-inputs}
 use Rattle.sb_answer_files.proofs.checkpoint.Pieces.{texts-read_back}
 use Rattle.sb_answer_files.proofs.checkpoint.ReadOrFaulty.{read-or_faulty}
 use Rattle.sb_answer_files.specs.one_feed.Due.{due_mark, due_rows, rows_below}
-use Rattle.sb_answer_files.specs.one_feed.Given.{Given, accepted_of}
-use Rattle.sb_answer_files.specs.cut.Parts.{part_accepted, part_items}
+use Rattle.sb_answer_files.specs.one_feed.Given.{accepted_of, Given, part_accepted, part_items}
 use Rattle.sb_answer_files.specs.answers.CheckpointFiles.{Said}
 use Rattle.sb_answer_files.specs.answers.Courses.{if_ended, part_course, rest_course, run_course, saved_text}
 use Rattle.sb_cli.specs.Laws.{AreCutBehind, CutRunsWriteTheWhole, IsSavedPart, WriteTheWhole}

@@ -20,8 +20,7 @@ use Rattle.sb_answer_files.specs.checkpoint.Texts.{items_text}
 use Rattle.sb_answer_files.proofs.checkpoint.FirstBytes.{GivesNothing, first-bytes}
 use Rattle.sb_answer_files.proofs.checkpoint.LinesAhead.{none_of_both}
 use Rattle.sb_answer_files.specs.one_feed.Due.{due_rows}
-use Rattle.sb_answer_files.specs.one_feed.Given.{Given, accepted_of, items_of, stop_at}
-use Rattle.sb_answer_files.specs.cut.Parts.{part_items}
+use Rattle.sb_answer_files.specs.one_feed.Given.{accepted_of, Given, items_of, part_items, stop_at}
 use Rattle.sb_answer_files.specs.told.declared.late.LateRecords.{LateRecords}
 use Rattle.sb_answer_files.specs.told.declared.late.LateRecords.TheVariants.{OfInput, OfFiles}
 use Rattle.sb_answer_files.specs.told.declared.status.Status.{Status}

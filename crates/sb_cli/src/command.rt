@@ -25,18 +25,13 @@ ghost use Rattle.sb_answer_files.specs.words.Texts.{texts};
 ghost use Rattle.sb_answer_files.specs.words.Words.{Asked, IsCommand, IsNoCommand};
 ghost use Rattle.sb_answer_files.specs.words.Words.Asked.{Sum, Audit, Work, Feeds, Resume};
 
-use sb_answer_files::sb_answers::Ending;
-use sb_answer_files::sb_answers::sb_run::ByStream;
-use sb_answer_files::sb_base::NoMemory;
-use sb_answer_files::sb_emit::Tap;
-use sb_answer_files::sb_outside::{Folder, Sink, SinkFault, Source, write_all_of};
-use sb_answer_files::sb_told::{Status, note_of};
-use sb_answer_files::sb_words::Request;
-use sb_answer_files::{answer_feeds, answer_part, answer_resume, answer_save};
-use sb_answer_runs::{
-    answer_audit, answer_file, answer_slow, answer_sum, answer_watch, answer_work,
+use sb_answer_files::{
+    ByStream, Ending, Request, Status, Tap, answer_audit, answer_feeds, answer_file, answer_part,
+    answer_resume, answer_save, answer_slow, answer_sum, answer_watch, answer_work, note_of,
 };
 use sb_arguments::read_words;
+use sb_base::NoMemory;
+use sb_outside::{Folder, Sink, SinkFault, Source, write_all_of};
 use std::sync::Wait;
 use std::thread::Threads;
 use std::time::Clock;

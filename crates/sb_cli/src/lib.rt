@@ -8,8 +8,7 @@ mod command;
 pub mod laws;
 
 pub use command::streambox;
-pub use sb_answer_files::sb_answers::{MAX_CHECKPOINT_BYTES, WORK_WINDOW};
-pub use sb_answer_files::sb_told::{LateRecords, Status};
+pub use sb_answer_files::{LateRecords, MAX_CHECKPOINT_BYTES, Status, WORK_WINDOW};
 
 // What the crates above name of the crates below.
-pub use sb_answer_files::{sb_base, sb_emit, sb_generator, sb_live, sb_outside, sb_run, sb_slow};
+pub use sb_answer_files::{RunEnd, Sizes, run};

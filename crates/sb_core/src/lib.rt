@@ -17,4 +17,4 @@ pub use held::Held;
 pub use moment::{Cont, CoreLane, Moment, Node};
 
 // What the crates above name of the crates below.
-pub use sb_base;
+pub use sb_base::{Bundle, NoMemory, Trail};

@@ -8,8 +8,8 @@ use Rattle.sb_run.specs.base.records.Inputs.{stop_of}
 use Rattle.sb_run.specs.outside.Sources.{Rose}
 use Rattle.sb_run.specs.one_feed.Reads.{FaultCause}
 use Rattle.sb_checkpoint.specs.Cut.{IsCutAt, faults_of}
-use Rattle.sb_run.specs.engines.declared.run_end.RunEnd.{RunEnd}
-use Rattle.sb_run.specs.engines.declared.run_end.RunEnd.TheVariants as run
+use Rattle.sb_run.specs.alone.declared.run_end.RunEnd.{RunEnd}
+use Rattle.sb_run.specs.alone.declared.run_end.RunEnd.TheVariants as run
 use Rattle.sb_cut.specs.declared.cut_end.CutEnd.{CutEnd}
 use Rattle.sb_cut.specs.declared.cut_end.CutEnd.TheVariants.{Done}
 use Rattle.sb_cut.specs.CutEnds.{IsCutEnd}

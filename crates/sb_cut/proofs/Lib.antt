@@ -6,4 +6,4 @@ pub mod PartEnds
 pub use Rattle.sb_checkpoint.proofs as checkpoint
 pub use Rattle.sb_run.proofs.outside
 pub use Rattle.sb_run.proofs.base
-pub use Rattle.sb_run.proofs as run
+pub use Rattle.sb_run.proofs as runs

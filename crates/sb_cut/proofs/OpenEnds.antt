@@ -7,9 +7,8 @@ use Rattle.std.proofs.lemmas.List.{append_cancel_right}
 use Rattle.sb_run.specs.base.records.Inputs.{Accepted, accepted}
 use Rattle.sb_run.specs.outside.Lines.{is_too_long, lines, lines_from, without_cr}
 use Rattle.sb_run.specs.base.pipeline.Shapes.{Shape, streams_of}
-use Rattle.sb_run.specs.one_feed.Given.{Given, accepted_of}
+use Rattle.sb_run.specs.one_feed.Given.{Given, accepted_of, part_accepted}
 use Rattle.sb_cut.specs.FirstParts.{open_end}
-use Rattle.sb_cut.specs.Parts.{part_accepted}
 
 -- ---- reads
 consumes : (left left' : Option (List ℕ)) (bytes : List ℕ) → Consumes left left' bytes → Consumes (open_end left) (open_end left') bytes

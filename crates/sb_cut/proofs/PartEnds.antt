@@ -19,10 +19,10 @@ use Rattle.sb_run.specs.one_feed.Given.{accepted_of, items_of}
 use Rattle.sb_run.specs.one_feed.TapLists.{SawRows, StopsIn}
 use Rattle.sb_checkpoint.specs.Checkpoints.{low_of}
 use Rattle.sb_checkpoint.specs.Cut.{IsCutAt, faults_of}
-use Rattle.sb_run.specs.engines.declared.run_end.RunEnd.{RunEnd}
-use Rattle.sb_run.specs.engines.declared.run_end.RunEnd.TheVariants as run
-use Rattle.sb_run.specs.engines.declared.sizes.Sizes.{Sizes}
-use Rattle.sb_run.specs.engines.RunEnds.{Ends, EndsAt, EndsEarly, IsDone, MayHaveFailed, OutputCause, SharedInputCause}
+use Rattle.sb_run.specs.alone.declared.run_end.RunEnd.{RunEnd}
+use Rattle.sb_run.specs.alone.declared.run_end.RunEnd.TheVariants as run
+use Rattle.sb_run.specs.alone.declared.sizes.Sizes.{Sizes}
+use Rattle.sb_run.specs.alone.RunEnds.{Ends, EndsAt, EndsEarly, IsDone, MayHaveFailed, OutputCause, SharedInputCause}
 use Rattle.sb_cut.specs.declared.cut_end.CutEnd.{CutEnd}
 use Rattle.sb_cut.specs.CutEnds.{CutCause, CutOutputCause, EndsCut, EndsCutEarly, IsCutEnd, IsEndOfPart, PartEnds}
 use Rattle.sb_cut.specs.FirstParts.{open_end}

@@ -8,14 +8,13 @@ use Rattle.sb_run.specs.outside.Sinks.{SinkState}
 use Rattle.sb_run.specs.outside.Sources.{Rose}
 use Rattle.sb_run.specs.base.pipeline.Shapes.{Shape}
 use Rattle.sb_run.specs.one_feed.Due.{AreFirstDropped, AreFirstRows, rows_below}
-use Rattle.sb_run.specs.one_feed.Given.{Given}
+use Rattle.sb_run.specs.one_feed.Given.{Given, part_accepted, part_items}
 use Rattle.sb_checkpoint.specs.Checkpoints.{low_of}
-use Rattle.sb_run.specs.engines.declared.run_end.RunEnd.{RunEnd}
-use Rattle.sb_run.specs.engines.declared.run_end.RunEnd.TheVariants as run
-use Rattle.sb_run.specs.engines.RunEnds.{MayHaveFailed}
+use Rattle.sb_run.specs.alone.declared.run_end.RunEnd.{RunEnd}
+use Rattle.sb_run.specs.alone.declared.run_end.RunEnd.TheVariants as run
+use Rattle.sb_run.specs.alone.RunEnds.{MayHaveFailed}
 use Rattle.sb_cut.specs.declared.cut_end.CutEnd.{CutEnd}
 use Rattle.sb_cut.specs.declared.cut_end.CutEnd.TheVariants.{Done, Refused, Input, Output, Memory}
-use Rattle.sb_cut.specs.Parts.{part_accepted, part_items}
 
 -- reading stopped there: the rows below the low watermark were written, and all late records that were dropped are
 -- listed

@@ -7,10 +7,9 @@ use Rattle.sb_run.specs.base.records.Inputs.{stop_of}
 use Rattle.sb_run.specs.base.records.Streams.{dropped_of}
 use Rattle.sb_run.specs.base.pipeline.Shapes.{Shape}
 use Rattle.sb_run.specs.one_feed.Due.{AreFirstDropped}
-use Rattle.sb_run.specs.one_feed.Given.{Given, items_of, stop_at}
+use Rattle.sb_run.specs.one_feed.Given.{Given, items_of, part_accepted, part_items, stop_at}
 use Rattle.sb_checkpoint.specs.declared.checkpoint.Checkpoint.{Checkpoint}
 use Rattle.sb_checkpoint.specs.Keeping.{IsCheckpointOf, Kept, kept_after}
-use Rattle.sb_cut.specs.Parts.{part_accepted, part_items}
 
 -- reading stopped there: this is kept of the accepted items, and all late records that were dropped are listed
 pub record Gathers (plan : Shape) (left left' : Option (List ℕ)) (kept : Kept) (stop : Stop)

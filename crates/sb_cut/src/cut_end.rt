@@ -2,8 +2,7 @@
 
 ghost use Rattle.sb_cut.specs.CutEnds.{IsCutEnd, IsEndOfPart};
 
-use sb_run::RunEnd;
-use sb_run::sb_base::Refusal;
+use sb_run::{Refusal, RunEnd};
 
 /// How a run over a first part of an input ends. Where several ends hold, `Memory` comes before `Output`, and this
 /// before `Refused` and `Input`.

@@ -4,7 +4,7 @@ ghost use Rattle.std.specs.Prelude.{◌≡◌, ◌+◌, ◌∷◌, ◌&&◌, tru
 ghost use Rattle.sb_checkpoint.specs.Cut.{faults_of};
 ghost use Rattle.sb_cut.specs.FirstParts.{IsPartAt, open_end};
 
-use sb_run::sb_outside::{Source, SourceFault};
+use sb_run::{Source, SourceFault};
 use std::marker::Model;
 use std::snapshot::Snapshot;
 

@@ -6,9 +6,7 @@ ghost use Rattle.sb_checkpoint.specs.Reach.{HasNoSession};
 ghost use Rattle.sb_cut.specs.Saves.{Gathers, GathersNone};
 
 use sb_checkpoint::Keeper;
-use sb_run::sb_base::{Dropped, Intake, NoMemory, Plan, Stop};
-use sb_run::sb_feed::{keep_dropped, next_item};
-use sb_run::sb_outside::{LineBuffer, Source};
+use sb_run::{Dropped, Intake, LineBuffer, NoMemory, Plan, Source, Stop, keep_dropped, next_item};
 use std::alloc::Global;
 
 /// What was kept of an input, and where reading stopped.

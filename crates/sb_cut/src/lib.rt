@@ -18,5 +18,8 @@ pub use rest::run_rest;
 pub use saving::{Saved, save};
 
 // What the crates above name of the crates below.
-pub use sb_checkpoint;
-pub use sb_run;
+pub use sb_checkpoint::{Checkpoint, RowsFrom, has_session, write_checkpoint};
+pub use sb_run::{
+    ByStream, Gate, MAX_FILE_LENGTH, MAX_WORKERS, OpenGate, RunEnd, Sizes, Team, TwoEnd, execute,
+    execute_alone, execute_two, run,
+};

@@ -1,15 +1,12 @@
 //! Running a plan over a first part of an input.
 
 ghost use Rattle.std.specs.Prelude.{◌≡◌};
-ghost use Rattle.sb_run.specs.engines.RunEnds.{AreSizes};
+ghost use Rattle.sb_run.specs.alone.RunEnds.{AreSizes};
 ghost use Rattle.sb_cut.specs.CutEnds.{CutCause, CutOutputCause, PartEnds};
 
 use crate::cut_end::CutEnd;
 use crate::first_part::FirstPart;
-use sb_run::sb_base::{Dropped, Plan};
-use sb_run::sb_emit::RowOut;
-use sb_run::sb_outside::Source;
-use sb_run::{Sizes, run};
+use sb_run::{Dropped, Plan, RowOut, Sizes, Source, run};
 use std::sync::Wait;
 use std::thread::Threads;
 use std::time::Clock;

@@ -7,13 +7,10 @@ ghost use Rattle.sb_checkpoint.specs.Checkpoints.{with_comments};
 ghost use Rattle.sb_checkpoint.specs.LaterRows.{Hands};
 ghost use Rattle.sb_checkpoint.specs.Saved.{items_in};
 ghost use Rattle.sb_checkpoint.specs.Texts.{items_text};
-ghost use Rattle.sb_run.specs.engines.RunEnds.{AreSizes, Ends, IsDone, OutputCause, SharedInputCause};
+ghost use Rattle.sb_run.specs.alone.RunEnds.{AreSizes, Ends, IsDone, OutputCause, SharedInputCause};
 
 use sb_checkpoint::{Checkpoint, Resumed, RowsFrom};
-use sb_run::sb_base::{Dropped, Plan};
-use sb_run::sb_emit::RowOut;
-use sb_run::sb_outside::Source;
-use sb_run::{RunEnd, Sizes, run};
+use sb_run::{Dropped, Plan, RowOut, RunEnd, Sizes, Source, run};
 use std::sync::Wait;
 use std::thread::Threads;
 use std::time::Clock;

@@ -8,8 +8,7 @@ ghost use Rattle.sb_cut.specs.Saves.{Saves, SavesNone, cut_stop};
 use crate::first_part::FirstPart;
 use crate::gathering::{Gathered, gather};
 use sb_checkpoint::Checkpoint;
-use sb_run::sb_base::{Dropped, NoMemory, Plan, Stop};
-use sb_run::sb_outside::Source;
+use sb_run::{Dropped, NoMemory, Plan, Source, Stop};
 use std::alloc::Global;
 
 /// The checkpoint of a first part of an input, and where reading it stopped.

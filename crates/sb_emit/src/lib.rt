@@ -27,5 +27,5 @@ pub use summary::Summary;
 pub use tap::{Tap, TapFault, Wish};
 
 // What the crates above name of the crates below.
-pub use sb_outside;
-pub use sb_record;
+pub use sb_outside::SinkFault;
+pub use sb_record::{END_MARK, Key, Keys, MAX_KEY, NoMemory, Record, Trail, Word, read_number};

@@ -3,12 +3,12 @@ use Rattle.std.proofs.Common.{◌≡◌, ◌≤◌, ◌<◌, ℕ, List, [], ◌�
 use Rattle.std.specs.Prelude.{All}
 use Rattle.std.specs.List.{AllByRecursion, flat_map}
 use Rattle.std.proofs.lemmas.List.Elements.{All-from_recursion}
-use Rattle.sb_feeds.specs.base.records.declared.item.Record.{Record}
-use Rattle.sb_feeds.specs.base.records.declared.item.Stream.{Stream}
-use Rattle.sb_feeds.specs.base.records.declared.item.TheConstants.{END_MARK, MAX_TIME}
-use Rattle.sb_feeds.specs.base.records.Streams.{last_or}
-use Rattle.sb_feeds.specs.base.bundle.declared.bundle.Bundle.{Bundle}
-use Rattle.sb_feeds.specs.base.bundle.Calls.{records_in_order, parts_of}
+use Rattle.sb_alone.specs.feeds.base.records.declared.item.Record.{Record}
+use Rattle.sb_alone.specs.feeds.base.records.declared.item.Stream.{Stream}
+use Rattle.sb_alone.specs.feeds.base.records.declared.item.TheConstants.{END_MARK, MAX_TIME}
+use Rattle.sb_alone.specs.feeds.base.records.Streams.{last_or}
+use Rattle.sb_alone.specs.feeds.base.bundle.declared.bundle.Bundle.{Bundle}
+use Rattle.sb_alone.specs.feeds.base.bundle.Calls.{records_in_order, parts_of}
 use Rattle.sb_worker.specs.core.declared.event.Event.TheVariants.{Arrive, Seal}
 use Rattle.sb_worker.specs.core.Exactness.{IsExact}
 use Rattle.sb_worker.specs.core.Lanes.{next_floor}
@@ -26,13 +26,13 @@ use Rattle.sb_worker.specs.cascade.shared.Found.{IsDrained}
 use Rattle.sb_worker.specs.cascade.shared.Views as view
 use Rattle.sb_worker.specs.turn.Turning.{raised_view}
 use Rattle.sb_worker.proofs.cascade.shared.feeds.FeedOfChanges.{bundle-dry, bundle-fed, drained-fed, mark-dry, mark-fed, raise-fed, raise-keeps}
-use Rattle.sb_feeds.specs.one_feed.Feeds.{AreRowsSoFar, Fed, MayArrive, MaySeal, bundles_in, records_of_feed, floor_in, marks_in, with_bundle, with_mark}
-use Rattle.sb_feeds.proofs.one_feed.RowsSoFar.{so_far_bundle, so_far_mark}
+use Rattle.sb_alone.specs.feeds.one_feed.Feeds.{AreRowsSoFar, Fed, MayArrive, MaySeal, bundles_in, records_of_feed, floor_in, marks_in, with_bundle, with_mark}
+use Rattle.sb_alone.proofs.feeds.one_feed.RowsSoFar.{so_far_bundle, so_far_mark}
 use Rattle.sb_engines.specs.Feeders.{HasFed, IsStill}
-use Rattle.sb_engines.specs.Rested.{feed_of}
-use Rattle.sb_engines.proofs.Coming.{goes}
-use Rattle.sb_engines.proofs.SoFar.{back, floor_is, moment_in_time, moment_so_far}
-use Rattle.sb_engines.proofs.Standing.{feed-arrives, feed-seals, floor-arrives, floor-seals}
+use Rattle.sb_alone.specs.Rested.{feed_of}
+use Rattle.sb_alone.proofs.Coming.{goes}
+use Rattle.sb_alone.proofs.SoFar.{back, floor_is, moment_in_time, moment_so_far}
+use Rattle.sb_alone.proofs.Standing.{feed-arrives, feed-seals, floor-arrives, floor-seals}
 
 -- the records that were fed, as the tally has them
 records-are : (bs : List Bundle) → flat_map (λ (b : tally.Fed). b.records) (map fed_bundle bs) ≡ records_in_order (parts_of bs)

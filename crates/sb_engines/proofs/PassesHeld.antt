@@ -3,7 +3,7 @@ use Rattle.std.proofs.Common.{◌≡◌, ◌<◌, ◌+◌, cond, eqb, ℕ, List,
 use Rattle.std.specs.List.{AllByRecursion}
 use mathlib.Core.Option.{some}
 use lib.ListN.{get_elem?}
-use Rattle.sb_feeds.specs.base.records.declared.item.Record.{Record}
+use Rattle.sb_alone.specs.feeds.base.records.declared.item.Record.{Record}
 use Rattle.sb_worker.specs.turn.declared.turns.View.{View}
 use Rattle.sb_worker.specs.turn.Turning.{joined_with, opening_view, saw, split_off}
 use Rattle.sb_worker.specs.turn.Passes.{ShowsEmpty}
@@ -14,7 +14,7 @@ use Rattle.sb_worker.specs.cascade.shared.declared.telling.Hands.{Hands}
 use Rattle.sb_worker.specs.cascade.Calls.{HasSame, IsEmptyHanded, IsFeeder, IsReady, IsSame, passes_out, view_of}
 use Rattle.sb_worker.specs.cascade.shared.SharedNodes.{SharedView}
 use Rattle.sb_worker.specs.cascade.shared.Views.{idle_hands}
-use Rattle.sb_feeds.specs.one_feed.Feeds.{Fed}
+use Rattle.sb_alone.specs.feeds.one_feed.Feeds.{Fed}
 use Rattle.sb_engines.specs.Feeders.{HasFed}
 use Rattle.sb_engines.proofs.FedMore.{fed-still}
 use Rattle.sb_worker.specs.Helping.{IsFirst, IsHelper}

@@ -1,22 +1,22 @@
 -- A shared cascade comes back to one hand, and the run ends over it.
 use Rattle.std.proofs.Common.{◌≡◌, ◌≤◌, ℕ, false, List, [], ◌++◌, Option, Result, Ok, Err, refl, sym, ap, subst, ◌∙◌, append-nil, inl, inr}
 use Rattle.std.specs.Prelude.{⊤}
-use Rattle.sb_feeds.specs.base.records.declared.intake.Stop.{Stop}
-use Rattle.sb_feeds.specs.base.records.declared.intake.Stop.TheVariants as at
-use Rattle.sb_feeds.specs.base.records.declared.item.Dropped.{Dropped}
-use Rattle.sb_feeds.specs.base.records.declared.item.Item.{Item}
-use Rattle.sb_feeds.specs.base.records.declared.item.Record.{Record}
-use Rattle.sb_feeds.specs.base.records.declared.item.Stream.{Stream}
-use Rattle.sb_feeds.specs.base.records.declared.item.Stream.TheVariants.{A, B}
-use Rattle.sb_feeds.specs.base.records.declared.item.TheConstants.{END_MARK}
-use Rattle.sb_feeds.specs.base.records.Streams.{dropped_of}
-use Rattle.sb_feeds.specs.outside.Sinks.{SinkState}
-use Rattle.sb_feeds.specs.base.pipeline.Plans.{IsPlan}
-use Rattle.sb_feeds.specs.base.pipeline.Shapes.{Shape, streams_of}
+use Rattle.sb_alone.specs.feeds.base.records.declared.intake.Stop.{Stop}
+use Rattle.sb_alone.specs.feeds.base.records.declared.intake.Stop.TheVariants as at
+use Rattle.sb_alone.specs.feeds.base.records.declared.item.Dropped.{Dropped}
+use Rattle.sb_alone.specs.feeds.base.records.declared.item.Item.{Item}
+use Rattle.sb_alone.specs.feeds.base.records.declared.item.Record.{Record}
+use Rattle.sb_alone.specs.feeds.base.records.declared.item.Stream.{Stream}
+use Rattle.sb_alone.specs.feeds.base.records.declared.item.Stream.TheVariants.{A, B}
+use Rattle.sb_alone.specs.feeds.base.records.declared.item.TheConstants.{END_MARK}
+use Rattle.sb_alone.specs.feeds.base.records.Streams.{dropped_of}
+use Rattle.sb_alone.specs.feeds.outside.Sinks.{SinkState}
+use Rattle.sb_alone.specs.feeds.base.pipeline.Plans.{IsPlan}
+use Rattle.sb_alone.specs.feeds.base.pipeline.Shapes.{Shape, streams_of}
 use Rattle.sb_worker.specs.core.Exactness.{IsExact}
 use Rattle.sb_worker.specs.tally.Tally as tally
 use Rattle.sb_worker.specs.tally.Tally.{IsTallied}
-use Rattle.sb_feeds.specs.emit.Taps.{TapState}
+use Rattle.sb_alone.specs.feeds.emit.Taps.{TapState}
 use Rattle.sb_worker.specs.hand.Hands.{HandView, IsNewHand, Shows}
 use Rattle.sb_worker.specs.hand.Showing.{diaries_of, settings_at, settings_of}
 use Rattle.sb_worker.specs.turn.Turning.{opening_view}
@@ -25,34 +25,34 @@ use Rattle.sb_worker.specs.cascade.declared.pass.CascadePass.{CascadePass}
 use Rattle.sb_worker.specs.cascade.Calls.{IsEmptyHanded, IsFeeder, IsReady, plan_of, setting_of, view_of}
 use Rattle.sb_worker.specs.cascade.Lives.{GivesBack, IsShared}
 use Rattle.sb_worker.specs.cascade.shared.Views as view
-use Rattle.sb_feeds.specs.one_feed.declared.cutters.Cutters.{Cutters}
-use Rattle.sb_feeds.specs.one_feed.declared.give.GiveStop.{GiveStop}
-use Rattle.sb_feeds.specs.one_feed.declared.give.GiveStop.TheVariants as give
-use Rattle.sb_feeds.specs.one_feed.Due.{AreFirstRows, streams_in}
-use Rattle.sb_feeds.specs.one_feed.FedByItems.{IsFedBy, end_items}
-use Rattle.sb_feeds.specs.one_feed.Feeds.{AreRowsSoFar, Fed, records_of_feed, nothing_fed}
-use Rattle.sb_feeds.specs.one_feed.GiveCauses.{GiveCause}
-use Rattle.sb_feeds.specs.one_feed.Given.{items_of}
-use Rattle.sb_feeds.specs.one_feed.Gives.{Gives, StopsOut}
-use Rattle.sb_feeds.specs.one_feed.InputFeeds.{Feeds, FeedsAll, FeedsSome}
-use Rattle.sb_feeds.specs.one_feed.TapLists.{StopsIn}
-use Rattle.sb_feeds.proofs.one_feed.FirstRows.{fed_covers, rows_are_first, rows_same}
-use Rattle.sb_feeds.proofs.one_feed.GivesInTurn.{AddsUp, gives_both, stops_none, stops_then, wrote_part}
-use Rattle.sb_feeds.proofs.one_feed.InputEnds.{same_records}
-use Rattle.sb_feeds.proofs.one_feed.LaterItems.{no_more}
-use Rattle.sb_feeds.proofs.one_feed.RowsApart.{apart_so_far}
-use Rattle.sb_feeds.proofs.one_feed.RowsSoFar.{so_far_by}
-use Rattle.sb_engines.specs.declared.run_end.RunEnd.TheVariants as run
-use Rattle.sb_engines.specs.declared.sizes.Sizes.{Sizes}
-use Rattle.sb_engines.specs.Ending.{early_by, end_by}
+use Rattle.sb_alone.specs.feeds.one_feed.declared.cutters.Cutters.{Cutters}
+use Rattle.sb_alone.specs.feeds.one_feed.declared.give.GiveStop.{GiveStop}
+use Rattle.sb_alone.specs.feeds.one_feed.declared.give.GiveStop.TheVariants as give
+use Rattle.sb_alone.specs.feeds.one_feed.Due.{AreFirstRows, streams_in}
+use Rattle.sb_alone.specs.feeds.one_feed.FedByItems.{IsFedBy, end_items}
+use Rattle.sb_alone.specs.feeds.one_feed.Feeds.{AreRowsSoFar, Fed, records_of_feed, nothing_fed}
+use Rattle.sb_alone.specs.feeds.one_feed.GiveCauses.{GiveCause}
+use Rattle.sb_alone.specs.feeds.one_feed.Given.{items_of}
+use Rattle.sb_alone.specs.feeds.one_feed.Gives.{Gives, StopsOut}
+use Rattle.sb_alone.specs.feeds.one_feed.InputFeeds.{Feeds, FeedsAll, FeedsSome}
+use Rattle.sb_alone.specs.feeds.one_feed.TapLists.{StopsIn}
+use Rattle.sb_alone.proofs.feeds.one_feed.FirstRows.{fed_covers, rows_are_first, rows_same}
+use Rattle.sb_alone.proofs.feeds.one_feed.GivesInTurn.{AddsUp, gives_both, stops_none, stops_then, wrote_part}
+use Rattle.sb_alone.proofs.feeds.one_feed.InputEnds.{same_records}
+use Rattle.sb_alone.proofs.feeds.one_feed.LaterItems.{no_more}
+use Rattle.sb_alone.proofs.feeds.one_feed.RowsApart.{apart_so_far}
+use Rattle.sb_alone.proofs.feeds.one_feed.RowsSoFar.{so_far_by}
+use Rattle.sb_alone.specs.declared.run_end.RunEnd.TheVariants as run
+use Rattle.sb_alone.specs.declared.sizes.Sizes.{Sizes}
+use Rattle.sb_alone.specs.Ending.{early_by, end_by}
 use Rattle.sb_engines.specs.Feeders.{ComesBack, HasFed, IsGivenBack}
-use Rattle.sb_engines.specs.Rested.{HasSameSetting, IsRested, IsRestedSoFar, IsWhole, feed_of}
-use Rattle.sb_engines.specs.RunEnds.{AreSizes, Ends, EndsEarly, MayHaveFailed, OutputCause, SharedFeedCause, SharedInputCause}
-use Rattle.sb_engines.proofs.Ended.{ends_here}
+use Rattle.sb_alone.specs.Rested.{HasSameSetting, IsRested, IsRestedSoFar, IsWhole, feed_of}
+use Rattle.sb_alone.specs.RunEnds.{AreSizes, Ends, EndsEarly, MayHaveFailed, OutputCause, SharedFeedCause, SharedInputCause}
+use Rattle.sb_alone.proofs.Ended.{ends_here}
 use Rattle.sb_engines.proofs.FedMore.{fed-are}
-use Rattle.sb_engines.proofs.Sharing.{gives_as}
-use Rattle.sb_engines.proofs.SoFar.{rested_so_far}
-use Rattle.sb_engines.proofs.Starting.{output-cause, rested-new}
+use Rattle.sb_alone.proofs.Sharing.{gives_as}
+use Rattle.sb_alone.proofs.SoFar.{rested_so_far}
+use Rattle.sb_alone.proofs.Starting.{output-cause, rested-new}
 
 -- ---- the beginning
 none-fed : view.feed_of view.no_feed ≡ feed_of nothing_fed
@@ -172,27 +172,6 @@ module _ {O : Type 0} (after part : O → List Record → O → Type 0) (laws : 
     listed = e.listed;
   }
   feeds-back later so_later q taps2 (Err why) gives = feeds-stopped q taps2 why gives
-
--- the same, of an engine that stands otherwise
-pub feeds-as : {O : Type 0} (after : O → List Record → O → Type 0) (plan : Shape) (size : ℕ) (left left' : Option (List ℕ)) (stands later : Fed → List Record → Type 0)
-    (o p : O) (taps taps' : List TapState) (dropped dropped' : List Dropped) (stop : Stop) → ((f : Fed) (rows : List Record) → stands f rows → later f rows)
-    → FeedsAll plan size left left' stands after o p taps taps' dropped dropped' stop → FeedsAll plan size left left' later after o p taps taps' dropped dropped' stop
-feeds-as after plan size left left' stands later o p taps taps' dropped dropped' stop so e = record {
-  given = e.given;
-  stopped = e.stopped;
-  cutters = e.cutters;
-  f = e.f;
-  fed = e.fed;
-  gives = gives_as (stands e.f) (later e.f) after o p taps taps' [] (so e.f) e.gives;
-  listed = e.listed;
-}
-
--- a hand at rest, without what is known of its rows
-pub feeds-rested : {O : Type 0} (plan : Shape) (size : ℕ) (left left' : Option (List ℕ)) (h : HandView) (after part : O → List Record → O → Type 0)
-    (o p : O) (taps taps' : List TapState) (dropped dropped' : List Dropped) (fed : Result Stop GiveStop)
-    → Feeds plan size left left' (IsRestedSoFar h) after part o p taps taps' dropped dropped' fed → Feeds plan size left left' (IsRested h) after part o p taps taps' dropped dropped' fed
-feeds-rested plan size left left' h after part o p taps taps' dropped dropped' (Ok stop) e = feeds-as after plan size left left' (IsRestedSoFar h) (IsRested h) o p taps taps' dropped dropped' stop (λ f rows x. x.rested) e
-feeds-rested plan size left left' h after part o p taps taps' dropped dropped' (Err why) e = e
 
 -- ---- the ends
 module _ {O : Type 0} (plan : Shape) (sizes : Sizes) (left left' : Option (List ℕ)) (after part : O → List Record → O → Type 0) (o p : O)

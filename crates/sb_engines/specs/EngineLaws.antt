@@ -1,30 +1,10 @@
--- What stays as it is in both engines, call after call: of a hand its plan and its sizes, and of the feeder's pass of a
--- cascade that it may be used.
-use Rattle.std.specs.Prelude.{◌≡◌, Bool, true, false}
-use Rattle.std.proofs.Common.{refl, sym, ap, subst, ◌∙◌}
-use Rattle.std.proofs.lemmas.Bool.{true≢false}
+-- What stays as it is of the feeder's pass of a cascade, call after call: that it may be used.
+use Rattle.std.specs.Prelude.{◌≡◌}
+use Rattle.std.proofs.Common.{refl, ap, subst, ◌∙◌}
 use Rattle.sb_worker.specs.cascade.declared.cascade.Cascade.{Cascade}
 use Rattle.sb_worker.specs.cascade.declared.pass.CascadePass.{CascadePass}
 use Rattle.sb_worker.specs.cascade.Calls.{IsReady, plan_of, setting_of}
-use Rattle.sb_worker.specs.hand.Hands.{HandView}
 use Rattle.sb_engines.specs.Feeders.{IsStill}
-use Rattle.sb_engines.specs.Rested.{HasSameSetting}
-
-pub same_then : (a b c : HandView) → HasSameSetting a b → HasSameSetting b c → HasSameSetting a c
-same_then a b c h k = record {
-  plan = k.plan ∙ h.plan;
-  bundle = k.bundle ∙ h.bundle;
-  pending = k.pending ∙ h.pending;
-  stays_spent = λ e. k.stays_spent (h.stays_spent e);
-  settings = λ e. k.settings e ∙ h.settings (unspent b.spent refl e);
-}
-  where
-    unspent : (s : Bool) → b.spent ≡ s → c.spent ≡ false → b.spent ≡ false
-    unspent false is e = is
-    unspent true is e = absurd (true≢false (sym (k.stays_spent is) ∙ e))
-
-pub same_as_before : (a : HandView) → HasSameSetting a a
-same_as_before a = record { plan = refl; bundle = refl; pending = refl; stays_spent = λ e. e; settings = λ e. refl }
 
 -- the pass may still be used
 pub still_here : (c : Cascade) (p : CascadePass) → IsReady c p → IsStill c p p

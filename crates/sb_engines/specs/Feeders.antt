@@ -1,26 +1,26 @@
 -- What the feeder's pass of a shared cascade stands for between two lines of an input.
 use Rattle.std.specs.Prelude.{◌≡◌, ◌≤◌, ℕ, List, [], length, Result, Ok, Err}
 use Rattle.std.specs.List.{AllByRecursion}
-use Rattle.sb_feeds.specs.base.records.declared.item.Record.{Record}
-use Rattle.sb_feeds.specs.base.records.declared.item.Stream.{Stream}
-use Rattle.sb_feeds.specs.base.records.declared.item.TheConstants.{END_MARK}
-use Rattle.sb_feeds.specs.base.bundle.declared.bundle.TheConstants.{MAX_BUNDLE}
-use Rattle.sb_feeds.specs.base.pipeline.Plans.{IsPlan}
-use Rattle.sb_feeds.specs.base.pipeline.Shapes.{Shape}
+use Rattle.sb_alone.specs.feeds.base.records.declared.item.Record.{Record}
+use Rattle.sb_alone.specs.feeds.base.records.declared.item.Stream.{Stream}
+use Rattle.sb_alone.specs.feeds.base.records.declared.item.TheConstants.{END_MARK}
+use Rattle.sb_alone.specs.feeds.base.bundle.declared.bundle.TheConstants.{MAX_BUNDLE}
+use Rattle.sb_alone.specs.feeds.base.pipeline.Plans.{IsPlan}
+use Rattle.sb_alone.specs.feeds.base.pipeline.Shapes.{Shape}
 use Rattle.sb_worker.specs.cascade.declared.cascade.Cascade.{Cascade}
 use Rattle.sb_worker.specs.cascade.declared.pass.CascadePass.{CascadePass}
 use Rattle.sb_worker.specs.cascade.shared.declared.telling.Setting.{Setting}
 use Rattle.sb_worker.specs.cascade.Calls.{IsEmptyHanded, IsFeeder, IsReady, hands, passes_out, plan_of, setting_of}
 use Rattle.sb_worker.specs.cascade.Lives.{IsShared}
 use Rattle.sb_worker.specs.cascade.shared.Views as view
-use Rattle.sb_feeds.specs.emit.Taps.{TapState}
-use Rattle.sb_feeds.specs.one_feed.declared.give.GiveStop.{GiveStop}
-use Rattle.sb_feeds.specs.one_feed.Feeds.{AreRowsSoFar, Fed, floor_in, nothing_fed}
-use Rattle.sb_feeds.specs.one_feed.Gives.{GivesOut, StopsOut}
+use Rattle.sb_alone.specs.feeds.emit.Taps.{TapState}
+use Rattle.sb_alone.specs.feeds.one_feed.declared.give.GiveStop.{GiveStop}
+use Rattle.sb_alone.specs.feeds.one_feed.Feeds.{AreRowsSoFar, Fed, floor_in, nothing_fed}
+use Rattle.sb_alone.specs.feeds.one_feed.Gives.{GivesOut, StopsOut}
 use Rattle.sb_worker.specs.hand.Hands.{HandView}
 use Rattle.sb_worker.specs.hand.Showing.{settings_at, settings_of}
-use Rattle.sb_engines.specs.declared.sizes.Sizes.{Sizes}
-use Rattle.sb_engines.specs.Rested.{IsRested, feed_of}
+use Rattle.sb_alone.specs.declared.sizes.Sizes.{Sizes}
+use Rattle.sb_alone.specs.Rested.{IsRested, feed_of}
 use Rattle.sb_worker.specs.Helping.{IsFirst, IsHelper}
 
 -- the feeder's pass, with nothing in hand, that was given this to feed, and has drained these rows: they are the plan's

@@ -2,14 +2,12 @@
 
 ghost use Rattle.std.specs.Prelude.{IfOk};
 ghost use Rattle.sb_engines.specs.Feeders.{IsBegun};
-ghost use Rattle.sb_engines.specs.RunEnds.{AreSizes};
+ghost use Rattle.sb_alone.specs.RunEnds.{AreSizes};
 
 use crate::shared::common::Passes;
 use crate::shared::handing::split_all;
-use crate::sizes::Sizes;
-use sb_feeds::sb_base::{NoMemory, Plan};
-use sb_worker::sb_cascade::Cascade;
-use sb_worker::sb_hand::Hand;
+use sb_alone::{NoMemory, Plan, Sizes};
+use sb_worker::{Cascade, Hand};
 use std::alloc::Global;
 
 /// A cascade, and the passes of its workers.

@@ -1,23 +1,15 @@
-//! The engines as a run feeds them: a hand for one worker, and a cascade that several share.
+//! The engine that several workers share, as a run feeds it.
 //!
-//! Each is an `Engine` of `sb_feed`. Here are also the run of one worker ([`execute_alone`]), how the workers of a
-//! cascade begin, help and come back, the sizes of a run, and how it ends.
+//! A cascade is an `Engine` of `sb_feed`, as the hand of one worker is. Here is how its workers begin, help and come
+//! back, and what the worker that feeds does between two values of its input.
 #![tactic(auto)]
 
-mod alone;
 mod beginning;
-mod ending;
-mod one_hand;
-mod run_end;
 mod shared;
-mod sizes;
 mod team;
-mod working;
 
-pub use alone::execute_alone;
 pub use beginning::{Begun, begin};
-pub use ending::{early_end, end_of};
-pub use run_end::RunEnd;
+pub use sb_alone::{MAX_WORKERS, RunEnd, Sizes, TwoEnd, early_end, end_of, execute_alone};
 pub use shared::common::{Common, Passes};
 pub use shared::feeder::Feeder;
 pub use shared::feeding::{end_work, reason_of};
@@ -26,9 +18,16 @@ pub use shared::helping::help_all;
 pub use shared::joining::feed_beside_helpers;
 pub use shared::pace::Pace;
 pub use shared::working::{step_or_yield, step_too, take_out};
-pub use sizes::{MAX_WORKERS, Sizes};
 pub use team::Team;
 
 // What the crates above name of the crates below.
-pub use sb_feeds;
-pub use sb_worker;
+pub use sb_alone::{
+    ByStream, Cutters, Fed, FeedDone, FeedIn, FeedOut, FeedStop, GiveStop, InputFed, InputIn,
+    InputOut, LineBuffer, MAX_FILE_LENGTH, Patience, RowOut, RowsIn, RowsSender, Signals, Source,
+    SourceFault, Tap, end_input, feed_file, feed_input, feed_pair, give_out, input_pair,
+    keep_dropped, next_item, print_rows, rows_pair, take_item, take_value, uses,
+};
+pub use sb_worker::{
+    Cascade, CascadePass, Did, Down, Dropped, END_MARK, Gate, Hand, Intake, Item, Keys, LatePolicy,
+    MAX_BUNDLE, MAX_LINES, MAX_TIME, NoMemory, OpenGate, Plan, Refusal, Stop, Stream, Streams,
+};

@@ -1,5 +1,5 @@
 -- What a source gave in a call, and what is accepted of it.
-use Rattle.std.specs.Prelude.{◌≡◌, ℕ, Bool, true, List, Option}
+use Rattle.std.specs.Prelude.{◌≡◌, ℕ, Bool, true, false, List, Option}
 use Rattle.std.specs.Io.KnownBytes.{Consumes, IsAtEnd}
 use Rattle.sb_base.specs.records.declared.item.Item.{Item}
 use Rattle.sb_base.specs.records.declared.intake.Stop.{Stop}
@@ -25,6 +25,14 @@ accepted_of plan given = accepted (streams_of plan) plan.late plan.keys (lines g
 -- the accepted items
 abbrev pub items_of : {left left' : Option (List ℕ)} → Shape → Given left left' → List Item
 items_of plan given = (accepted_of plan given).items
+
+-- what is accepted of them as a first part of an input: a rest behind the last line feed is no line
+abbrev pub part_accepted : {left left' : Option (List ℕ)} → Shape → Given left left' → Accepted
+part_accepted plan given = accepted (streams_of plan) plan.late plan.keys (lines false given.bytes)
+
+-- the accepted items of a first part
+abbrev pub part_items : {left left' : Option (List ℕ)} → Shape → Given left left' → List Item
+part_items plan given = (part_accepted plan given).items
 
 -- where reading stopped
 abbrev pub stop_at : {left left' : Option (List ℕ)} → Shape → Given left left' → Stop

@@ -30,6 +30,13 @@ pub use reading::{next_item, next_other, next_usual};
 pub use taking::take_item;
 
 // What the crates above name of the crates below.
-pub use sb_base;
-pub use sb_emit;
-pub use sb_outside;
+pub use sb_base::{
+    Bundle, Dropped, END_MARK, Intake, Item, Key, Keys, LatePolicy, MAX_BUNDLE, MAX_LINES,
+    NoMemory, Plan, Record, Refusal, RowFault, Sequence, Stop, Stream, Streams, TableFault,
+    TextBuf, row_bytes,
+};
+pub use sb_emit::{CountTap, HeadTap, Lent, Printing, RowOut, Summary, Tap};
+pub use sb_outside::{
+    Folder, FolderFault, LineBuffer, MemSink, Sink, SinkFault, Source, SourceFault, Step,
+    write_all_of,
+};

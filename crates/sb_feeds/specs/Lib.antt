@@ -1,4 +1,5 @@
 pub mod Fed
+pub mod Files
 pub mod Ends
 pub mod InputFed
 pub mod InputEnds

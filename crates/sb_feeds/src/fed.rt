@@ -1,6 +1,6 @@
 //! What a record file feeds.
 
-use sb_feed::sb_base::{Item, Refusal};
+use sb_feed::{Item, Refusal};
 
 /// Why the reading of a file stopped.
 #[derive(Clone, Copy, Debug, PartialEq, Eq, Drop)]

@@ -10,9 +10,7 @@ use crate::ends::{FeedDone, FeedOut, Feeding};
 use crate::fed::{Fed, FeedStop};
 use crate::file::FileBytes;
 use rtrb::{Producer, PushError};
-use sb_feed::next_item;
-use sb_feed::sb_base::{Intake, Item, Stop};
-use sb_feed::sb_outside::LineBuffer;
+use sb_feed::{Intake, Item, LineBuffer, Stop, next_item};
 use std::alloc::Global;
 use std::sync::Wait;
 use std::thread;
@@ -62,7 +60,7 @@ fn feed_stop(stop: Stop) -> FeedStop
 
 /// Feeds a file: the items of its lines up to the first that is refused, without the comments, and then why reading
 /// stopped. It waits while the ring is full, and takes no memory.
-pub fn feed<W: Wait>(rt: &W, bytes: Vec<u8>, intake: Intake, out: FeedOut) -> FeedDone
+pub fn feed_file<W: Wait>(rt: &W, bytes: Vec<u8>, intake: Intake, out: FeedOut) -> FeedDone
     requires new { IsNew intake }
     requires nothing_sent { values_sent out ≡ [] }
     ensures ring { ring_of result ≡ ring_out out }

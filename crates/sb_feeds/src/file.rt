@@ -5,7 +5,7 @@ ghost use Rattle.std.specs.Io.{ReadsAtMost};
 ghost use Rattle.std.specs.Io.KnownBytes.{ReadConsumes};
 ghost use Rattle.sb_feed.specs.outside.Sources.{SourceCause};
 
-use sb_feed::sb_outside::{Source, SourceFault};
+use sb_feed::{Source, SourceFault};
 use std::marker::Model;
 
 /// The bytes of a file, of which some were read. Contracts see those that are left.

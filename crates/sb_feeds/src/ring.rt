@@ -8,7 +8,7 @@ ghost use Rattle.sb_feeds.specs.Ends.{values_fed, known_to, places_of, values_re
 use crate::ends::{FeedDone, FeedIn, FeedOut, Feeding};
 use crate::fed::Fed;
 use rtrb::RingBuffer;
-use sb_feed::sb_base::NoMemory;
+use sb_feed::NoMemory;
 use std::alloc::Global;
 
 /// How many values wait in a ring at most.

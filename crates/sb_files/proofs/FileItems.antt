@@ -28,8 +28,8 @@ use Rattle.sb_engines.specs.feeds.declared.fed.Fed.TheVariants as fed
 use Rattle.sb_engines.specs.feeds.declared.fed.FeedStop.{FeedStop}
 use Rattle.sb_engines.specs.feeds.Fed.{values_of_item, values_of_accepted, has_stop, stop_from}
 use Rattle.sb_engines.proofs.feeds.Stops.{feed_ends, first_with_stop}
-use Rattle.sb_files.specs.declared.limits.TheConstants.{MAX_FILE_LENGTH}
-use Rattle.sb_files.specs.Files.{accepted_of_file, items_of_file, stream_alone}
+use Rattle.sb_engines.specs.feeds.declared.limits.TheConstants.{MAX_FILE_LENGTH}
+use Rattle.sb_engines.specs.feeds.Files.{accepted_of_file, items_of_file, stream_alone}
 use Rattle.sb_files.specs.Pops.{is_next, is_stream, stop_among, items_taken, items_after, with_value}
 use Rattle.sb_files.proofs.TakenItems.{SaysNothing, taken_more}
 

@@ -45,24 +45,24 @@ use Rattle.sb_engines.proofs.feeds.one_feed.RowsApart.{apart_so_far}
 use Rattle.sb_engines.proofs.feeds.one_feed.LaterItems.{from_later}
 use Rattle.sb_engines.specs.feeds.declared.fed.Fed.{Fed as AValue}
 use Rattle.sb_engines.specs.feeds.Fed.{values_of_accepted, has_stop, stop_from}
-use Rattle.sb_files.specs.declared.limits.TheConstants.{MAX_FILE_LENGTH}
+use Rattle.sb_engines.specs.feeds.declared.limits.TheConstants.{MAX_FILE_LENGTH}
 use Rattle.sb_files.specs.declared.inlets.FilesStop.{FilesStop}
 use Rattle.sb_files.specs.declared.inlets.FilesStop.TheVariants as files_at
-use Rattle.sb_files.specs.declared.two_end.TwoEnd.TheVariants as two
-use Rattle.sb_engines.specs.declared.sizes.Sizes.{Sizes}
+use Rattle.sb_engines.specs.alone.declared.two_end.TwoEnd.TheVariants as two
+use Rattle.sb_engines.specs.alone.declared.sizes.Sizes.{Sizes}
 use Rattle.sb_engines.specs.Feeders.{ComesBack, HasFed}
-use Rattle.sb_files.specs.Files.{IsFirstRefused, NoneRefused, accepted_of_file, items_of_file, items_of_files, stream_alone}
+use Rattle.sb_engines.specs.feeds.Files.{IsFirstRefused, NoneRefused, accepted_of_file, items_of_file, items_of_files, stream_alone}
 use Rattle.sb_files.specs.FilesEnding.{early_by, end_by}
 use Rattle.sb_files.specs.FilesFed.{FeedsFiles, FeedsPart, FeedsValues}
 use Rattle.sb_files.specs.Pops.{AreMerged, as_stop, files_stop, files_stop_if, stop_among, items_taken}
-use Rattle.sb_engines.specs.Rested.{IsRested}
-use Rattle.sb_engines.specs.RunEnds.{IsDoneHand, OutputCause}
+use Rattle.sb_engines.specs.alone.Rested.{IsRested}
+use Rattle.sb_engines.specs.alone.RunEnds.{IsDoneHand, OutputCause}
 use Rattle.sb_files.specs.TwoEnds.{FilesEndAt, FilesEndEarly, TwoEnds, as_run}
-use Rattle.sb_engines.proofs.AtTheEnd.{IsQuiet}
-use Rattle.sb_engines.proofs.Ended.{done_hand, due_all, due_low}
+use Rattle.sb_engines.proofs.alone.AtTheEnd.{IsQuiet}
+use Rattle.sb_engines.proofs.alone.Ended.{done_hand, due_all, due_low}
 use Rattle.sb_files.proofs.FileItems.{IsTakenOf, file_quiet, no_records, taken_of_file, told_mark, told_says}
 use Rattle.sb_files.proofs.FilesSoFar.{both_stopped, files_stopped, files_without}
-use Rattle.sb_engines.proofs.SoFar.{rested_so_far}
+use Rattle.sb_engines.proofs.alone.SoFar.{rested_so_far}
 use Rattle.sb_files.proofs.TakenItems.{SaysNothing}
 
 -- ---- a comment says nothing

@@ -19,7 +19,7 @@ use Rattle.sb_files.specs.declared.inlets.Inlets.{Inlets}
 use Rattle.sb_files.specs.declared.reading.FilePart.{FilePart}
 use Rattle.sb_files.specs.declared.reading.Files.{Files}
 use Rattle.sb_files.specs.declared.reading.FilesDone.{FilesDone}
-use Rattle.sb_files.specs.Files.{accepted_of_file, stream_alone}
+use Rattle.sb_engines.specs.feeds.Files.{accepted_of_file, stream_alone}
 use Rattle.sb_engines.specs.feeds.base.Inputs.{by_stream}
 use Rattle.sb_files.specs.FilesRead.{AreFedWhole, AreNew, AreOpened, IsFedWhole, IsOpened}
 use Rattle.sb_files.specs.Pops.{AreInlets, values_of}

@@ -32,11 +32,11 @@ use Rattle.sb_engines.specs.feeds.declared.fed.Fed.{Fed as AValue}
 use Rattle.sb_engines.specs.feeds.declared.fed.FeedStop.{FeedStop}
 use Rattle.sb_engines.specs.feeds.Fed.{has_stop}
 use Rattle.sb_files.specs.declared.inlets.FilesStop.{FilesStop}
-use Rattle.sb_files.specs.declared.limits.TheConstants.{MAX_FILE_LENGTH}
+use Rattle.sb_engines.specs.feeds.declared.limits.TheConstants.{MAX_FILE_LENGTH}
 use Rattle.sb_files.specs.FilesFed.{CoversTaken, FeedsFiles, FeedsPart, FeedsValues}
 use Rattle.sb_files.specs.Pops.{AreMerged, as_stop, files_stop_if, item_for, is_next, stop_among, items_taken}
 use Rattle.sb_files.proofs.MergedItems.{merged_as, merged_more, nothing_merged}
-use Rattle.sb_engines.proofs.Sharing.{gives_as}
+use Rattle.sb_engines.proofs.alone.Sharing.{gives_as}
 use Rattle.sb_files.proofs.TakenItems.{next_timely, some_stop, taken_few}
 
 -- what lies around the engine: where its rows go, and where the late records of each file are listed

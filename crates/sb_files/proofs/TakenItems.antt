@@ -18,9 +18,9 @@ use Rattle.sb_engines.specs.feeds.declared.fed.Fed.{Fed}
 use Rattle.sb_engines.specs.feeds.declared.fed.Fed.TheVariants as fed
 use Rattle.sb_engines.specs.feeds.declared.fed.FeedStop.{FeedStop}
 use Rattle.sb_engines.specs.feeds.Fed.{has_stop}
-use Rattle.sb_files.specs.declared.limits.TheConstants.{MAX_FILE_LENGTH}
+use Rattle.sb_engines.specs.feeds.declared.limits.TheConstants.{MAX_FILE_LENGTH}
 use Rattle.sb_files.specs.Pops.{is_next, is_stream, mark_behind, stop_among, items_taken, items_after, with_value}
-use Rattle.sb_engines.proofs.Standing.{last_more}
+use Rattle.sb_engines.proofs.alone.Standing.{last_more}
 
 -- ---- one value more
 with_more : (streams : Streams) (s : Stream) (items : List Item) (values : List Fed) (value : Fed)

@@ -4,8 +4,8 @@ use Rattle.sb_engines.specs.feeds.one_feed.declared.give.GiveStop.{GiveStop}
 use Rattle.sb_engines.specs.feeds.one_feed.declared.give.GiveStop.TheVariants as stop
 use Rattle.sb_files.specs.declared.inlets.FilesStop.{FilesStop}
 use Rattle.sb_files.specs.declared.inlets.FilesStop.TheVariants as at
-use Rattle.sb_files.specs.declared.two_end.TwoEnd.{TwoEnd}
-use Rattle.sb_files.specs.declared.two_end.TwoEnd.TheVariants.{Done, Refused, Output, Tap, Memory}
+use Rattle.sb_engines.specs.alone.declared.two_end.TwoEnd.{TwoEnd}
+use Rattle.sb_engines.specs.alone.declared.two_end.TwoEnd.TheVariants.{Done, Refused, Output, Tap, Memory}
 
 -- by why it stopped early
 abbrev pub early_by : GiveStop → TwoEnd

@@ -14,7 +14,7 @@ use Rattle.sb_files.specs.declared.inlets.Inlets.{Inlets}
 use Rattle.sb_files.specs.declared.reading.FilePart.{FilePart}
 use Rattle.sb_files.specs.declared.reading.Files.{Files}
 use Rattle.sb_files.specs.declared.reading.FilesDone.{FilesDone}
-use Rattle.sb_files.specs.Files.{stream_alone}
+use Rattle.sb_engines.specs.feeds.Files.{stream_alone}
 use Rattle.sb_files.specs.Pops.{IsInlet}
 
 -- a file of which nothing was read, and whose lines are accepted by these streams, late records and keys

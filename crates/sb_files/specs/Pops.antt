@@ -16,7 +16,7 @@ use Rattle.sb_engines.specs.feeds.declared.fed.Fed.TheVariants as fed
 use Rattle.sb_engines.specs.feeds.declared.fed.FeedStop.{FeedStop}
 use Rattle.sb_engines.specs.feeds.declared.fed.FeedStop.TheVariants as feed_stop
 use Rattle.sb_engines.specs.feeds.Ends.{values_received}
-use Rattle.sb_files.specs.declared.limits.TheConstants.{MAX_FILE_LENGTH}
+use Rattle.sb_engines.specs.feeds.declared.limits.TheConstants.{MAX_FILE_LENGTH}
 use Rattle.sb_files.specs.declared.inlet.Inlet.{Inlet}
 use Rattle.sb_files.specs.declared.inlets.Inlets.{Inlets}
 use Rattle.sb_files.specs.declared.inlets.FilesStop.{FilesStop}

@@ -11,13 +11,13 @@ use Rattle.sb_engines.specs.feeds.base.pipeline.Shapes.{Shape}
 use Rattle.sb_engines.specs.feeds.emit.Taps.{TapState}
 use Rattle.sb_engines.specs.feeds.one_feed.Due.{AreFirstDropped, AreFirstRows, due_rows}
 use Rattle.sb_engines.specs.feeds.one_feed.TapLists.{LeavesThoseThatStay, StopsIn}
-use Rattle.sb_engines.specs.declared.sizes.Sizes.{Sizes}
-use Rattle.sb_engines.specs.declared.run_end.RunEnd.{RunEnd}
-use Rattle.sb_engines.specs.declared.run_end.RunEnd.TheVariants as run
-use Rattle.sb_files.specs.declared.two_end.TwoEnd.{TwoEnd}
-use Rattle.sb_files.specs.declared.two_end.TwoEnd.TheVariants.{Done, Refused, Output, Tap, Memory}
-use Rattle.sb_files.specs.Files.{IsFirstRefused, NoneRefused, items_of_file, items_of_files}
-use Rattle.sb_engines.specs.RunEnds.{IsDoneHand}
+use Rattle.sb_engines.specs.alone.declared.sizes.Sizes.{Sizes}
+use Rattle.sb_engines.specs.alone.declared.run_end.RunEnd.{RunEnd}
+use Rattle.sb_engines.specs.alone.declared.run_end.RunEnd.TheVariants as run
+use Rattle.sb_engines.specs.alone.declared.two_end.TwoEnd.{TwoEnd}
+use Rattle.sb_engines.specs.alone.declared.two_end.TwoEnd.TheVariants.{Done, Refused, Output, Tap, Memory}
+use Rattle.sb_engines.specs.feeds.Files.{IsFirstRefused, NoneRefused, items_of_file, items_of_files}
+use Rattle.sb_engines.specs.alone.RunEnds.{IsDoneHand}
 
 -- the reading of the files stopped so: the rows that are due were written and offered, and all late records of each
 -- file that were dropped are listed

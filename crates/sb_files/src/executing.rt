@@ -14,21 +14,18 @@ ghost use Rattle.sb_engines.specs.feeds.base.Inputs.{by_stream};
 ghost use Rattle.sb_files.specs.FilesFed.{FeedsValues};
 ghost use Rattle.sb_files.specs.FilesRead.{AreNewOnce, AreReadOnce};
 ghost use Rattle.sb_files.specs.Pops.{AreInlets, values_of};
-ghost use Rattle.sb_engines.specs.RunEnds.{AreSizes, OutputCause};
+ghost use Rattle.sb_engines.specs.alone.RunEnds.{AreSizes, OutputCause};
 ghost use Rattle.sb_files.specs.TwoEnds.{TwoEnds, as_run};
 ghost use Rattle.sb_engines.specs.worker.Helping.{IsFirst, IsHelper};
 
-use crate::by_stream::ByStream;
+use crate::ending::{early_end, end_of};
 use crate::feeding::feed_files;
 use crate::inlets::{FilesStop, Inlets};
-use crate::limits::MAX_FILE_LENGTH;
 use crate::reading::{Files, FilesDone, feed_and_help, open_files, tie_both};
-use crate::two_end::{TwoEnd, early_end, end_of};
-use sb_engines::sb_feeds::sb_base::{Dropped, MAX_BUNDLE, NoMemory, Plan};
-use sb_engines::sb_feeds::sb_emit::{RowOut, Tap};
-use sb_engines::sb_feeds::sb_feed::GiveStop;
-use sb_engines::sb_worker::sb_work::Gate;
-use sb_engines::{Begun, Common, Passes, Sizes, Team, begin, come_back};
+use sb_engines::{
+    Begun, ByStream, Common, Dropped, Gate, GiveStop, MAX_BUNDLE, MAX_FILE_LENGTH, NoMemory,
+    Passes, Plan, RowOut, Sizes, Tap, Team, TwoEnd, begin, come_back,
+};
 use std::sync::Wait;
 use std::thread::{Threads, join_mut};
 use std::time::Clock;

@@ -17,14 +17,12 @@ ghost use Rattle.sb_engines.specs.feeds.base.Inputs.{by_stream};
 ghost use Rattle.sb_files.specs.FilesFed.{FeedsValues};
 ghost use Rattle.sb_files.specs.Pops.{AreInlets, as_stop as spec_as_stop, item_for, values_of};
 
-use crate::by_stream::ByStream;
 use crate::inlets::{FilesStop, Inlets, as_stop};
-use sb_engines::sb_feeds::sb_base::{Dropped, Item, MAX_BUNDLE, MAX_LINES, NoMemory, Stream};
-use sb_engines::sb_feeds::sb_emit::{RowOut, Tap};
-use sb_engines::sb_feeds::sb_feed::{Cutters, GiveStop, end_input, take_item};
-use sb_engines::sb_worker::sb_cascade::CascadePass;
-use sb_engines::sb_worker::sb_work::Gate;
-use sb_engines::{Common, Feeder, Pace, end_work, reason_of, step_or_yield};
+use sb_engines::{
+    ByStream, CascadePass, Common, Cutters, Dropped, Feeder, Gate, GiveStop, Item, MAX_BUNDLE,
+    MAX_LINES, NoMemory, Pace, RowOut, Stream, Tap, end_input, end_work, reason_of, step_or_yield,
+    take_item,
+};
 use std::sync::Wait;
 use std::time::Clock;
 

@@ -8,8 +8,7 @@ ghost use Rattle.sb_engines.specs.feeds.Ends.{values_received, ring_in};
 ghost use Rattle.sb_files.specs.Pops.{IsInlet, PopsOne, is_next as spec_is_next, mark_behind as spec_mark_behind};
 
 use crate::next::{is_next, mark_behind};
-use sb_engines::sb_feeds::sb_base::{Item, Stream};
-use sb_engines::sb_feeds::{Fed, FeedIn, FeedStop};
+use sb_engines::{Fed, FeedIn, FeedStop, Item, Stream};
 
 /// The receiving end of the ring of a stream's file, and what came out of it so far.
 #[derive(Drop)]

@@ -9,8 +9,7 @@ ghost use Rattle.sb_files.specs.Pops.{AreInlets, PopsNext, as_stop as spec_as_st
 ghost use Rattle.sb_files.specs.Pops.{files_stop_if, with_stream, other_than, values_of};
 
 use crate::inlet::Inlet;
-use sb_engines::sb_feeds::FeedStop;
-use sb_engines::sb_feeds::sb_base::{Item, Refusal, Stop, Stream};
+use sb_engines::{FeedStop, Item, Refusal, Stop, Stream};
 use std::sync::Wait;
 use std::thread;
 

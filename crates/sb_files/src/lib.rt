@@ -2,21 +2,23 @@
 //! out of two rings.
 #![tactic(auto)]
 
-mod by_stream;
+mod ending;
 mod executing;
 mod feeding;
 mod inlet;
 mod inlets;
-mod limits;
 mod next;
 mod reading;
-mod two_end;
 
-pub use by_stream::ByStream;
 pub use executing::execute_two;
-pub use limits::MAX_FILE_LENGTH;
-pub use two_end::TwoEnd;
+pub use sb_engines::{ByStream, MAX_FILE_LENGTH, TwoEnd};
 
 // What the crates above name of the crates below.
-pub use sb_engines;
-pub use sb_engines::{sb_feeds, sb_worker};
+pub use sb_engines::{
+    Begun, CascadePass, Common, Did, Down, Dropped, Feeder, Gate, GiveStop, InputFed, InputIn,
+    InputOut, Intake, LineBuffer, MAX_BUNDLE, MAX_WORKERS, NoMemory, OpenGate, Pace, Passes,
+    Patience, Plan, Refusal, RowOut, RowsIn, RowsSender, RunEnd, Signals, Sizes, Source,
+    SourceFault, Stop, Stream, Tap, Team, begin, come_back, early_end, end_of, end_work,
+    execute_alone, feed_beside_helpers, feed_input, give_out, help_all, input_pair, keep_dropped,
+    next_item, print_rows, reason_of, rows_pair, step_too, take_out, take_value,
+};

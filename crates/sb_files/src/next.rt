@@ -3,8 +3,7 @@
 ghost use Rattle.std.specs.Prelude.{◌≡◌};
 ghost use Rattle.sb_files.specs.Pops.{is_next as spec_is_next, mark_behind as spec_mark_behind};
 
-use crate::limits::MAX_FILE_LENGTH;
-use sb_engines::sb_feeds::sb_base::{END_MARK, Item, MAX_TIME, Stream};
+use sb_engines::{END_MARK, Item, MAX_FILE_LENGTH, MAX_TIME, Stream};
 
 /// Whether an item may be taken next of the file of a stream: it is of this stream, which the plan uses, it is in time
 /// after the stream's last watermark, and few enough items came before.

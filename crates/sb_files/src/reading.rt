@@ -6,18 +6,16 @@ ghost use Rattle.std.specs.Thread.{IsSync};
 ghost use mathlib.Core.List.{IsPrefix};
 ghost use Rattle.sb_engines.specs.feeds.Ends.{values_fed, values_received, ring_in, ring_of, ring_out, values_sent};
 ghost use Rattle.sb_engines.specs.feeds.Fed.{IsNew};
-ghost use Rattle.sb_files.specs.Files.{stream_alone as spec_stream_alone};
+ghost use Rattle.sb_engines.specs.feeds.Files.{stream_alone as spec_stream_alone};
 ghost use Rattle.sb_files.specs.FilesRead.{AreFedWhole, AreNew, AreNewOnce, AreOpened, AreReadOnce, IsFedWhole, IsOpened};
 ghost use Rattle.sb_engines.specs.worker.Helping.{IsHelper};
 
 use crate::inlet::Inlet;
 use crate::inlets::Inlets;
-use sb_engines::help_all;
-use sb_engines::sb_feeds::sb_base::{Intake, Keys, LatePolicy, NoMemory, Stream, Streams};
-use sb_engines::sb_feeds::sb_feed::uses;
-use sb_engines::sb_feeds::{FeedDone, FeedIn, FeedOut, feed, feed_pair};
-use sb_engines::sb_worker::sb_cascade::{Cascade, CascadePass};
-use sb_engines::sb_worker::sb_work::Gate;
+use sb_engines::{
+    Cascade, CascadePass, FeedDone, FeedIn, FeedOut, Gate, Intake, Keys, LatePolicy, NoMemory,
+    Stream, Streams, feed_file, feed_pair, help_all, uses,
+};
 use std::alloc::Global;
 use std::sync::Wait;
 use std::thread::{Threads, join, join_mut};
@@ -121,7 +119,7 @@ fn feed_part<W: Wait>(rt: &W, part: FilePart) -> FeedDone
     ensures { IsFedWhole part result }
 {
     let FilePart { bytes, intake, out } = part;
-    feed(rt, bytes, intake, out)
+    feed_file(rt, bytes, intake, out)
 }
 
 // Feeds both files, each in a thread of its own if one can be made.

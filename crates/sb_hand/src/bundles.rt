@@ -13,9 +13,9 @@ ghost use Rattle.sb_hand.specs.Runs.{work_of, FinishesWork, Gives, WorksOff};
 ghost use Rattle.sb_shown.specs.Sets.{HasLane};
 
 use crate::events::{down_at, finish_at, finish_part, link_at, put_at, put_first, take_at};
-use sb_shown::sb_base::{Bundle, NoMemory, Plan, Record, Sequence};
-use sb_shown::sb_node::NodeState;
-use sb_shown::sb_work::{Claim, Output, Receipt, process};
+use sb_shown::{
+    Bundle, Claim, NoMemory, NodeState, Output, Plan, Receipt, Record, Sequence, process,
+};
 use std::alloc::Global;
 
 /// What a transform of single records gives for a bundle goes below, to where the bundle's container is linked. If that

@@ -15,8 +15,7 @@ ghost use Rattle.sb_hand.specs.Runs.{close_of, Delivers, Ends, ClosesNode};
 ghost use Rattle.sb_shown.specs.Sets.{HasLane, Turns};
 
 use crate::events::{begin_at, end_at, put_at, put_first, seal_at};
-use sb_shown::sb_base::{Bundle, NoMemory, Plan, Record, Sequence};
-use sb_shown::sb_node::{Closing, NodeState};
+use sb_shown::{Bundle, Closing, NoMemory, NodeState, Plan, Record, Sequence};
 use std::alloc::Global;
 
 /// The first records of a list.

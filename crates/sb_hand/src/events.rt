@@ -20,9 +20,7 @@ ghost use Rattle.sb_shown.specs.node.Marking as spec;
 ghost use Rattle.sb_shown.specs.Sets.{HasLane, Takes, Turns, Absorbs, BeginsAt, StaysAt};
 ghost use Rattle.sb_shown.specs.node.declared.state.NodeState.{NodeState as ANode};
 
-use sb_shown::sb_base::{Bundle, Down, NoMemory};
-use sb_shown::sb_node::{Closing, NodeState};
-use sb_shown::sb_work::{Part, Receipt};
+use sb_shown::{Bundle, Closing, Down, NoMemory, NodeState, Part, Receipt};
 
 /// Takes the first waiting bundle of a lane in which one waits.
 pub(crate) fn take_at(nodes: &mut Vec<NodeState>, node: u32, lane: u32) -> Result<Bundle, NoMemory>

@@ -16,9 +16,7 @@ ghost use Rattle.sb_shown.specs.Searching.{SearchesStay};
 ghost use Rattle.sb_shown.specs.Sets.{HasLane, StaysAt, Turns};
 ghost use Rattle.sb_shown.specs.Showing.{CanStand, Does, settings_of};
 
-use sb_shown::sb_base::{Bundle, Down, NoMemory, Plan, Stream};
-use sb_shown::sb_lane::ArriveStop;
-use sb_shown::sb_node::NodeState;
+use sb_shown::{ArriveStop, Bundle, Down, NoMemory, NodeState, Plan, Stream};
 
 /// Puts a bundle into a lane, if fewer than the lane's limit are waiting or out.
 fn arrive_in(nodes: &mut Vec<NodeState>, place: Down, bundle: Bundle) -> Result<u64, ArriveStop>

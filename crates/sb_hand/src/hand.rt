@@ -21,10 +21,7 @@ use crate::feeding;
 use crate::making::new_nodes;
 use crate::settling::is_none_left;
 use crate::steps::step_node;
-use sb_shown::sb_base::{Bundle, MAX_BUNDLE, NoMemory, Plan, Record, Stream};
-use sb_shown::sb_diary::Diary;
-use sb_shown::sb_lane::ArriveStop;
-use sb_shown::sb_node::NodeState;
+use sb_shown::{ArriveStop, Bundle, Diary, MAX_BUNDLE, NoMemory, NodeState, Plan, Record, Stream};
 use std::alloc::Global;
 use std::marker::Model;
 

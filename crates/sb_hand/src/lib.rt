@@ -16,4 +16,9 @@ pub use did::Did;
 pub use hand::{Hand, HandParts, MAX_PENDING};
 
 // What the crates above name of the crates below.
-pub use sb_shown::{sb_base, sb_core, sb_diary, sb_lane, sb_node, sb_work};
+pub use sb_shown::{
+    ArriveStop, Bundle, Claim, Closing, Diary, DiaryEvent, DiaryLine, Down, Dropped, END_MARK,
+    Event, Gate, Intake, Item, Kept, Key, Keys, Lane, LaneClose, LatePolicy, MAX_BUNDLE, MAX_LINES,
+    MAX_TIME, Moment, NoMemory, NodeState, NotYet, OpenGate, Output, Part, Plan, Receipt, Record,
+    Refusal, Sequence, Stop, Stream, Streams, TextBuf, line_bytes, process, sum_plan,
+};

@@ -5,11 +5,7 @@ ghost use Rattle.sb_shown.specs.lane.LaneView.{empty_lane};
 ghost use Rattle.sb_shown.specs.base.pipeline.Operators.{operator_at};
 ghost use Rattle.sb_hand.specs.NewNodes.{AreNewNodes, IsNewNode};
 
-use sb_shown::sb_base::{NoMemory, Plan};
-use sb_shown::sb_diary::Diary;
-use sb_shown::sb_kept::Kept;
-use sb_shown::sb_lane::Lane;
-use sb_shown::sb_node::NodeState;
+use sb_shown::{Diary, Kept, Lane, NoMemory, NodeState, Plan};
 use std::alloc::Global;
 
 /// So many lanes in which nothing has arrived.

@@ -3,8 +3,7 @@
 ghost use Rattle.std.specs.Prelude.{◌≡◌, ◌↔◌, IsTrue, All, []};
 ghost use Rattle.sb_hand.specs.Hands.{NoneLeft};
 
-use sb_shown::sb_lane::Lane;
-use sb_shown::sb_node::NodeState;
+use sb_shown::{Lane, NodeState};
 
 /// Whether the lane has no container.
 fn is_lane_empty(lane: &Lane) -> bool

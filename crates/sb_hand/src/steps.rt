@@ -16,9 +16,7 @@ ghost use Rattle.sb_shown.specs.node.Looking.{CannotClose, NoneWaits};
 use crate::bundles::work_off;
 use crate::closings::close_node;
 use crate::did::Did;
-use sb_shown::sb_base::{NoMemory, Plan, Record};
-use sb_shown::sb_lane::Lane;
-use sb_shown::sb_node::NodeState;
+use sb_shown::{Lane, NoMemory, NodeState, Plan, Record};
 use std::alloc::Global;
 
 /// The first lane whose oldest container can close, and that container's epoch.

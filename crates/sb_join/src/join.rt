@@ -3,7 +3,7 @@
 ghost use Rattle.std.specs.Prelude.{◌≡◌, ◌+◌, ◌*◌, ◌≤◌, ◌++◌, length, map, take, vec_len, vec_capacity, IsOk, OnOk, OnErr};
 ghost use Rattle.sb_join.specs.Joins as spec;
 
-use sb_runs::sb_record::NoMemory;
+use sb_runs::NoMemory;
 
 /// One of the two inputs of a join.
 #[derive(Clone, Copy, Debug, PartialEq, Eq)]

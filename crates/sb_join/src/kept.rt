@@ -17,9 +17,7 @@ use crate::join::{Combine, Side};
 use crate::part::JoinPart;
 use crate::rows::rows_of;
 use crate::side_values::SideJoiner;
-use sb_runs::Runs;
-use sb_runs::sb_record::{NoMemory, Record};
-use sb_runs::sb_window::{Grouping, Windows};
+use sb_runs::{Grouping, NoMemory, Record, Runs, Windows};
 use std::alloc::Global;
 use std::marker::Model;
 

@@ -17,6 +17,3 @@ mod side_values;
 pub use join::{Combine, Side, pair_values};
 pub use kept::JoinKept;
 pub use part::{JoinPart, join_part_of};
-
-// What the crates above name of the crates below.
-pub use sb_runs::{sb_record, sb_window};

@@ -8,9 +8,7 @@ ghost use Rattle.sb_join.specs.Kept.{IsInTime};
 
 use crate::join::Side;
 use crate::side_values::{SideJoiner, SideValues};
-use sb_runs::sb_record::{NoMemory, Record, Trail};
-use sb_runs::sb_window::{KeyedWindow, Windows};
-use sb_runs::{Run, place, sort_placed};
+use sb_runs::{KeyedWindow, NoMemory, Record, Run, Trail, Windows, place, sort_placed};
 use std::alloc::Global;
 use std::marker::Model;
 

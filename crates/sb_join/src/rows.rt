@@ -9,9 +9,7 @@ ghost use Rattle.sb_join.specs.Entries.{combined_values};
 
 use crate::join::{Combine, pair_values};
 use crate::side_values::{SideJoiner, SideValues};
-use sb_runs::Closed;
-use sb_runs::sb_record::{NoMemory, Record};
-use sb_runs::sb_window::KeyedWindow;
+use sb_runs::{Closed, KeyedWindow, NoMemory, Record};
 
 /// The rows of all pairs of the keyed windows that closed, in order.
 ///

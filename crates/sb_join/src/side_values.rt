@@ -5,9 +5,7 @@ ghost use Rattle.sb_join.specs.declared.join.Side.TheVariants.{Left as OnLeft, R
 ghost use Rattle.sb_join.specs.Entries.{of_side};
 
 use crate::join::Side;
-use sb_runs::sb_record::NoMemory;
-use sb_runs::sb_window::KeyedWindow;
-use sb_runs::{Joiner, compare_windows, later_window};
+use sb_runs::{Joiner, KeyedWindow, NoMemory, compare_windows, later_window};
 use std::alloc::Global;
 use std::cmp::Ordering;
 use std::marker::Model;

@@ -9,8 +9,7 @@ ghost use Rattle.sb_kept.specs.Keeping.{IsSpent, IsMadeFor, IsPartFor, ShowsKept
 
 use sb_session::Session;
 use sb_sink::SinkKept;
-use sb_work::Part;
-use sb_work::sb_base::{Aggregate, Grouping, JoinKept, Kind, NoMemory, Plan, Record};
+use sb_work::{Aggregate, Grouping, JoinKept, Kind, NoMemory, Part, Plan, Record};
 use std::alloc::Global;
 
 /// What a node keeps between two closings.

@@ -11,5 +11,8 @@ mod kept;
 pub use kept::Kept;
 
 // What the crates above name of the crates below.
-pub use sb_work;
-pub use sb_work::sb_base;
+pub use sb_work::{
+    Bundle, Claim, Down, Dropped, END_MARK, Gate, Intake, Item, Key, Keys, LatePolicy, MAX_BUNDLE,
+    MAX_LINES, MAX_TIME, NoMemory, OpenGate, Output, Part, Plan, Receipt, Record, Refusal,
+    Sequence, Stop, Stream, Streams, TextBuf, process, sum_plan,
+};

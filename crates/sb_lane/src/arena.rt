@@ -16,7 +16,7 @@ ghost use Rattle.sb_lane.specs.Unfinished.{unfinished_in};
 
 use crate::container::Container;
 use crate::filling::{empty, finish_bundle, make_room, put_bundle, take_bundle};
-use sb_core::sb_base::{Bundle, NoMemory};
+use sb_core::{Bundle, NoMemory};
 use std::alloc::{AllocError, Global};
 use std::collections::VecDeque;
 use std::marker::Model;

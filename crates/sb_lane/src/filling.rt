@@ -7,7 +7,7 @@ ghost use Rattle.sb_lane.specs.Placed.{cont_of, room_of};
 ghost use Rattle.sb_lane.specs.Taking.{with_finished};
 
 use crate::container::Container;
-use sb_core::sb_base::Bundle;
+use sb_core::Bundle;
 use std::alloc::{AllocError, Global};
 use std::collections::VecDeque;
 

@@ -22,7 +22,7 @@ use crate::finding::first_waiting;
 use crate::links::{down_in, link_in_epoch};
 use crate::putting::{place_at, put_at, put_in_place, seal_at};
 use crate::taking::{finish_at, take_oldest};
-use sb_core::sb_base::{Bundle, NoMemory, Trail};
+use sb_core::{Bundle, NoMemory, Trail};
 use std::alloc::Global;
 use std::collections::VecDeque;
 use std::marker::Model;

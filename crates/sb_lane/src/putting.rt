@@ -13,7 +13,7 @@ ghost use Rattle.sb_lane.specs.Unfinished.{unfinished_of};
 use crate::arena::Arena;
 use crate::filling::{empty, make_room};
 use crate::finding::{index_of, is_at};
-use sb_core::sb_base::{Bundle, NoMemory};
+use sb_core::{Bundle, NoMemory};
 use std::alloc::Global;
 
 // Puts a bundle into the container at an index, which is of its epoch.

@@ -4,7 +4,7 @@ ghost use Rattle.std.specs.Prelude.{◌≡◌};
 ghost use Rattle.sb_emit.specs.records.Reading.{whole_number};
 ghost use Rattle.sb_live.specs.Naming as spec;
 
-use sb_emit::sb_record::{Key, Keys, MAX_KEY, Word, read_number};
+use sb_emit::{Key, Keys, MAX_KEY, Word, read_number};
 
 // The number with this text, if it may be a key.
 fn number_named(text: &[u8]) -> Option<u64>

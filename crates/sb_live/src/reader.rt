@@ -12,7 +12,7 @@ use crate::rule::{Follow, Known, See};
 use crate::table::Table;
 use core::mem::replace_with;
 use left_right::reader::Reader;
-use sb_emit::sb_record::{Key, Record};
+use sb_emit::{Key, Record};
 use std::error::Error;
 use std::fmt;
 use std::marker::Model;

@@ -3,7 +3,7 @@
 ghost use Rattle.std.specs.Prelude.{IsTrue, ◌↔◌};
 ghost use Rattle.sb_live.specs.Rising.{BeginAbove, RiseFrom, next_after};
 
-use sb_emit::sb_record::Record;
+use sb_emit::Record;
 
 // Whether no time is below the one before it.
 fn rise(rows: &[Record]) -> bool

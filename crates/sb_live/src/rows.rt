@@ -8,9 +8,7 @@ ghost use Rattle.sb_live.specs.Rising.{RiseFrom, next_in};
 ghost use Rattle.sb_live.specs.Showings.{ShowsAll, ShowsSome, counts_of};
 
 use crate::writer::LiveOut;
-use sb_emit::RowOut;
-use sb_emit::sb_outside::SinkFault;
-use sb_emit::sb_record::{END_MARK, NoMemory, Record};
+use sb_emit::{END_MARK, NoMemory, Record, RowOut, SinkFault};
 use std::marker::Model;
 use std::sync::Wait;
 

@@ -8,7 +8,7 @@ ghost use Rattle.sb_live.specs.Lasts.{last_of, later};
 
 use crate::change::Change;
 use left_right::Absorb;
-use sb_emit::sb_record::{Key, Record, Trail};
+use sb_emit::{Key, Record, Trail};
 use std::alloc::{AllocError, Global};
 use std::collections::BTreeMap;
 

@@ -15,7 +15,7 @@ use crate::rule::{Follow, Known, See, Taken, Told};
 use crate::table::Table;
 use core::mem::replace_with;
 use left_right::writer::Writer;
-use sb_emit::sb_record::{Key, NoMemory, Record};
+use sb_emit::{Key, NoMemory, Record};
 use std::alloc::Global;
 use std::marker::Model;
 use std::sync::Wait;

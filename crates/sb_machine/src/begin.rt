@@ -14,7 +14,7 @@ use crate::machine::StepStop;
 use crate::marks::{begun_in, least_begun_mark, least_begun_mark_with};
 use crate::operate::{kept_at, rows_at, rows_at_sink};
 use sb_core::{Held, Moment};
-use sb_slow::sb_base::{KeptRec, Plan, Record, Sequence};
+use sb_slow::{KeptRec, Plan, Record, Sequence};
 use std::alloc::Global;
 
 /// What a closing is to change.

@@ -12,7 +12,7 @@ use crate::lanes;
 use crate::machine::StepStop;
 use crate::operate::{absorb, delivery};
 use sb_core::{Event, Held, Moment};
-use sb_slow::sb_base::{Plan, Sequence};
+use sb_slow::{Plan, Sequence};
 use std::alloc::Global;
 
 /// A worker takes a waiting bundle.

@@ -12,7 +12,7 @@ use crate::hold::{close_at, close_of_at};
 use crate::lanes;
 use crate::machine::StepStop;
 use sb_core::{Held, Moment};
-use sb_slow::sb_base::{Plan, Sequence};
+use sb_slow::{Plan, Sequence};
 use std::alloc::Global;
 
 /// The closing, with the first rows gone.

@@ -5,7 +5,7 @@ ghost use Rattle.sb_core.specs.declared.moment.Moment.{Moment as AMoment};
 ghost use Rattle.sb_machine.specs.Steps.{asks_for_memory};
 
 use sb_core::Event;
-use sb_slow::sb_base::{NoMemory, Sequence};
+use sb_slow::{NoMemory, Sequence};
 use std::alloc::Global;
 
 /// An event once more, with records of its own. Only an [`Event::Arrive`] has records, and takes memory.

@@ -10,7 +10,7 @@ ghost use Rattle.sb_machine.specs.Steps.{Becomes};
 use crate::lanes;
 use crate::machine::StepStop;
 use sb_core::{CoreLane, Moment};
-use sb_slow::sb_base::{Down, END_MARK, MAX_TIME, Plan, Record, Sequence, Stream};
+use sb_slow::{Down, END_MARK, MAX_TIME, Plan, Record, Sequence, Stream};
 use std::alloc::Global;
 
 /// The lane of a place, if there is one.

@@ -6,7 +6,7 @@ ghost use Rattle.sb_core.specs.Finding.{IsCloseAt, IsCloseOfAt, IsFirst, IsWorkA
 ghost use Rattle.sb_core.specs.Moments as spec;
 
 use sb_core::Held;
-use sb_slow::sb_base::Record;
+use sb_slow::Record;
 
 /// Whether it is the bundle of this number.
 fn is_work(held: &Held, of_node: u32, of_lane: u32, of_number: u64) -> bool

@@ -9,7 +9,7 @@ ghost use Rattle.sb_core.specs.LaneSteps.{TakesOut};
 ghost use Rattle.sb_machine.specs.Places.{IsPlaceOf, IsWaitingAt, without};
 
 use sb_core::{Cont, CoreLane};
-use sb_slow::sb_base::{Bundle, NoMemory, Record, Sequence};
+use sb_slow::{Bundle, NoMemory, Record, Sequence};
 use std::alloc::Global;
 
 /// The number of the first epoch that is not sealed.

@@ -19,5 +19,4 @@ mod operate;
 pub use machine::{RunStop, StepStop, first, run, step};
 
 // What the crates above name of the crates below.
-pub use sb_core;
-pub use sb_slow;
+pub use sb_slow::slow_rows;

@@ -13,7 +13,7 @@ ghost use Rattle.sb_machine.specs.Steps.{Becomes, Runs, asks_for_memory, done_of
 use crate::copying::copy_of;
 use crate::{begin, bundles, closings, feeding};
 use sb_core::{CoreLane, Event, Moment, Node};
-use sb_slow::sb_base::{NoMemory, Plan, Sequence};
+use sb_slow::{NoMemory, Plan, Sequence};
 use std::alloc::{AllocError, Global};
 
 /// Why an event did not happen.

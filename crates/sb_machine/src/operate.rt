@@ -12,8 +12,10 @@ ghost use Rattle.sb_slow.specs.base.pipeline.Operators.{operator_at};
 ghost use Rattle.sb_slow.specs.base.window.Windows.{window_ends};
 ghost use Rattle.sb_core.specs.Closings as spec;
 
-use sb_slow::sb_base::{END_MARK, KeptRec, Kind, MAX_GAP, NoMemory, Plan, Record, Windows, apply};
-use sb_slow::{all_records, output, push_on_lane, session_ends, sort_below};
+use sb_slow::{
+    END_MARK, KeptRec, Kind, MAX_GAP, NoMemory, Plan, Record, Windows, all_records, apply, output,
+    push_on_lane, session_ends, sort_below,
+};
 use std::alloc::Global;
 
 /// What a bundle gives below before a closing.

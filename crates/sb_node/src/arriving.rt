@@ -15,7 +15,7 @@ ghost use Rattle.sb_node.specs.LinkChanges.{FindsPlace, GetsPlace, LinksStay};
 
 use crate::state::NodeState;
 use sb_diary::DiaryEvent;
-use sb_kept::sb_base::{Bundle, NoMemory};
+use sb_kept::{Bundle, NoMemory};
 use sb_lane::{ArriveStop, Lane};
 
 /// Puts a bundle into the container of its epoch, which stands at a place of a lane.

@@ -1,6 +1,6 @@
 //! A closing in hand.
 
-use sb_kept::sb_base::Record;
+use sb_kept::Record;
 
 /// A closing that has begun.
 #[derive(Drop)]

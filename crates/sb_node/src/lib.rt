@@ -17,7 +17,10 @@ pub use closing::Closing;
 pub use state::NodeState;
 
 // What the crates above name of the crates below.
-pub use sb_diary;
-pub use sb_kept;
-pub use sb_kept::{sb_base, sb_work};
-pub use sb_lane;
+pub use sb_diary::{Diary, DiaryEvent, DiaryLine, line_bytes};
+pub use sb_kept::{
+    Bundle, Claim, Down, Dropped, END_MARK, Gate, Intake, Item, Kept, Key, Keys, LatePolicy,
+    MAX_BUNDLE, MAX_LINES, MAX_TIME, NoMemory, OpenGate, Output, Part, Plan, Receipt, Record,
+    Refusal, Sequence, Stop, Stream, Streams, TextBuf, process, sum_plan,
+};
+pub use sb_lane::{ArriveStop, Lane, LaneClose, NotYet};

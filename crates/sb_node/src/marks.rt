@@ -16,7 +16,7 @@ ghost use Rattle.sb_node.specs.Marking as spec;
 use crate::closing::Closing;
 use crate::state::NodeState;
 use sb_diary::DiaryEvent;
-use sb_kept::sb_base::{NoMemory, Record};
+use sb_kept::{NoMemory, Record};
 use sb_lane::Lane;
 
 /// The mark up to which a node is closed once the oldest container of a lane is closing.

@@ -13,8 +13,7 @@ ghost use Rattle.sb_node.specs.LinkChanges.{LinksStay};
 
 use crate::state::NodeState;
 use sb_diary::DiaryEvent;
-use sb_kept::sb_base::{Bundle, NoMemory};
-use sb_kept::sb_work::Part;
+use sb_kept::{Bundle, NoMemory, Part};
 
 impl NodeState {
     /// Takes the first waiting bundle of a lane in which one waits. It takes no memory.

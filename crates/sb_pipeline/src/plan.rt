@@ -8,9 +8,7 @@ ghost use Rattle.sb_pipeline.specs.Shapes as shape;
 
 use crate::transform::{Down, Kind, Step};
 use crate::validity::{is_plan, lanes_at};
-use sb_aggregate::Agg;
-use sb_aggregate::sb_record::{Keys, LatePolicy, NoMemory, Sequence, Stream, Streams};
-use sb_aggregate::sb_window::{MAX_SIZE, Windows};
+use sb_aggregate::{Agg, Keys, LatePolicy, MAX_SIZE, NoMemory, Sequence, Stream, Streams, Windows};
 use std::alloc::Global;
 use std::marker::Model;
 

@@ -3,8 +3,7 @@
 ghost use Rattle.std.specs.Prelude.{◌≡◌};
 ghost use Rattle.sb_pipeline.specs.Plans.{is_join, has_windows};
 
-use sb_aggregate::Agg;
-use sb_aggregate::sb_window::Windows;
+use sb_aggregate::{Agg, Windows};
 use sb_join::Combine;
 use sb_pardo::Op;
 

@@ -11,8 +11,7 @@ ghost use Rattle.sb_plan.specs.Soundness.{IsSound};
 
 use crate::fault::{PlanCause, PlanFault, PlanStop};
 use crate::wiring::{Part, Wiring};
-use sb_pipeline::sb_record::NoMemory;
-use sb_pipeline::{Down, MAX_TRANSFORMS, Plan, Step};
+use sb_pipeline::{Down, MAX_TRANSFORMS, NoMemory, Plan, Step};
 use std::alloc::Global;
 
 /// The plan of the transforms, if each but the last goes somewhere, and one is an aggregation or a join.

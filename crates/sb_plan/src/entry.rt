@@ -19,8 +19,7 @@ use crate::stop::Stop;
 use crate::wiring::Part;
 use crate::words::{KindName, kind_named};
 use sb_outside::Folder;
-use sb_pipeline::Kind;
-use sb_pipeline::sb_record::{Keys, NoMemory};
+use sb_pipeline::{Keys, Kind, NoMemory};
 use std::alloc::Global;
 use toml::Table;
 

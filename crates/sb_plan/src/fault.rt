@@ -3,7 +3,7 @@
 ghost use Rattle.std.specs.Prelude.{◌≡◌};
 ghost use Rattle.sb_plan.specs.Keys.{key_text};
 
-use sb_pipeline::sb_pardo::TableFault;
+use sb_pipeline::TableFault;
 
 /// A key of a plan file.
 #[derive(Clone, Copy, Debug, PartialEq, Eq, Drop)]

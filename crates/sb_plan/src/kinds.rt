@@ -20,12 +20,7 @@ use crate::words::{
     test_named,
 };
 use sb_outside::Folder;
-use sb_pipeline::sb_aggregate::{Agg, MAX_TOP};
-use sb_pipeline::sb_join::Combine;
-use sb_pipeline::sb_pardo::{Field, Op, Test};
-use sb_pipeline::sb_record::Keys;
-use sb_pipeline::sb_window::{MAX_SIZE, Windows};
-use sb_pipeline::{Kind, MAX_GAP};
+use sb_pipeline::{Agg, Combine, Field, Keys, Kind, MAX_GAP, MAX_SIZE, MAX_TOP, Op, Test, Windows};
 use std::alloc::Global;
 use toml::Table;
 

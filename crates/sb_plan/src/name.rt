@@ -9,7 +9,7 @@ use crate::MAX_NAME_BYTES;
 use crate::fault::{PlanCause, PlanKey};
 use crate::keys::text_at;
 use crate::wiring::Part;
-use sb_pipeline::sb_record::NoMemory;
+use sb_pipeline::NoMemory;
 use std::alloc::Global;
 use std::marker::Model;
 use toml::Table;

@@ -8,7 +8,7 @@ ghost use Rattle.sb_plan.specs.Words as word;
 use crate::fault::{PlanCause, PlanKey};
 use crate::keys::{text_at, value_at};
 use crate::words::{keys_named, late_named};
-use sb_pipeline::sb_record::{Keys, LatePolicy};
+use sb_pipeline::{Keys, LatePolicy};
 use toml::Table;
 
 /// What becomes of late records: they are refused if the document does not say it.

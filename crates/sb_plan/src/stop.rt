@@ -1,7 +1,7 @@
 //! Why a table of a plan file gives no transform.
 
 use crate::fault::PlanCause;
-use sb_pipeline::sb_record::NoMemory;
+use sb_pipeline::NoMemory;
 
 #[derive(Clone, Copy, Debug, PartialEq, Eq, Drop)]
 pub(crate) enum Stop {

@@ -15,9 +15,7 @@ use crate::keys::text_at;
 use crate::stop::Stop;
 use crate::words::KindName;
 use sb_outside::{Folder, FolderFault};
-use sb_pipeline::Kind;
-use sb_pipeline::sb_pardo::{Op, Table as Images, TableStop};
-use sb_pipeline::sb_record::Keys;
+use sb_pipeline::{Keys, Kind, Op, Table as Images, TableStop};
 use std::alloc::Global;
 use toml::Table;
 

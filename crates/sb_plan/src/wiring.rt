@@ -12,8 +12,7 @@ use crate::entry::Entry;
 use crate::fault::{PlanCause, PlanKey};
 use crate::name::Name;
 use crate::stop::Stop;
-use sb_pipeline::sb_record::{Keys, LatePolicy, Sequence};
-use sb_pipeline::{Down, Kind, MAX_TRANSFORMS};
+use sb_pipeline::{Down, Keys, Kind, LatePolicy, MAX_TRANSFORMS, Sequence};
 
 /// A transform of the file, and where what it gives goes, once a later transform takes it.
 #[derive(Drop)]

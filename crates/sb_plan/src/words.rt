@@ -4,10 +4,7 @@ ghost use Rattle.std.specs.Prelude.{◌≡◌, map};
 ghost use Rattle.sb_plan.specs.Words as word;
 
 use crate::keys::number_between;
-use sb_pipeline::sb_aggregate::Agg;
-use sb_pipeline::sb_join::Combine;
-use sb_pipeline::sb_pardo::{Change, Field, Test};
-use sb_pipeline::sb_record::{Keys, LatePolicy, MAX_KEY};
+use sb_pipeline::{Agg, Change, Combine, Field, Keys, LatePolicy, MAX_KEY, Test};
 
 /// A kind of transform, without what its keys say.
 #[derive(Clone, Copy, Debug, PartialEq, Eq)]

@@ -27,7 +27,7 @@ use Rattle.sb_files.specs.feeds.RowsLaws as rows_law
 use Rattle.sb_files.specs.feeds.RowsSends.{AreSent, AreSentInPart, Prints, PrintsSome}
 use Rattle.sb_files.proofs.feeds.RowsPrinted.{printed_first, printed_whole}
 use Rattle.sb_run.specs.InputPrints.{FeedsRing, FeedsRows, ends_with}
-use Rattle.sb_files.specs.engines.RunEnds.{MayHaveFailed, SharedFeedCause}
+use Rattle.sb_files.specs.alone.RunEnds.{MayHaveFailed, SharedFeedCause}
 use Rattle.sb_files.proofs.engines.Returned.{end-first}
 use Rattle.sb_run.proofs.Tied.{feeds_none}
 

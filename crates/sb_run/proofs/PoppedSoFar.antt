@@ -18,7 +18,7 @@ use Rattle.sb_files.specs.feeds.InputEnds.{begun_values}
 use Rattle.sb_files.specs.feeds.InputFed.{MayCome, MayFollow, fed_by, fed_with}
 use Rattle.sb_files.proofs.feeds.InputValues.{fed_then, may_come, so_far_with}
 use Rattle.sb_run.specs.InputPops.{FeedsInPart, FeedsToStop, HaveCome}
-use Rattle.sb_files.proofs.engines.Sharing.{gives_as}
+use Rattle.sb_files.proofs.alone.Sharing.{gives_as}
 
 -- what lies around the engine: where its rows go
 pub record AroundRows (O : Type 0) : Type 0 where

@@ -16,11 +16,11 @@ use Rattle.sb_files.specs.feeds.one_feed.Due.{due_mark, due_rows, streams_in}
 use Rattle.sb_files.specs.feeds.one_feed.Given.{items_of}
 use Rattle.sb_files.specs.feeds.one_feed.declared.give.GiveStop.{GiveStop}
 use Rattle.sb_files.specs.feeds.one_feed.declared.give.GiveStop.TheVariants as stop
-use Rattle.sb_files.specs.engines.Ending.{end_by}
-use Rattle.sb_files.specs.engines.declared.run_end.RunEnd.{RunEnd}
-use Rattle.sb_files.specs.engines.declared.run_end.RunEnd.TheVariants.{Done, Refused, Input, Output, Tap, Memory}
-use Rattle.sb_files.specs.engines.declared.sizes.Sizes.{Sizes}
-use Rattle.sb_files.specs.engines.RunEnds.{Ends, EndsAt, EndsEarly, InputCause, IsDone, SharedInputCause}
+use Rattle.sb_files.specs.alone.Ending.{end_by}
+use Rattle.sb_files.specs.alone.declared.run_end.RunEnd.{RunEnd}
+use Rattle.sb_files.specs.alone.declared.run_end.RunEnd.TheVariants.{Done, Refused, Input, Output, Tap, Memory}
+use Rattle.sb_files.specs.alone.declared.sizes.Sizes.{Sizes}
+use Rattle.sb_files.specs.alone.RunEnds.{Ends, EndsAt, EndsEarly, InputCause, IsDone, SharedInputCause}
 
 -- the rows are the first of sorted ones
 abbrev pub AreFirstSorted : List Record → Type 0

@@ -26,7 +26,7 @@ use Rattle.sb_files.specs.feeds.declared.input.fed.InputFed.TheVariants as fed
 use Rattle.sb_files.specs.feeds.InputEnds.{begun_values}
 use Rattle.sb_files.specs.feeds.InputFed.{IsReadOf, IsSentWhole, IsWholeIf, ReadCause, fed_after, fed_by, fed_with, stop_among, stop_value}
 use Rattle.sb_run.specs.InputPops.{FeedsPopped, HaveCome}
-use Rattle.sb_files.specs.engines.RunEnds.{MayHaveFailed, SharedFeedCause}
+use Rattle.sb_files.specs.alone.RunEnds.{MayHaveFailed, SharedFeedCause}
 
 -- ---- the first of the values
 -- nothing was there where nothing is

@@ -3,6 +3,7 @@ pub mod InputPops
 pub mod InputPrints
 pub use Rattle.sb_files.specs as files
 pub use Rattle.sb_files.specs.engines
+pub use Rattle.sb_files.specs.alone
 pub use Rattle.sb_files.specs.feeds.outside
 pub use Rattle.sb_files.specs.worker.diary
 pub use Rattle.sb_files.specs.feeds.emit

@@ -13,14 +13,10 @@ ghost use Rattle.sb_files.specs.engines.Feeders.{HasFed, IsStill};
 ghost use Rattle.sb_run.specs.InputPops.{FeedsPopped};
 
 use crate::ahead::Ahead;
-use sb_files::sb_engines::{Common, Feeder, Pace, end_work, reason_of, step_too, take_out};
-use sb_files::sb_feeds::sb_base::{NoMemory, Stop};
-use sb_files::sb_feeds::sb_emit::{RowOut, Tap};
-use sb_files::sb_feeds::sb_feed::{GiveStop, give_out};
-use sb_files::sb_feeds::{InputFed, InputIn, Patience, Signals, take_value};
-use sb_files::sb_worker::sb_cascade::CascadePass;
-use sb_files::sb_worker::sb_hand::Did;
-use sb_files::sb_worker::sb_work::Gate;
+use sb_files::{
+    CascadePass, Common, Did, Feeder, Gate, GiveStop, InputFed, InputIn, NoMemory, Pace, Patience,
+    RowOut, Signals, Stop, Tap, end_work, give_out, reason_of, step_too, take_out, take_value,
+};
 use std::sync::Wait;
 use std::time::Clock;
 

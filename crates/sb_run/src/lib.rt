@@ -14,10 +14,13 @@ mod together;
 mod working;
 
 pub use running::run;
-pub use sb_files::sb_engines::{MAX_WORKERS, RunEnd, Sizes, Team, execute_alone};
-pub use sb_files::{ByStream, MAX_FILE_LENGTH, TwoEnd, execute_two};
+pub use sb_files::{
+    ByStream, MAX_FILE_LENGTH, MAX_WORKERS, RunEnd, Sizes, Team, TwoEnd, execute_alone, execute_two,
+};
 pub use together::execute;
 
 // What the crates above name of the crates below.
-pub use sb_files::sb_feeds::{sb_base, sb_emit, sb_feed, sb_outside};
-pub use sb_files::sb_worker::{sb_diary, sb_hand, sb_work};
+pub use sb_files::{
+    Dropped, Gate, Intake, LineBuffer, NoMemory, OpenGate, Plan, Refusal, RowOut, Source,
+    SourceFault, Stop, keep_dropped, next_item,
+};

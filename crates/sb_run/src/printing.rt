@@ -11,18 +11,15 @@ ghost use Rattle.sb_files.specs.feeds.one_feed.GiveCauses.{GiveCause};
 ghost use Rattle.sb_files.specs.feeds.one_feed.InputFeeds.{Feeds};
 ghost use Rattle.sb_files.specs.engines.Feeders.{Begins, HasFed, IsStill};
 ghost use Rattle.sb_run.specs.InputPrints.{FeedsRing, ends_with};
-ghost use Rattle.sb_files.specs.engines.RunEnds.{SharedFeedCause};
+ghost use Rattle.sb_files.specs.alone.RunEnds.{SharedFeedCause};
 ghost use Rattle.sb_files.specs.worker.Helping.{IsFirst, IsHelper};
 
 use crate::ahead::Ahead;
 use crate::working::work;
-use sb_files::sb_engines::{Common, Passes};
-use sb_files::sb_feeds::sb_base::{Dropped, MAX_BUNDLE, Stop};
-use sb_files::sb_feeds::sb_emit::{RowOut, Tap};
-use sb_files::sb_feeds::sb_feed::GiveStop;
-use sb_files::sb_feeds::sb_outside::Source;
-use sb_files::sb_feeds::{RowsIn, RowsSender, Signals, print_rows, rows_pair};
-use sb_files::sb_worker::sb_work::Gate;
+use sb_files::{
+    Common, Dropped, Gate, GiveStop, MAX_BUNDLE, Passes, RowOut, RowsIn, RowsSender, Signals,
+    Source, Stop, Tap, print_rows, rows_pair,
+};
 use std::sync::Wait;
 use std::thread::{Threads, join_mut};
 use std::time::Clock;

@@ -9,12 +9,10 @@ ghost use Rattle.sb_files.specs.feeds.InputEnds.{begun_values, ring_out, values_
 ghost use Rattle.sb_files.specs.worker.cascade.Calls.{plan_of};
 ghost use Rattle.sb_files.specs.worker.Helping.{IsHelper};
 
-use sb_files::sb_engines::{Common, help_all};
-use sb_files::sb_feeds::sb_base::{Dropped, MAX_BUNDLE, Stop};
-use sb_files::sb_feeds::sb_outside::Source;
-use sb_files::sb_feeds::{InputOut, Signals, feed_input};
-use sb_files::sb_worker::sb_cascade::CascadePass;
-use sb_files::sb_worker::sb_work::Gate;
+use sb_files::{
+    CascadePass, Common, Dropped, Gate, InputOut, MAX_BUNDLE, Signals, Source, Stop, feed_input,
+    help_all,
+};
 use std::sync::Wait;
 use std::thread::{Threads, join_mut};
 use std::time::Clock;

@@ -1,14 +1,10 @@
 //! A run by as many workers as its sizes say.
 
 ghost use Rattle.std.specs.Prelude.{◌≡◌, ◌<◌, ◌^◌, map, length};
-ghost use Rattle.sb_files.specs.engines.RunEnds.{AreSizes, Ends, InputCause, IsDone, OutputCause, SharedInputCause};
+ghost use Rattle.sb_files.specs.alone.RunEnds.{AreSizes, Ends, InputCause, IsDone, OutputCause, SharedInputCause};
 
 use crate::together::execute;
-use sb_files::sb_engines::{RunEnd, Sizes, Team, execute_alone};
-use sb_files::sb_feeds::sb_base::{Dropped, Plan};
-use sb_files::sb_feeds::sb_emit::{RowOut, Tap};
-use sb_files::sb_feeds::sb_outside::Source;
-use sb_files::sb_worker::sb_work::OpenGate;
+use sb_files::{Dropped, OpenGate, Plan, RowOut, RunEnd, Sizes, Source, Tap, Team, execute_alone};
 use std::sync::Wait;
 use std::thread::Threads;
 use std::time::Clock;

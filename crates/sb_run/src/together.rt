@@ -1,17 +1,14 @@
 //! A run by several workers.
 
 ghost use Rattle.std.specs.Prelude.{◌≡◌, ◌<◌, ◌^◌, map, length};
-ghost use Rattle.sb_files.specs.engines.RunEnds.{AreSizes, Ends, IsDone, OutputCause, SharedInputCause};
+ghost use Rattle.sb_files.specs.alone.RunEnds.{AreSizes, Ends, IsDone, OutputCause, SharedInputCause};
 
 use crate::ahead::Ahead;
 use crate::printing::work_and_print;
-use sb_files::sb_engines::{
-    Begun, Common, RunEnd, Sizes, Team, begin, come_back, early_end, end_of,
+use sb_files::{
+    Begun, Common, Dropped, Gate, NoMemory, Plan, RowOut, RunEnd, Sizes, Source, Tap, Team, begin,
+    come_back, early_end, end_of,
 };
-use sb_files::sb_feeds::sb_base::{Dropped, NoMemory, Plan};
-use sb_files::sb_feeds::sb_emit::{RowOut, Tap};
-use sb_files::sb_feeds::sb_outside::Source;
-use sb_files::sb_worker::sb_work::Gate;
 use std::sync::Wait;
 use std::thread::Threads;
 use std::time::Clock;

@@ -12,19 +12,16 @@ ghost use Rattle.sb_files.specs.feeds.one_feed.GiveCauses.{GiveCause};
 ghost use Rattle.sb_files.specs.feeds.one_feed.InputFeeds.{Feeds};
 ghost use Rattle.sb_files.specs.engines.Feeders.{Begins, HasFed, IsStill};
 ghost use Rattle.sb_run.specs.InputPops.{FeedsPopped};
-ghost use Rattle.sb_files.specs.engines.RunEnds.{SharedFeedCause};
+ghost use Rattle.sb_files.specs.alone.RunEnds.{SharedFeedCause};
 ghost use Rattle.sb_files.specs.worker.Helping.{IsFirst, IsHelper};
 
 use crate::ahead::Ahead;
 use crate::feeding::feed_popped;
 use crate::reading::read_and_help;
-use sb_files::sb_engines::{Common, Passes, feed_beside_helpers};
-use sb_files::sb_feeds::sb_base::{Dropped, MAX_BUNDLE, Stop};
-use sb_files::sb_feeds::sb_emit::{RowOut, Tap};
-use sb_files::sb_feeds::sb_feed::GiveStop;
-use sb_files::sb_feeds::sb_outside::Source;
-use sb_files::sb_feeds::{InputIn, InputOut, Signals, input_pair};
-use sb_files::sb_worker::sb_work::Gate;
+use sb_files::{
+    Common, Dropped, Gate, GiveStop, InputIn, InputOut, MAX_BUNDLE, Passes, RowOut, Signals,
+    Source, Stop, Tap, feed_beside_helpers, input_pair,
+};
 use std::sync::Wait;
 use std::thread::{Threads, join_mut};
 use std::time::Clock;

@@ -9,7 +9,7 @@ ghost use Rattle.sb_runs.specs.Runs.{IsRun};
 use crate::entries::Entries;
 use crate::joiner::Joiner;
 use crate::run::Run;
-use sb_window::sb_record::NoMemory;
+use sb_window::NoMemory;
 use std::cmp::Ordering;
 use std::marker::Model;
 

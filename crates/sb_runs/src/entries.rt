@@ -6,7 +6,7 @@ ghost use Rattle.std.specs.List.{AllByRecursion};
 ghost use Rattle.sb_runs.specs.Runs.{shifted_by};
 
 use crate::joiner::Joiner;
-use sb_window::sb_record::NoMemory;
+use sb_window::NoMemory;
 use std::alloc::Global;
 use std::collections::VecDeque;
 use std::marker::Model;

@@ -4,8 +4,7 @@ ghost use Rattle.std.specs.Prelude.{◌≡◌, ◌+◌, ◌^◌, ◌<◌, OnOk, 
 ghost use Rattle.sb_window.specs.Windows.{keyed_window_cmp};
 ghost use Rattle.sb_runs.specs.Runs.{later_entry};
 
-use sb_window::KeyedWindow;
-use sb_window::sb_record::NoMemory;
+use sb_window::{KeyedWindow, NoMemory};
 use std::cmp::Ordering;
 
 /// Keeps a keyed window with its value in a form of its own, joins the values of a window into one, and copies entries.

@@ -28,5 +28,10 @@ pub use run::Run;
 pub use runs::Runs;
 
 // What the crates above name of the crates below.
-pub use sb_window;
-pub use sb_window::sb_record;
+pub use sb_window::{
+    BadWindow, Dropped, END_MARK, Ends, Grouping, Intake, Item, KeptRec, Key, KeyedWindow, Keys,
+    LatePolicy, MAX_KEY, MAX_LINE_LENGTH, MAX_LINES, MAX_ROW_LENGTH, MAX_SIZE, MAX_TIME,
+    MAX_WINDOWS_OF_A_TIME, MAX_WORD_LENGTH, Malformed, NoMemory, Record, Refusal, RowBuf, Sequence,
+    Stop, Stream, Streams, TextBuf, Trail, UsualRecord, Windows, Word, read_line, read_number,
+    row_bytes,
+};

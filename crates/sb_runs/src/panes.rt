@@ -9,7 +9,7 @@ ghost use Rattle.sb_runs.specs.Runs.{found, shifted_by, spread_value, IsAssociat
 
 use crate::joiner::Joiner;
 use crate::run::Run;
-use sb_window::sb_record::NoMemory;
+use sb_window::NoMemory;
 use std::alloc::Global;
 
 /// Spreads what a run has for panes to the windows: a pane lies in `count` windows, the first of which ends as it does,

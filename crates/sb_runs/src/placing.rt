@@ -4,8 +4,7 @@ ghost use Rattle.std.specs.Prelude.{◌≡◌, ◌<◌, ◌++◌, OnOk};
 ghost use Rattle.sb_window.specs.records.Reorderings.{IsReordered};
 ghost use Rattle.sb_runs.specs.Placed.{placed_first};
 
-use sb_window::sb_record::{END_MARK, NoMemory, Record};
-use sb_window::{KeyedWindow, Windows};
+use sb_window::{END_MARK, KeyedWindow, NoMemory, Record, Windows};
 
 /// Adds the value of a record at its pane, which ends where the first of its windows does.
 ///

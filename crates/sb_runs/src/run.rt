@@ -11,7 +11,7 @@ ghost use Rattle.sb_runs.specs.Runs.{IsRun, found, shifted_by};
 use crate::closed::Closed;
 use crate::entries::Entries;
 use crate::joiner::Joiner;
-use sb_window::sb_record::NoMemory;
+use sb_window::NoMemory;
 use std::alloc::Global;
 use std::cmp::Ordering;
 use std::collections::VecDeque;

@@ -11,7 +11,7 @@ ghost use Rattle.sb_runs.specs.Runs.{found, found_in, IsAssociative, IsRun};
 use crate::closed::Closed;
 use crate::joiner::Joiner;
 use crate::run::Run;
-use sb_window::sb_record::NoMemory;
+use sb_window::NoMemory;
 use std::alloc::Global;
 use std::collections::VecDeque;
 use std::marker::Model;

@@ -1,6 +1,6 @@
 //! Times of keys.
 
-use sb_aggregate::sb_record::Key;
+use sb_aggregate::Key;
 
 /// A time of a key. They are ordered by key, then time.
 #[derive(Clone, Copy, Debug, PartialEq, Eq, PartialOrd, Ord)]

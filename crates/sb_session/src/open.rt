@@ -20,9 +20,7 @@ ghost use Rattle.sb_session.specs.Kept.{kept_of};
 use crate::close::close_due;
 use crate::keyed_time::KeyedTime;
 use crate::times::add_value;
-use sb_aggregate::sb_record::{END_MARK, NoMemory, Record, Sequence};
-use sb_aggregate::sb_window::KeyedWindow;
-use sb_aggregate::{Agg, MAX_GAP};
+use sb_aggregate::{Agg, END_MARK, KeyedWindow, MAX_GAP, NoMemory, Record, Sequence};
 use std::alloc::Global;
 use std::collections::{BTreeMap, BTreeSet};
 

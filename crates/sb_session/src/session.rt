@@ -11,9 +11,7 @@ ghost use Rattle.sb_session.specs.SessionStates as spec;
 ghost use Rattle.sb_session.specs.SessionStates.{gives-orderless};
 
 use crate::open::OpenSessions;
-use sb_aggregate::sb_record::{NoMemory, Record};
-use sb_aggregate::sb_window::Grouping;
-use sb_aggregate::{Agg, MAX_GAP};
+use sb_aggregate::{Agg, Grouping, MAX_GAP, NoMemory, Record};
 use std::alloc::Global;
 use std::marker::Model;
 

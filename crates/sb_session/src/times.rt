@@ -11,8 +11,7 @@ ghost use Rattle.sb_session.specs.Kept as spec;
 ghost use Rattle.sb_session.specs.Closings.{Takes};
 
 use crate::keyed_time::KeyedTime;
-use sb_aggregate::sb_record::{NoMemory, Record, Sequence};
-use sb_aggregate::sb_window::KeyedWindow;
+use sb_aggregate::{KeyedWindow, NoMemory, Record, Sequence};
 use std::alloc::Global;
 use std::collections::BTreeMap;
 

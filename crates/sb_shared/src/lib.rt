@@ -15,4 +15,4 @@ pub use shared_node::{BeginStop, SharedNode, Taken};
 pub use telling::{Change, FedBundle, Feed, Hands, Piece, Setting, StreamFeed};
 
 // What the crates above name of the crates below.
-pub use sb_turn;
+pub use sb_turn::{Guard, Pass, Reason, Turns};

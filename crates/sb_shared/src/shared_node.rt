@@ -28,10 +28,7 @@ ghost use Rattle.sb_shown.specs.node.Marking.{mark_for};
 ghost use Rattle.sb_shared.specs.SharedNodes.{ChangesOwn, FinishesLinked, IsOut, LosesKept, PutsAt, ShowsSame};
 ghost use Rattle.sb_shared.specs.SharedNodes.{BeginsAt, StopsAt, lines_of, owed_lines};
 
-use sb_shown::sb_base::{Bundle, NoMemory, Record};
-use sb_shown::sb_lane::{ArriveStop, NotYet};
-use sb_shown::sb_node::{Closing, NodeState};
-use sb_shown::sb_work::Part;
+use sb_shown::{ArriveStop, Bundle, Closing, NoMemory, NodeState, NotYet, Part, Record};
 use std::alloc::Global;
 use std::marker::Model;
 

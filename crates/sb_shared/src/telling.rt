@@ -1,10 +1,6 @@
 //! What a leaving of a turn does, what lies on the shelf, and what a pass knows.
 
-use sb_shown::sb_base::{Plan, Record, Sequence, Stream};
-use sb_shown::sb_core::Held;
-use sb_shown::sb_lane::NotYet;
-use sb_shown::sb_node::Closing;
-use sb_shown::sb_work::{Claim, Receipt};
+use sb_shown::{Claim, Closing, Held, NotYet, Plan, Receipt, Record, Sequence, Stream};
 use std::collections::LinkedList;
 use std::snapshot::Snapshot;
 

@@ -5,6 +5,10 @@
 #![tactic(auto)]
 
 // What the crates above name of the crates below.
-pub use sb_node;
-pub use sb_node::{sb_base, sb_diary, sb_kept, sb_lane, sb_work};
-pub use sb_tally::sb_core;
+pub use sb_node::{
+    ArriveStop, Bundle, Claim, Closing, Diary, DiaryEvent, DiaryLine, Down, Dropped, END_MARK,
+    Gate, Intake, Item, Kept, Key, Keys, Lane, LaneClose, LatePolicy, MAX_BUNDLE, MAX_LINES,
+    MAX_TIME, NoMemory, NodeState, NotYet, OpenGate, Output, Part, Plan, Receipt, Record, Refusal,
+    Sequence, Stop, Stream, Streams, TextBuf, line_bytes, process, sum_plan,
+};
+pub use sb_tally::{Event, Held, Moment};

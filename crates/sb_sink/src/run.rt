@@ -6,7 +6,7 @@ ghost use Rattle.sb_window.specs.records.Records.{record_cmp, before, at_least};
 ghost use Rattle.sb_window.specs.records.Reorderings.{IsReordered};
 ghost use Rattle.sb_sink.specs.Runs.{begins_before};
 
-use sb_window::sb_record::{NoMemory, Record};
+use sb_window::{NoMemory, Record};
 use std::alloc::Global;
 use std::collections::VecDeque;
 use std::marker::Model;

@@ -16,8 +16,7 @@ ghost use Rattle.sb_sink.specs.Sinks as spec;
 ghost use Rattle.sb_sink.specs.Sinks.{gives-orderless};
 
 use crate::run::Run;
-use sb_window::Grouping;
-use sb_window::sb_record::{NoMemory, Record};
+use sb_window::{Grouping, NoMemory, Record};
 use std::alloc::Global;
 use std::marker::Model;
 

@@ -21,4 +21,7 @@ pub use rows::sort_below;
 pub use sessions::session_ends;
 
 // What the crates above name of the crates below.
-pub use sb_base;
+pub use sb_base::{
+    Bundle, Down, END_MARK, KeptRec, Kind, MAX_GAP, MAX_TIME, NoMemory, Plan, Record, Sequence,
+    Stream, Windows, apply,
+};

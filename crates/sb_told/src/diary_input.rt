@@ -7,7 +7,7 @@ ghost use Rattle.sb_told.specs.DiaryReads.{DiaryFaultCause, ReadsDiary, TakesDia
 ghost use Rattle.sb_feed.specs.Reads.{IsGoing};
 
 use sb_diary::{AuditEnd, AuditFault, AuditStop, Auditor};
-use sb_feed::sb_outside::{LineBuffer, Source, Step};
+use sb_feed::{LineBuffer, Source, Step};
 use std::alloc::Global;
 
 /// Why the reading of a diary text stops.

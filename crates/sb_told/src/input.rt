@@ -6,9 +6,7 @@ ghost use Rattle.sb_feed.specs.Reads.{FaultCause};
 ghost use Rattle.sb_told.specs.Reads.{ReadsAll};
 
 use crate::kept::Kept;
-use sb_feed::next_item;
-use sb_feed::sb_base::{Intake, NoMemory, Plan, Stop};
-use sb_feed::sb_outside::{LineBuffer, Source};
+use sb_feed::{Intake, LineBuffer, NoMemory, Plan, Source, Stop, next_item};
 use std::alloc::Global;
 
 /// What was read of an input.

@@ -3,7 +3,7 @@
 ghost use Rattle.std.specs.Prelude.{◌≡◌, OnOk, []};
 ghost use Rattle.sb_told.specs.Keeping as spec;
 
-use sb_feed::sb_base::{Dropped, Item, NoMemory, Record, Sequence, Stream};
+use sb_feed::{Dropped, Item, NoMemory, Record, Sequence, Stream};
 use std::alloc::Global;
 
 /// The records of each stream, and the late records that were dropped, in the order of their lines.

@@ -6,8 +6,7 @@ ghost use Rattle.sb_told.specs.declared.late.LateRecords.TheVariants.{OfInput};
 ghost use Rattle.sb_told.specs.Statuses.{late_text};
 
 use crate::output::write_dropped;
-use sb_feed::sb_base::{Dropped, Sequence, Stream};
-use sb_feed::sb_outside::{Sink, SinkFault};
+use sb_feed::{Dropped, Sequence, Sink, SinkFault, Stream};
 use std::alloc::Global;
 
 /// The late records that a run lists, in the order of their lines.

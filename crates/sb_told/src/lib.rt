@@ -19,5 +19,5 @@ pub use output::{BATCH, MAX_TEXT, make_room, print, write_rows};
 pub use status::Status;
 
 // What the crates above name of the crates below.
-pub use sb_plan;
-pub use sb_slow;
+pub use sb_plan::{MAX_PLAN_BYTES, PlanCause, PlanFault, PlanStop, plan_of};
+pub use sb_slow::rows_of_streams;

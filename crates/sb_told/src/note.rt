@@ -6,7 +6,7 @@ ghost use Rattle.sb_told.specs.Statuses as spec;
 
 use crate::status::Status;
 use sb_diary::{AuditEnd, AuditFault};
-use sb_feed::sb_base::{Dropped, Refusal, RowFault, Stream, TableFault, TextBuf};
+use sb_feed::{Dropped, Refusal, RowFault, Stream, TableFault, TextBuf};
 use sb_plan::{PlanCause, PlanFault, PlanKey};
 
 /// The text of a note: it takes no memory.

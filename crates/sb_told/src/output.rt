@@ -10,8 +10,9 @@ ghost use Rattle.sb_told.specs.Statuses.{late_line};
 
 use crate::note::late_note;
 use crate::status::Status;
-use sb_feed::sb_base::{Dropped, END_MARK, Record, Stream, TextBuf, row_bytes};
-use sb_feed::sb_outside::{Sink, SinkFault, write_all_of};
+use sb_feed::{
+    Dropped, END_MARK, Record, Sink, SinkFault, Stream, TextBuf, row_bytes, write_all_of,
+};
 
 /// How many bytes of text are gathered before they are written.
 pub const BATCH: usize = 8192;

@@ -4,7 +4,7 @@ ghost use Rattle.std.specs.Prelude.{◌≡◌};
 ghost use Rattle.sb_told.specs.Statuses as spec;
 
 use sb_diary::AuditFault;
-use sb_feed::sb_base::{Refusal, Stop, Stream};
+use sb_feed::{Refusal, Stop, Stream};
 use sb_plan::PlanFault;
 
 /// How a run ends.

@@ -19,4 +19,9 @@ pub use keyed_window::KeyedWindow;
 pub use windows::{BadWindow, MAX_SIZE, MAX_WINDOWS_OF_A_TIME, Windows};
 
 // What the crates above name of the crates below.
-pub use sb_record;
+pub use sb_record::{
+    Dropped, END_MARK, Intake, Item, KeptRec, Key, Keys, LatePolicy, MAX_KEY, MAX_LINE_LENGTH,
+    MAX_LINES, MAX_ROW_LENGTH, MAX_TIME, MAX_WORD_LENGTH, Malformed, NoMemory, Record, Refusal,
+    RowBuf, Sequence, Stop, Stream, Streams, TextBuf, Trail, UsualRecord, Word, read_line,
+    read_number, row_bytes,
+};

@@ -44,7 +44,6 @@ pub use request::{Request, command_of, read_amount};
 pub use setting::{Setting, read_count};
 
 // What the crates above name of the crates below.
-pub use sb_bundle;
-pub use sb_generator;
-pub use sb_window;
-pub use sb_window::sb_record;
+pub use sb_bundle::MAX_BUNDLE;
+pub use sb_generator::MAX_RECORDS;
+pub use sb_window::{MAX_SIZE, NoMemory};

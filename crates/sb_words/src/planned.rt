@@ -7,7 +7,7 @@ ghost use Rattle.sb_words.specs.Words.{Asked, IsCommand, IsFileName, IsKeyWord, 
 
 use crate::options::{read_options, read_sizes};
 use crate::request::Request;
-use sb_window::sb_record::Word;
+use sb_window::Word;
 
 /// What a command that has no number, its argument and the words behind them ask for.
 pub(crate) fn read_planned<'a>(

@@ -8,8 +8,7 @@ ghost use Rattle.sb_words.specs.Words.{Asked, IsCommand, IsValid, asked_of};
 use crate::options::{Options, read_options, read_sizes};
 use crate::planned::read_planned;
 use sb_generator::MAX_RECORDS;
-use sb_window::MAX_SIZE;
-use sb_window::sb_record::read_number;
+use sb_window::{MAX_SIZE, read_number};
 
 /// What words ask for.
 #[derive(Clone, Copy, Debug, PartialEq, Eq)]

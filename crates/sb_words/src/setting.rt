@@ -6,7 +6,7 @@ ghost use Rattle.sb_words.specs.Texts.{texts};
 
 use crate::options::{MAX_PENDING, MAX_WORKERS};
 use sb_bundle::MAX_BUNDLE;
-use sb_window::sb_record::read_number;
+use sb_window::read_number;
 
 /// An option that is given, with its value.
 #[derive(Clone, Copy, Debug, PartialEq, Eq)]

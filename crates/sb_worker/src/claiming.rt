@@ -6,8 +6,7 @@ ghost use Rattle.sb_cascade.specs.shared.Found.{IsClaim};
 ghost use Rattle.sb_worker.specs.Entries.{Gains};
 ghost use Rattle.sb_worker.specs.Steps.{IsBareAndIdle, IsClaiming, IsIdle, IsIdleAt, IsShelfBare};
 
-use sb_cascade::sb_work::Claim;
-use sb_cascade::{Cascade, CascadePass};
+use sb_cascade::{Cascade, CascadePass, Claim};
 use std::sync::Wait;
 
 /// A bundle of the shelf. It enters no turn.

@@ -7,9 +7,7 @@ ghost use Rattle.sb_cascade.specs.shared.Shown.{operator_of};
 ghost use Rattle.sb_worker.specs.Entries.{Does, Gains, Grows};
 ghost use Rattle.sb_worker.specs.Steps.{IsNotYet, IsNotYetAt};
 
-use sb_cascade::sb_base::NoMemory;
-use sb_cascade::sb_node::Closing;
-use sb_cascade::{Cascade, CascadePass, CloseStop};
+use sb_cascade::{Cascade, CascadePass, CloseStop, Closing, NoMemory};
 use std::sync::Wait;
 
 /// All rows of a closing in hand go below.

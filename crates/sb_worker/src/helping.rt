@@ -9,11 +9,7 @@ ghost use Rattle.sb_worker.specs.declared.step.OneStop.TheVariants as stop;
 
 use crate::step::{First, OneStop, one_step, work_shelved};
 use crossbeam_utils::Backoff;
-use sb_cascade::sb_base::NoMemory;
-use sb_cascade::sb_hand::Did;
-use sb_cascade::sb_turn::Reason;
-use sb_cascade::sb_work::Gate;
-use sb_cascade::{Cascade, CascadePass};
+use sb_cascade::{Cascade, CascadePass, Did, Gate, NoMemory, Reason};
 use std::alloc::Global;
 use std::sync::Wait;
 use std::time::Duration;

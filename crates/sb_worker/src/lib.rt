@@ -14,5 +14,8 @@ pub use step::{First, OneStop, one_step};
 pub use working::work_off;
 
 // What the crates above name of the crates below.
-pub use sb_cascade;
-pub use sb_cascade::{sb_diary, sb_hand, sb_lane, sb_turn, sb_work};
+pub use sb_cascade::{
+    ArriveStop, Cascade, CascadePass, Claim, DiaryEvent, Did, Down, Dropped, END_MARK, Gate, Hand,
+    Intake, Item, Keys, LatePolicy, MAX_BUNDLE, MAX_LINES, MAX_TIME, NoMemory, OpenGate, Output,
+    Plan, Reason, Refusal, Stop, Stream, Streams, TryTake, process,
+};

@@ -9,9 +9,7 @@ ghost use Rattle.sb_worker.specs.Steps.{IsSettledAt};
 
 use crate::closing::close_node;
 use crate::working::work_off;
-use sb_cascade::sb_base::NoMemory;
-use sb_cascade::sb_work::Gate;
-use sb_cascade::{Cascade, CascadePass};
+use sb_cascade::{Cascade, CascadePass, Gate, NoMemory};
 use std::alloc::Global;
 use std::sync::Wait;
 

@@ -9,9 +9,7 @@ ghost use Rattle.sb_cascade.specs.Working.{NeedsNoPart};
 ghost use Rattle.sb_cascade.specs.work.Processing.{IsOutput};
 ghost use Rattle.sb_worker.specs.Entries.{Does, Gains, Grows};
 
-use sb_cascade::sb_base::{NoMemory, Record};
-use sb_cascade::sb_work::{Claim, Gate, Output, Receipt, process};
-use sb_cascade::{Cascade, CascadePass};
+use sb_cascade::{Cascade, CascadePass, Claim, Gate, NoMemory, Output, Receipt, Record, process};
 use std::alloc::Global;
 use std::sync::Wait;
 

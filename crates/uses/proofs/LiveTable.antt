@@ -21,8 +21,8 @@ use Rattle.sb_cli.specs.live.Changes.{rows_in}
 use Rattle.sb_cli.specs.live.Lasts.{last_of, last_row}
 use Rattle.sb_cli.specs.live.Rising.{IsNoEarlier}
 use Rattle.sb_cli.specs.live.Showings.{Showing, ShowsAll, ShownRows}
-use Rattle.sb_cli.proofs.live.Earlier.{rows_fold}
-use Rattle.sb_cli.specs.run.engines.RunEnds.{EndsAt}
+use Rattle.sb_cli.proofs.live_table.Earlier.{rows_fold}
+use Rattle.sb_cli.specs.run.alone.RunEnds.{EndsAt}
 use Rattle.uses.specs.LiveTable.{TellsLast, made_sums}
 
 -- ---- what a reader saw

@@ -8,7 +8,7 @@ ghost use Rattle.sb_cli.specs.words.Words.Asked.{Sum};
 ghost use Rattle.uses.specs.Sums.{GivesSums};
 
 use crate::in_memory::{Answer, answer_to_source};
-use sb_cli::sb_outside::{MemSource, Source, SourceFault};
+use sb_outside::{MemSource, Source, SourceFault};
 use std::alloc::AllocError;
 use std::sync::Wait;
 use std::thread::Threads;

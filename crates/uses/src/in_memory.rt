@@ -7,8 +7,8 @@ ghost use Rattle.sb_cli.specs.words.Words.{IsCommand};
 ghost use Rattle.sb_cli.specs.words.Words.Asked.{Sum};
 ghost use Rattle.uses.specs.Sums.{GivesSums};
 
-use sb_cli::sb_outside::{MemFolder, MemSink, MemSource, Source};
 use sb_cli::{Status, streambox};
+use sb_outside::{MemFolder, MemSink, MemSource, Source};
 use std::alloc::AllocError;
 use std::collections::BTreeMap;
 use std::sync::Wait;

@@ -10,11 +10,11 @@ ghost use Rattle.sb_cli.specs.base.records.Streams.{records_of};
 ghost use Rattle.sb_cli.specs.base.pipeline.Results.{all_rows};
 ghost use Rattle.uses.specs.LargeSums as spec;
 
-use sb_cli::sb_base::{
+use sb_base::{
     Agg, Down, END_MARK, Field, Item, Kind, MAX_SIZE, NoMemory, Op, Plan, Record, Step, Test,
     Windows,
 };
-use sb_cli::sb_slow::slow_rows;
+use sb_slow::slow_rows;
 use std::alloc::Global;
 
 /// Two transforms, one after the other: a filter of values of at least `least`, and a sum over fixed windows.

@@ -7,15 +7,15 @@ ghost use Rattle.std.specs.Prelude.{◌≡◌, ◌≤◌, [], None, Some, false,
 ghost use Rattle.sb_cli.specs.generator.declared.pattern.TheConstants.{MAX_RECORDS};
 ghost use Rattle.sb_cli.specs.live.Lasts.{last_row};
 ghost use Rattle.sb_cli.specs.live.Rising.{IsNoEarlier};
-ghost use Rattle.sb_cli.specs.run.engines.RunEnds.{AreSizes};
+ghost use Rattle.sb_cli.specs.run.alone.RunEnds.{AreSizes};
 ghost use Rattle.sb_cli.specs.base.window.declared.windows.TheConstants.{MAX_SIZE};
 ghost use Rattle.uses.specs.LiveTable.{TellsLast, made_sums};
 
-use sb_cli::sb_base::{Key, MAX_SIZE, NoMemory, Plan, Record, sum_plan};
-use sb_cli::sb_generator::{GenSource, MAX_RECORDS};
-use sb_cli::sb_live::{LiveOut, LiveReader, LiveRows, live};
-use sb_cli::sb_outside::Source;
-use sb_cli::sb_run::{RunEnd, Sizes, run};
+use sb_base::{Key, MAX_SIZE, NoMemory, Plan, Record, sum_plan};
+use sb_cli::{RunEnd, Sizes, run};
+use sb_generator::{GenSource, MAX_RECORDS};
+use sb_live::{LiveOut, LiveReader, LiveRows, live};
+use sb_outside::Source;
 use std::sync::Wait;
 use std::thread::{self, Threads, join};
 use std::time::Clock;

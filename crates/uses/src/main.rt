@@ -11,8 +11,8 @@ ghost use Rattle.sb_cli.specs.base.records.declared.key.Keys.TheVariants.{Number
 
 use anyhow::Context;
 use in_memory::Answer;
-use sb_cli::sb_base::{Item, Key, MAX_KEY, MAX_TIME, Record, Stream};
-use sb_cli::sb_run::Sizes;
+use sb_base::{Item, Key, MAX_KEY, MAX_TIME, Record, Stream};
+use sb_cli::Sizes;
 use std::alloc::{AllocError, Global};
 use std::str;
 use std::sync::Wait;

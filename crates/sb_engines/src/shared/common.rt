@@ -1,6 +1,6 @@
 //! What the workers of a run share.
 
-use sb_worker::sb_cascade::{Cascade, CascadePass};
+use sb_worker::{Cascade, CascadePass};
 use std::alloc::Global;
 
 /// What each worker has beside its pass.

@@ -1,18 +1,16 @@
 //! A shared cascade as an engine, by the pass of the feeder.
 
 ghost use Rattle.std.specs.Prelude.{◌≡◌, ◌<◌, ◌++◌, List, All, IfOk};
-ghost use Rattle.sb_feeds.specs.base.records.declared.item.Record.{Record as ARecord};
-ghost use Rattle.sb_feeds.specs.one_feed.Feeds.{Fed, MayArrive, MaySeal, with_bundle, with_mark};
+ghost use Rattle.sb_alone.specs.feeds.base.records.declared.item.Record.{Record as ARecord};
+ghost use Rattle.sb_alone.specs.feeds.one_feed.Feeds.{Fed, MayArrive, MaySeal, with_bundle, with_mark};
 ghost use Rattle.sb_worker.specs.cascade.Calls.{plan_of, setting_of};
 ghost use Rattle.sb_engines.specs.Feeders.{HasFed, IsStill};
 
 use crate::shared::common::Common;
 use crate::shared::pace::Pace;
 use crate::shared::working::{bring, keep_up, take_out};
-use sb_feeds::sb_base::{Bundle, END_MARK, NoMemory, Plan, Record, Stream};
-use sb_feeds::sb_feed::Engine;
-use sb_worker::sb_cascade::CascadePass;
-use sb_worker::sb_work::Gate;
+use sb_alone::{Bundle, END_MARK, Engine, NoMemory, Plan, Record, Stream};
+use sb_worker::{CascadePass, Gate};
 use std::sync::Wait;
 use std::time::Clock;
 

@@ -1,25 +1,22 @@
 //! The feeder's work over the lines of an input.
 
 ghost use Rattle.std.specs.Prelude.{◌≡◌, ◌≤◌, ◌<◌, ◌^◌, [], List, map, length, Ok, OnOk};
-ghost use Rattle.sb_feeds.specs.base.records.declared.item.Record.{Record as ARecord};
+ghost use Rattle.sb_alone.specs.feeds.base.records.declared.item.Record.{Record as ARecord};
 ghost use Rattle.sb_worker.specs.cascade.Calls.{IsEmptyHanded, IsFeeder, IsReady, plan_of, setting_of};
-ghost use Rattle.sb_feeds.specs.one_feed.Feeds.{Fed, nothing_fed};
-ghost use Rattle.sb_feeds.specs.one_feed.GiveCauses.{GiveCause};
-ghost use Rattle.sb_feeds.specs.one_feed.InputFeeds.{FeedCause, Feeds};
+ghost use Rattle.sb_alone.specs.feeds.one_feed.Feeds.{Fed, nothing_fed};
+ghost use Rattle.sb_alone.specs.feeds.one_feed.GiveCauses.{GiveCause};
+ghost use Rattle.sb_alone.specs.feeds.one_feed.InputFeeds.{FeedCause, Feeds};
 ghost use Rattle.sb_engines.specs.Feeders.{Begins, HasFed, IsStill};
-ghost use Rattle.sb_engines.specs.RunEnds.{SharedFeedCause};
+ghost use Rattle.sb_alone.specs.RunEnds.{SharedFeedCause};
 
 use crate::shared::common::Common;
 use crate::shared::feeder::Feeder;
 use crate::shared::pace::Pace;
 use crate::shared::working::settle;
-use sb_feeds::sb_base::{Dropped, MAX_BUNDLE, NoMemory, Stop};
-use sb_feeds::sb_emit::{RowOut, Tap};
-use sb_feeds::sb_feed::{self, GiveStop};
-use sb_feeds::sb_outside::Source;
-use sb_worker::sb_cascade::CascadePass;
-use sb_worker::sb_turn::Reason;
-use sb_worker::sb_work::Gate;
+use sb_alone::{
+    Dropped, GiveStop, MAX_BUNDLE, NoMemory, RowOut, Source, Stop, Tap, feed as feed_engine,
+};
+use sb_worker::{CascadePass, Gate, Reason};
 use std::sync::Wait;
 use std::time::Clock;
 
@@ -50,7 +47,7 @@ fn feed_lines<W: Wait + Clock, G: Gate, S: Source, R: RowOut>(
         pass,
         pace: Pace::new(),
     };
-    sb_feed::feed(
+    feed_engine(
         common.alloc,
         &mut engine,
         common.size,

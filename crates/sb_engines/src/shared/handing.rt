@@ -2,26 +2,19 @@
 
 ghost use Rattle.std.specs.Prelude.{◌≡◌, ◌≤◌, ◌<◌, ◌^◌, false, List, map, length, IfOk, OnOk};
 ghost use Rattle.std.specs.List.{AllByRecursion};
-ghost use Rattle.sb_feeds.specs.base.records.declared.item.Record.{Record as ARecord};
+ghost use Rattle.sb_alone.specs.feeds.base.records.declared.item.Record.{Record as ARecord};
 ghost use Rattle.sb_worker.specs.cascade.Calls.{setting_of};
-ghost use Rattle.sb_feeds.specs.one_feed.Feeds.{Fed};
-ghost use Rattle.sb_feeds.specs.one_feed.GiveCauses.{GiveCause};
+ghost use Rattle.sb_alone.specs.feeds.one_feed.Feeds.{Fed};
+ghost use Rattle.sb_alone.specs.feeds.one_feed.GiveCauses.{GiveCause};
 ghost use Rattle.sb_engines.specs.Feeders.{ComesBack, HasFed, IsGivenBack};
-ghost use Rattle.sb_engines.specs.Rested.{IsWhole};
+ghost use Rattle.sb_alone.specs.Rested.{IsWhole};
 ghost use Rattle.sb_worker.specs.turn.Passes.{ShowsEmpty};
 ghost use Rattle.sb_worker.specs.turn.Reasons.{number_of};
 ghost use Rattle.sb_worker.specs.Helping.{IsFirst, IsHelper};
 
 use crate::shared::common::Passes;
-use crate::working::flow;
-use sb_feeds::sb_base::NoMemory;
-use sb_feeds::sb_emit::{RowOut, Tap};
-use sb_feeds::sb_feed::GiveStop;
-use sb_worker::sb_cascade::{Cascade, CascadePass};
-use sb_worker::sb_hand::Hand;
-use sb_worker::sb_turn::Reason;
-use sb_worker::sb_work::Gate;
-use sb_worker::work_off;
+use sb_alone::{GiveStop, NoMemory, RowOut, Tap, flow};
+use sb_worker::{Cascade, CascadePass, Gate, Hand, Reason, work_off};
 use std::alloc::Global;
 use std::sync::Wait;
 

@@ -6,9 +6,7 @@ ghost use Rattle.std.specs.Thread.{IsSync};
 ghost use Rattle.std.specs.Vec.{vec_capacity};
 ghost use Rattle.sb_worker.specs.Helping.{IsHelper};
 
-use sb_worker::help;
-use sb_worker::sb_cascade::{Cascade, CascadePass};
-use sb_worker::sb_work::Gate;
+use sb_worker::{Cascade, CascadePass, Gate, help};
 use std::alloc::Global;
 use std::mem;
 use std::sync::Wait;

@@ -4,21 +4,18 @@ ghost use Rattle.std.specs.Prelude.{◌≡◌, ◌≤◌, ◌<◌, ◌^◌, [], 
 ghost use Rattle.std.specs.List.{AllByRecursion};
 ghost use Rattle.std.specs.Thread.{IsSync};
 ghost use Rattle.sb_worker.specs.cascade.Calls.{plan_of, setting_of};
-ghost use Rattle.sb_feeds.specs.one_feed.Feeds.{nothing_fed};
-ghost use Rattle.sb_feeds.specs.one_feed.GiveCauses.{GiveCause};
-ghost use Rattle.sb_feeds.specs.one_feed.InputFeeds.{Feeds};
+ghost use Rattle.sb_alone.specs.feeds.one_feed.Feeds.{nothing_fed};
+ghost use Rattle.sb_alone.specs.feeds.one_feed.GiveCauses.{GiveCause};
+ghost use Rattle.sb_alone.specs.feeds.one_feed.InputFeeds.{Feeds};
 ghost use Rattle.sb_engines.specs.Feeders.{Begins, HasFed, IsStill};
-ghost use Rattle.sb_engines.specs.RunEnds.{SharedFeedCause};
+ghost use Rattle.sb_alone.specs.RunEnds.{SharedFeedCause};
 ghost use Rattle.sb_worker.specs.Helping.{IsFirst, IsHelper};
 
 use crate::shared::common::{Common, Passes};
 use crate::shared::feeding::feed;
 use crate::shared::helping::help_all;
-use sb_feeds::sb_base::{Dropped, MAX_BUNDLE, Stop};
-use sb_feeds::sb_emit::{RowOut, Tap};
-use sb_feeds::sb_feed::GiveStop;
-use sb_feeds::sb_outside::Source;
-use sb_worker::sb_work::Gate;
+use sb_alone::{Dropped, GiveStop, MAX_BUNDLE, RowOut, Source, Stop, Tap};
+use sb_worker::Gate;
 use std::sync::Wait;
 use std::thread::{Threads, join_mut};
 use std::time::Clock;

@@ -6,7 +6,7 @@
 //! time. Beside it others read and print. If the feeder waits for its input there is nothing to gain: then it works by
 //! itself, and tells the helpers that it does without them.
 
-use sb_worker::sb_cascade::Cascade;
+use sb_worker::Cascade;
 use std::cmp::min;
 use std::time::{Clock, Duration, Instant};
 

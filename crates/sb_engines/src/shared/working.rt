@@ -1,21 +1,19 @@
 //! The steps of the feeder of a shared cascade: it brings bundles in, takes rows out, and works as the others do.
 
 ghost use Rattle.std.specs.Prelude.{◌<◌, ◌++◌, false, List, All, IfNone, IfSome, OnOk};
-ghost use Rattle.sb_feeds.specs.base.records.declared.item.Record.{Record as ARecord};
+ghost use Rattle.sb_alone.specs.feeds.base.records.declared.item.Record.{Record as ARecord};
 ghost use Rattle.sb_worker.specs.cascade.Calls.{HasBundle, IsEmptyHanded, IsReady, IsSame, plan_of, setting_of};
 ghost use Rattle.sb_worker.specs.cascade.shared.Found.{IsClaim};
-ghost use Rattle.sb_feeds.specs.one_feed.Feeds.{Fed, MayArrive, with_bundle};
+ghost use Rattle.sb_alone.specs.feeds.one_feed.Feeds.{Fed, MayArrive, with_bundle};
 ghost use Rattle.sb_engines.specs.Feeders.{HasFed, IsStill};
 
 use crate::shared::common::Common;
 use crate::shared::pace::Pace;
-use sb_feeds::sb_base::{Bundle, END_MARK, NoMemory, Record, Stream};
-use sb_worker::sb_cascade::{Cascade, CascadePass, TryTake};
-use sb_worker::sb_hand::Did;
-use sb_worker::sb_lane::ArriveStop;
-use sb_worker::sb_turn::Reason;
-use sb_worker::sb_work::{Claim, Gate};
-use sb_worker::{First, OneStop, one_step, settle_node, work_off};
+use sb_alone::{Bundle, END_MARK, NoMemory, Record, Stream};
+use sb_worker::{
+    ArriveStop, Cascade, CascadePass, Claim, Did, First, Gate, OneStop, Reason, TryTake, one_step,
+    settle_node, work_off,
+};
 use std::sync::Wait;
 use std::thread;
 use std::time::Clock;

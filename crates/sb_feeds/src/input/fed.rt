@@ -1,6 +1,6 @@
 //! What an input feeds.
 
-use sb_feed::sb_base::{Bundle, Stop, Stream, Streams};
+use sb_feed::{Bundle, Stop, Stream, Streams};
 
 /// A value that an input feeds.
 #[derive(Drop)]

@@ -10,7 +10,7 @@ use crate::input::ends::{InputFeeding, InputIn, InputOut};
 use crate::input::fed::InputFed;
 use crate::input::signals::Signals;
 use rtrb::{Producer, PushError, RingBuffer};
-use sb_feed::sb_base::{NoMemory, Streams};
+use sb_feed::{NoMemory, Streams};
 use std::alloc::Global;
 use std::sync::Wait;
 use std::thread;

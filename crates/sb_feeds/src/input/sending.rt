@@ -21,12 +21,11 @@ use crate::input::fed::InputFed;
 use crate::input::patience::Patience;
 use crate::input::signals::Signals;
 use rtrb::{Producer, PushError};
-use sb_feed::sb_base::{
-    Dropped, END_MARK, Intake, Item, MAX_BUNDLE, MAX_LINES, NoMemory as Lacking, Plan, Record,
-    Stop, Stream, Streams,
+use sb_feed::{
+    Cutters, Dropped, END_MARK, Intake, Item, LineBuffer, MAX_BUNDLE, MAX_LINES,
+    NoMemory as Lacking, Plan, Record, Source, Stop, Stream, Streams, keep_dropped, next_other,
+    next_usual, uses,
 };
-use sb_feed::sb_outside::{LineBuffer, Source};
-use sb_feed::{Cutters, keep_dropped, next_other, next_usual, uses};
 use std::alloc::Global;
 use std::sync::Wait;
 use std::time::Clock;

@@ -8,8 +8,7 @@ ghost use Rattle.sb_feed.specs.Gives.{Gives};
 ghost use Rattle.sb_feeds.specs.InputFed.{MayCome, fed_with};
 
 use crate::input::fed::InputFed;
-use sb_feed::sb_emit::{RowOut, Tap};
-use sb_feed::{Engine, GiveStop, arrive, seal};
+use sb_feed::{Engine, GiveStop, RowOut, Tap, arrive, seal};
 
 /// An engine takes a bundle or a watermark that came: the rows that it gives then are written and offered. Of other
 /// values it takes nothing.

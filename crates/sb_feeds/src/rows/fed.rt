@@ -1,6 +1,6 @@
 //! What goes through a ring of rows.
 
-use sb_feed::sb_base::Record;
+use sb_feed::Record;
 
 /// A value of a ring of rows.
 #[derive(Drop)]

@@ -8,8 +8,7 @@ ghost use Rattle.sb_feeds.specs.RowsSends.{Prints};
 use crate::input::signals::Signals;
 use crate::rows::ends::RowsIn;
 use crate::rows::fed::RowsFed;
-use sb_feed::sb_emit::{RowOut, Tap};
-use sb_feed::{GiveStop, give_out};
+use sb_feed::{GiveStop, RowOut, Tap, give_out};
 use std::sync::Wait;
 
 /// Writes the rows that come out of a ring, and offers each of them to fewer than 2^32 taps, up to the end. If nothing

@@ -9,7 +9,7 @@ use crate::input::signals::Signals;
 use crate::rows::ends::{RowsFeeding, RowsIn, RowsOut};
 use crate::rows::fed::RowsFed;
 use rtrb::RingBuffer;
-use sb_feed::sb_base::NoMemory;
+use sb_feed::NoMemory;
 use std::alloc::Global;
 use std::sync::Wait;
 

@@ -1,5 +1,5 @@
 use Rattle.std.proofs.Common.{inr, subst, sym}
-use Rattle.sb_answers.specs.Faults.{HasCause, HidesNoFault, faults_of}
+use Rattle.sb_answer_runs.specs.answers.Faults.{HasCause, HidesNoFault, faults_of}
 use Rattle.sb_answer_files.proofs.cutting.answer_save.Goals as goal
 
 pub returns-in-Ok-clause-cause : goal.returns-in-Ok-clause-cause

@@ -1,6 +1,6 @@
 use Rattle.std.proofs.Common.{refl}
-use Rattle.sb_answers.specs.base.Inputs.{by_stream}
-use Rattle.sb_answers.proofs.Blaming.{no_tap_of_files, none_to_blame}
+use Rattle.sb_answer_runs.specs.answers.base.Inputs.{by_stream}
+use Rattle.sb_answer_runs.proofs.answers.Blaming.{no_tap_of_files, none_to_blame}
 use Rattle.sb_answer_files.proofs.feeds.answer_files.Goals as goal
 
 pub returns-else-options-clause-unoffered : goal.returns-else-options-clause-unoffered

@@ -1,4 +1,4 @@
-use Rattle.sb_answers.specs.base.Inputs.{by_stream}
+use Rattle.sb_answer_runs.specs.answers.base.Inputs.{by_stream}
 use Rattle.sb_answer_files.proofs.FilesAnswers.{files_answer, files_blame, files_can_tell, files_read, files_written_and_offered}
 use Rattle.sb_answer_files.proofs.FilesFaults.{files_cause, files_hide_none}
 use Rattle.sb_answer_files.proofs.feeds.answer_past.Goals as goal

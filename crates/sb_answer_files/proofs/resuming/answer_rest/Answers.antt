@@ -1,6 +1,6 @@
-use Rattle.sb_answers.specs.RestSteps.{said_by}
+use Rattle.sb_answer_runs.specs.answers.RestSteps.{said_by}
 use Rattle.sb_answer_files.proofs.RestEnds.{rest_answer, rest_no_tap}
-use Rattle.sb_answers.proofs.RunFaults.{done_is_done, run_cause, run_hides_none, run_read}
+use Rattle.sb_answer_runs.proofs.answers.RunFaults.{done_is_done, run_cause, run_hides_none, run_read}
 use Rattle.sb_answer_files.proofs.resuming.answer_rest.Goals as goal
 
 pub returns-clause-answer : goal.returns-clause-answer

@@ -1,5 +1,5 @@
 use Rattle.std.proofs.Common.{subst, sym, ◌∙◌}
-use Rattle.sb_answers.specs.Faults.{HasCause, HidesNoFault, faults_of}
+use Rattle.sb_answer_runs.specs.answers.Faults.{HasCause, HidesNoFault, faults_of}
 use Rattle.sb_answer_files.proofs.resuming.answer_resume.Goals as goal
 
 pub returns-in-Ok-load_checkpoint-clause-cause : goal.returns-in-Ok-load_checkpoint-clause-cause

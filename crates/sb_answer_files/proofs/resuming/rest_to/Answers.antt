@@ -1,8 +1,8 @@
 use Rattle.std.proofs.Common.{◌≡◌, sym, ap, subst, ◌∙◌}
-use Rattle.sb_answers.specs.base.records.Records.{at_least}
-use Rattle.sb_answers.specs.run.engines.RunEnds.{OutputCause}
-use Rattle.sb_answers.proofs.run.Through.{ends_through, in_ends}
-use Rattle.sb_answers.specs.Answers.{Wrote, WrotePrefix}
+use Rattle.sb_answer_runs.specs.answers.base.records.Records.{at_least}
+use Rattle.sb_answer_runs.specs.answers.alone.RunEnds.{OutputCause}
+use Rattle.sb_answer_runs.proofs.runs.Through.{ends_through, in_ends}
+use Rattle.sb_answer_runs.specs.answers.Answers.{Wrote, WrotePrefix}
 use Rattle.sb_answer_files.proofs.resuming.rest_to.Goals as goal
 
 pub returns-clause-ends : goal.returns-clause-ends

@@ -1,5 +1,5 @@
 use denote.Param.Send.{sendable}
-use Rattle.sb_answers.proofs.live.Crossing.{LiveRows-send}
+use Rattle.sb_answers.proofs.live_table.Crossing.{LiveRows-send}
 use Rattle.std.proofs.Common.{ap, map, ◌∙◌}
 use Rattle.sb_answers.specs.base.records.declared.intake.Stop.TheVariants as stop
 use Rattle.sb_answers.specs.live.Showings.{Showing, ShownRows}

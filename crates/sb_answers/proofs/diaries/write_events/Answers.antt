@@ -2,8 +2,8 @@ use Rattle.std.proofs.Common.{[], ◌∙◌, rules}
 use Rattle.std.proofs.KnownBytes.{Appends-nil}
 use Rattle.std.specs.Prelude.{flat_map}
 use Rattle.sb_answers.specs.Telling.{event_line}
-use Rattle.sb_cut.proofs.outside.Appending.{writes_err}
-use Rattle.sb_cut.proofs.outside.SinkCauses.{no_call, calls_then, whatever_given, whatever_refused}
+use Rattle.sb_alone.proofs.outside.Appending.{writes_err}
+use Rattle.sb_alone.proofs.outside.SinkCauses.{no_call, calls_then, whatever_given, whatever_refused}
 use Rattle.sb_told.proofs.Printing.{printing-more, printing-moved, printing-fails, printing-ends}
 use Rattle.sb_answers.proofs.diaries.write_events.Goals as goal
 

@@ -1,8 +1,8 @@
 use Rattle.std.specs.Prelude.{flat_map, slice_get}
-use Rattle.sb_cut.specs.base.pipeline.Operators.{lanes_of, operator_at}
-use Rattle.sb_cut.specs.hand.Showing.{diaries_of}
-use Rattle.sb_cut.specs.tally.Written.{diary_at}
-use Rattle.sb_cut.proofs.outside.Appending.{prefix_of_more, writes_err}
+use Rattle.sb_alone.specs.base.pipeline.Operators.{lanes_of, operator_at}
+use Rattle.sb_alone.specs.hand.Showing.{diaries_of}
+use Rattle.sb_alone.specs.tally.Written.{diary_at}
+use Rattle.sb_alone.proofs.outside.Appending.{prefix_of_more, writes_err}
 use Rattle.sb_answers.specs.Telling.{event_line, head_line, node_text}
 use Rattle.sb_told.proofs.Printing.{written_behind}
 use Rattle.sb_answers.proofs.Tellings.{events_at}

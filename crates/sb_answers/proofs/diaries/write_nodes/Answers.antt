@@ -1,10 +1,10 @@
 use Rattle.std.proofs.Common.{◌<◌, ◌≤◌, length, ap, ◌∙◌, arith, rules}
 use Rattle.std.proofs.lemmas.List.{length-map}
-use Rattle.sb_cut.specs.base.pipeline.Shapes.{Shape}
-use Rattle.sb_cut.specs.diary.Texts.{diary_text}
-use Rattle.sb_cut.specs.hand.Showing.{diaries_of}
-use Rattle.sb_cut.proofs.outside.Appending.{writes_err}
-use Rattle.sb_cut.proofs.outside.SinkCauses.{calls_then, whatever_given, whatever_refused}
+use Rattle.sb_alone.specs.base.pipeline.Shapes.{Shape}
+use Rattle.sb_alone.specs.diary.Texts.{diary_text}
+use Rattle.sb_alone.specs.hand.Showing.{diaries_of}
+use Rattle.sb_alone.proofs.outside.Appending.{writes_err}
+use Rattle.sb_alone.proofs.outside.SinkCauses.{calls_then, whatever_given, whatever_refused}
 use Rattle.sb_answers.specs.Telling.{diaries_of_hand}
 use Rattle.sb_answers.proofs.Tellings.{telling-ends, telling-fails, telling-more, telling-none}
 use Rattle.sb_answers.proofs.diaries.write_nodes.Goals as goal

@@ -1,4 +1,4 @@
-use Rattle.sb_cut.specs.hand.Showing.{diaries_of}
+use Rattle.sb_alone.specs.hand.Showing.{diaries_of}
 use Rattle.sb_answers.proofs.Tellings.{Telling}
 use Rattle.sb_answers.proofs.diaries.write_nodes.Given as goal
 

@@ -1,5 +1,5 @@
 use Rattle.std.proofs.Common.{◌<◌, ◌≤◌, ◌+◌, ◌++◌, length, take, ap, ◌∙◌, rules}
-use Rattle.sb_cut.specs.run.files.declared.limits.TheConstants.{MAX_FILE_LENGTH}
+use Rattle.sb_alone.specs.feeds.declared.limits.TheConstants.{MAX_FILE_LENGTH}
 use Rattle.sb_answers.proofs.FileLoads.{has_bytes, is_long}
 use Rattle.sb_answers.proofs.loading.load_file.Goals as goal
 

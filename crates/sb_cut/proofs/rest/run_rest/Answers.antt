@@ -4,7 +4,7 @@ use Rattle.sb_checkpoint.specs.Ahead.{AllReadOrNoneOfTheSource, name_behind}
 use Rattle.sb_checkpoint.proofs.LinesAhead.{name_behind_same}
 use Rattle.sb_checkpoint.specs.LaterRows.{Hands, HandsFromFirst}
 use Rattle.sb_checkpoint.proofs.Handing.{hands_sorted}
-use Rattle.sb_run.specs.engines.RunEnds.{SharedInputCause}
+use Rattle.sb_run.specs.alone.RunEnds.{SharedInputCause}
 use Rattle.sb_run.proofs.Through.{sorted_ends_through}
 use Rattle.sb_cut.proofs.OpenEnds.{head_same, tail_same}
 use Rattle.sb_cut.proofs.PartEnds.{none_mapped, without_taps_at}

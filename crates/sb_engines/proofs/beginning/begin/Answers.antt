@@ -1,5 +1,5 @@
 use Rattle.std.proofs.Common.{[], subst, sym}
-use Rattle.sb_feeds.specs.one_feed.Feeds.{nothing_fed}
+use Rattle.sb_alone.specs.feeds.one_feed.Feeds.{nothing_fed}
 use Rattle.sb_worker.specs.Helping.{IsFirst}
 use Rattle.sb_engines.proofs.Returned.{new-fed}
 use Rattle.sb_engines.proofs.beginning.begin.Goals as goal

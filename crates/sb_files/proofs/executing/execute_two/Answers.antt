@@ -2,7 +2,7 @@ use Rattle.std.proofs.Common.{◌≤◌, ℕ, List, [], Ok, length}
 use Rattle.sb_engines.specs.worker.cascade.Calls.{plan_of, setting_of}
 use Rattle.sb_engines.proofs.feeds.one_feed.GiveLaws.{cause_then}
 use Rattle.sb_engines.proofs.feeds.one_feed.GivesInTurn.{AddsUp}
-use Rattle.sb_files.specs.declared.limits.TheConstants.{MAX_FILE_LENGTH}
+use Rattle.sb_engines.specs.feeds.declared.limits.TheConstants.{MAX_FILE_LENGTH}
 use Rattle.sb_engines.specs.Feeders.{HasFed}
 use Rattle.sb_engines.specs.feeds.base.Inputs.{by_stream}
 use Rattle.sb_files.specs.Pops.{values_of}

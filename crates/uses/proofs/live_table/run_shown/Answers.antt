@@ -1,5 +1,5 @@
 use denote.Param.Send.{sendable}
-use Rattle.sb_cli.proofs.live.Crossing.{LiveRows-send}
+use Rattle.sb_cli.proofs.live_table.Crossing.{LiveRows-send}
 use Rattle.std.proofs.Common.{ap, sym, ◌∙◌}
 use Rattle.std.proofs.lemmas.Option.{same_Some}
 use Rattle.sb_cli.specs.live.Showings.{Showing, ShownRows}

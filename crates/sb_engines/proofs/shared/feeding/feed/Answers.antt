@@ -1,6 +1,7 @@
-use Rattle.sb_feeds.proofs.one_feed.GivesInTurn.{AddsUp}
+use Rattle.sb_alone.proofs.feeds.one_feed.GivesInTurn.{AddsUp}
 use Rattle.sb_engines.specs.Feeders.{HasFed}
-use Rattle.sb_engines.proofs.Returned.{feeds-as, feeds-wanting}
+use Rattle.sb_alone.proofs.Sharing.{feeds-as}
+use Rattle.sb_engines.proofs.Returned.{feeds-wanting}
 use Rattle.sb_engines.proofs.shared.feeding.feed.Goals as goal
 
 pub returns-in-Ok-end_work-clause-feeds : goal.returns-in-Ok-end_work-clause-feeds

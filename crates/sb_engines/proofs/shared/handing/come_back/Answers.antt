@@ -1,4 +1,4 @@
-use Rattle.sb_feeds.proofs.one_feed.GivesInTurn.{AddsUp}
+use Rattle.sb_alone.proofs.feeds.one_feed.GivesInTurn.{AddsUp}
 use Rattle.sb_engines.proofs.Returned.{back-done, back-stopped, back-wanting}
 use Rattle.sb_engines.proofs.shared.handing.come_back.Goals as goal
 

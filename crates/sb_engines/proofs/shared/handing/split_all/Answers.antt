@@ -1,7 +1,7 @@
 use Rattle.std.proofs.Common.{rules, ◌≡◌, ◌≤◌, ◌+◌, length, subst, sym}
 use Rattle.std.specs.List.{AllByRecursion}
 use Rattle.std.specs.Vec.{vec_capacity}
-use Rattle.sb_feeds.proofs.base.records.Elements.{All-join}
+use Rattle.sb_alone.proofs.feeds.base.records.Elements.{All-join}
 use Rattle.sb_worker.specs.Helping.{IsFirst, IsHelper}
 use Rattle.sb_engines.proofs.PassesHeld.{fed-same, first-split, new-helper}
 use Rattle.sb_engines.proofs.shared.handing.split_all.Goals as goal

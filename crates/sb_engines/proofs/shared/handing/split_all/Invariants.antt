@@ -1,8 +1,8 @@
 use Rattle.std.proofs.Common.{◌≤◌, ◌-◌, List, length}
 use Rattle.std.specs.List.{AllByRecursion}
 use Rattle.std.specs.Vec.{vec_capacity}
-use Rattle.sb_feeds.specs.base.records.declared.item.Record.{Record}
-use Rattle.sb_feeds.specs.one_feed.Feeds.{Fed}
+use Rattle.sb_alone.specs.feeds.base.records.declared.item.Record.{Record}
+use Rattle.sb_alone.specs.feeds.one_feed.Feeds.{Fed}
 use Rattle.sb_engines.specs.Feeders.{HasFed}
 use Rattle.sb_worker.specs.Helping.{IsFirst, IsHelper}
 use Rattle.sb_engines.proofs.shared.handing.split_all.Given as goal

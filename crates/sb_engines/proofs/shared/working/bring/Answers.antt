@@ -1,6 +1,6 @@
 use Rattle.std.proofs.Common.{ap, sym, ◌∙◌, refl, subst}
-use Rattle.sb_feeds.specs.base.bundle.declared.bundle.Bundle.{Bundle}
-use Rattle.sb_feeds.specs.one_feed.Feeds.{MayArrive}
+use Rattle.sb_alone.specs.feeds.base.bundle.declared.bundle.Bundle.{Bundle}
+use Rattle.sb_alone.specs.feeds.one_feed.Feeds.{MayArrive}
 use Rattle.sb_worker.specs.cascade.shared.declared.telling.Hands.{Hands}
 use Rattle.sb_worker.specs.cascade.Calls.{hands}
 use Rattle.sb_worker.specs.cascade.shared.Views as view

@@ -1,6 +1,6 @@
 use Rattle.std.proofs.Common.{◌≡◌, List}
-use Rattle.sb_feeds.specs.base.records.declared.item.Record.{Record}
-use Rattle.sb_feeds.specs.one_feed.Feeds.{Fed}
+use Rattle.sb_alone.specs.feeds.base.records.declared.item.Record.{Record}
+use Rattle.sb_alone.specs.feeds.one_feed.Feeds.{Fed}
 use Rattle.sb_engines.specs.Feeders.{HasFed, IsStill}
 use Rattle.sb_engines.proofs.shared.working.bring.Given as goal
 

@@ -1,5 +1,5 @@
 use Rattle.std.proofs.Common.{◌++◌, append-nil, subst, sym}
-use Rattle.sb_feeds.specs.one_feed.Feeds.{with_bundle}
+use Rattle.sb_alone.specs.feeds.one_feed.Feeds.{with_bundle}
 use Rattle.sb_engines.specs.Feeders.{HasFed}
 use Rattle.sb_engines.proofs.shared.feeder.FeederEngine.arrive.Goals as goal
 

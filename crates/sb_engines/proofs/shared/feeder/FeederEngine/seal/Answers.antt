@@ -1,4 +1,4 @@
-use Rattle.sb_feeds.specs.one_feed.Feeds.{with_mark}
+use Rattle.sb_alone.specs.feeds.one_feed.Feeds.{with_mark}
 use Rattle.sb_engines.proofs.FedMore.{fed-sealed, may-mark}
 use Rattle.sb_engines.proofs.shared.feeder.FeederEngine.seal.Goals as goal
 
