@@ -2,7 +2,7 @@
 
 ghost use Rattle.std.specs.Prelude.{◌≤◌, IfOk, IfSome, length};
 ghost use Rattle.sb_cut.specs.checkpoint.Saved.{items_in};
-ghost use Rattle.sb_cut.specs.run.specs.alone.RunEnds.{AreSizes};
+ghost use Rattle.sb_cut.specs.run.alone.RunEnds.{AreSizes};
 
 use sb_base::{Refusal, Stop, sum_plan};
 use sb_cut::{
