@@ -18,14 +18,14 @@ use Rattle.sb_hand.specs.base.pipeline.Plans.{IsPlace}
 use Rattle.sb_hand.specs.base.pipeline.Shapes.{Shape, source}
 use Rattle.sb_hand.specs.core.declared.event.Event.{Event}
 use Rattle.sb_hand.specs.core.declared.event.Event.TheVariants.{Arrive, Seal}
-use Rattle.sb_hand.specs.core.declared.moment.CoreLane.{CoreLane}
+use Rattle.sb_hand.specs.core.containers.declared.container.CoreLane.{CoreLane}
 use Rattle.sb_hand.specs.core.declared.moment.Moment.{Moment}
 use Rattle.sb_hand.specs.core.declared.moment.Node.{Node}
 use Rattle.sb_hand.specs.core.Events.{after, run}
 use Rattle.sb_hand.specs.core.MomentSteps.{after_arrive, after_seal}
-use Rattle.sb_hand.specs.core.Lanes.{next_epoch, next_floor, with_arrival, with_seal}
+use Rattle.sb_hand.specs.core.containers.Lanes.{next_epoch, next_floor, with_arrival, with_seal}
 use Rattle.sb_hand.specs.core.Moments.{empty_lane, epoch_at, epoch_of, first, floor_at, floor_of, lane_at, set_lane, with_lane}
-use Rattle.sb_hand.proofs.core.exact.EventExact.{sealed_floor}
+use Rattle.sb_hand.proofs.core.containers.Sealing.{sealed_floor}
 use Rattle.sb_hand.proofs.core.sound.FirstMoment.{at_node}
 use Rattle.sb_hand.proofs.core.exact.Gives.{lane_at-parts, with_lane-is}
 use Rattle.sb_hand.proofs.core.parts.MadeSteps.{arrive-made, seal-made}

@@ -6,25 +6,24 @@ use Rattle.std.proofs.lemmas.Bool.{eqb-true}
 use Rattle.sb_feeds.specs.base.records.declared.item.Stream.{Stream}
 use Rattle.sb_feeds.specs.base.pipeline.declared.transform.Down.{Down}
 use Rattle.sb_feeds.specs.base.pipeline.declared.transform.Step.{Step}
-use Rattle.sb_feeds.specs.base.pipeline.Operators.{operator_at}
+use Rattle.sb_feeds.specs.base.pipeline.Operators.{operator_at, Operator, lanes_of}
 use Rattle.sb_feeds.specs.base.pipeline.Plans.{IsPlan}
 use Rattle.sb_feeds.specs.base.pipeline.Shapes.{Shape, source}
 use Rattle.sb_feeds.proofs.base.pipeline.Feeding
 use Rattle.sb_hand.specs.core.declared.held.Held.{Held}
 use Rattle.sb_hand.specs.core.declared.held.Held.TheVariants.{Work, Close}
-use Rattle.sb_hand.specs.core.declared.moment.CoreLane.{CoreLane}
+use Rattle.sb_hand.specs.core.containers.declared.container.CoreLane.{CoreLane}
 use Rattle.sb_hand.specs.core.declared.moment.Moment.{Moment}
 use Rattle.sb_hand.specs.core.Bounds.{bound_at}
 use Rattle.sb_hand.specs.core.Holdings.{IsHeld, is_unpassed}
 use Rattle.sb_hand.specs.core.Laws.{written_to}
-use Rattle.sb_hand.specs.core.Marks.{least_begun_mark}
+use Rattle.sb_hand.specs.core.containers.Marks.{least_begun_mark}
 use Rattle.sb_hand.specs.core.Moments.{floor_at, floor_of, lane_at, node_at}
 use Rattle.sb_hand.specs.core.Soundness.{IsSound}
 use Rattle.sb_hand.proofs.core.ends.AtRest.{in_place}
-use Rattle.sb_feeds.specs.base.pipeline.Operators.{Operator, lanes_of}
 use Rattle.sb_feeds.specs.base.pipeline.Operators.Operator.{ParDo, Windowed, Sink}
 use Rattle.sb_feeds.specs.base.pipeline.Operators.WindowOperator.{Aggregated, Sessions, Joined}
-use Rattle.sb_hand.proofs.core.times.InTime.{begun_behind, closed_least}
+use Rattle.sb_hand.proofs.core.containers.Begun.{begun_behind, closed_least}
 use Rattle.sb_hand.proofs.core.times.LawfulTimely.{lane_of, of_node}
 use Rattle.sb_hand.proofs.core.sound.Orderly.{lawful_of}
 

@@ -14,7 +14,7 @@ use Rattle.sb_feeds.specs.base.pipeline.declared.transform.Step.{Step}
 use Rattle.sb_feeds.specs.base.pipeline.Operators.{lanes_of, operator_of}
 use Rattle.sb_feeds.specs.base.pipeline.Operators.Operator.{Sink}
 use Rattle.sb_feeds.specs.base.pipeline.Shapes.{Shape, source, streams_of}
-use Rattle.sb_hand.specs.core.Lanes.{next_floor}
+use Rattle.sb_hand.specs.core.containers.Lanes.{next_floor}
 use Rattle.sb_hand.specs.lane.LaneView.{LaneView, lane_of}
 use Rattle.sb_hand.specs.lane.Placed.{conts_of}
 use Rattle.sb_hand.specs.lane.Unfinished.{unfinished_of}

@@ -14,7 +14,7 @@ use Rattle.sb_feeds.proofs.base.records.Numbers.{bind_some}
 use Rattle.sb_feeds.specs.base.pipeline.declared.transform.Down.{Down}
 use Rattle.sb_feeds.specs.base.pipeline.Shapes.{Shape, source, streams_of}
 use Rattle.sb_feeds.specs.base.pipeline.Results.{rows_below}
-use Rattle.sb_hand.specs.core.declared.moment.CoreLane.{CoreLane}
+use Rattle.sb_hand.specs.core.containers.declared.container.CoreLane.{CoreLane}
 use Rattle.sb_hand.specs.core.declared.moment.Moment.{Moment}
 use Rattle.sb_hand.specs.core.declared.moment.Node.{Node}
 use Rattle.sb_hand.specs.core.Exactness.{IsAdmissible, IsExact}

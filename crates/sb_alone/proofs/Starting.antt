@@ -13,7 +13,7 @@ use Rattle.sb_feeds.specs.outside.Sinks.{SinkState}
 use Rattle.sb_feeds.specs.base.pipeline.Operators.{lanes_of, operator_at}
 use Rattle.sb_feeds.specs.base.pipeline.Plans.{IsPlan}
 use Rattle.sb_feeds.specs.base.pipeline.Shapes.{Shape}
-use Rattle.sb_hand.specs.core.declared.moment.CoreLane.{CoreLane}
+use Rattle.sb_hand.specs.core.containers.declared.container.CoreLane.{CoreLane}
 use Rattle.sb_hand.specs.core.Moments.{empty_lane, empty_node, first}
 use Rattle.sb_hand.proofs.core.sound.FirstMoment.{at_node}
 use Rattle.sb_hand.specs.lane.declared.answers.NotYet.TheVariants.{NoContainer}

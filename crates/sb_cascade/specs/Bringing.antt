@@ -6,8 +6,8 @@ use Rattle.sb_hand.specs.base.records.declared.item.TheConstants.{MAX_TIME, END_
 use Rattle.sb_hand.specs.base.bundle.declared.bundle.Bundle.{Bundle}
 use Rattle.sb_hand.specs.base.pipeline.declared.transform.Down.{Down}
 use Rattle.sb_hand.specs.base.pipeline.Shapes.{source}
-use Rattle.sb_hand.specs.core.declared.moment.CoreLane.{CoreLane}
-use Rattle.sb_hand.specs.core.Lanes.{next_epoch, next_floor}
+use Rattle.sb_hand.specs.core.containers.declared.container.CoreLane.{CoreLane}
+use Rattle.sb_hand.specs.core.containers.Lanes.{next_epoch, next_floor}
 use Rattle.sb_hand.specs.core.Moments.{empty_lane}
 use Rattle.sb_hand.specs.lane.declared.answers.ArriveStop.{ArriveStop}
 use Rattle.sb_hand.specs.lane.declared.answers.ArriveStop.TheVariants.{Full, Memory}

@@ -1,4 +1,3 @@
-pub mod containers
 pub mod windows
 pub mod places
 pub mod times
@@ -7,4 +6,5 @@ pub mod lawful
 pub mod sound
 pub mod parts
 pub mod ends
-pub use Rattle.sb_base.proofs as base
+pub use Rattle.sb_containers.proofs.base
+pub use Rattle.sb_containers.proofs as containers

@@ -1,6 +1,7 @@
 -- Each event keeps a moment sound.
 pub mod Orderly
 pub mod HeldLists
+pub mod TidyLanes
 pub mod TidyFrame
 pub mod PutTidy
 pub mod PutSound

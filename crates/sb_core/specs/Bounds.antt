@@ -1,9 +1,9 @@
 -- How late the times at a node can be: each transform above it adds at most the greatest size of a window.
 use Rattle.std.specs.Prelude.{ℕ, ◌+◌, ◌*◌, ◌==◌, if◌then◌else◌, List, [], ◌∷◌}
-use Rattle.sb_base.specs.records.declared.item.TheConstants.{MAX_TIME}
-use Rattle.sb_base.specs.window.declared.windows.TheConstants.{MAX_SIZE}
-use Rattle.sb_base.specs.pipeline.declared.transform.Step.{Step}
-use Rattle.sb_base.specs.pipeline.Shapes.{Shape}
+use Rattle.sb_containers.specs.base.records.declared.item.TheConstants.{MAX_TIME}
+use Rattle.sb_containers.specs.base.window.declared.windows.TheConstants.{MAX_SIZE}
+use Rattle.sb_containers.specs.base.pipeline.declared.transform.Step.{Step}
+use Rattle.sb_containers.specs.base.pipeline.Shapes.{Shape}
 
 -- how many transforms are above each node, where those from k on are still to be counted
 abbrev pub above_from : ℕ → List Step → (ℕ → ℕ) → ℕ → ℕ

@@ -1,16 +1,16 @@
 -- What each operator does with a bundle, and at a closing.
 use Rattle.std.specs.Prelude.{ℕ, nat_lt, Bool, true, false, not, List, [], filter}
 use Rattle.std.specs.List.{flat_map, list_any}
-use Rattle.sb_base.specs.records.declared.item.Record.{Record}
-use Rattle.sb_base.specs.records.Records.{sorted_records, before, at_least}
-use Rattle.sb_base.specs.window.Windows.{window_ends}
-use Rattle.sb_base.specs.pardo.Outputs.{outputs_of}
-use Rattle.sb_base.specs.aggregate.Sessions.{is_session_open}
-use Rattle.sb_base.specs.records.declared.element.KeptRec.{KeptRec}
-use Rattle.sb_base.specs.records.Elements.{all_records}
-use Rattle.sb_base.specs.pipeline.Operators.{Operator, WindowOperator, operator_rows}
-use Rattle.sb_base.specs.pipeline.Operators.Operator.{ParDo, Windowed, Sink}
-use Rattle.sb_base.specs.pipeline.Operators.WindowOperator.{Aggregated, Sessions, Joined}
+use Rattle.sb_containers.specs.base.records.declared.item.Record.{Record}
+use Rattle.sb_containers.specs.base.records.Records.{sorted_records, before, at_least}
+use Rattle.sb_containers.specs.base.window.Windows.{window_ends}
+use Rattle.sb_containers.specs.base.pardo.Outputs.{outputs_of}
+use Rattle.sb_containers.specs.base.aggregate.Sessions.{is_session_open}
+use Rattle.sb_containers.specs.base.records.declared.element.KeptRec.{KeptRec}
+use Rattle.sb_containers.specs.base.records.Elements.{all_records}
+use Rattle.sb_containers.specs.base.pipeline.Operators.{Operator, WindowOperator, operator_rows}
+use Rattle.sb_containers.specs.base.pipeline.Operators.Operator.{ParDo, Windowed, Sink}
+use Rattle.sb_containers.specs.base.pipeline.Operators.WindowOperator.{Aggregated, Sessions, Joined}
 
 abbrev pub is_pardo : Operator → Bool
 is_pardo (ParDo op) = true

@@ -1,28 +1,27 @@
 -- What the whole run will give, and exact moments: no record is lost, and none counts twice.
-use Rattle.std.specs.Prelude.{◌≡◌, ℕ, ◌+◌, ◌≤◌, ◌==◌, not, ◌&&◌, if◌then◌else◌, List, [], ◌∷◌, ◌++◌, All, Some}
-use Rattle.std.specs.Prelude.{slice_get}
+use Rattle.std.specs.Prelude.{◌≡◌, ℕ, ◌+◌, ◌≤◌, ◌==◌, not, ◌&&◌, if◌then◌else◌, List, [], ◌∷◌, ◌++◌, All, Some, slice_get}
 use Rattle.std.specs.List.{flat_map}
-use Rattle.sb_base.specs.records.declared.item.Record.{Record}
-use Rattle.sb_base.specs.records.declared.element.KeptRec.{KeptRec}
-use Rattle.sb_base.specs.records.declared.item.Stream.{Stream}
-use Rattle.sb_base.specs.pipeline.declared.transform.Down.{Down}
-use Rattle.sb_base.specs.pipeline.Shapes.{Shape, source}
-use Rattle.sb_core.specs.declared.moment.CoreLane.{CoreLane}
+use Rattle.sb_containers.specs.base.records.declared.item.Record.{Record}
+use Rattle.sb_containers.specs.base.records.declared.element.KeptRec.{KeptRec}
+use Rattle.sb_containers.specs.base.records.declared.item.Stream.{Stream}
+use Rattle.sb_containers.specs.base.pipeline.declared.transform.Down.{Down}
+use Rattle.sb_containers.specs.base.pipeline.Shapes.{Shape, source}
+use Rattle.sb_containers.specs.declared.container.CoreLane.{CoreLane}
 use Rattle.sb_core.specs.declared.moment.Node.{Node}
 use Rattle.sb_core.specs.declared.held.Held.{Held}
 use Rattle.sb_core.specs.declared.held.Held.TheVariants.{Work, Close}
 use Rattle.sb_core.specs.declared.moment.Moment.{Moment}
-use Rattle.sb_base.specs.records.Records.{at_least}
-use Rattle.sb_base.specs.records.Reorderings.{IsReordered}
-use Rattle.sb_base.specs.pipeline.Operators.{Operator, operator_rows, operator_at}
-use Rattle.sb_base.specs.pardo.Outputs.{outputs_of}
-use Rattle.sb_base.specs.records.Elements.{on_lane, all_records}
-use Rattle.sb_base.specs.pipeline.Flow.{flow}
-use Rattle.sb_base.specs.pipeline.Results.{output_of}
-use Rattle.sb_base.specs.pipeline.Operators.Operator.{ParDo, Windowed, Sink}
-use Rattle.sb_core.specs.Marks.{least_begun_mark}
+use Rattle.sb_containers.specs.base.records.Records.{at_least}
+use Rattle.sb_containers.specs.base.records.Reorderings.{IsReordered}
+use Rattle.sb_containers.specs.base.pipeline.Operators.{Operator, operator_rows, operator_at}
+use Rattle.sb_containers.specs.base.pardo.Outputs.{outputs_of}
+use Rattle.sb_containers.specs.base.records.Elements.{on_lane, all_records}
+use Rattle.sb_containers.specs.base.pipeline.Flow.{flow}
+use Rattle.sb_containers.specs.base.pipeline.Results.{output_of}
+use Rattle.sb_containers.specs.base.pipeline.Operators.Operator.{ParDo, Windowed, Sink}
+use Rattle.sb_containers.specs.Marks.{least_begun_mark}
 use Rattle.sb_core.specs.Moments.{node_at, floor_at}
-use Rattle.sb_base.specs.records.declared.item.TheConstants.{MAX_TIME}
+use Rattle.sb_containers.specs.base.records.declared.item.TheConstants.{MAX_TIME}
 
 -- the records that wait in a lane
 abbrev pub waiting_in : CoreLane → List Record

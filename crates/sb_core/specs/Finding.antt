@@ -1,9 +1,9 @@
 -- Where the first element is that passes, and what is held there.
 use Rattle.std.specs.Prelude.{◌≡◌, ◌<◌, ℕ, Bool, List, length, remove, slice_get, Option, Some, None}
-use Rattle.sb_base.specs.records.declared.item.Record.{Record}
+use Rattle.sb_containers.specs.base.records.declared.item.Record.{Record}
 use Rattle.sb_core.specs.declared.held.Held.{Held}
 use Rattle.sb_core.specs.declared.held.Held.TheVariants.{Work, Close}
-use Rattle.sb_core.specs.Choices.{first_and_rest}
+use Rattle.sb_containers.specs.Choices.{first_and_rest}
 use Rattle.sb_core.specs.Moments.{is_work, is_close, is_close_of}
 
 -- the first element that passes is at the place; or none passes

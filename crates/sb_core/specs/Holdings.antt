@@ -1,23 +1,23 @@
 -- What holds of each Work and each Close.
 use Rattle.std.specs.Prelude.{◌≡◌, ℕ, ◌+◌, ◌<◌, ◌≤◌, ◌==◌, Bool, true, false, not, ◌&&◌, List, [], Some, slice_get}
 use Rattle.std.specs.List.{AllByRecursion, list_any}
-use Rattle.sb_base.specs.records.declared.item.Record.{Record}
-use Rattle.sb_base.specs.records.Orders.{IsAscending}
-use Rattle.sb_base.specs.records.Records.{record_cmp}
-use Rattle.sb_base.specs.window.declared.windows.TheConstants.{MAX_SIZE}
-use Rattle.sb_base.specs.pipeline.declared.transform.Step.{Step}
-use Rattle.sb_base.specs.pipeline.Shapes.{Shape}
-use Rattle.sb_base.specs.pipeline.Operators.{operator_at}
-use Rattle.sb_core.specs.declared.moment.Cont.{Cont}
-use Rattle.sb_core.specs.declared.moment.CoreLane.{CoreLane}
+use Rattle.sb_containers.specs.base.records.declared.item.Record.{Record}
+use Rattle.sb_containers.specs.base.records.Orders.{IsAscending}
+use Rattle.sb_containers.specs.base.records.Records.{record_cmp}
+use Rattle.sb_containers.specs.base.window.declared.windows.TheConstants.{MAX_SIZE}
+use Rattle.sb_containers.specs.base.pipeline.declared.transform.Step.{Step}
+use Rattle.sb_containers.specs.base.pipeline.Shapes.{Shape}
+use Rattle.sb_containers.specs.base.pipeline.Operators.{operator_at}
+use Rattle.sb_containers.specs.declared.container.Cont.{Cont}
+use Rattle.sb_containers.specs.declared.container.CoreLane.{CoreLane}
 use Rattle.sb_core.specs.declared.moment.Moment.{Moment}
 use Rattle.sb_core.specs.declared.held.Held.{Held}
 use Rattle.sb_core.specs.declared.held.Held.TheVariants.{Work, Close}
 use Rattle.sb_core.specs.Bounds.{bound_at}
-use Rattle.sb_core.specs.Marks.{first_is_closing, least_begun_mark, before_closing}
+use Rattle.sb_containers.specs.Marks.{first_is_closing, least_begun_mark, before_closing}
 use Rattle.sb_core.specs.Moments.{lane_at, node_at, floor_at, epoch_at}
 use Rattle.sb_core.specs.Closings.{is_pardo, is_sink}
-use Rattle.sb_core.specs.LaneOrder.{IsWithin, cont_at}
+use Rattle.sb_containers.specs.LaneOrder.{IsWithin, cont_at}
 
 -- a Work is of a container that is there, with its epoch and floor, and is out of it; only that of a ParDo is delivered
 pub record IsWork (plan : Shape) (m : Moment) (k l epoch floor number : ℕ) (records : List Record) (delivered : Bool)

@@ -1,13 +1,13 @@
 -- What becomes of a single lane in a step.
 use Rattle.std.specs.Prelude.{◌≡◌, ℕ, ◌-◌, ◌^◌, nat_lt, List, Option, Some, None}
-use Rattle.sb_base.specs.records.declared.item.Record.{Record}
-use Rattle.sb_base.specs.records.Reading.{◌>>=◌}
-use Rattle.sb_base.specs.bundle.declared.bundle.Bundle.{Bundle}
-use Rattle.sb_base.specs.pipeline.declared.transform.Down.{Down}
-use Rattle.sb_core.specs.declared.moment.CoreLane.{CoreLane}
+use Rattle.sb_containers.specs.base.records.declared.item.Record.{Record}
+use Rattle.sb_containers.specs.base.records.Reading.{◌>>=◌}
+use Rattle.sb_containers.specs.base.bundle.declared.bundle.Bundle.{Bundle}
+use Rattle.sb_containers.specs.base.pipeline.declared.transform.Down.{Down}
+use Rattle.sb_containers.specs.declared.container.CoreLane.{CoreLane}
 use Rattle.sb_core.specs.declared.moment.Moment.{Moment}
-use Rattle.sb_core.specs.Choices.{only_if}
-use Rattle.sb_core.specs.Lanes.{take_from, with_arrival, with_seal}
+use Rattle.sb_containers.specs.Choices.{only_if}
+use Rattle.sb_containers.specs.Lanes.{take_from, with_arrival, with_seal}
 use Rattle.sb_core.specs.Moments.{lane_at, with_lane}
 
 -- the waiting bundle of the number is out, or there is none and the lane is as before

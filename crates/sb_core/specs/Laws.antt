@@ -1,29 +1,28 @@
 -- The laws of the engine: what holds of every plan, every moment and every list of events.
-use Rattle.std.specs.Prelude.{slice_set, ◌≡◌, Bool, true, false, drop, IsPermutation, ℕ, ◌≤◌, List, [], ◌∷◌, ◌++◌}
-use Rattle.std.specs.Prelude.{length, Some}
+use Rattle.std.specs.Prelude.{slice_set, ◌≡◌, Bool, true, false, drop, IsPermutation, ℕ, ◌≤◌, List, [], ◌∷◌, ◌++◌, length, Some}
 use Rattle.std.specs.List.{list_any}
-use Rattle.sb_base.specs.records.declared.item.Record.{Record}
-use Rattle.sb_base.specs.records.declared.item.Stream.{Stream}
-use Rattle.sb_base.specs.records.declared.item.Stream.TheVariants.{A, B}
-use Rattle.sb_base.specs.pipeline.Shapes.{Shape, source}
+use Rattle.sb_containers.specs.base.records.declared.item.Record.{Record}
+use Rattle.sb_containers.specs.base.records.declared.item.Stream.{Stream}
+use Rattle.sb_containers.specs.base.records.declared.item.Stream.TheVariants.{A, B}
+use Rattle.sb_containers.specs.base.pipeline.Shapes.{Shape, source}
 use Rattle.sb_core.specs.declared.moment.Moment.{Moment}
 use Rattle.sb_core.specs.declared.event.Event.{Event}
 use Rattle.sb_core.specs.declared.event.Event.TheVariants.{Arrive, Seal, Take, Deliver, Finish, Begin, Pass, End}
-use Rattle.sb_core.specs.Marks.{first_is_closing, least_begun_mark}
+use Rattle.sb_containers.specs.Marks.{first_is_closing, least_begun_mark}
 use Rattle.sb_core.specs.Events.{after, run}
 pub use Rattle.sb_core.specs.Events.{concerns, place_of}
 use Rattle.sb_core.specs.Moments.{is_close, with_held, first, lane_at, node_at, floor_at}
-use Rattle.sb_base.specs.records.declared.item.TheConstants.{END_MARK}
+use Rattle.sb_containers.specs.base.records.declared.item.TheConstants.{END_MARK}
 use Rattle.sb_core.specs.Exactness.{IsAdmissible, IsExact}
-use Rattle.sb_base.specs.pipeline.Plans.{IsPlan}
-use Rattle.sb_base.specs.pipeline.Results.{rows_below}
+use Rattle.sb_containers.specs.base.pipeline.Plans.{IsPlan}
+use Rattle.sb_containers.specs.base.pipeline.Results.{rows_below}
 use Rattle.sb_core.specs.Soundness.{IsSound}
 use Rattle.sb_core.specs.declared.held.Held.{Held}
 use Rattle.sb_core.specs.declared.held.Held.TheVariants.{Work, Close}
 use Rattle.sb_core.specs.declared.moment.Node.{Node}
-use Rattle.sb_base.specs.pipeline.declared.transform.Down.{Down}
-use Rattle.sb_core.specs.declared.moment.CoreLane.{CoreLane}
-use Rattle.sb_base.specs.bundle.declared.bundle.TheConstants.{MAX_BUNDLE}
+use Rattle.sb_containers.specs.base.pipeline.declared.transform.Down.{Down}
+use Rattle.sb_containers.specs.declared.container.CoreLane.{CoreLane}
+use Rattle.sb_containers.specs.base.bundle.declared.bundle.TheConstants.{MAX_BUNDLE}
 
 -- what was fed, and what the event feeds
 abbrev pub records_fed_after : Event → (Stream → List Record) → Stream → List Record

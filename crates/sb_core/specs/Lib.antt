@@ -1,6 +1,3 @@
-pub mod Choices
-pub mod Lanes
-pub mod Marks
 pub mod Moments
 pub mod Closings
 pub mod Bounds
@@ -9,7 +6,6 @@ pub mod LaneSteps
 pub mod MomentSteps
 pub mod Finding
 pub mod Exactness
-pub mod LaneOrder
 pub mod Holdings
 pub mod Soundness
 pub mod Laws
@@ -17,4 +13,5 @@ pub mod Parts
 pub mod OneLane
 pub mod NewRows
 pub mod Rest
-pub use Rattle.sb_base.specs as base
+pub use Rattle.sb_containers.specs.base
+pub use Rattle.sb_containers.specs as containers

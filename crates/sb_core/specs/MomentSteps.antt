@@ -1,24 +1,22 @@
 -- What the code makes of the whole moment at each event: it is proved to be the moment after the event.
-use Rattle.std.specs.Prelude.{ℕ, ◌+◌, ◌==◌, nat_le, true, false, not, ◌&&◌, ◌||◌, if◌then◌else◌, List, []}
-use Rattle.std.specs.Prelude.{◌∷◌, ◌++◌, length, take, drop, Option, Some, None, slice_get, slice_set}
+use Rattle.std.specs.Prelude.{ℕ, ◌+◌, ◌==◌, nat_le, true, false, not, ◌&&◌, ◌||◌, if◌then◌else◌, List, [], ◌∷◌, ◌++◌, length, take, drop, Option, Some, None, slice_get, slice_set}
 use Rattle.std.specs.List.{list_any, list_all}
-use Rattle.sb_base.specs.records.declared.item.Record.{Record}
-use Rattle.sb_base.specs.records.declared.item.Stream.{Stream}
-use Rattle.sb_base.specs.records.declared.item.TheConstants.{MAX_TIME, END_MARK}
-use Rattle.sb_base.specs.records.Reading.{◌>>=◌}
-use Rattle.sb_base.specs.records.Elements.{on_lane}
-use Rattle.sb_base.specs.pipeline.declared.transform.Down.{Down}
-use Rattle.sb_base.specs.pipeline.Shapes.{Shape, source}
-use Rattle.sb_base.specs.pipeline.Operators.{operator_at}
+use Rattle.sb_containers.specs.base.records.declared.item.Record.{Record}
+use Rattle.sb_containers.specs.base.records.declared.item.Stream.{Stream}
+use Rattle.sb_containers.specs.base.records.declared.item.TheConstants.{MAX_TIME, END_MARK}
+use Rattle.sb_containers.specs.base.records.Reading.{◌>>=◌}
+use Rattle.sb_containers.specs.base.records.Elements.{on_lane}
+use Rattle.sb_containers.specs.base.pipeline.declared.transform.Down.{Down}
+use Rattle.sb_containers.specs.base.pipeline.Shapes.{Shape, source}
+use Rattle.sb_containers.specs.base.pipeline.Operators.{operator_at}
 use Rattle.sb_core.specs.declared.moment.Moment.{Moment}
 use Rattle.sb_core.specs.declared.held.Held.{Held}
 use Rattle.sb_core.specs.declared.held.Held.TheVariants.{Work, Close}
 use Rattle.sb_core.specs.declared.event.Event.{Event}
 use Rattle.sb_core.specs.declared.event.Event.TheVariants.{Arrive, Seal, Take, Deliver, Finish, Begin, Pass, End}
-use Rattle.sb_core.specs.Choices.{only_if, is_empty, first_and_rest}
-use Rattle.sb_core.specs.Lanes.{next_epoch, next_floor, with_seal, take_from, finish_in, closable}
-use Rattle.sb_core.specs.Lanes.{with_first_closing}
-use Rattle.sb_core.specs.Marks.{least_begun_mark}
+use Rattle.sb_containers.specs.Choices.{only_if, is_empty, first_and_rest}
+use Rattle.sb_containers.specs.Lanes.{next_epoch, next_floor, with_seal, take_from, finish_in, closable, with_first_closing}
+use Rattle.sb_containers.specs.Marks.{least_begun_mark}
 use Rattle.sb_core.specs.Moments.{lane_at, set_lane, set_node, with_lane, with_held, is_work, is_close, is_close_of}
 use Rattle.sb_core.specs.Closings.{delivery, kept_elements, kept_at, rows_at, rows_at_sink, is_sink}
 use Rattle.sb_core.specs.Events.{below}

@@ -1,17 +1,16 @@
 -- Moments: the whole state of the engine between two events.
-use Rattle.std.specs.Prelude.{ℕ, ◌==◌, Bool, false, ◌&&◌, List, [], ◌∷◌, ◌++◌, map, replicate, Option, Some, None}
-use Rattle.std.specs.Prelude.{slice_get, slice_index_or, slice_set}
-use Rattle.sb_base.specs.records.Reading.{◌>>=◌}
-use Rattle.sb_base.specs.pipeline.declared.transform.Down.{Down}
-use Rattle.sb_base.specs.pipeline.Shapes.{Shape}
-use Rattle.sb_base.specs.pipeline.Operators.{Operator, operator_of, lanes_of}
-use Rattle.sb_base.specs.pipeline.Operators.Operator.{Sink}
-use Rattle.sb_core.specs.declared.moment.CoreLane.{CoreLane}
+use Rattle.std.specs.Prelude.{ℕ, ◌==◌, Bool, false, ◌&&◌, List, [], ◌∷◌, ◌++◌, map, replicate, Option, Some, None, slice_get, slice_index_or, slice_set}
+use Rattle.sb_containers.specs.base.records.Reading.{◌>>=◌}
+use Rattle.sb_containers.specs.base.pipeline.declared.transform.Down.{Down}
+use Rattle.sb_containers.specs.base.pipeline.Shapes.{Shape}
+use Rattle.sb_containers.specs.base.pipeline.Operators.{Operator, operator_of, lanes_of}
+use Rattle.sb_containers.specs.base.pipeline.Operators.Operator.{Sink}
+use Rattle.sb_containers.specs.declared.container.CoreLane.{CoreLane}
 use Rattle.sb_core.specs.declared.moment.Node.{Node}
 use Rattle.sb_core.specs.declared.moment.Moment.{Moment}
 use Rattle.sb_core.specs.declared.held.Held.{Held}
 use Rattle.sb_core.specs.declared.held.Held.TheVariants.{Work, Close}
-use Rattle.sb_core.specs.Lanes.{next_epoch, next_floor}
+use Rattle.sb_containers.specs.Lanes.{next_epoch, next_floor}
 
 -- the lane of a place, where there is one
 abbrev pub lane_at : Moment → Down → Option CoreLane

@@ -1,8 +1,8 @@
 -- An event changes one lane, that of its place, and only a Seal and a Pass add to a lane's marks.
 use Rattle.std.specs.Prelude.{◌≡◌, ℕ, true, List, [], ◌∷◌, ◌++◌, Option, Some, None, slice_get, slice_set}
-use Rattle.sb_base.specs.pipeline.declared.transform.Down.{Down}
-use Rattle.sb_base.specs.pipeline.Shapes.{Shape, source}
-use Rattle.sb_core.specs.declared.moment.CoreLane.{CoreLane}
+use Rattle.sb_containers.specs.base.pipeline.declared.transform.Down.{Down}
+use Rattle.sb_containers.specs.base.pipeline.Shapes.{Shape, source}
+use Rattle.sb_containers.specs.declared.container.CoreLane.{CoreLane}
 use Rattle.sb_core.specs.declared.moment.Node.{Node}
 use Rattle.sb_core.specs.declared.held.Held.{Held}
 use Rattle.sb_core.specs.declared.held.Held.TheVariants.{Close}

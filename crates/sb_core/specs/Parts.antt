@@ -1,12 +1,12 @@
 -- The laws of the events by the part of one node.
 use Rattle.std.specs.Prelude.{◌≡◌, ◌⊎◌, ℕ, true, List, ◌∷◌, ◌++◌, [], Some, None, slice_get, slice_set}
-use Rattle.sb_base.specs.pipeline.Shapes.{Shape}
-use Rattle.sb_base.specs.pipeline.Plans.{IsPlan}
+use Rattle.sb_containers.specs.base.pipeline.Shapes.{Shape}
+use Rattle.sb_containers.specs.base.pipeline.Plans.{IsPlan}
 use Rattle.sb_core.specs.declared.moment.Node.{Node}
 use Rattle.sb_core.specs.declared.moment.Moment.{Moment}
 use Rattle.sb_core.specs.declared.held.Held.{Held}
 use Rattle.sb_core.specs.declared.event.Event.{Event}
-use Rattle.sb_core.specs.Choices.{first_and_rest}
+use Rattle.sb_containers.specs.Choices.{first_and_rest}
 use Rattle.sb_core.specs.Events.{after, concerns, place_of}
 use Rattle.sb_core.specs.Laws.{KeepsExact}
 use Rattle.sb_core.specs.Moments.{with_held}

@@ -1,19 +1,19 @@
 -- Moments at rest: no work is left, so the sink has closed as far as the streams are sealed.
 use Rattle.std.specs.Prelude.{◌≡◌, ℕ, List, [], ◌++◌, Option, Some, None}
 use Rattle.std.specs.List.{AllByRecursion}
-use Rattle.sb_base.specs.records.declared.item.Record.{Record}
-use Rattle.sb_base.specs.records.declared.item.Stream.{Stream}
-use Rattle.sb_base.specs.records.declared.item.Stream.TheVariants.{A, B}
-use Rattle.sb_base.specs.records.declared.item.TheConstants.{END_MARK}
-use Rattle.sb_base.specs.records.Streams.{least_of}
-use Rattle.sb_base.specs.pipeline.declared.transform.Down.{Down}
-use Rattle.sb_base.specs.pipeline.Shapes.{Shape, source, streams_of}
-use Rattle.sb_base.specs.pipeline.Plans.{IsPlan}
-use Rattle.sb_base.specs.pipeline.Results.{rows_below}
-use Rattle.sb_core.specs.declared.moment.CoreLane.{CoreLane}
+use Rattle.sb_containers.specs.base.records.declared.item.Record.{Record}
+use Rattle.sb_containers.specs.base.records.declared.item.Stream.{Stream}
+use Rattle.sb_containers.specs.base.records.declared.item.Stream.TheVariants.{A, B}
+use Rattle.sb_containers.specs.base.records.declared.item.TheConstants.{END_MARK}
+use Rattle.sb_containers.specs.base.records.Streams.{least_of}
+use Rattle.sb_containers.specs.base.pipeline.declared.transform.Down.{Down}
+use Rattle.sb_containers.specs.base.pipeline.Shapes.{Shape, source, streams_of}
+use Rattle.sb_containers.specs.base.pipeline.Plans.{IsPlan}
+use Rattle.sb_containers.specs.base.pipeline.Results.{rows_below}
+use Rattle.sb_containers.specs.declared.container.CoreLane.{CoreLane}
 use Rattle.sb_core.specs.declared.moment.Moment.{Moment}
 use Rattle.sb_core.specs.Exactness.{IsAdmissible, IsExact}
-use Rattle.sb_core.specs.Lanes.{closable}
+use Rattle.sb_containers.specs.Lanes.{closable}
 use Rattle.sb_core.specs.Laws.{IsDone, written_to}
 use Rattle.sb_core.specs.Moments.{lane_at, floor_at}
 use Rattle.sb_core.specs.Soundness.{IsSound}

@@ -1,27 +1,26 @@
 -- Sound moments: what every event keeps.
-use Rattle.std.specs.Prelude.{◌≡◌, ℕ, ◌+◌, ◌≤◌, ◌<◌, ◌==◌, Bool, true, false, ◌&&◌, List, [], ◌∷◌, length, count_by}
-use Rattle.std.specs.Prelude.{sum_by, Some, slice_get}
+use Rattle.std.specs.Prelude.{◌≡◌, ℕ, ◌+◌, ◌≤◌, ◌<◌, ◌==◌, Bool, true, false, ◌&&◌, List, [], ◌∷◌, length, count_by, sum_by, Some, slice_get}
 use Rattle.std.specs.List.{AllByRecursion, list_any}
-use Rattle.sb_base.specs.records.declared.item.Stream.{Stream}
-use Rattle.sb_base.specs.records.declared.item.TheConstants.{MAX_TIME}
-use Rattle.sb_base.specs.records.Orders.{IsAscending}
-use Rattle.sb_base.specs.records.Records.{record_cmp}
-use Rattle.sb_base.specs.bundle.declared.bundle.TheConstants.{MAX_BUNDLE}
-use Rattle.sb_base.specs.pipeline.declared.transform.Down.{Down}
-use Rattle.sb_base.specs.records.declared.element.KeptRec.{KeptRec}
-use Rattle.sb_base.specs.pipeline.declared.transform.Step.{Step}
-use Rattle.sb_base.specs.pipeline.Shapes.{Shape, source}
-use Rattle.sb_base.specs.pipeline.Operators.{Operator, operator_at, lanes_of}
-use Rattle.sb_base.specs.pipeline.Operators.Operator.{ParDo, Windowed, Sink}
-use Rattle.sb_core.specs.declared.moment.Cont.{Cont}
-use Rattle.sb_core.specs.declared.moment.CoreLane.{CoreLane}
+use Rattle.sb_containers.specs.base.records.declared.item.Stream.{Stream}
+use Rattle.sb_containers.specs.base.records.declared.item.TheConstants.{MAX_TIME}
+use Rattle.sb_containers.specs.base.records.Orders.{IsAscending}
+use Rattle.sb_containers.specs.base.records.Records.{record_cmp}
+use Rattle.sb_containers.specs.base.bundle.declared.bundle.TheConstants.{MAX_BUNDLE}
+use Rattle.sb_containers.specs.base.pipeline.declared.transform.Down.{Down}
+use Rattle.sb_containers.specs.base.records.declared.element.KeptRec.{KeptRec}
+use Rattle.sb_containers.specs.base.pipeline.declared.transform.Step.{Step}
+use Rattle.sb_containers.specs.base.pipeline.Shapes.{Shape, source}
+use Rattle.sb_containers.specs.base.pipeline.Operators.{Operator, operator_at, lanes_of}
+use Rattle.sb_containers.specs.base.pipeline.Operators.Operator.{ParDo, Windowed, Sink}
+use Rattle.sb_containers.specs.declared.container.Cont.{Cont}
+use Rattle.sb_containers.specs.declared.container.CoreLane.{CoreLane}
 use Rattle.sb_core.specs.declared.moment.Moment.{Moment}
 use Rattle.sb_core.specs.Bounds.{bound_at}
 use Rattle.sb_core.specs.Closings.{is_open}
-use Rattle.sb_core.specs.Lanes.{next_epoch}
-use Rattle.sb_core.specs.Marks.{first_is_closing, begun_count, least_begun_mark}
+use Rattle.sb_containers.specs.Lanes.{next_epoch}
+use Rattle.sb_containers.specs.Marks.{first_is_closing, begun_count, least_begun_mark}
 use Rattle.sb_core.specs.Moments.{lane_at, node_at, floor_at, epoch_at, is_work, is_close, is_close_of}
-use Rattle.sb_core.specs.LaneOrder.{IsLane}
+use Rattle.sb_containers.specs.LaneOrder.{IsLane}
 use Rattle.sb_core.specs.Holdings.{IsHeld, IsCloseOf, is_unpassed}
 
 -- how often a container has a bundle of the number out, and in all

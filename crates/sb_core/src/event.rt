@@ -1,6 +1,6 @@
 //! Events: what changes a moment.
 
-use sb_base::{Record, Sequence, Stream};
+use sb_containers::{Record, Sequence, Stream};
 
 /// A single change of a moment. Workers make them in any order: each has a condition, and only where that holds the
 /// event can happen.

@@ -1,6 +1,6 @@
 //! What workers have in hand: bundles, and closings.
 
-use sb_base::{Record, Sequence};
+use sb_containers::{Record, Sequence};
 
 /// A bundle that a worker has taken, or a closing that one has begun.
 #[derive(Drop)]

@@ -14,7 +14,7 @@ mod moment;
 
 pub use event::Event;
 pub use held::Held;
-pub use moment::{Cont, CoreLane, Moment, Node};
+pub use moment::{Moment, Node};
 
 // What the crates above name of the crates below.
-pub use sb_base::{Bundle, NoMemory, Trail};
+pub use sb_containers::{Bundle, NoMemory, Trail};

@@ -11,7 +11,7 @@ use Rattle.sb_alone.specs.feeds.base.bundle.declared.bundle.Bundle.{Bundle}
 use Rattle.sb_alone.specs.feeds.base.bundle.Calls.{records_in_order, parts_of}
 use Rattle.sb_worker.specs.core.declared.event.Event.TheVariants.{Arrive, Seal}
 use Rattle.sb_worker.specs.core.Exactness.{IsExact}
-use Rattle.sb_worker.specs.core.Lanes.{next_floor}
+use Rattle.sb_worker.specs.core.containers.Lanes.{next_floor}
 use Rattle.sb_worker.specs.tally.Keeping.{feed_after}
 use Rattle.sb_worker.specs.tally.Tally as tally
 use Rattle.sb_worker.specs.tally.Tally.{IsTallied}

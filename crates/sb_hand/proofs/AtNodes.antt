@@ -3,8 +3,8 @@ use Rattle.std.proofs.Common.{◌≡◌, ℕ, ◌+◌, List, [], ◌∷◌, ◌+
 use Rattle.std.specs.List.{slice_get}
 use Rattle.std.proofs.lemmas.Option.{get_or_from_slice_get, same_Some}
 use Rattle.sb_shown.specs.base.bundle.declared.bundle.Bundle.{Bundle}
-use Rattle.sb_shown.specs.core.declared.moment.CoreLane.{CoreLane}
-use Rattle.sb_shown.specs.core.Marks.{before_closing}
+use Rattle.sb_shown.specs.core.containers.declared.container.CoreLane.{CoreLane}
+use Rattle.sb_shown.specs.core.containers.Marks.{before_closing}
 use Rattle.sb_shown.proofs.core.exact.Nodes.{slice_get-set_same}
 use Rattle.sb_shown.specs.diary.Diaries.{Written, with_spare}
 use Rattle.sb_shown.specs.diary.declared.event.DiaryEvent.{DiaryEvent}

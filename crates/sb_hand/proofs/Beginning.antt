@@ -11,8 +11,8 @@ use Rattle.sb_shown.specs.base.pipeline.Shapes.{Shape}
 use Rattle.sb_shown.specs.base.pipeline.Plans.{IsPlan}
 use Rattle.sb_shown.specs.base.pipeline.Operators.{Operator, operator_at, lanes_of}
 use Rattle.sb_shown.specs.base.pipeline.Operators.Operator.{ParDo, Windowed, Sink}
-use Rattle.sb_shown.specs.core.declared.moment.Cont.{Cont}
-use Rattle.sb_shown.specs.core.declared.moment.CoreLane.{CoreLane}
+use Rattle.sb_shown.specs.core.containers.declared.container.Cont.{Cont}
+use Rattle.sb_shown.specs.core.containers.declared.container.CoreLane.{CoreLane}
 use Rattle.sb_shown.specs.core.declared.moment.Node.{Node}
 use Rattle.sb_shown.specs.core.declared.moment.Moment.{Moment}
 use Rattle.sb_shown.specs.core.declared.held.Held.{Held}
@@ -21,9 +21,9 @@ use Rattle.sb_shown.specs.core.declared.event.Event.TheVariants.{Begin}
 use Rattle.sb_shown.specs.core.Bounds.{bound_at}
 use Rattle.sb_shown.specs.core.Closings.{kept_at, rows_at, rows_at_sink, is_sink}
 use Rattle.sb_shown.specs.core.Events.{after}
-use Rattle.sb_shown.specs.core.Lanes.{closable, with_first_closing}
-use Rattle.sb_shown.specs.core.Marks.{before_closing, first_is_closing, least_begun_mark}
-use Rattle.sb_shown.specs.core.Moments.{set_lane, is_close_of}
+use Rattle.sb_shown.specs.core.containers.Lanes.{closable, with_first_closing}
+use Rattle.sb_shown.specs.core.containers.Marks.{before_closing, first_is_closing, least_begun_mark}
+use Rattle.sb_shown.specs.core.Moments.{set_lane, is_close_of, empty_lane}
 use Rattle.sb_shown.specs.core.Parts.{Part, part_after, with_part}
 use Rattle.sb_shown.specs.core.Soundness.{IsSound}
 use Rattle.sb_shown.proofs.core.sound.AfterSound.{events-keep_sound}
@@ -45,7 +45,6 @@ use Rattle.sb_shown.proofs.lane.InTheCore.{MayClose, may-close}
 use Rattle.sb_shown.proofs.ClosingMarks.{calm_before, mark_for-is}
 use Rattle.sb_shown.proofs.ShowsKept.{StandsFor, groups-at, rows-closes, shows-closes, rows-at}
 use Rattle.std.proofs.lemmas.Option.{get_or_from_slice_get}
-use Rattle.sb_shown.specs.core.Moments.{empty_lane}
 use Rattle.sb_shown.specs.diary.declared.event.DiaryEvent.{DiaryEvent}
 use Rattle.sb_shown.specs.diary.declared.event.DiaryEvent.TheVariants as line
 use Rattle.sb_shown.specs.tally.Written.{line_after}

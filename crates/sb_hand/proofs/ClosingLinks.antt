@@ -16,8 +16,8 @@ use Rattle.sb_shown.specs.core.Bounds.{bound_at}
 use Rattle.sb_shown.specs.core.Closings.{is_pardo}
 use Rattle.sb_shown.specs.core.Holdings.{IsCloseOf, IsClosing, IsHeld}
 use Rattle.sb_shown.specs.core.declared.held.Held.{Held}
-use Rattle.sb_shown.specs.core.LaneOrder.{IsLane}
-use Rattle.sb_shown.specs.core.Lanes.{in_epoch, next_floor, with_arrival}
+use Rattle.sb_shown.specs.core.containers.LaneOrder.{IsLane}
+use Rattle.sb_shown.specs.core.containers.Lanes.{in_epoch, next_floor, with_arrival}
 use Rattle.sb_shown.specs.core.Moments.{epoch_of, floor_of}
 use Rattle.sb_shown.specs.lane.Changes.{StandsAt}
 use Rattle.sb_shown.specs.lane.Laws.{FitsEpoch}

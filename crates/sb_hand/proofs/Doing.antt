@@ -11,14 +11,14 @@ use Rattle.sb_shown.specs.base.pipeline.declared.transform.Step.{Step}
 use Rattle.sb_shown.specs.base.pipeline.Shapes.{Shape}
 use Rattle.sb_shown.specs.base.pipeline.Plans.{IsPlan}
 use Rattle.sb_shown.specs.base.pipeline.Operators.{operator_at}
-use Rattle.sb_shown.specs.core.declared.moment.CoreLane.{CoreLane}
+use Rattle.sb_shown.specs.core.containers.declared.container.CoreLane.{CoreLane}
 use Rattle.sb_shown.specs.core.declared.held.Held.{Held}
 use Rattle.sb_shown.specs.core.declared.held.Held.TheVariants.{Work, Close}
 use Rattle.sb_shown.specs.core.declared.event.Event.TheVariants.{Take, Deliver, Pass, End}
-use Rattle.sb_shown.specs.core.Choices.{is_empty}
+use Rattle.sb_shown.specs.core.containers.Choices.{is_empty}
 use Rattle.sb_shown.specs.core.Closings.{delivery}
 use Rattle.sb_shown.specs.core.Events.{below}
-use Rattle.sb_shown.specs.core.Lanes.{next_epoch, take_from, with_arrival, with_seal}
+use Rattle.sb_shown.specs.core.containers.Lanes.{next_epoch, take_from, with_arrival, with_seal}
 use Rattle.sb_shown.specs.core.Laws.{concerns}
 use Rattle.sb_shown.specs.core.Moments.{set_lane}
 use Rattle.sb_shown.specs.core.Parts.{only_node, put_in}

@@ -9,8 +9,8 @@ use Rattle.sb_shown.specs.base.pipeline.declared.transform.Down.{Down}
 use Rattle.sb_shown.specs.base.pipeline.Shapes.{Shape, source}
 use Rattle.sb_shown.specs.base.pipeline.Plans.{IsPlan}
 use Rattle.sb_shown.proofs.base.pipeline.Feeding.{sources_apart}
-use Rattle.sb_shown.specs.core.declared.moment.CoreLane.{CoreLane}
-use Rattle.sb_shown.specs.core.Lanes.{next_epoch, with_seal}
+use Rattle.sb_shown.specs.core.containers.declared.container.CoreLane.{CoreLane}
+use Rattle.sb_shown.specs.core.containers.Lanes.{next_epoch, with_seal}
 use Rattle.sb_shown.specs.lane.declared.answers.ArriveStop.{ArriveStop}
 use Rattle.sb_shown.specs.lane.LaneView.{LaneView, lane_of}
 use Rattle.sb_shown.specs.lane.Placed.{conts_of}

@@ -17,11 +17,11 @@ use Rattle.sb_shown.specs.base.pipeline.Shapes.{Shape, source}
 use Rattle.sb_shown.specs.core.declared.event.Event.{Event}
 use Rattle.sb_shown.specs.core.declared.event.Event.TheVariants.{Arrive, Seal}
 use Rattle.sb_shown.specs.core.declared.held.Held.{Held}
-use Rattle.sb_shown.specs.core.declared.moment.CoreLane.{CoreLane}
+use Rattle.sb_shown.specs.core.containers.declared.container.CoreLane.{CoreLane}
 use Rattle.sb_shown.specs.core.declared.moment.Moment.{Moment}
 use Rattle.sb_shown.specs.core.declared.moment.Node.{Node}
-use Rattle.sb_shown.specs.core.Choices.{is_empty}
-use Rattle.sb_shown.specs.core.Lanes.{next_epoch, next_floor, with_arrival, with_seal}
+use Rattle.sb_shown.specs.core.containers.Choices.{is_empty}
+use Rattle.sb_shown.specs.core.containers.Lanes.{next_epoch, next_floor, with_arrival, with_seal}
 use Rattle.sb_shown.specs.core.Moments.{set_lane}
 use Rattle.sb_shown.specs.core.Parts.{only_node, put_in}
 use Rattle.sb_shown.proofs.core.exact.Nodes.{slice_get-set_same, slice_get-set_other}

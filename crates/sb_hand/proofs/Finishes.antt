@@ -12,25 +12,25 @@ use Rattle.sb_shown.specs.base.pipeline.Shapes.{Shape}
 use Rattle.sb_shown.specs.base.pipeline.Plans.{IsPlan}
 use Rattle.sb_shown.specs.base.pipeline.Operators.{Operator, operator_at}
 use Rattle.sb_shown.specs.base.pipeline.Operators.Operator.{ParDo, Windowed, Sink}
-use Rattle.sb_shown.specs.core.declared.moment.CoreLane.{CoreLane}
+use Rattle.sb_shown.specs.core.containers.declared.container.CoreLane.{CoreLane}
 use Rattle.sb_shown.specs.core.declared.moment.Node.{Node}
 use Rattle.sb_shown.specs.core.declared.moment.Moment.{Moment}
 use Rattle.sb_shown.specs.core.declared.held.Held.{Held}
 use Rattle.sb_shown.specs.core.declared.held.Held.TheVariants.{Work}
 use Rattle.sb_shown.specs.core.declared.event.Event.TheVariants.{Finish}
 use Rattle.sb_shown.specs.core.Bounds.{bound_at}
-use Rattle.sb_shown.specs.core.Choices.{is_empty}
+use Rattle.sb_shown.specs.core.containers.Choices.{is_empty}
 use Rattle.sb_shown.specs.core.Closings.{delivery, kept_elements, is_pardo}
 use Rattle.sb_shown.specs.core.Holdings.{IsHeld, IsWork}
-use Rattle.sb_shown.specs.core.LaneOrder.{IsWithin}
-use Rattle.sb_shown.specs.core.Lanes.{finish_in}
+use Rattle.sb_shown.specs.core.containers.LaneOrder.{IsWithin}
+use Rattle.sb_shown.specs.core.containers.Lanes.{finish_in}
 use Rattle.sb_shown.specs.core.Laws.{concerns}
-use Rattle.sb_shown.specs.core.Marks.{least_begun_mark}
+use Rattle.sb_shown.specs.core.containers.Marks.{least_begun_mark}
 use Rattle.sb_shown.specs.core.Moments.{set_lane}
 use Rattle.sb_shown.specs.core.Parts.{Part, only_node, with_part}
 use Rattle.sb_shown.specs.core.Soundness.{IsSound}
-use Rattle.sb_shown.proofs.core.times.InTime.{work_floor, closed_least}
-use Rattle.sb_shown.proofs.core.exact.Nodes.{begun_mark, slice_get-set_same}
+use Rattle.sb_shown.proofs.core.containers.Begun.{work_floor, closed_least, begun_mark}
+use Rattle.sb_shown.proofs.core.exact.Nodes.{slice_get-set_same}
 use Rattle.sb_shown.specs.lane.LaneView.{LaneView, lane_of}
 use Rattle.sb_shown.specs.lane.Placed.{conts_of}
 use Rattle.sb_shown.specs.lane.Taking.{finish_first}

@@ -14,18 +14,18 @@ use Rattle.sb_shown.specs.base.pipeline.Shapes.{Shape}
 use Rattle.sb_shown.specs.base.pipeline.Plans.{IsPlan}
 use Rattle.sb_shown.specs.base.pipeline.Operators.{Operator, operator_at, lanes_of}
 use Rattle.sb_shown.specs.base.pipeline.Operators.Operator.{ParDo, Windowed, Sink}
-use Rattle.sb_shown.specs.core.declared.moment.Cont.{Cont}
-use Rattle.sb_shown.specs.core.declared.moment.CoreLane.{CoreLane}
+use Rattle.sb_shown.specs.core.containers.declared.container.Cont.{Cont}
+use Rattle.sb_shown.specs.core.containers.declared.container.CoreLane.{CoreLane}
 use Rattle.sb_shown.specs.core.declared.moment.Node.{Node}
 use Rattle.sb_shown.specs.core.declared.held.Held.{Held}
 use Rattle.sb_shown.specs.core.declared.event.Event.TheVariants.{Deliver}
 use Rattle.sb_shown.specs.core.Bounds.{bound_at}
-use Rattle.sb_shown.specs.core.Choices.{is_empty}
+use Rattle.sb_shown.specs.core.containers.Choices.{is_empty}
 use Rattle.sb_shown.specs.core.Closings.{delivery, is_pardo}
 use Rattle.sb_shown.specs.core.Events.{after, below}
 use Rattle.sb_shown.specs.core.Holdings.{IsWork}
-use Rattle.sb_shown.specs.core.LaneOrder.{IsLane, cont_at}
-use Rattle.sb_shown.specs.core.Lanes.{in_epoch, with_arrival}
+use Rattle.sb_shown.specs.core.containers.LaneOrder.{IsLane, cont_at}
+use Rattle.sb_shown.specs.core.containers.Lanes.{in_epoch, with_arrival}
 use Rattle.sb_shown.specs.core.Laws.{concerns}
 use Rattle.sb_shown.specs.core.Moments.{epoch_at, epoch_of, lane_at, set_lane, with_held}
 use Rattle.sb_shown.specs.core.Parts.{Part, held_after, only_node, put_in, with_part}
@@ -45,10 +45,9 @@ use Rattle.sb_shown.specs.Linking.{AreLinked, place_in}
 use Rattle.sb_hand.specs.Runs.{work_of}
 use Rattle.sb_shown.specs.Sets.{HasLane}
 use Rattle.sb_shown.specs.Showing.{CanStand, ShowsNode}
-use Rattle.sb_shown.proofs.Steps.{below-is}
+use Rattle.sb_shown.proofs.Steps.{below-is, step-of}
 use Rattle.sb_hand.proofs.Finishes.{the_work}
 use Rattle.sb_hand.proofs.Having.{finds, lanes-are}
-use Rattle.sb_shown.proofs.Steps.{step-of}
 use Rattle.sb_shown.proofs.LaneEvents.{put-is}
 use Rattle.sb_shown.proofs.LinkLists.{down-in}
 use Rattle.sb_hand.proofs.Numbers.{work_number}

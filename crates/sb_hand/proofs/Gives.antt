@@ -10,9 +10,9 @@ use Rattle.sb_shown.specs.base.pipeline.declared.transform.Down.{Down}
 use Rattle.sb_shown.specs.base.pipeline.Shapes.{Shape}
 use Rattle.sb_shown.specs.core.declared.event.Event.TheVariants.{Deliver}
 use Rattle.sb_shown.specs.core.Bounds.{bound_at}
-use Rattle.sb_shown.specs.core.Choices.{is_empty}
-use Rattle.sb_shown.specs.core.LaneOrder.{IsLane}
-use Rattle.sb_shown.specs.core.Lanes.{in_epoch, with_arrival}
+use Rattle.sb_shown.specs.core.containers.Choices.{is_empty}
+use Rattle.sb_shown.specs.core.containers.LaneOrder.{IsLane}
+use Rattle.sb_shown.specs.core.containers.Lanes.{in_epoch, with_arrival}
 use Rattle.sb_shown.specs.lane.Changes.{StandsAt}
 use Rattle.sb_shown.specs.lane.LaneView.{LaneView, lane_of}
 use Rattle.sb_shown.specs.lane.Links.{down_of, link_in, links_of}

@@ -11,16 +11,16 @@ use Rattle.sb_shown.specs.base.pipeline.declared.transform.Step.{Step}
 use Rattle.sb_shown.specs.base.pipeline.declared.transform.Down.{Down}
 use Rattle.sb_shown.specs.base.pipeline.Shapes.{Shape}
 use Rattle.sb_shown.specs.base.pipeline.Operators.{operator_at, lanes_of}
-use Rattle.sb_shown.specs.core.declared.moment.CoreLane.{CoreLane}
+use Rattle.sb_shown.specs.core.containers.declared.container.CoreLane.{CoreLane}
 use Rattle.sb_shown.specs.core.declared.moment.Node.{Node}
 use Rattle.sb_shown.specs.core.declared.moment.Moment.{Moment}
 use Rattle.sb_shown.specs.core.declared.held.Held.{Held}
 use Rattle.sb_shown.specs.core.declared.held.Held.TheVariants.{Close}
 use Rattle.sb_shown.specs.core.Bounds.{bound_at}
 use Rattle.sb_shown.specs.core.Holdings.{IsHeld, IsClosing}
-use Rattle.sb_shown.specs.core.Marks.{first_is_closing, begun_count}
+use Rattle.sb_shown.specs.core.containers.Marks.{first_is_closing, begun_count}
 use Rattle.sb_shown.specs.core.Moments.{lane_at}
-use Rattle.sb_shown.proofs.core.times.InTime.{begun_within}
+use Rattle.sb_shown.proofs.core.containers.Begun.{begun_within}
 use Rattle.sb_shown.specs.lane.LaneView.{LaneView, lane_of}
 use Rattle.sb_shown.specs.lane.Placed.{conts_of}
 use Rattle.sb_shown.specs.node.declared.state.NodeState.{NodeState}

@@ -10,12 +10,12 @@ use Rattle.sb_shown.specs.base.pipeline.declared.transform.Step.{Step}
 use Rattle.sb_shown.specs.base.pipeline.declared.transform.Down.{Down}
 use Rattle.sb_shown.specs.base.pipeline.Shapes.{Shape}
 use Rattle.sb_shown.specs.base.pipeline.Plans.{IsPlan}
-use Rattle.sb_shown.specs.core.declared.moment.Cont.{Cont}
-use Rattle.sb_shown.specs.core.declared.moment.CoreLane.{CoreLane}
+use Rattle.sb_shown.specs.core.containers.declared.container.Cont.{Cont}
+use Rattle.sb_shown.specs.core.containers.declared.container.CoreLane.{CoreLane}
 use Rattle.sb_shown.specs.core.declared.moment.Moment.{Moment}
 use Rattle.sb_shown.specs.core.declared.held.Held.{Held}
 use Rattle.sb_shown.specs.core.Bounds.{bound_at}
-use Rattle.sb_shown.specs.core.Lanes.{next_epoch, next_floor, with_arrival, with_bundle, with_seal}
+use Rattle.sb_shown.specs.core.containers.Lanes.{next_epoch, next_floor, with_arrival, with_bundle, with_seal}
 use Rattle.sb_shown.proofs.core.exact.Nodes.{slice_get-set_other}
 use Rattle.sb_shown.specs.lane.LaneView.{LaneView, lane_of}
 use Rattle.sb_shown.specs.lane.Links.{Link, link_in, links_of}

@@ -4,9 +4,9 @@ use Rattle.std.specs.Prelude.{Bool, Option, Some, None, sum_by, slice_get, slice
 use Rattle.std.proofs.lemmas.List.Sums.{sum_by-cons}
 use Rattle.sb_shown.specs.base.bundle.declared.bundle.Bundle.{Bundle}
 use Rattle.sb_shown.specs.base.records.Reading.{◌>>=◌}
-use Rattle.sb_shown.specs.core.declared.moment.Cont.{Cont}
-use Rattle.sb_shown.specs.core.declared.moment.CoreLane.{CoreLane}
-use Rattle.sb_shown.specs.core.Lanes.{with_first_closing}
+use Rattle.sb_shown.specs.core.containers.declared.container.Cont.{Cont}
+use Rattle.sb_shown.specs.core.containers.declared.container.CoreLane.{CoreLane}
+use Rattle.sb_shown.specs.core.containers.Lanes.{with_first_closing}
 use Rattle.sb_shown.proofs.core.exact.Nodes.{slice_get-set_same, slice_get-set_other, sum_by-set_get}
 use Rattle.sb_shown.specs.lane.LaneView.{LaneView, lane_of}
 use Rattle.sb_shown.specs.lane.Taking.{first_taken, take_first, finish_first}

@@ -9,7 +9,7 @@ use Rattle.sb_shown.specs.base.pipeline.Shapes.{Shape}
 use Rattle.sb_shown.specs.base.pipeline.Plans.{IsPlan}
 use Rattle.sb_shown.specs.base.pipeline.Operators.{operator_at}
 use Rattle.sb_shown.proofs.base.pipeline.Feeding.{apart}
-use Rattle.sb_shown.specs.core.declared.moment.Cont.{Cont}
+use Rattle.sb_shown.specs.core.containers.declared.container.Cont.{Cont}
 use Rattle.sb_shown.specs.core.Closings.{is_pardo}
 use Rattle.sb_shown.specs.lane.LaneView.{LaneView, lane_of, link_at}
 use Rattle.sb_shown.specs.lane.Links.{Link, link_in, links_of, with_place}

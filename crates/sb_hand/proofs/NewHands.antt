@@ -10,7 +10,7 @@ use Rattle.sb_shown.specs.base.pipeline.Operators.{Operator, operator_of, operat
 use Rattle.sb_shown.specs.base.pipeline.Operators.Operator.{ParDo, Windowed, Sink}
 use Rattle.sb_shown.specs.base.pipeline.Operators.WindowOperator.{Aggregated, Sessions, Joined}
 use Rattle.sb_shown.specs.base.pipeline.Plans.{IsPlan}
-use Rattle.sb_shown.specs.core.Marks.{least_begun_mark}
+use Rattle.sb_shown.specs.core.containers.Marks.{least_begun_mark}
 use Rattle.sb_shown.specs.core.Moments as moments
 use Rattle.sb_shown.proofs.core.sound.FirstMoment.{at_node, node_count, first-sound}
 use Rattle.sb_shown.specs.lane.LaneView.{LaneView, empty_lane, lane_of}

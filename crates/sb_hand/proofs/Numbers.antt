@@ -6,11 +6,11 @@ use Rattle.std.proofs.lemmas.List.Sums.{sum_by-cons}
 use Rattle.std.proofs.lemmas.Option.{same_Some}
 use Rattle.sb_shown.specs.base.records.declared.item.Record.{Record}
 use Rattle.sb_shown.specs.base.pipeline.Shapes.{Shape}
-use Rattle.sb_shown.specs.core.declared.moment.Cont.{Cont}
+use Rattle.sb_shown.specs.core.containers.declared.container.Cont.{Cont}
 use Rattle.sb_shown.specs.core.declared.moment.Moment.{Moment}
 use Rattle.sb_shown.specs.core.declared.held.Held.{Held}
 use Rattle.sb_shown.specs.core.declared.held.Held.TheVariants.{Work}
-use Rattle.sb_shown.specs.core.LaneOrder.{cont_at}
+use Rattle.sb_shown.specs.core.containers.LaneOrder.{cont_at}
 use Rattle.sb_shown.specs.core.Holdings.{IsHeld}
 use Rattle.sb_shown.specs.core.Soundness.{IsSound, numbers_of}
 

@@ -9,12 +9,12 @@ use Rattle.sb_shown.specs.base.records.declared.item.Record.{Record}
 use Rattle.sb_shown.specs.base.bundle.declared.bundle.Bundle.{Bundle}
 use Rattle.sb_shown.specs.base.pipeline.declared.transform.Down.{Down}
 use Rattle.sb_shown.specs.base.pipeline.Shapes.{Shape}
-use Rattle.sb_shown.specs.core.declared.moment.Cont.{Cont}
-use Rattle.sb_shown.specs.core.declared.moment.CoreLane.{CoreLane}
+use Rattle.sb_shown.specs.core.containers.declared.container.Cont.{Cont}
+use Rattle.sb_shown.specs.core.containers.declared.container.CoreLane.{CoreLane}
 use Rattle.sb_shown.specs.core.declared.moment.Moment.{Moment}
-use Rattle.sb_shown.specs.core.Choices.{only_if, is_empty}
-use Rattle.sb_shown.specs.core.Lanes.{closable}
-use Rattle.sb_shown.specs.core.Marks.{first_is_closing}
+use Rattle.sb_shown.specs.core.containers.Choices.{only_if, is_empty}
+use Rattle.sb_shown.specs.core.containers.Lanes.{closable}
+use Rattle.sb_shown.specs.core.containers.Marks.{first_is_closing}
 use Rattle.sb_shown.specs.core.Moments.{lane_at, is_close_of}
 use Rattle.sb_shown.proofs.core.ends.AtRest.{free}
 use Rattle.sb_shown.specs.lane.declared.answers.NotYet.{NotYet}

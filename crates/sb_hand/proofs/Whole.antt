@@ -10,7 +10,7 @@ use Rattle.sb_shown.specs.base.pipeline.Plans.{IsPlan}
 use Rattle.sb_shown.specs.base.pipeline.Operators.{operator_at}
 use Rattle.sb_shown.specs.core.declared.event.Event.TheVariants.{Begin, Pass, End}
 use Rattle.sb_shown.specs.core.Closings.{is_sink}
-use Rattle.sb_shown.specs.core.Marks.{first_is_closing}
+use Rattle.sb_shown.specs.core.containers.Marks.{first_is_closing}
 use Rattle.sb_shown.proofs.core.times.Timely.{no_sink}
 use Rattle.sb_shown.specs.lane.declared.answers.LaneClose.{LaneClose}
 use Rattle.sb_shown.specs.lane.Looks.{look_of}

@@ -15,10 +15,10 @@ use Rattle.sb_shown.specs.base.pipeline.Plans.{IsPlan}
 use Rattle.sb_shown.specs.base.pipeline.Operators.{operator_at}
 use Rattle.sb_shown.specs.core.declared.event.Event.TheVariants.{Take, Deliver, Finish}
 use Rattle.sb_shown.specs.core.Bounds.{bound_at}
-use Rattle.sb_shown.specs.core.Choices.{is_empty}
+use Rattle.sb_shown.specs.core.containers.Choices.{is_empty}
 use Rattle.sb_shown.specs.core.Closings.{delivery, is_pardo}
-use Rattle.sb_shown.specs.core.LaneOrder.{IsWithin}
-use Rattle.sb_shown.specs.core.Lanes.{with_arrival}
+use Rattle.sb_shown.specs.core.containers.LaneOrder.{IsWithin}
+use Rattle.sb_shown.specs.core.containers.Lanes.{with_arrival}
 use Rattle.sb_shown.proofs.core.times.TimeBounds.{bound-before_end}
 use Rattle.sb_shown.specs.lane.LaneView.{LaneView, lane_of}
 use Rattle.sb_shown.specs.lane.Placed.{conts_of}

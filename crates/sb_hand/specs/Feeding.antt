@@ -6,7 +6,7 @@ use Rattle.sb_shown.specs.base.records.declared.item.TheConstants.{MAX_TIME, END
 use Rattle.sb_shown.specs.base.bundle.declared.bundle.Bundle.{Bundle}
 use Rattle.sb_shown.specs.base.pipeline.declared.transform.Down.{Down}
 use Rattle.sb_shown.specs.base.pipeline.Shapes.{Shape, source}
-use Rattle.sb_shown.specs.core.Lanes.{next_epoch, next_floor, with_arrival}
+use Rattle.sb_shown.specs.core.containers.Lanes.{next_epoch, next_floor, with_arrival}
 use Rattle.sb_shown.specs.diary.declared.event.DiaryEvent.TheVariants as line
 use Rattle.sb_shown.specs.lane.declared.answers.ArriveStop.{ArriveStop}
 use Rattle.sb_shown.specs.lane.declared.answers.ArriveStop.TheVariants.{Full, Memory}

@@ -1,7 +1,7 @@
 //! Whole closings.
 
 ghost use Rattle.std.specs.Prelude.{◌≡◌, ◌<◌, ◌≤◌, ◌++◌, ◌+◌, ◌∷◌, [], true, false, length, drop, take, OnOk, IfOk, Ok};
-ghost use Rattle.sb_shown.specs.core.Marks.{first_is_closing};
+ghost use Rattle.sb_shown.specs.core.containers.Marks.{first_is_closing};
 ghost use Rattle.sb_shown.specs.diary.declared.event.DiaryEvent.TheVariants as line;
 ghost use Rattle.sb_shown.specs.lane.LaneView.{LaneView, lane_of};
 ghost use Rattle.sb_shown.specs.lane.Looks.{look_of};

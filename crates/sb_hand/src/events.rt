@@ -2,9 +2,9 @@
 
 ghost use Rattle.std.specs.Prelude.{◌≡◌, ◌<◌, ◌≤◌, ◌+◌, ◌-◌, ◌^◌, true, length, OnOk, IfOk, slice_get, Some, is_some};
 ghost use Rattle.std.specs.Prelude.{ℕ, drop, map, Ok};
-ghost use Rattle.sb_shown.specs.core.LaneOrder.{IsLane};
-ghost use Rattle.sb_shown.specs.core.Lanes.{in_epoch, next_epoch, with_arrival, with_seal};
-ghost use Rattle.sb_shown.specs.core.Marks.{first_is_closing};
+ghost use Rattle.sb_shown.specs.core.containers.LaneOrder.{IsLane};
+ghost use Rattle.sb_shown.specs.core.containers.Lanes.{in_epoch, next_epoch, with_arrival, with_seal};
+ghost use Rattle.sb_shown.specs.core.containers.Marks.{first_is_closing};
 ghost use Rattle.sb_shown.specs.diary.declared.event.DiaryEvent.TheVariants as line;
 ghost use Rattle.sb_shown.specs.kept.Keeping.{IsPartFor, closed_mark};
 ghost use Rattle.sb_shown.specs.lane.Changes.{StandsAt};

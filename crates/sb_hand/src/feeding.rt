@@ -2,7 +2,7 @@
 
 ghost use Rattle.std.specs.Prelude.{◌≡◌, ◌<◌, ◌+◌, [], ◌∷◌, length, OnOk, OnErr, IfOk, IfErr};
 ghost use Rattle.sb_shown.specs.core.declared.event.Event.TheVariants as event;
-ghost use Rattle.sb_shown.specs.core.Lanes.{next_epoch, with_seal};
+ghost use Rattle.sb_shown.specs.core.containers.Lanes.{next_epoch, with_seal};
 ghost use Rattle.sb_shown.specs.diary.declared.event.DiaryEvent.TheVariants as line;
 ghost use Rattle.sb_shown.specs.lane.LaneView.{LaneView, lane_of};
 ghost use Rattle.sb_shown.specs.lane.Placed.{conts_of};

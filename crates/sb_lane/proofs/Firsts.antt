@@ -4,11 +4,11 @@ use Rattle.std.specs.Prelude.{Option, not, filter, is_some, IfSome, IfNone}
 use Rattle.std.proofs.lemmas.Bool.{eq-eqb, ne_eqb}
 use Rattle.std.proofs.lemmas.List.{length-map}
 use Rattle.std.specs.List.{insert}
-use Rattle.sb_core.specs.Lanes.{fresh, with_first_closing}
-use Rattle.sb_core.specs.Marks.{first_is_closing}
-use Rattle.sb_core.specs.base.records.Reading.{◌>>=◌}
-use Rattle.sb_core.specs.base.bundle.declared.bundle.Bundle.{Bundle}
-use Rattle.sb_core.specs.declared.moment.Cont.{Cont}
+use Rattle.sb_containers.specs.Lanes.{fresh, with_first_closing}
+use Rattle.sb_containers.specs.Marks.{first_is_closing}
+use Rattle.sb_containers.specs.base.records.Reading.{◌>>=◌}
+use Rattle.sb_containers.specs.base.bundle.declared.bundle.Bundle.{Bundle}
+use Rattle.sb_containers.specs.declared.container.Cont.{Cont}
 use Rattle.sb_lane.specs.Finding.{LowerBefore, OthersBefore, NoneWaitsBefore}
 use Rattle.sb_lane.specs.Changes.{HasRoomAt, StandsWithRoom}
 use Rattle.sb_lane.specs.Links.{Link, link_of, links_of, link_in}

@@ -5,15 +5,15 @@ use Rattle.std.specs.List.{list_any}
 use Rattle.std.proofs.lemmas.Bool.{eq-eqb, ne_eqb, eqb-true}
 use Rattle.std.proofs.lemmas.List.{length-drop}
 use Rattle.std.proofs.lemmas.Option.{same_Some}
-use Rattle.sb_core.specs.base.records.Reading.{◌>>=◌}
-use Rattle.sb_core.specs.base.bundle.declared.bundle.Bundle.{Bundle}
-use Rattle.sb_core.specs.declared.moment.Cont.{Cont}
-use Rattle.sb_core.specs.declared.moment.CoreLane.{CoreLane}
-use Rattle.sb_core.specs.Choices.{first_and_rest, only_if, is_empty}
-use Rattle.sb_core.specs.LaneOrder.{IsLane, AreOpen, AreContainers}
-use Rattle.sb_core.specs.Lanes.{take_from, finish_in, closable}
-use Rattle.sb_core.specs.Marks.{last_of_first}
-use Rattle.sb_core.proofs.times.InTime.{next_mark}
+use Rattle.sb_containers.specs.base.records.Reading.{◌>>=◌}
+use Rattle.sb_containers.specs.base.bundle.declared.bundle.Bundle.{Bundle}
+use Rattle.sb_containers.specs.declared.container.Cont.{Cont}
+use Rattle.sb_containers.specs.declared.container.CoreLane.{CoreLane}
+use Rattle.sb_containers.specs.Choices.{first_and_rest, only_if, is_empty}
+use Rattle.sb_containers.specs.LaneOrder.{IsLane, AreOpen, AreContainers}
+use Rattle.sb_containers.specs.Lanes.{take_from, finish_in, closable}
+use Rattle.sb_containers.specs.Marks.{last_of_first}
+use Rattle.sb_containers.proofs.Begun.{next_mark}
 use Rattle.sb_lane.specs.declared.answers.LaneClose.{LaneClose}
 use Rattle.sb_lane.specs.Laws.{IsNextClosing}
 use Rattle.sb_lane.specs.Looks.{look_of, look_closing, look_marked}

@@ -3,12 +3,11 @@ use Rattle.std.proofs.Common.{◌≡◌, ℕ, suc, zero, ◌+◌, ◌<◌, ◌�
 use Rattle.std.specs.List.{insert}
 use Rattle.std.proofs.lemmas.List.Sums.{sum_by-insert, sum_by-append}
 use Rattle.std.proofs.lemmas.List.Edits.{length-insert}
-use Rattle.std.proofs.lemmas.List.{length-set}
+use Rattle.std.proofs.lemmas.List.{length-set, length-map, get_or-map}
 use Rattle.sb_lane.specs.declared.container.Container.{Container}
 use Rattle.sb_lane.specs.Placed.{Placed, placed_at, no_container, slot, containers_at}
 use Rattle.sb_lane.specs.Slots.{times_in, AreSlots}
 use Rattle.sb_lane.proofs.Places.{times-cons, times-same, untouched, slot-same}
-use Rattle.std.proofs.lemmas.List.{length-map, get_or-map}
 use Rattle.std.proofs.lemmas.Bool.{eqb-true}
 use Rattle.std.specs.Prelude.{true, false}
 

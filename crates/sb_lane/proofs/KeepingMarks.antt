@@ -2,8 +2,8 @@
 use Rattle.std.proofs.Common.{◌≡◌, ℕ, ◌+◌, ◌-◌, ◌<◌, List, [], ◌∷◌, ◌++◌, length, drop, get_or, sym, ap, ◌∙◌, arith, length-append}
 use Rattle.std.proofs.lemmas.List.{drop-drop}
 use Rattle.std.proofs.Math.Seq.{get_or-append_seam}
-use Rattle.sb_core.specs.Marks.{last_of_first}
-use Rattle.sb_core.proofs.lawful.SealLawful.{drop-snoc, last_of_first-longer}
+use Rattle.sb_containers.specs.Marks.{last_of_first}
+use Rattle.sb_containers.proofs.Begun.{drop-snoc, last_of_first-longer}
 use Rattle.sb_lane.specs.KeptMarks.{AreKeptMarks}
 
 module _ (marks : List ℕ) (sealed ended last_mark closed_mark : ℕ) (ahead : List ℕ) (kept : AreKeptMarks marks sealed ended last_mark closed_mark ahead) where

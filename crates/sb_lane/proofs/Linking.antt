@@ -3,12 +3,12 @@ use Rattle.std.proofs.Common.{◌≡◌, ℕ, suc, zero, ◌+◌, ◌<◌, ◌�
 use Rattle.std.proofs.lemmas.Bool.{eq-eqb, ne_eqb, eqb-true, le-ltb}
 use Rattle.std.proofs.lemmas.List.{length-map}
 use Rattle.std.proofs.lemmas.Option.{same_Some}
-use Rattle.sb_core.specs.base.bundle.declared.bundle.Bundle.{Bundle}
-use Rattle.sb_core.specs.declared.moment.Cont.{Cont}
-use Rattle.sb_core.specs.declared.moment.CoreLane.{CoreLane}
-use Rattle.sb_core.specs.LaneOrder.{IsLane, AreOpen, AreContainers}
-use Rattle.sb_core.specs.Lanes.{fresh, in_epoch, with_bundle}
-use Rattle.sb_core.specs.Marks.{last_of_first}
+use Rattle.sb_containers.specs.base.bundle.declared.bundle.Bundle.{Bundle}
+use Rattle.sb_containers.specs.declared.container.Cont.{Cont}
+use Rattle.sb_containers.specs.declared.container.CoreLane.{CoreLane}
+use Rattle.sb_containers.specs.LaneOrder.{IsLane, AreOpen, AreContainers}
+use Rattle.sb_containers.specs.Lanes.{fresh, in_epoch, with_bundle}
+use Rattle.sb_containers.specs.Marks.{last_of_first}
 use Rattle.sb_lane.specs.Unfinished.{unfinished_of}
 use Rattle.sb_lane.specs.Finding.{OthersBefore}
 use Rattle.sb_lane.specs.Changes.{Changes}

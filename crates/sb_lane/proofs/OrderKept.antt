@@ -4,20 +4,20 @@ use Rattle.std.specs.Prelude.{Ok, filter, not}
 use Rattle.std.specs.List.{AllByRecursion}
 use Rattle.std.proofs.lemmas.List.{length-drop}
 use Rattle.std.proofs.lemmas.Option.{same_Some}
-use Rattle.sb_core.specs.base.records.declared.item.Record.{Record}
-use Rattle.sb_core.proofs.base.records.Numbers.{bind_some}
-use Rattle.sb_core.specs.base.bundle.declared.bundle.Bundle.{Bundle}
-use Rattle.sb_core.specs.declared.moment.Cont.{Cont}
-use Rattle.sb_core.specs.declared.moment.CoreLane.{CoreLane}
-use Rattle.sb_core.specs.LaneOrder.{IsLane, IsWithin, IsBundleOf, AreContainers, IsReady}
-use Rattle.sb_core.specs.Lanes.{fresh, in_epoch, next_epoch, next_floor, with_arrival, with_bundle, with_seal, with_first_closing}
-use Rattle.sb_core.specs.Marks.{first_is_closing, last_of_first}
-use Rattle.sb_core.proofs.lawful.EndLawful.{end-lane}
-use Rattle.sb_core.proofs.containers.InEpoch.{others_calm, still_ready}
-use Rattle.sb_core.proofs.containers.LaneLaws.{DifferInBundles, containers-differ, take_from-differ, finish_in-differ, same-bundles}
-use Rattle.sb_core.proofs.lawful.ArriveLawful.{put-lane, next_fits}
-use Rattle.sb_core.proofs.lawful.TakeLawful.{differ-tail}
-use Rattle.sb_core.proofs.lawful.SealLawful.{seal-lane}
+use Rattle.sb_containers.specs.base.records.declared.item.Record.{Record}
+use Rattle.sb_containers.proofs.base.records.Numbers.{bind_some}
+use Rattle.sb_containers.specs.base.bundle.declared.bundle.Bundle.{Bundle}
+use Rattle.sb_containers.specs.declared.container.Cont.{Cont}
+use Rattle.sb_containers.specs.declared.container.CoreLane.{CoreLane}
+use Rattle.sb_containers.specs.LaneOrder.{IsLane, IsWithin, IsBundleOf, AreContainers, IsReady}
+use Rattle.sb_containers.specs.Lanes.{fresh, in_epoch, next_epoch, next_floor, with_arrival, with_bundle, with_seal, with_first_closing}
+use Rattle.sb_containers.specs.Marks.{first_is_closing, last_of_first}
+use Rattle.sb_containers.proofs.Ending.{end-lane}
+use Rattle.sb_containers.proofs.InEpoch.{others_calm, still_ready}
+use Rattle.sb_containers.proofs.LaneLaws.{DifferInBundles, containers-differ, take_from-differ, finish_in-differ, same-bundles}
+use Rattle.sb_containers.proofs.Arriving.{put-lane, next_fits}
+use Rattle.sb_containers.proofs.Taking.{differ-tail}
+use Rattle.sb_containers.proofs.Sealing.{seal-lane}
 use Rattle.sb_lane.specs.declared.answers.LaneClose.{LaneClose}
 use Rattle.sb_lane.specs.Laws.{FitsEpoch, FitsNext}
 use Rattle.sb_lane.specs.Looks.{look_of}

@@ -4,7 +4,7 @@ use Rattle.std.specs.Prelude.{◌≢◌, Option, None}
 use Rattle.std.proofs.lemmas.Bool.{eq-eqb, ne_eqb}
 use Rattle.std.proofs.lemmas.List.{length-map, get_or-map, map-set, get_or-set_same, get_or-set_other, length-set, set-get_or}
 use Rattle.std.proofs.Math.Seq.{map-set_same}
-use Rattle.sb_core.specs.declared.moment.Cont.{Cont}
+use Rattle.sb_containers.specs.declared.container.Cont.{Cont}
 use Rattle.std.proofs.lemmas.List.Sums.{sum_by-cons}
 use Rattle.sb_lane.specs.declared.container.Container.{Container}
 use Rattle.sb_lane.specs.Changes.{Changes, DifferInRooms}

@@ -4,9 +4,9 @@ use Rattle.std.specs.Prelude.{slice_get}
 use Rattle.std.specs.List.{insert}
 use Rattle.std.proofs.lemmas.Bool.{eq-eqb, ne_eqb, lt-ltb, le-ltb, cases_lt}
 use Rattle.std.proofs.lemmas.List.{length-map, set-get_or}
-use Rattle.sb_core.specs.declared.moment.Cont.{Cont}
-use Rattle.sb_core.specs.Lanes.{in_epoch, fresh}
-use Rattle.sb_core.proofs.places.Placing.{in_epoch-there, in_epoch-new, in_epoch-last}
+use Rattle.sb_containers.specs.declared.container.Cont.{Cont}
+use Rattle.sb_containers.specs.Lanes.{in_epoch, fresh}
+use Rattle.sb_containers.proofs.Placing.{in_epoch-there, in_epoch-new, in_epoch-last}
 use Rattle.sb_lane.specs.Finding.{LowerBefore}
 use Rattle.sb_lane.specs.Changes.{Changes, DifferInRooms, ChangesEpoch}
 use Rattle.sb_lane.specs.Links.{Link, link_of, links_of, new_link, with_place}

@@ -1,6 +1,6 @@
 -- Why a bundle was refused.
 use Rattle.std.specs.Prelude.{◌≡◌, ◌≤◌, ◌<◌}
-use Rattle.sb_core.specs.base.bundle.declared.bundle.Bundle.{Bundle}
+use Rattle.sb_containers.specs.base.bundle.declared.bundle.Bundle.{Bundle}
 use Rattle.sb_lane.specs.declared.answers.ArriveStop.{ArriveStop}
 use Rattle.sb_lane.specs.declared.answers.ArriveStop.TheVariants.{Full, Memory}
 use Rattle.sb_lane.specs.LaneView.{LaneView, lane_of}

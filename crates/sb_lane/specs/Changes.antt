@@ -1,7 +1,7 @@
 -- What becomes of placed containers where one of them is changed.
 use Rattle.std.specs.Prelude.{◌≡◌, ℕ, ◌≤◌, List, Some, slice_index_or, slice_set}
-use Rattle.sb_core.specs.declared.moment.Cont.{Cont}
-use Rattle.sb_core.specs.Lanes.{in_epoch}
+use Rattle.sb_containers.specs.declared.container.Cont.{Cont}
+use Rattle.sb_containers.specs.Lanes.{in_epoch}
 use Rattle.sb_lane.specs.Placed.{Placed, conts_of, room_in}
 use Rattle.sb_lane.specs.Links.{Link, links_of, link_in, with_place}
 

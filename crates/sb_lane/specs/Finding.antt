@@ -1,6 +1,6 @@
 -- Where a container stands in a list of containers.
 use Rattle.std.specs.Prelude.{◌≡◌, ℕ, ◌<◌, List, [], length, slice_index_or}
-use Rattle.sb_core.specs.declared.moment.Cont.{Cont}
+use Rattle.sb_containers.specs.declared.container.Cont.{Cont}
 use Rattle.sb_lane.specs.Placed.{Placed, conts_of}
 
 -- the containers before the index are of lower epochs

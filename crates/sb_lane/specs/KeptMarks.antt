@@ -1,6 +1,6 @@
 -- What a lane keeps of its marks, in place of the list of all of them.
 use Rattle.std.specs.Prelude.{◌≡◌, ℕ, ◌-◌, ◌≤◌, List, length, drop, slice_index}
-use Rattle.sb_core.specs.Marks.{last_of_first}
+use Rattle.sb_containers.specs.Marks.{last_of_first}
 
 -- how many marks there are, how many of their epochs have ended, the last mark, the mark of the last epoch that has
 -- ended, and the marks of the sealed epochs that have not ended

@@ -1,6 +1,6 @@
 -- What contracts see of a lane.
 use Rattle.std.specs.Prelude.{ℕ, ◌+◌, ◌-◌, ◌^◌, List, [], min, Option}
-use Rattle.sb_core.specs.declared.moment.CoreLane.{CoreLane}
+use Rattle.sb_containers.specs.declared.container.CoreLane.{CoreLane}
 use Rattle.sb_lane.specs.Placed.{Placed, conts_of}
 use Rattle.sb_lane.specs.Links.{Link, links_of, link_in}
 

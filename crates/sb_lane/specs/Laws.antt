@@ -1,14 +1,13 @@
 -- The laws of lanes: each change keeps the order in a lane, and each is one of the core's.
 use Rattle.std.specs.Prelude.{◌≡◌, ℕ, ◌+◌, ◌≤◌, ◌<◌, true, List, length, drop, Some, Ok}
 use Rattle.std.specs.List.{AllByRecursion}
-use Rattle.sb_core.specs.base.records.declared.item.Record.{Record}
-use Rattle.sb_core.specs.base.bundle.declared.bundle.Bundle.{Bundle}
-use Rattle.sb_core.specs.declared.moment.Cont.{Cont}
-use Rattle.sb_core.specs.declared.moment.CoreLane.{CoreLane}
-use Rattle.sb_core.specs.LaneOrder.{IsLane, IsWithin}
-use Rattle.sb_core.specs.Lanes.{in_epoch, next_epoch, next_floor, with_arrival, with_seal, with_first_closing}
-use Rattle.sb_core.specs.Lanes.{take_from, finish_in, closable}
-use Rattle.sb_core.specs.Marks.{first_is_closing, last_of_first}
+use Rattle.sb_containers.specs.base.records.declared.item.Record.{Record}
+use Rattle.sb_containers.specs.base.bundle.declared.bundle.Bundle.{Bundle}
+use Rattle.sb_containers.specs.declared.container.Cont.{Cont}
+use Rattle.sb_containers.specs.declared.container.CoreLane.{CoreLane}
+use Rattle.sb_containers.specs.LaneOrder.{IsLane, IsWithin}
+use Rattle.sb_containers.specs.Lanes.{in_epoch, next_epoch, next_floor, with_arrival, with_seal, with_first_closing, take_from, finish_in, closable}
+use Rattle.sb_containers.specs.Marks.{first_is_closing, last_of_first}
 use Rattle.sb_lane.specs.declared.answers.LaneClose.{LaneClose}
 use Rattle.sb_lane.specs.Looks.{look_of}
 use Rattle.sb_lane.specs.Taking.{take_first, finish_first}

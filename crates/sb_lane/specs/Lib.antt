@@ -11,4 +11,4 @@ pub mod KeptMarks
 pub mod Looks
 pub mod Arriving
 pub mod Laws
-pub use Rattle.sb_core.specs as core
+pub use Rattle.sb_containers.specs as containers

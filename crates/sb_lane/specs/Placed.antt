@@ -1,8 +1,8 @@
 -- A container in its place: as the core has it, with its link, and with room for bundles to come.
 use Rattle.std.specs.Prelude.{ℕ, ◌+◌, ◌-◌, ◌==◌, if◌then◌else◌, min, List, [], ◌∷◌, map, Option, None, slice_index_or, vec_len, vec_capacity}
 use Rattle.std.specs.VecDeque.{deque_len, deque_capacity}
-use Rattle.sb_core.specs.declared.moment.Cont.{Cont}
-use Rattle.sb_core.specs.Lanes.{fresh}
+use Rattle.sb_containers.specs.declared.container.Cont.{Cont}
+use Rattle.sb_containers.specs.Lanes.{fresh}
 use Rattle.sb_lane.specs.declared.container.Container.{Container}
 
 -- room is how many bundles more may come without memory

@@ -1,8 +1,8 @@
 -- The first waiting bundle of the oldest container that has one; and the first container of an epoch.
 use Rattle.std.specs.Prelude.{ℕ, List, [], ◌∷◌, ◌++◌, Option, Some, None, filter, not, ◌==◌, if◌then◌else◌}
-use Rattle.sb_core.specs.base.bundle.declared.bundle.Bundle.{Bundle}
-use Rattle.sb_core.specs.base.records.Reading.{◌>>=◌}
-use Rattle.sb_core.specs.declared.moment.Cont.{Cont}
+use Rattle.sb_containers.specs.base.bundle.declared.bundle.Bundle.{Bundle}
+use Rattle.sb_containers.specs.base.records.Reading.{◌>>=◌}
+use Rattle.sb_containers.specs.declared.container.Cont.{Cont}
 
 -- by the bundles that wait in a container, and by what is taken from later ones
 abbrev pub first_taken : List Bundle → Cont → List Cont → Option (Bundle × List Cont) → Option (Bundle × List Cont)

@@ -1,6 +1,6 @@
 -- Bundles are unfinished while they wait and while they are out.
 use Rattle.std.specs.Prelude.{ℕ, ◌+◌, List, length, sum_by}
-use Rattle.sb_core.specs.declared.moment.Cont.{Cont}
+use Rattle.sb_containers.specs.declared.container.Cont.{Cont}
 
 -- how many of a container are unfinished
 abbrev pub unfinished_in : Cont → ℕ

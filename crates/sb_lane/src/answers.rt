@@ -1,6 +1,6 @@
 //! What a lane answers.
 
-use sb_core::Bundle;
+use sb_containers::Bundle;
 
 /// A closing that can begin: the epoch of the oldest container, and the watermark that ended the epoch.
 #[derive(Clone, Copy, Debug, PartialEq, Eq)]

@@ -4,9 +4,9 @@ ghost use Rattle.std.specs.Prelude.{◌≡◌, ◌≤◌, ◌<◌, ◌+◌, ℕ,
 ghost use Rattle.std.specs.Prelude.{None, Some, OnOk, OnErr, IsOk, IfOk, IfErr, IfSome, IfNone};
 ghost use Rattle.std.specs.Prelude.{slice_index_or, vec_len, vec_capacity};
 ghost use Rattle.std.specs.VecDeque.{deque_len, deque_capacity};
-ghost use Rattle.sb_core.specs.base.bundle.declared.bundle.Bundle.{Bundle as ABundle};
-ghost use Rattle.sb_core.specs.declared.moment.Cont.{Cont as ACont};
-ghost use Rattle.sb_core.specs.Lanes.{fresh, with_bundle};
+ghost use Rattle.sb_containers.specs.base.bundle.declared.bundle.Bundle.{Bundle as ABundle};
+ghost use Rattle.sb_containers.specs.declared.container.Cont.{Cont as ACont};
+ghost use Rattle.sb_containers.specs.Lanes.{fresh, with_bundle};
 ghost use Rattle.sb_lane.specs.Changes.{Changes, DifferInRooms, HasRoomAt, IsPlacedAt, LinksAt};
 ghost use Rattle.sb_lane.specs.Links.{Link, links_of};
 ghost use Rattle.sb_lane.specs.Placed.{Placed, containers_at, placed_at, cont_of, conts_of};
@@ -16,7 +16,7 @@ ghost use Rattle.sb_lane.specs.Unfinished.{unfinished_in};
 
 use crate::container::Container;
 use crate::filling::{empty, finish_bundle, make_room, put_bundle, take_bundle};
-use sb_core::{Bundle, NoMemory};
+use sb_containers::{Bundle, NoMemory};
 use std::alloc::{AllocError, Global};
 use std::collections::VecDeque;
 use std::marker::Model;

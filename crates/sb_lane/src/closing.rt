@@ -1,8 +1,8 @@
 //! The oldest container closes.
 
 ghost use Rattle.std.specs.Prelude.{◌≡◌, ◌<◌, ◌∷◌, List, length};
-ghost use Rattle.sb_core.specs.declared.moment.Cont.{Cont as ACont};
-ghost use Rattle.sb_core.specs.Lanes.{with_first_closing};
+ghost use Rattle.sb_containers.specs.declared.container.Cont.{Cont as ACont};
+ghost use Rattle.sb_containers.specs.Lanes.{with_first_closing};
 ghost use Rattle.sb_lane.specs.Links.{links_of};
 ghost use Rattle.sb_lane.specs.Looks.{look_of};
 ghost use Rattle.sb_lane.specs.Placed.{cont_of, conts_of};

@@ -3,7 +3,7 @@
 ghost use Rattle.std.specs.Prelude.{◌+◌, ◌≤◌, vec_len, vec_capacity};
 ghost use Rattle.std.specs.VecDeque.{deque_len};
 
-use sb_core::Bundle;
+use sb_containers::Bundle;
 use std::collections::VecDeque;
 
 /// What a lane has of one epoch. There is always room to take each bundle that waits.

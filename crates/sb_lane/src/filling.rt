@@ -2,12 +2,12 @@
 
 ghost use Rattle.std.specs.Prelude.{◌≡◌, ◌≤◌, ◌+◌, ◌∷◌, ◌++◌, filter, not, ◌==◌, None, Some, []};
 ghost use Rattle.std.specs.Prelude.{OnOk, OnErr, IsOk, IfErr, IfSome, IfNone, length, vec_len, vec_capacity};
-ghost use Rattle.sb_core.specs.Lanes.{fresh, with_bundle};
+ghost use Rattle.sb_containers.specs.Lanes.{fresh, with_bundle};
 ghost use Rattle.sb_lane.specs.Placed.{cont_of, room_of};
 ghost use Rattle.sb_lane.specs.Taking.{with_finished};
 
 use crate::container::Container;
-use sb_core::Bundle;
+use sb_containers::Bundle;
 use std::alloc::{AllocError, Global};
 use std::collections::VecDeque;
 

@@ -1,7 +1,7 @@
 //! Where the container of an epoch stands, and where a bundle waits.
 
 ghost use Rattle.std.specs.Prelude.{◌≡◌, ◌≤◌, ◌<◌, true, false, length, IfSome, IfNone, slice_index_or};
-ghost use Rattle.sb_core.specs.declared.moment.Cont.{Cont as ACont};
+ghost use Rattle.sb_containers.specs.declared.container.Cont.{Cont as ACont};
 ghost use Rattle.sb_lane.specs.Finding.{IsOfEpoch, LowerBefore, NoneWaitsBefore, OthersBefore};
 ghost use Rattle.sb_lane.specs.Placed.{conts_of};
 

@@ -2,9 +2,9 @@
 
 ghost use Rattle.std.specs.Prelude.{◌≡◌, ◌≤◌, ◌<◌, ◌+◌, ◌==◌, ℕ, true, length, drop, is_some, None, Some};
 ghost use Rattle.std.specs.Prelude.{OnOk, OnErr, IsOk, IfOk, IfErr, IfSome, IfNone};
-ghost use Rattle.sb_core.specs.LaneOrder.{IsLane};
-ghost use Rattle.sb_core.specs.Lanes.{in_epoch, next_epoch, next_floor, with_first_closing};
-ghost use Rattle.sb_core.specs.Marks.{first_is_closing, last_of_first};
+ghost use Rattle.sb_containers.specs.LaneOrder.{IsLane};
+ghost use Rattle.sb_containers.specs.Lanes.{in_epoch, next_epoch, next_floor, with_first_closing};
+ghost use Rattle.sb_containers.specs.Marks.{first_is_closing, last_of_first};
 ghost use Rattle.sb_lane.specs.Arriving.{IsRefused};
 ghost use Rattle.sb_lane.specs.Changes.{StandsAt, StandsWithRoom};
 ghost use Rattle.sb_lane.specs.LaneChanges.{Admits, Becomes, EndsOldest, GivesPlace, HasContainers, IsUnchanged, Seals};
@@ -22,7 +22,7 @@ use crate::finding::first_waiting;
 use crate::links::{down_in, link_in_epoch};
 use crate::putting::{place_at, put_at, put_in_place, seal_at};
 use crate::taking::{finish_at, take_oldest};
-use sb_core::{Bundle, NoMemory, Trail};
+use sb_containers::{Bundle, NoMemory, Trail};
 use std::alloc::Global;
 use std::collections::VecDeque;
 use std::marker::Model;

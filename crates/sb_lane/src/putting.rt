@@ -2,7 +2,7 @@
 //! watermark comes, or a place is asked for.
 
 ghost use Rattle.std.specs.Prelude.{◌≡◌, ◌≤◌, ◌<◌, ◌+◌, length, Some, OnOk, OnErr, IsOk, IfOk, IfErr};
-ghost use Rattle.sb_core.specs.Lanes.{with_bundle};
+ghost use Rattle.sb_containers.specs.Lanes.{with_bundle};
 ghost use Rattle.sb_lane.specs.Changes.{ChangesEpoch, DifferInRooms, StandsAt, StandsWithRoom};
 ghost use Rattle.sb_lane.specs.Finding.{IsHigherAt, IsOfEpoch, LowerBefore};
 ghost use Rattle.sb_lane.specs.Links.{links_of};
@@ -13,7 +13,7 @@ ghost use Rattle.sb_lane.specs.Unfinished.{unfinished_of};
 use crate::arena::Arena;
 use crate::filling::{empty, make_room};
 use crate::finding::{index_of, is_at};
-use sb_core::{Bundle, NoMemory};
+use sb_containers::{Bundle, NoMemory};
 use std::alloc::Global;
 
 // Puts a bundle into the container at an index, which is of its epoch.

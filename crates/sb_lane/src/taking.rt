@@ -9,7 +9,7 @@ ghost use Rattle.sb_lane.specs.Unfinished.{unfinished_of};
 
 use crate::arena::Arena;
 use crate::finding::{epoch_at, first_waiting};
-use sb_core::Bundle;
+use sb_containers::Bundle;
 
 /// Takes the first waiting bundle of the oldest container that has one.
 pub(crate) fn take_oldest(containers: &mut Arena) -> Option<Bundle>

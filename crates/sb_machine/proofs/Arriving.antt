@@ -9,10 +9,10 @@ use Rattle.sb_slow.specs.base.records.declared.item.TheConstants.{MAX_TIME}
 use Rattle.sb_slow.specs.base.records.Reading.{◌>>=◌}
 use Rattle.sb_slow.specs.base.pipeline.declared.transform.Down.{Down}
 use Rattle.sb_slow.specs.base.pipeline.Shapes.{Shape, source}
-use Rattle.sb_core.specs.declared.moment.CoreLane.{CoreLane}
+use Rattle.sb_core.specs.containers.declared.container.CoreLane.{CoreLane}
 use Rattle.sb_core.specs.declared.moment.Moment.{Moment}
-use Rattle.sb_core.specs.Choices.{only_if, is_empty}
-use Rattle.sb_core.specs.Lanes.{next_epoch, next_floor}
+use Rattle.sb_core.specs.containers.Choices.{only_if, is_empty}
+use Rattle.sb_core.specs.containers.Lanes.{next_epoch, next_floor}
 use Rattle.sb_core.specs.Moments.{lane_at}
 use Rattle.sb_core.specs.LaneSteps.{arrived_at}
 use Rattle.sb_core.specs.MomentSteps.{after_arrive}

@@ -17,23 +17,23 @@ use Rattle.sb_slow.specs.base.pipeline.Plans.{IsPlan}
 use Rattle.sb_slow.specs.base.pipeline.Shapes.{Shape}
 use Rattle.sb_machine.specs.declared.begin.Closing.{Closing}
 use Rattle.sb_core.specs.declared.held.Held.TheVariants.{Close}
-use Rattle.sb_core.specs.declared.moment.Cont.{Cont}
-use Rattle.sb_core.specs.declared.moment.CoreLane.{CoreLane}
+use Rattle.sb_core.specs.containers.declared.container.Cont.{Cont}
+use Rattle.sb_core.specs.containers.declared.container.CoreLane.{CoreLane}
 use Rattle.sb_core.specs.declared.moment.Moment.{Moment}
 use Rattle.sb_core.specs.declared.moment.Node.{Node}
 use Rattle.sb_core.specs.Bounds.{bound_at}
-use Rattle.sb_core.specs.Choices.{is_empty, only_if}
+use Rattle.sb_core.specs.containers.Choices.{is_empty, only_if}
 use Rattle.sb_machine.specs.Beginnings.{IsBeginningOf}
 use Rattle.sb_core.specs.Closings.{rows_at_sink, is_sink, kept_at, rows_at}
 use Rattle.sb_core.specs.MomentSteps.{after_begin}
 use Rattle.sb_core.specs.Finding.{IsFirst}
-use Rattle.sb_core.specs.Lanes.{closable, with_first_closing}
-use Rattle.sb_core.specs.Marks.{begun_count, least_begun_mark}
+use Rattle.sb_core.specs.containers.Lanes.{closable, with_first_closing}
+use Rattle.sb_core.specs.containers.Marks.{begun_count, least_begun_mark}
 use Rattle.sb_core.specs.Moments.{is_close, no_node, node_at}
 use Rattle.sb_core.specs.Soundness.{IsSound, AreKeptAt}
 use Rattle.sb_core.proofs.times.TimeBounds.{bound-before_end}
 use Rattle.sb_core.proofs.places.InPlace.{then_some, lane-there}
-use Rattle.sb_core.proofs.times.InTime.{begun_within}
+use Rattle.sb_core.proofs.containers.Begun.{begun_within}
 use Rattle.sb_core.proofs.containers.Lists.{cond_is_some, any-pulled}
 use Rattle.sb_core.proofs.times.Timely.{sink-last}
 

@@ -4,11 +4,11 @@ use Rattle.std.specs.Prelude.{min}
 use Rattle.std.specs.List.{slice_get, slice_set}
 use Rattle.std.proofs.lemmas.List.{take_all}
 use Rattle.std.proofs.Math.Numerals.{sub-one}
-use Rattle.sb_core.specs.declared.moment.Cont.{Cont}
-use Rattle.sb_core.specs.declared.moment.CoreLane.{CoreLane}
-use Rattle.sb_core.specs.Lanes.{with_first_closing}
-use Rattle.sb_core.specs.Marks.{least_begun_mark}
-use Rattle.sb_core.proofs.exact.Nodes.{begun_mark}
+use Rattle.sb_core.specs.containers.declared.container.Cont.{Cont}
+use Rattle.sb_core.specs.containers.declared.container.CoreLane.{CoreLane}
+use Rattle.sb_core.specs.containers.Lanes.{with_first_closing}
+use Rattle.sb_core.specs.containers.Marks.{least_begun_mark}
+use Rattle.sb_core.proofs.containers.Begun.{begun_mark}
 
 -- the mark, once the first container of a lane is closing
 abbrev pub IsClosedWith : List CoreLane → ℕ → ℕ → Type 0

@@ -6,17 +6,17 @@ use Rattle.sb_slow.specs.base.records.declared.item.Record.{Record}
 use Rattle.sb_slow.specs.base.records.Elements.{on_lane}
 use Rattle.sb_slow.specs.base.pipeline.Operators.{operator_at}
 use Rattle.sb_slow.specs.base.pipeline.Shapes.{Shape}
-use Rattle.sb_core.specs.declared.moment.CoreLane.{CoreLane}
+use Rattle.sb_core.specs.containers.declared.container.CoreLane.{CoreLane}
 use Rattle.sb_core.specs.declared.moment.Node.{Node}
 use Rattle.sb_core.specs.declared.moment.Moment.{Moment}
 use Rattle.sb_core.specs.declared.held.Held.{Held}
 use Rattle.sb_core.specs.declared.held.Held.TheVariants.{Work}
-use Rattle.sb_core.specs.Choices.{first_and_rest, is_empty}
+use Rattle.sb_core.specs.containers.Choices.{first_and_rest, is_empty}
 use Rattle.sb_core.specs.Closings.{delivery, kept_elements}
 use Rattle.sb_core.specs.Finding.{IsWorkAt}
 use Rattle.sb_core.specs.MomentSteps.{bundle_finished}
 use Rattle.sb_core.specs.Holdings.{IsHeld}
-use Rattle.sb_core.specs.Lanes.{finish_in}
+use Rattle.sb_core.specs.containers.Lanes.{finish_in}
 use Rattle.sb_core.specs.Moments.{lane_at, set_lane, set_node, with_held, is_work}
 use Rattle.sb_core.specs.Soundness.{IsSound}
 use Rattle.sb_core.proofs.places.Carried.{then_never}

@@ -3,7 +3,7 @@ use Rattle.std.proofs.Common.{◌≡◌, ℕ, suc, ◌+◌, Bool, true, false, n
 use Rattle.std.specs.List.{position_or_len}
 use Rattle.std.proofs.lemmas.Bool.{lt-ltb, le-ltb, cases_lt}
 use Rattle.sb_slow.specs.base.records.Reading.{◌>>=◌}
-use Rattle.sb_core.specs.Choices.{first_and_rest}
+use Rattle.sb_core.specs.containers.Choices.{first_and_rest}
 use Rattle.sb_core.specs.Finding.{IsFirst}
 
 first-here : {X : Type 0} (p : X → Bool) (x : X) (xs : List X) → p x ≡ true → IsFirst p (x ∷ xs) (Some 0)

@@ -6,12 +6,12 @@ use Rattle.std.proofs.lemmas.Bool.{eqb-true, and_parts}
 use Rattle.std.proofs.lemmas.Option.{get_or_from_slice_get}
 use Rattle.sb_slow.specs.base.records.declared.item.Record.{Record}
 use Rattle.sb_slow.specs.base.pipeline.Shapes.{Shape}
-use Rattle.sb_core.specs.declared.moment.CoreLane.{CoreLane}
+use Rattle.sb_core.specs.containers.declared.container.CoreLane.{CoreLane}
 use Rattle.sb_core.specs.declared.moment.Node.{Node}
 use Rattle.sb_core.specs.declared.moment.Moment.{Moment}
 use Rattle.sb_core.specs.declared.held.Held.{Held}
 use Rattle.sb_core.specs.declared.held.Held.TheVariants.{Work, Close}
-use Rattle.sb_core.specs.Choices.{first_and_rest}
+use Rattle.sb_core.specs.containers.Choices.{first_and_rest}
 use Rattle.sb_core.specs.Finding.{IsCloseAt, IsCloseOfAt, IsFirst}
 use Rattle.sb_core.specs.MomentSteps.{closing_ended}
 use Rattle.sb_core.specs.Holdings.{IsHeld}
@@ -19,7 +19,7 @@ use Rattle.sb_core.specs.Moments.{lane_at, set_lane, set_node, with_lane, with_h
 use Rattle.sb_core.specs.Soundness.{IsSound}
 use Rattle.sb_core.proofs.places.InPlace.{then_some, place, lane-there}
 use Rattle.sb_core.proofs.containers.LaneLaws.{All-pulled}
-use Rattle.sb_core.proofs.containers.TidyLanes.{pulled-passes}
+use Rattle.sb_core.proofs.sound.TidyLanes.{pulled-passes}
 
 -- what code reads at the place that it found
 pub first-in : {X : Type 0} (p : X → Bool) (xs ys zs : List X) (i : ℕ) (h x : X) → xs ≡ zs → ys ≡ zs → IsFirst p xs (Some i) → h ≡ get_or ys i h → h ≡ x

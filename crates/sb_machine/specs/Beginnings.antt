@@ -4,13 +4,13 @@ use Rattle.std.specs.List.{list_any}
 use Rattle.sb_slow.specs.base.pipeline.Shapes.{Shape}
 use Rattle.sb_slow.specs.base.pipeline.Operators.{operator_at}
 use Rattle.sb_machine.specs.declared.begin.Closing.{Closing}
-use Rattle.sb_core.specs.declared.moment.Cont.{Cont}
-use Rattle.sb_core.specs.declared.moment.CoreLane.{CoreLane}
+use Rattle.sb_core.specs.containers.declared.container.Cont.{Cont}
+use Rattle.sb_core.specs.containers.declared.container.CoreLane.{CoreLane}
 use Rattle.sb_core.specs.declared.moment.Moment.{Moment}
 use Rattle.sb_core.specs.declared.moment.Node.{Node}
 use Rattle.sb_core.specs.Closings.{kept_at, rows_at, rows_at_sink, is_sink}
-use Rattle.sb_core.specs.Lanes.{closable, with_first_closing}
-use Rattle.sb_core.specs.Marks.{least_begun_mark}
+use Rattle.sb_core.specs.containers.Lanes.{closable, with_first_closing}
+use Rattle.sb_core.specs.containers.Marks.{least_begun_mark}
 use Rattle.sb_core.specs.Moments.{is_close, set_lane}
 
 -- the closing of the lane's oldest container may begin, and this is its epoch, its serial, after which there is one

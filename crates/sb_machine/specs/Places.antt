@@ -2,8 +2,8 @@
 use Rattle.std.specs.Prelude.{◌≡◌, ◌<◌, ◌≤◌, ℕ, ◌∷◌, [], ◌++◌, List, length, insert, remove, slice_get, slice_set}
 use Rattle.std.specs.Prelude.{Option, Some, None, Result, Ok, Err}
 use Rattle.sb_slow.specs.base.bundle.declared.bundle.Bundle.{Bundle}
-use Rattle.sb_core.specs.declared.moment.Cont.{Cont}
-use Rattle.sb_core.specs.Lanes.{fresh, in_epoch, take_from}
+use Rattle.sb_core.specs.containers.declared.container.Cont.{Cont}
+use Rattle.sb_core.specs.containers.Lanes.{fresh, in_epoch, take_from}
 
 -- the container of the epoch is at the place; or a fresh one is to be put there
 abbrev pub IsPlaceOf : ℕ → List Cont → Result ℕ ℕ → Type 0

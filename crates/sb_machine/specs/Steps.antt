@@ -9,7 +9,7 @@ use Rattle.sb_core.specs.declared.held.Held.TheVariants.{Work, Close}
 use Rattle.sb_machine.specs.declared.machine.StepStop.{StepStop}
 use Rattle.sb_machine.specs.declared.machine.StepStop.TheVariants.{NotNow, Memory}
 use Rattle.sb_machine.specs.declared.machine.RunStop.{RunStop}
-use Rattle.sb_core.specs.Choices.{first_and_rest}
+use Rattle.sb_core.specs.containers.Choices.{first_and_rest}
 use Rattle.sb_core.specs.Events.{after, run}
 use Rattle.sb_core.specs.Moments.{is_work}
 

@@ -1,7 +1,7 @@
 //! Finding what workers have in hand.
 
 ghost use Rattle.std.specs.Prelude.{◌≡◌, None, IfSome, IfNone};
-ghost use Rattle.sb_core.specs.Choices.{first_and_rest};
+ghost use Rattle.sb_core.specs.containers.Choices.{first_and_rest};
 ghost use Rattle.sb_core.specs.Finding.{IsCloseAt, IsCloseOfAt, IsFirst, IsWorkAt};
 ghost use Rattle.sb_core.specs.Moments as spec;
 

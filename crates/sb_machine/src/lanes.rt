@@ -3,7 +3,7 @@
 ghost use Rattle.std.specs.Prelude.{◌≡◌, ◌<◌, ◌==◌, ◌+◌, not, if◌then◌else◌, Some, None, OnOk, OnErr, IfOk};
 ghost use Rattle.std.specs.Prelude.{length, drop, filter, slice_get};
 ghost use Rattle.std.specs.Option.{option_map};
-ghost use Rattle.sb_core.specs.Lanes as spec;
+ghost use Rattle.sb_core.specs.containers.Lanes as spec;
 ghost use Rattle.sb_core.specs.Finding.{IsFirst};
 ghost use Rattle.sb_core.specs.LaneSteps.{TakesOut};
 ghost use Rattle.sb_machine.specs.Places.{IsPlaceOf, IsWaitingAt, without};

@@ -2,10 +2,10 @@
 
 ghost use Rattle.std.specs.Prelude.{◌≡◌, ◌≤◌, ◌<◌, ◌+◌, ◌^◌, List, ◌∷◌, All, Some, length, sum_by};
 ghost use Rattle.std.specs.Prelude.{slice_get, slice_index, slice_set};
-ghost use Rattle.sb_core.specs.declared.moment.Cont.{Cont as ACont};
-ghost use Rattle.sb_core.specs.declared.moment.CoreLane.{CoreLane as ALane};
-ghost use Rattle.sb_core.specs.Lanes.{with_first_closing};
-ghost use Rattle.sb_core.specs.Marks as spec;
+ghost use Rattle.sb_core.specs.containers.declared.container.Cont.{Cont as ACont};
+ghost use Rattle.sb_core.specs.containers.declared.container.CoreLane.{CoreLane as ALane};
+ghost use Rattle.sb_core.specs.containers.Lanes.{with_first_closing};
+ghost use Rattle.sb_core.specs.containers.Marks as spec;
 
 use sb_core::{Cont, CoreLane};
 

@@ -3,9 +3,9 @@ use Rattle.std.proofs.Common.{◌≡◌, ℕ, ◌+◌, Bool, true, false, cond, 
 use Rattle.std.proofs.lemmas.Bool.{eq-eqb}
 use Rattle.sb_kept.specs.base.records.declared.item.Record.{Record}
 use Rattle.sb_kept.specs.base.bundle.declared.bundle.Bundle.{Bundle}
-use Rattle.sb_lane.specs.core.declared.moment.Cont.{Cont}
-use Rattle.sb_lane.specs.core.declared.moment.CoreLane.{CoreLane}
-use Rattle.sb_lane.specs.core.Lanes.{fresh, in_epoch, with_arrival, with_bundle}
+use Rattle.sb_lane.specs.containers.declared.container.Cont.{Cont}
+use Rattle.sb_lane.specs.containers.declared.container.CoreLane.{CoreLane}
+use Rattle.sb_lane.specs.containers.Lanes.{fresh, in_epoch, with_arrival, with_bundle}
 
 module _ (epoch floor : ℕ) (change : Cont → Cont) where
   twice : (cs : List Cont) → in_epoch epoch floor change (in_epoch epoch floor (λ c. c) cs) ≡ in_epoch epoch floor change cs

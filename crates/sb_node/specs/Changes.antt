@@ -6,9 +6,9 @@ use Rattle.sb_kept.specs.base.bundle.declared.bundle.Bundle.{Bundle}
 use Rattle.sb_kept.specs.base.window.Groupings.{Adds, Closes}
 use Rattle.sb_kept.specs.base.pipeline.Operators.{Operator}
 use Rattle.sb_kept.specs.work.declared.outputs.Part.{Part}
-use Rattle.sb_lane.specs.core.declared.moment.CoreLane.{CoreLane}
-use Rattle.sb_lane.specs.core.Lanes.{with_first_closing}
-use Rattle.sb_lane.specs.core.Marks.{before_closing}
+use Rattle.sb_lane.specs.containers.declared.container.CoreLane.{CoreLane}
+use Rattle.sb_lane.specs.containers.Lanes.{with_first_closing}
+use Rattle.sb_lane.specs.containers.Marks.{before_closing}
 use Rattle.sb_diary.specs.Diaries.{with_line}
 use Rattle.sb_diary.specs.declared.event.DiaryEvent.{DiaryEvent}
 use Rattle.sb_diary.specs.declared.event.DiaryEvent.TheVariants as line

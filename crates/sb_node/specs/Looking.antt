@@ -1,6 +1,6 @@
 -- What a look at the lanes of a node finds.
 use Rattle.std.specs.Prelude.{◌≡◌, ◌⊎◌, ℕ, ◌+◌, true, false, List, All, length, None, Some, Err, slice_get, take}
-use Rattle.sb_lane.specs.core.Marks.{first_is_closing}
+use Rattle.sb_lane.specs.containers.Marks.{first_is_closing}
 use Rattle.sb_lane.specs.declared.answers.NotYet.{NotYet}
 use Rattle.sb_lane.specs.LaneView.{LaneView}
 use Rattle.sb_lane.specs.Looks.{look_of}

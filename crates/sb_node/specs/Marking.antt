@@ -1,7 +1,7 @@
 -- The mark of a closing.
 use Rattle.std.specs.Prelude.{ℕ, ◌+◌, ◌==◌, if◌then◌else◌, min, List, [], ◌∷◌}
-use Rattle.sb_lane.specs.core.declared.moment.CoreLane.{CoreLane}
-use Rattle.sb_lane.specs.core.Marks.{last_of_first}
+use Rattle.sb_lane.specs.containers.declared.container.CoreLane.{CoreLane}
+use Rattle.sb_lane.specs.containers.Marks.{last_of_first}
 
 -- the mark of the next epoch to end, and that of the last one that has ended
 abbrev pub next_mark : CoreLane → ℕ

@@ -1,8 +1,8 @@
 //! Bundles come into a lane: of a stream, and of the node above.
 
 ghost use Rattle.std.specs.Prelude.{◌≡◌, ℕ, ◌<◌, ◌≤◌, ◌+◌, ◌-◌, ◌^◌, length, OnErr, IfErr, IfOk};
-ghost use Rattle.sb_lane.specs.core.LaneOrder.{IsLane};
-ghost use Rattle.sb_lane.specs.core.Lanes.{in_epoch, with_arrival};
+ghost use Rattle.sb_lane.specs.containers.LaneOrder.{IsLane};
+ghost use Rattle.sb_lane.specs.containers.Lanes.{in_epoch, with_arrival};
 ghost use Rattle.sb_diary.specs.declared.event.DiaryEvent.TheVariants as line;
 ghost use Rattle.sb_lane.specs.Changes.{StandsAt};
 ghost use Rattle.sb_lane.specs.LaneChanges.{IsUnchanged};

@@ -2,7 +2,7 @@
 
 ghost use Rattle.std.specs.Prelude.{◌≡◌, ◌≤◌, true, [], ◌∷◌, length, is_some, slice_get};
 ghost use Rattle.std.specs.Prelude.{All, Some, Ok, IfOk, IfErr, IfSome, IfNone};
-ghost use Rattle.sb_lane.specs.core.Marks.{first_is_closing};
+ghost use Rattle.sb_lane.specs.containers.Marks.{first_is_closing};
 ghost use Rattle.sb_lane.specs.declared.answers.LaneClose.{LaneClose as AClose};
 ghost use Rattle.sb_lane.specs.LaneView.{LaneView};
 ghost use Rattle.sb_lane.specs.Looks.{look_of};

@@ -1,8 +1,8 @@
 //! Watermarks of a lane: its next epoch is sealed, and its oldest container is closed.
 
 ghost use Rattle.std.specs.Prelude.{◌≡◌, ◌≤◌, ◌<◌, ◌+◌, true, length, drop, map, Ok, OnErr, OnOk, IfOk};
-ghost use Rattle.sb_lane.specs.core.Lanes.{next_epoch, with_seal};
-ghost use Rattle.sb_lane.specs.core.Marks.{before_closing, first_is_closing};
+ghost use Rattle.sb_lane.specs.containers.Lanes.{next_epoch, with_seal};
+ghost use Rattle.sb_lane.specs.containers.Marks.{before_closing, first_is_closing};
 ghost use Rattle.sb_diary.specs.declared.event.DiaryEvent.TheVariants as line;
 ghost use Rattle.sb_kept.specs.Keeping.{IsSpent, closed_mark};
 ghost use Rattle.sb_lane.specs.LaneView.{LaneView, lane_of};

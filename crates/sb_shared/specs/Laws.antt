@@ -6,12 +6,12 @@ use mathlib.Core.Option.{some}
 use lib.ListN.{get_elem?}
 use Rattle.sb_shown.specs.base.pipeline.declared.transform.Down.{Down}
 use Rattle.sb_shown.specs.base.pipeline.Shapes.{Shape}
-use Rattle.sb_shown.specs.core.declared.moment.CoreLane.{CoreLane}
+use Rattle.sb_shown.specs.core.containers.declared.container.CoreLane.{CoreLane}
 use Rattle.sb_shown.specs.core.declared.held.Held.{Held}
 use Rattle.sb_shown.specs.core.declared.moment.Moment.{Moment}
 use Rattle.sb_shown.specs.core.declared.event.Event.{Event}
 use Rattle.sb_shown.specs.core.Events as events
-use Rattle.sb_shown.specs.core.Marks.{first_is_closing}
+use Rattle.sb_shown.specs.core.containers.Marks.{first_is_closing}
 use Rattle.sb_shown.specs.core.Moments.{with_held, lane_at, is_work, is_close, is_close_of}
 use Rattle.sb_turn.specs.Turning.{logs_after}
 use Rattle.sb_shared.specs.declared.telling.Change.{Change}

@@ -3,9 +3,9 @@ use Rattle.std.specs.Prelude.{◌≡◌, ◌⊎◌, ℕ, ◌+◌, ◌*◌, ◌==
 use Rattle.std.specs.Prelude.{length, map, sum_by, is_some, Option, Some, None, Ok}
 use Rattle.std.specs.List.{list_any}
 use Rattle.sb_shown.specs.base.records.declared.item.Record.{Record}
-use Rattle.sb_shown.specs.core.LaneOrder.{cont_at}
-use Rattle.sb_shown.specs.core.declared.moment.Cont.{Cont}
-use Rattle.sb_shown.specs.core.declared.moment.CoreLane.{CoreLane}
+use Rattle.sb_shown.specs.core.containers.LaneOrder.{cont_at}
+use Rattle.sb_shown.specs.core.containers.declared.container.Cont.{Cont}
+use Rattle.sb_shown.specs.core.containers.declared.container.CoreLane.{CoreLane}
 use Rattle.sb_shown.specs.diary.Diaries.{with_spare}
 use Rattle.sb_shown.specs.diary.declared.event.DiaryEvent.{DiaryEvent}
 use Rattle.sb_shown.specs.lane.Changes.{StandsAt}

@@ -6,9 +6,9 @@
 ghost use Rattle.std.specs.Prelude.{◌≡◌, ◌≤◌, ◌<◌, ◌+◌, ℕ, List, true, false, [], length, drop, map, Ok};
 ghost use Rattle.std.specs.Prelude.{IfOk, IfErr, IfSome, IfNone, OnOk, OnErr, All};
 ghost use Rattle.sb_shown.specs.base.records.declared.item.Record.{Record as ARecord};
-ghost use Rattle.sb_shown.specs.core.LaneOrder.{IsLane};
-ghost use Rattle.sb_shown.specs.core.Lanes.{in_epoch, next_epoch, with_arrival, with_seal};
-ghost use Rattle.sb_shown.specs.core.Marks.{first_is_closing};
+ghost use Rattle.sb_shown.specs.core.containers.LaneOrder.{IsLane};
+ghost use Rattle.sb_shown.specs.core.containers.Lanes.{in_epoch, next_epoch, with_arrival, with_seal};
+ghost use Rattle.sb_shown.specs.core.containers.Marks.{first_is_closing};
 ghost use Rattle.sb_shown.specs.diary.declared.diary.TheConstants.{MAX_DIARY_LINES};
 ghost use Rattle.sb_shown.specs.diary.declared.event.DiaryEvent.TheVariants as line;
 ghost use Rattle.sb_shown.specs.kept.Keeping.{IsPartFor, closed_mark};

@@ -7,16 +7,16 @@ use Rattle.std.proofs.lemmas.List.{get_or_append_left}
 use Rattle.std.proofs.lemmas.Option.{get_or_from_slice_get}
 use Rattle.sb_node.specs.base.pipeline.Shapes.{Shape}
 use Rattle.sb_node.specs.base.records.Reading.{◌>>=◌}
-use Rattle.sb_tally.specs.core.declared.moment.CoreLane.{CoreLane}
+use Rattle.sb_tally.specs.core.containers.declared.container.CoreLane.{CoreLane}
 use Rattle.sb_tally.specs.core.declared.moment.Node.{Node}
 use Rattle.sb_tally.specs.core.declared.moment.Moment.{Moment}
 use Rattle.sb_tally.specs.core.Bounds.{bound_at}
-use Rattle.sb_tally.specs.core.LaneOrder.{IsLane}
-use Rattle.sb_tally.specs.core.Marks.{begun_count, last_of_first, least_begun_mark}
+use Rattle.sb_tally.specs.core.containers.LaneOrder.{IsLane}
+use Rattle.sb_tally.specs.core.containers.Marks.{begun_count, last_of_first, least_begun_mark}
 use Rattle.sb_tally.specs.core.Moments.{no_node, node_at}
 use Rattle.sb_tally.specs.core.Soundness.{IsSound}
-use Rattle.sb_tally.proofs.core.times.InTime.{begun_within}
-use Rattle.sb_tally.proofs.core.exact.Nodes.{begun_mark, closed-set, sum_by-set_get}
+use Rattle.sb_tally.proofs.core.containers.Begun.{begun_within, begun_mark}
+use Rattle.sb_tally.proofs.core.exact.Nodes.{closed-set, sum_by-set_get}
 
 -- the marks are as before, or one more
 abbrev pub SameMarks : CoreLane → CoreLane → Type 0

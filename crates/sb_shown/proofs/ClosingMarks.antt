@@ -3,10 +3,10 @@ use Rattle.std.proofs.Common.{◌≡◌, ℕ, suc, zero, ◌+◌, ◌≤◌, fal
 use Rattle.std.specs.List.{slice_get, slice_set}
 use Rattle.std.proofs.lemmas.Bool.{ne_eqb}
 use Rattle.std.proofs.lemmas.Option.{same_Some}
-use Rattle.sb_tally.specs.core.declared.moment.Cont.{Cont}
-use Rattle.sb_tally.specs.core.declared.moment.CoreLane.{CoreLane}
-use Rattle.sb_tally.specs.core.Lanes.{with_first_closing}
-use Rattle.sb_tally.specs.core.Marks.{first_is_closing, last_of_first, begun_count, before_closing, least_begun_mark}
+use Rattle.sb_tally.specs.core.containers.declared.container.Cont.{Cont}
+use Rattle.sb_tally.specs.core.containers.declared.container.CoreLane.{CoreLane}
+use Rattle.sb_tally.specs.core.containers.Lanes.{with_first_closing}
+use Rattle.sb_tally.specs.core.containers.Marks.{first_is_closing, last_of_first, begun_count, before_closing, least_begun_mark}
 use Rattle.sb_node.specs.Marking.{mark_for, next_mark, ended_mark}
 
 calm_mark : (lane : CoreLane) → first_is_closing lane.conts ≡ false → last_of_first (begun_count lane) lane.marks ≡ ended_mark lane

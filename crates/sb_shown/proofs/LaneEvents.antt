@@ -7,15 +7,15 @@ use Rattle.sb_node.specs.base.records.declared.item.Record.{Record}
 use Rattle.sb_node.specs.base.pipeline.Shapes.{Shape}
 use Rattle.sb_node.specs.base.pipeline.Plans.{IsPlan}
 use Rattle.sb_node.specs.base.pipeline.Operators.{Operator, operator_at}
-use Rattle.sb_tally.specs.core.declared.moment.CoreLane.{CoreLane}
+use Rattle.sb_tally.specs.core.containers.declared.container.CoreLane.{CoreLane}
 use Rattle.sb_tally.specs.core.declared.moment.Node.{Node}
 use Rattle.sb_tally.specs.core.declared.moment.Moment.{Moment}
 use Rattle.sb_tally.specs.core.declared.held.Held.{Held}
 use Rattle.sb_tally.specs.core.declared.event.Event.{Event}
-use Rattle.sb_tally.specs.core.Lanes.{with_arrival}
+use Rattle.sb_tally.specs.core.containers.Lanes.{with_arrival}
 use Rattle.sb_tally.specs.core.Laws.{place_of, concerns}
-use Rattle.sb_tally.specs.core.Marks.{least_begun_mark}
-use Rattle.sb_tally.specs.core.Moments.{set_lane}
+use Rattle.sb_tally.specs.core.containers.Marks.{least_begun_mark}
+use Rattle.sb_tally.specs.core.Moments.{set_lane, empty_lane}
 use Rattle.sb_tally.specs.core.Parts.{only_node, put_in, part_after, held_after, with_part}
 use Rattle.sb_tally.specs.core.Soundness.{IsSound}
 use Rattle.sb_tally.proofs.core.exact.Nodes.{slice_get-set_same}
@@ -25,7 +25,6 @@ use Rattle.sb_node.specs.kept.declared.kept.Kept.{Kept}
 use Rattle.sb_node.specs.kept.Keeping.{IsMadeFor, IsSpent, ShowsKept, closed_mark}
 use Rattle.sb_shown.specs.Sets.{SetsLane}
 use Rattle.std.proofs.lemmas.Option.{get_or_from_slice_get}
-use Rattle.sb_tally.specs.core.Moments.{empty_lane}
 use Rattle.sb_node.specs.diary.declared.event.DiaryEvent.{DiaryEvent}
 use Rattle.sb_tally.specs.Written.{the_lane, line_after, held_line}
 use Rattle.sb_shown.specs.Showing.{ShowsNode, IsKept, Stands, Reaches, diaries_of}

@@ -4,8 +4,8 @@ use Rattle.std.specs.Prelude.{◌≢◌, ◌⊎◌}
 use Rattle.std.specs.Option.{option_map}
 use Rattle.std.proofs.lemmas.Bool.{cases_eq, eq-eqb, ne_eqb, eqb-true, le-ltb}
 use Rattle.std.proofs.lemmas.Option.{same_Some}
-use Rattle.sb_tally.specs.core.LaneOrder.{IsLane, AreOpen, AreContainers}
-use Rattle.sb_tally.specs.core.Marks.{last_of_first}
+use Rattle.sb_tally.specs.core.containers.LaneOrder.{IsLane, AreOpen, AreContainers}
+use Rattle.sb_tally.specs.core.containers.Marks.{last_of_first}
 use Rattle.sb_node.specs.lane.LaneView.{LaneView, lane_of}
 use Rattle.sb_node.specs.lane.Links.{Link, down_of, link_in, with_link, links_of, new_link, with_place}
 use Rattle.sb_node.specs.lane.Placed.{Placed, conts_of}

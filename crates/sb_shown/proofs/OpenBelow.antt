@@ -10,14 +10,14 @@ use Rattle.sb_node.specs.base.pipeline.Shapes.{Shape}
 use Rattle.sb_node.specs.base.pipeline.Plans.{IsPlan}
 use Rattle.sb_node.specs.base.pipeline.Operators.{Operator, operator_at}
 use Rattle.sb_node.specs.base.pipeline.Operators.Operator.{ParDo, Windowed, Sink}
-use Rattle.sb_tally.specs.core.declared.moment.CoreLane.{CoreLane}
+use Rattle.sb_tally.specs.core.containers.declared.container.CoreLane.{CoreLane}
 use Rattle.sb_tally.specs.core.declared.moment.Node.{Node}
 use Rattle.sb_tally.specs.core.declared.moment.Moment.{Moment}
 use Rattle.sb_tally.specs.core.declared.held.Held.{Held}
 use Rattle.sb_tally.specs.core.Bounds.{bound_at}
 use Rattle.sb_tally.specs.core.Closings.{is_pardo}
 use Rattle.sb_tally.specs.core.Holdings.{is_unpassed}
-use Rattle.sb_tally.specs.core.LaneOrder.{IsLane}
+use Rattle.sb_tally.specs.core.containers.LaneOrder.{IsLane}
 use Rattle.sb_tally.specs.core.Moments.{lane_at, node_at}
 use Rattle.sb_tally.specs.core.Soundness.{IsOpenBelow, IsSound, has_cont}
 use Rattle.sb_tally.proofs.core.sound.Orderly.{lawful_of}

@@ -1,6 +1,6 @@
 -- What a grouping stands for, when it absorbs and when it closes: from the laws alone.
 use Rattle.std.proofs.Common.{◌≡◌, ℕ, ◌+◌, ◌≤◌, ◌<◌, Bool, true, false, not, cond, List, [], ◌∷◌, ◌++◌, append_assoc, append-nil, subst, sym, refl, ap, ◌∙◌, arith}
-use Rattle.std.specs.Prelude.{nat_lt, sum_by}
+use Rattle.std.specs.Prelude.{nat_lt, sum_by, slice_get}
 use Rattle.std.specs.List.{filter, AllByRecursion}
 use Rattle.std.proofs.lemmas.Bool.{lt-ltb, le-ltb}
 use Rattle.std.proofs.lemmas.List.Sums.{sum_by-append}
@@ -8,7 +8,7 @@ use Rattle.std.proofs.lemmas.List.Elements.{filter-append}
 use Rattle.sb_node.specs.base.records.declared.item.Record.{Record}
 use Rattle.sb_node.specs.base.records.declared.element.KeptRec.{KeptRec}
 use Rattle.sb_node.specs.base.records.Records.{record_cmp, sorted_records, before, at_least}
-use Rattle.sb_node.specs.base.pipeline.Operators.{Operator, operator_rows}
+use Rattle.sb_node.specs.base.pipeline.Operators.{Operator, operator_rows, operator_at}
 use Rattle.sb_node.specs.base.pipeline.Operators.Operator.{ParDo, Windowed, Sink}
 use Rattle.sb_node.specs.base.records.Elements.{all_records}
 use Rattle.sb_tally.specs.core.Closings.{still_open, kept_at, rows_at, is_sink}
@@ -18,8 +18,6 @@ use Rattle.sb_tally.proofs.core.windows.WindowOperators.{IsGrouping, closing}
 use Rattle.sb_tally.proofs.core.windows.WindowsAt.{windows-at}
 use Rattle.sb_node.specs.base.pipeline.Shapes.{Shape}
 use Rattle.sb_node.specs.base.pipeline.Plans.{IsPlan}
-use Rattle.sb_node.specs.base.pipeline.Operators.{operator_at}
-use Rattle.std.specs.Prelude.{slice_get}
 use Rattle.sb_node.specs.base.records.Orders.{IsAscending}
 use Rattle.sb_node.proofs.base.records.Sorting.{IsReordered-in_order, records_total, in_order-ascending, sorted-unique}
 use Rattle.sb_node.specs.base.records.Reorderings.{IsReordered}

@@ -3,8 +3,8 @@ use Rattle.std.proofs.Common.{◌≡◌, ℕ, suc, zero, true, List, [], ◌∷�
 use Rattle.std.specs.Prelude.{◌≢◌, Bool}
 use Rattle.std.specs.List.{slice_get, slice_set}
 use Rattle.std.proofs.lemmas.Bool.{cases_eq}
-use Rattle.std.proofs.lemmas.List.{length-set}
-use Rattle.std.proofs.lemmas.Option.{same_Some}
+use Rattle.std.proofs.lemmas.List.{length-set, map-set}
+use Rattle.std.proofs.lemmas.Option.{same_Some, get_or_from_slice_get}
 use Rattle.sb_node.specs.base.records.declared.item.Record.{Record}
 use Rattle.sb_node.specs.base.records.Reading.{◌>>=◌}
 use Rattle.sb_node.specs.base.pipeline.Shapes.{Shape}
@@ -14,7 +14,7 @@ use Rattle.sb_tally.specs.core.declared.moment.Node.{Node}
 use Rattle.sb_tally.specs.core.declared.moment.Moment.{Moment}
 use Rattle.sb_tally.specs.core.declared.held.Held.{Held}
 use Rattle.sb_tally.specs.core.declared.event.Event.{Event}
-use Rattle.sb_tally.specs.core.Choices.{only_if}
+use Rattle.sb_tally.specs.core.containers.Choices.{only_if, first_and_rest}
 use Rattle.sb_tally.specs.core.Events.{after, run}
 use Rattle.sb_tally.specs.core.Laws.{place_of, concerns}
 use Rattle.sb_tally.specs.core.Moments.{with_held, node_at}
@@ -24,9 +24,6 @@ use Rattle.sb_tally.proofs.core.sound.AfterSound.{events-keep_sound}
 use Rattle.sb_tally.proofs.core.exact.Nodes.{slice_get-set_same, slice_get-set_other}
 use Rattle.sb_tally.proofs.core.parts.PartsLaw.{parts-are_events, held-parts_are_events}
 use Rattle.sb_node.specs.declared.state.NodeState.{NodeState}
-use Rattle.std.proofs.lemmas.List.{map-set}
-use Rattle.std.proofs.lemmas.Option.{get_or_from_slice_get}
-use Rattle.sb_tally.specs.core.Choices.{first_and_rest}
 use Rattle.sb_node.specs.diary.declared.event.DiaryEvent.{DiaryEvent}
 use Rattle.sb_tally.specs.Written.{diaries_with, line_after, held_line}
 use Rattle.sb_tally.specs.Keeping.{line_at, diaries_with_line, diaries_after, if_some, diaries_by}

@@ -10,14 +10,14 @@ use Rattle.sb_node.specs.base.pipeline.Shapes.{Shape}
 use Rattle.sb_node.specs.base.pipeline.Operators.{Operator, lanes_of}
 use Rattle.sb_node.specs.base.pipeline.Operators.Operator.{ParDo, Windowed, Sink}
 use Rattle.sb_node.specs.base.pipeline.Operators.WindowOperator.{Aggregated, Sessions, Joined}
-use Rattle.sb_tally.specs.core.declared.moment.Cont.{Cont}
-use Rattle.sb_tally.specs.core.declared.moment.CoreLane.{CoreLane}
+use Rattle.sb_tally.specs.core.containers.declared.container.Cont.{Cont}
+use Rattle.sb_tally.specs.core.containers.declared.container.CoreLane.{CoreLane}
 use Rattle.sb_tally.specs.core.declared.moment.Node.{Node}
 use Rattle.sb_tally.specs.core.declared.held.Held.TheVariants.{Close}
 use Rattle.sb_tally.specs.core.Closings.{kept_at, rows_at, rows_at_sink, is_sink}
 use Rattle.sb_tally.specs.core.Events.{below}
-use Rattle.sb_tally.specs.core.Lanes.{with_first_closing}
-use Rattle.sb_tally.specs.core.Marks.{least_begun_mark}
+use Rattle.sb_tally.specs.core.containers.Lanes.{with_first_closing}
+use Rattle.sb_tally.specs.core.containers.Marks.{least_begun_mark}
 use Rattle.sb_tally.specs.core.Moments.{set_lane}
 use Rattle.sb_tally.specs.core.Parts.{Part}
 

@@ -6,11 +6,11 @@ use Rattle.std.proofs.lemmas.List.{length-drop}
 use Rattle.std.proofs.lemmas.Option.{same_Some}
 use Rattle.sb_node.specs.base.bundle.declared.bundle.Bundle.{Bundle}
 use Rattle.sb_node.specs.base.records.Reading.{◌>>=◌}
-use Rattle.sb_tally.specs.core.declared.moment.Cont.{Cont}
-use Rattle.sb_tally.specs.core.declared.moment.CoreLane.{CoreLane}
-use Rattle.sb_tally.specs.core.LaneOrder.{IsLane, AreContainers}
-use Rattle.sb_tally.specs.core.Lanes.{fresh, in_epoch, with_first_closing}
-use Rattle.sb_tally.specs.core.Marks.{last_of_first}
+use Rattle.sb_tally.specs.core.containers.declared.container.Cont.{Cont}
+use Rattle.sb_tally.specs.core.containers.declared.container.CoreLane.{CoreLane}
+use Rattle.sb_tally.specs.core.containers.LaneOrder.{IsLane, AreContainers}
+use Rattle.sb_tally.specs.core.containers.Lanes.{fresh, in_epoch, with_first_closing}
+use Rattle.sb_tally.specs.core.containers.Marks.{last_of_first}
 use Rattle.sb_node.specs.lane.Links.{link_of, link_in, links_of}
 use Rattle.sb_node.specs.lane.Placed.{Placed, conts_of}
 use Rattle.sb_node.specs.lane.Taking.{first_taken, take_first, finish_first, with_finished}

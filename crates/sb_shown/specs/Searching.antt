@@ -1,7 +1,7 @@
 -- How often lanes have looked for a container, beside their seals and their containers.
 use Rattle.std.specs.Prelude.{◌≡◌, ℕ, ◌+◌, ◌≤◌, if◌then◌else◌, List, length, sum_by, is_some}
-use Rattle.sb_tally.specs.core.declared.moment.Cont.{Cont}
-use Rattle.sb_tally.specs.core.declared.moment.CoreLane.{CoreLane}
+use Rattle.sb_tally.specs.core.containers.declared.container.Cont.{Cont}
+use Rattle.sb_tally.specs.core.containers.declared.container.CoreLane.{CoreLane}
 use Rattle.sb_node.specs.lane.LaneView.{LaneView, lane_of}
 use Rattle.sb_node.specs.declared.state.NodeState.{NodeState}
 use Rattle.sb_shown.specs.Sets.{HasLane}

@@ -3,17 +3,17 @@ use Rattle.std.specs.Prelude.{◌≡◌, ℕ, ◌+◌, List, [], ◌∷◌, ◌+
 use Rattle.sb_node.specs.diary.declared.event.DiaryEvent.{DiaryEvent}
 use Rattle.sb_node.specs.diary.declared.event.DiaryEvent.TheVariants as line
 use Rattle.sb_node.specs.base.bundle.declared.bundle.Bundle.{Bundle}
-use Rattle.sb_tally.specs.core.declared.moment.CoreLane.{CoreLane}
+use Rattle.sb_tally.specs.core.containers.declared.container.CoreLane.{CoreLane}
 use Rattle.sb_node.specs.lane.LaneView.{LaneView, lane_of}
 use Rattle.sb_node.specs.lane.Placed.{conts_of}
 use Rattle.sb_node.specs.lane.Taking.{take_first, finish_first}
-use Rattle.sb_tally.specs.core.Lanes.{with_first_closing}
+use Rattle.sb_tally.specs.core.containers.Lanes.{with_first_closing}
 use Rattle.sb_node.specs.base.records.declared.item.Record.{Record}
 use Rattle.sb_node.specs.base.records.Elements.{on_lane}
 use Rattle.sb_node.specs.base.window.Groupings.{Adds, Closes}
 use Rattle.sb_node.specs.base.pipeline.Operators.{Operator}
 use Rattle.sb_node.specs.work.declared.outputs.Part.{Part}
-use Rattle.sb_tally.specs.core.Marks.{before_closing}
+use Rattle.sb_tally.specs.core.containers.Marks.{before_closing}
 use Rattle.sb_node.specs.Marking.{mark_for}
 use Rattle.sb_node.specs.kept.declared.kept.Kept.{Kept}
 use Rattle.sb_node.specs.kept.Keeping.{IsSpent, IsMadeFor, IsPartFor, closed_mark, gives}

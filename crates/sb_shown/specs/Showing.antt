@@ -9,7 +9,7 @@ use Rattle.sb_tally.specs.core.declared.moment.Moment.{Moment}
 use Rattle.sb_tally.specs.core.declared.held.Held.{Held}
 use Rattle.sb_tally.specs.core.declared.event.Event.{Event}
 use Rattle.sb_tally.specs.core.Events.{run}
-use Rattle.sb_tally.specs.core.Marks.{least_begun_mark}
+use Rattle.sb_tally.specs.core.containers.Marks.{least_begun_mark}
 use Rattle.sb_tally.specs.core.Soundness.{IsSound}
 use Rattle.sb_node.specs.diary.declared.event.DiaryEvent.{DiaryEvent}
 use Rattle.sb_tally.specs.Keeping.{diaries_by}

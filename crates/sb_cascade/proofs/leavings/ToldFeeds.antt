@@ -7,8 +7,8 @@ use Rattle.sb_hand.specs.base.records.declared.item.Stream.{Stream}
 use Rattle.sb_hand.specs.base.bundle.declared.bundle.Bundle.{Bundle}
 use Rattle.sb_hand.specs.base.pipeline.declared.transform.Down.{Down}
 use Rattle.sb_hand.specs.base.pipeline.Shapes.{source}
-use Rattle.sb_hand.specs.core.declared.moment.CoreLane.{CoreLane}
-use Rattle.sb_hand.specs.core.Lanes.{next_epoch, next_floor, with_arrival}
+use Rattle.sb_hand.specs.core.containers.declared.container.CoreLane.{CoreLane}
+use Rattle.sb_hand.specs.core.containers.Lanes.{next_epoch, next_floor, with_arrival}
 use Rattle.sb_hand.specs.core.Moments.{empty_lane}
 use Rattle.sb_hand.specs.diary.declared.event.DiaryEvent.TheVariants as line
 use Rattle.sb_hand.specs.lane.LaneView.{LaneView, lane_of}

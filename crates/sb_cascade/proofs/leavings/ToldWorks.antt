@@ -6,10 +6,10 @@ use Rattle.sb_hand.specs.base.records.declared.item.Record.{Record}
 use Rattle.sb_hand.specs.base.pipeline.declared.transform.Down.{Down}
 use Rattle.sb_hand.specs.base.pipeline.Operators.{Operator}
 use Rattle.sb_hand.specs.base.pipeline.Operators.Operator.{ParDo, Windowed, Sink}
-use Rattle.sb_hand.specs.core.Choices.{is_empty}
+use Rattle.sb_hand.specs.core.containers.Choices.{is_empty}
 use Rattle.sb_hand.specs.core.Closings.{delivery, is_pardo}
 use Rattle.sb_hand.specs.core.Events.{below}
-use Rattle.sb_hand.specs.core.Lanes.{with_arrival}
+use Rattle.sb_hand.specs.core.containers.Lanes.{with_arrival}
 use Rattle.sb_hand.specs.diary.declared.event.DiaryEvent.TheVariants as line
 use Rattle.sb_hand.specs.lane.LaneView.{LaneView, lane_of}
 use Rattle.sb_hand.specs.lane.Placed.{conts_of}

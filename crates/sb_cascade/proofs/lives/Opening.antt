@@ -14,7 +14,7 @@ use Rattle.sb_hand.specs.base.pipeline.Plans.{IsPlan}
 use Rattle.sb_hand.specs.base.pipeline.Operators.{operator_at, operator_of, lanes_of}
 use Rattle.sb_hand.specs.base.pipeline.Operators.Operator.{Sink}
 use Rattle.sb_hand.specs.core.declared.held.Held.{Held}
-use Rattle.sb_hand.specs.core.declared.moment.CoreLane.{CoreLane}
+use Rattle.sb_hand.specs.core.containers.declared.container.CoreLane.{CoreLane}
 use Rattle.sb_hand.specs.core.declared.moment.Node.{Node}
 use Rattle.sb_hand.specs.core.Exactness.{IsExact}
 use Rattle.sb_hand.specs.core.Moments as moments

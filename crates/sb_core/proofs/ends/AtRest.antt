@@ -5,33 +5,32 @@ use Rattle.std.specs.List.{slice_get, list_any, AllByRecursion}
 use Rattle.std.proofs.lemmas.Bool.{eq-eqb, cases_lt}
 use Rattle.std.proofs.lemmas.List.Sums.{sum_by-cons}
 use Rattle.std.proofs.lemmas.Option.{same_Some, slice_get_cases, slice_get_within}
-use Rattle.sb_base.specs.records.declared.item.Stream.{Stream}
-use Rattle.sb_base.specs.records.declared.item.Stream.TheVariants.{A, B}
-use Rattle.sb_base.specs.pipeline.declared.transform.Down.{Down}
-use Rattle.sb_base.specs.pipeline.declared.transform.Step.{Step}
-use Rattle.sb_base.specs.pipeline.Shapes.{Shape, source}
-use Rattle.sb_base.specs.pipeline.Operators.{Operator, operator_at, lanes_of}
-use Rattle.sb_base.specs.pipeline.Operators.Operator.{ParDo, Windowed, Sink}
-use Rattle.sb_base.specs.pipeline.Operators.WindowOperator.{Aggregated, Sessions, Joined}
-use Rattle.sb_base.specs.pipeline.Plans.{IsPlace, IsPlan}
-use Rattle.sb_base.specs.FeedingLemmas as Feeding
-use Rattle.sb_base.specs.StepLemmas.{place-at}
-use Rattle.sb_core.specs.declared.moment.Cont.{Cont}
-use Rattle.sb_core.specs.declared.moment.CoreLane.{CoreLane}
+use Rattle.sb_containers.specs.base.records.declared.item.Stream.{Stream}
+use Rattle.sb_containers.specs.base.records.declared.item.Stream.TheVariants.{A, B}
+use Rattle.sb_containers.specs.base.pipeline.declared.transform.Down.{Down}
+use Rattle.sb_containers.specs.base.pipeline.declared.transform.Step.{Step}
+use Rattle.sb_containers.specs.base.pipeline.Shapes.{Shape, source}
+use Rattle.sb_containers.specs.base.pipeline.Operators.{Operator, operator_at, lanes_of}
+use Rattle.sb_containers.specs.base.pipeline.Operators.Operator.{ParDo, Windowed, Sink}
+use Rattle.sb_containers.specs.base.pipeline.Operators.WindowOperator.{Aggregated, Sessions, Joined}
+use Rattle.sb_containers.specs.base.pipeline.Plans.{IsPlace, IsPlan}
+use Rattle.sb_containers.specs.base.FeedingLemmas as Feeding
+use Rattle.sb_containers.specs.base.StepLemmas.{place-at}
+use Rattle.sb_containers.specs.declared.container.Cont.{Cont}
+use Rattle.sb_containers.specs.declared.container.CoreLane.{CoreLane}
 use Rattle.sb_core.specs.declared.moment.Moment.{Moment}
 use Rattle.sb_core.specs.Bounds.{bound_at}
-use Rattle.sb_core.specs.Choices.{is_empty}
-use Rattle.sb_core.specs.Lanes.{next_floor, closable}
-use Rattle.sb_core.specs.LaneOrder.{IsLane, IsSealed, AreOpen, AreContainers}
-use Rattle.sb_core.specs.Marks.{least_begun_mark, first_is_closing, last_of_first}
+use Rattle.sb_containers.specs.Choices.{is_empty}
+use Rattle.sb_containers.specs.Lanes.{next_floor, closable}
+use Rattle.sb_containers.specs.LaneOrder.{IsLane, IsSealed, AreOpen, AreContainers}
+use Rattle.sb_containers.specs.Marks.{least_begun_mark, first_is_closing, last_of_first}
 use Rattle.sb_core.specs.Moments.{is_work, lane_at, node_at, floor_of, floor_at}
 use Rattle.sb_core.specs.Holdings.{is_unpassed}
 use Rattle.sb_core.specs.Soundness.{out_of, IsSound}
 use Rattle.sb_core.specs.Laws.{written_to}
 use Rattle.sb_core.specs.Rest.{IsAtRest, ClosesLow, floor_where}
 use Rattle.sb_core.proofs.sound.HeldLists.{every_both}
-use Rattle.sb_core.proofs.exact.Nodes.{begun_mark}
-use Rattle.sb_core.proofs.times.InTime.{next_floor_is, closed_least}
+use Rattle.sb_containers.proofs.Begun.{begun_mark, next_floor_is, closed_least}
 use Rattle.sb_core.proofs.sound.Orderly.{lawful_of}
 use Rattle.sb_core.proofs.times.LawfulTimely.{lane_of, of_node}
 

@@ -6,26 +6,25 @@ use Rattle.std.proofs.lemmas.Bool.{lt-ltb}
 use Rattle.std.proofs.lemmas.List.Sums.{sum_by-append}
 use Rattle.std.proofs.lemmas.List.Elements.{filter-append}
 use Rattle.std.proofs.lemmas.Option.{slice_get_past}
-use Rattle.sb_base.specs.records.declared.item.Record.{Record}
-use Rattle.sb_base.specs.records.declared.element.KeptRec.{KeptRec}
-use Rattle.sb_base.specs.records.declared.item.Stream.{Stream}
-use Rattle.sb_base.specs.pipeline.Shapes.{Shape}
+use Rattle.sb_containers.specs.base.records.declared.item.Record.{Record}
+use Rattle.sb_containers.specs.base.records.declared.element.KeptRec.{KeptRec}
+use Rattle.sb_containers.specs.base.records.declared.item.Stream.{Stream}
+use Rattle.sb_containers.specs.base.pipeline.Shapes.{Shape}
 use Rattle.sb_core.specs.declared.moment.Moment.{Moment}
-use Rattle.sb_base.specs.records.Records.{record_cmp, before}
-use Rattle.sb_base.specs.records.Orders.{IsAscending}
-use Rattle.sb_base.specs.pipeline.Operators.{operator_at}
-use Rattle.sb_base.specs.records.Elements.{all_records}
-use Rattle.sb_base.specs.pipeline.Flow.{arrivals_at, from_streams, sent_from}
-use Rattle.sb_base.specs.pipeline.Results.{output_of, rows_below}
-use Rattle.sb_core.specs.Marks.{least_begun_mark}
+use Rattle.sb_containers.specs.base.records.Records.{record_cmp, before}
+use Rattle.sb_containers.specs.base.records.Orders.{IsAscending}
+use Rattle.sb_containers.specs.base.pipeline.Operators.{operator_at}
+use Rattle.sb_containers.specs.base.records.Elements.{all_records}
+use Rattle.sb_containers.specs.base.pipeline.Flow.{arrivals_at, from_streams, sent_from}
+use Rattle.sb_containers.specs.base.pipeline.Results.{output_of, rows_below}
+use Rattle.sb_containers.specs.Marks.{least_begun_mark}
 use Rattle.sb_core.specs.Exactness.{gives, gives_by, final, rest, IsAdmissible, IsExact}
 use Rattle.sb_core.specs.Moments.{node_at}
-use Rattle.sb_base.specs.SumLemmas.{sum_by-map}
+use Rattle.sb_containers.specs.base.SumLemmas.{sum_by-map, IsReordered-filter}
 use Rattle.sb_core.proofs.exact.Flow.{flow_in_time}
 use Rattle.sb_core.proofs.windows.Groupings.{early, early_one, none_before}
 use Rattle.sb_core.proofs.times.Timely.{late, IsTimely, gives_in_time, rest_in_time, streams_in_time}
-use Rattle.sb_base.specs.SortingLemmas.{sorted-unique}
-use Rattle.sb_base.specs.SumLemmas.{IsReordered-filter}
+use Rattle.sb_containers.specs.base.SortingLemmas.{sorted-unique}
 
 before-all : (w : ℕ) (l : List Record) → AllByRecursion (λ r. r.time < w) l → before w l ≡ l
 before-all w [] all = refl

@@ -3,30 +3,30 @@ use Rattle.std.proofs.Common.{◌≡◌, ℕ, suc, zero, ◌≤◌, ◌<◌, Boo
 use Rattle.std.specs.Prelude.{◌&&◌, ◌||◌}
 use Rattle.std.specs.List.{slice_get, list_any, AllByRecursion}
 use Rattle.std.proofs.lemmas.Option.{slice_get_within}
-use Rattle.sb_base.specs.NumberLemmas.{bind_some}
-use Rattle.sb_base.specs.records.declared.item.Stream.{Stream}
-use Rattle.sb_base.specs.records.declared.item.TheConstants.{END_MARK, MAX_TIME}
-use Rattle.sb_base.specs.pipeline.declared.transform.Down.{Down}
-use Rattle.sb_base.specs.pipeline.declared.transform.Step.{Step}
-use Rattle.sb_base.specs.pipeline.Shapes.{Shape, source}
-use Rattle.sb_base.specs.pipeline.Operators.{Operator, operator_at}
-use Rattle.sb_base.specs.pipeline.Operators.Operator.{ParDo, Windowed, Sink}
-use Rattle.sb_base.specs.pipeline.Plans.{IsPlan}
-use Rattle.sb_base.specs.FeedingLemmas as Feeding
-use Rattle.sb_core.specs.declared.moment.Cont.{Cont}
-use Rattle.sb_core.specs.declared.moment.CoreLane.{CoreLane}
+use Rattle.sb_containers.specs.base.NumberLemmas.{bind_some}
+use Rattle.sb_containers.specs.base.records.declared.item.Stream.{Stream}
+use Rattle.sb_containers.specs.base.records.declared.item.TheConstants.{END_MARK, MAX_TIME}
+use Rattle.sb_containers.specs.base.pipeline.declared.transform.Down.{Down}
+use Rattle.sb_containers.specs.base.pipeline.declared.transform.Step.{Step}
+use Rattle.sb_containers.specs.base.pipeline.Shapes.{Shape, source}
+use Rattle.sb_containers.specs.base.pipeline.Operators.{Operator, operator_at}
+use Rattle.sb_containers.specs.base.pipeline.Operators.Operator.{ParDo, Windowed, Sink}
+use Rattle.sb_containers.specs.base.pipeline.Plans.{IsPlan}
+use Rattle.sb_containers.specs.base.FeedingLemmas as Feeding
+use Rattle.sb_containers.specs.declared.container.Cont.{Cont}
+use Rattle.sb_containers.specs.declared.container.CoreLane.{CoreLane}
 use Rattle.sb_core.specs.declared.moment.Moment.{Moment}
 use Rattle.sb_core.specs.Bounds.{bound_at}
-use Rattle.sb_core.specs.Lanes.{next_epoch, next_floor}
-use Rattle.sb_core.specs.LaneOrder.{AreOpen}
-use Rattle.sb_core.specs.Marks.{last_of_first}
+use Rattle.sb_containers.specs.Lanes.{next_epoch, next_floor}
+use Rattle.sb_containers.specs.LaneOrder.{AreOpen}
+use Rattle.sb_containers.specs.Marks.{last_of_first}
 use Rattle.sb_core.specs.Moments.{lane_at, node_at, floor_of}
 use Rattle.sb_core.specs.Holdings.{is_unpassed}
 use Rattle.sb_core.specs.Soundness.{has_cont, IsOpenAtSource, IsOpenBelow, IsSound}
 use Rattle.sb_core.specs.Laws.{IsDone}
 use Rattle.sb_core.specs.Rest.{IsAtRest, AreAtTheEnd, Settles}
 use Rattle.sb_core.proofs.ends.AtRest.{all_ended, opened, in_place, free}
-use Rattle.sb_core.proofs.times.InTime.{next_floor_is}
+use Rattle.sb_containers.proofs.Begun.{next_floor_is}
 use Rattle.sb_core.proofs.sound.Orderly.{lawful_of}
 use Rattle.sb_core.proofs.times.LawfulTimely.{lane_of, of_node}
 

@@ -6,20 +6,20 @@ use Rattle.std.specs.List.{AllByRecursion}
 use Rattle.std.proofs.lemmas.List.Sums.{sum_by-cons}
 use Rattle.std.proofs.lemmas.Option.{slice_get_past}
 use Rattle.std.proofs.lemmas.List.Elements.{All-nil}
-use Rattle.sb_base.specs.records.declared.element.KeptRec.{KeptRec}
-use Rattle.sb_base.specs.pipeline.Shapes.{Shape}
+use Rattle.sb_containers.specs.base.records.declared.element.KeptRec.{KeptRec}
+use Rattle.sb_containers.specs.base.pipeline.Shapes.{Shape}
 use Rattle.sb_core.specs.declared.moment.Moment.{Moment}
 use Rattle.sb_core.specs.declared.held.Held.{Held}
 use Rattle.sb_core.specs.declared.held.Held.TheVariants.{Work, Close}
-use Rattle.sb_base.specs.pipeline.Plans.{IsPlan}
-use Rattle.sb_base.specs.pipeline.Results.{rows_below}
-use Rattle.sb_base.specs.pipeline.Operators.{operator_at}
-use Rattle.sb_base.specs.pipeline.Operators.Operator.{Sink}
-use Rattle.sb_core.specs.Marks.{least_begun_mark, first_is_closing}
+use Rattle.sb_containers.specs.base.pipeline.Plans.{IsPlan}
+use Rattle.sb_containers.specs.base.pipeline.Results.{rows_below}
+use Rattle.sb_containers.specs.base.pipeline.Operators.{operator_at}
+use Rattle.sb_containers.specs.base.pipeline.Operators.Operator.{Sink}
+use Rattle.sb_containers.specs.Marks.{least_begun_mark, first_is_closing}
 use Rattle.sb_core.specs.Moments.{node_at, floor_at}
-use Rattle.sb_core.specs.Lanes.{closable}
-use Rattle.sb_base.specs.records.declared.item.TheConstants.{END_MARK, MAX_TIME}
-use Rattle.sb_core.specs.LaneOrder.{cont_at}
+use Rattle.sb_containers.specs.Lanes.{closable}
+use Rattle.sb_containers.specs.base.records.declared.item.TheConstants.{END_MARK, MAX_TIME}
+use Rattle.sb_containers.specs.LaneOrder.{cont_at}
 use Rattle.sb_core.specs.Rest.{IsAtRest, RowsAtRest, RowsAtTheEnd}
 use Rattle.sb_core.specs.Bounds.{bound_at}
 use Rattle.sb_core.specs.Holdings.{IsHeld}

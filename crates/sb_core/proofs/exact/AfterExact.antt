@@ -1,10 +1,10 @@
 -- Each event moves what the nodes of a lawful moment have yet to give, and keeps it exact.
-use Rattle.sb_base.specs.NumberLemmas.{bind_some}
-use Rattle.sb_core.specs.Choices
+use Rattle.sb_containers.specs.base.NumberLemmas.{bind_some}
+use Rattle.sb_containers.specs.Choices
 use Rattle.sb_core.specs.Events
 use Rattle.sb_core.specs.MomentSteps
-use Rattle.sb_core.specs.Lanes
-use Rattle.sb_core.specs.Marks
+use Rattle.sb_containers.specs.Lanes
+use Rattle.sb_containers.specs.Marks
 use Rattle.sb_core.specs.Moments
 use Rattle.std.proofs.Common.{◌≡◌, ℕ, suc, zero, ◌+◌, ◌≤◌, Bool, true, false, not, cond, eqb, List, [], ◌∷◌, length, Some, sym, refl, ap, subst, ◌∙◌, arith}
 use Rattle.std.specs.Prelude.{◌&&◌, ◌||◌, sum_by}
@@ -12,21 +12,21 @@ use Rattle.std.specs.List.{slice_get, list_any, AllByRecursion}
 use Rattle.std.proofs.lemmas.Bool.{eqb-true, not-true}
 use Rattle.std.proofs.lemmas.List.Sums.{sum_by-cons}
 use Rattle.std.proofs.lemmas.Option.{same_Some}
-use Rattle.sb_base.specs.records.declared.item.Record.{Record}
-use Rattle.sb_base.specs.records.declared.item.Stream.{Stream}
-use Rattle.sb_base.specs.records.declared.item.Stream.TheVariants.{A, B}
-use Rattle.sb_core.specs.declared.moment.CoreLane.{CoreLane}
+use Rattle.sb_containers.specs.base.records.declared.item.Record.{Record}
+use Rattle.sb_containers.specs.base.records.declared.item.Stream.{Stream}
+use Rattle.sb_containers.specs.base.records.declared.item.Stream.TheVariants.{A, B}
+use Rattle.sb_containers.specs.declared.container.CoreLane.{CoreLane}
 use Rattle.sb_core.specs.declared.moment.Node.{Node}
-use Rattle.sb_base.specs.pipeline.declared.transform.Step.{Step}
-use Rattle.sb_base.specs.pipeline.Shapes.{Shape}
+use Rattle.sb_containers.specs.base.pipeline.declared.transform.Step.{Step}
+use Rattle.sb_containers.specs.base.pipeline.Shapes.{Shape, source}
 use Rattle.sb_core.specs.declared.moment.Moment.{Moment}
 use Rattle.sb_core.specs.declared.held.Held.{Held}
 use Rattle.sb_core.specs.declared.held.Held.TheVariants.{Work, Close}
 use Rattle.sb_core.specs.declared.event.Event.{Event}
 use Rattle.sb_core.specs.declared.event.Event.TheVariants.{Arrive, Seal, Take, Deliver, Finish, Begin, Pass, End}
-use Rattle.sb_base.specs.pipeline.Operators.{operator_at}
-use Rattle.sb_base.specs.records.Reading.{◌>>=◌}
-use Rattle.sb_core.specs.Marks.{begun_count}
+use Rattle.sb_containers.specs.base.pipeline.Operators.{operator_at}
+use Rattle.sb_containers.specs.base.records.Reading.{◌>>=◌}
+use Rattle.sb_containers.specs.Marks.{begun_count}
 use Rattle.sb_core.specs.Moments.{node_at, epoch_at}
 use Rattle.sb_core.specs.Exactness.{IsExact}
 use Rattle.sb_core.specs.Bounds.{bound_at}
@@ -34,18 +34,16 @@ use Rattle.sb_core.specs.Closings.{is_pardo}
 use Rattle.sb_core.specs.Holdings.{IsWork, IsHeld, is_unpassed}
 use Rattle.sb_core.proofs.sound.Orderly.{IsLawful}
 use Rattle.sb_core.specs.Laws.{concerns, records_fed_after}
-use Rattle.sb_core.proofs.containers.Lists.{cond_is_some, IsReordered-pulled}
-use Rattle.sb_core.proofs.containers.LaneLaws.{All-pulled}
+use Rattle.sb_containers.proofs.Lists.{cond_is_some, IsReordered-pulled}
+use Rattle.sb_containers.proofs.LaneLaws.{All-pulled}
 use Rattle.sb_core.proofs.exact.Nodes.{node_at-same, node_at-set_same}
-use Rattle.sb_core.proofs.times.InTime.{work_epoch}
-use Rattle.sb_core.proofs.times.LawfulTimely.{lane_of}
-use Rattle.sb_base.specs.pipeline.Plans.{IsPlan}
+use Rattle.sb_containers.proofs.Begun.{work_epoch}
+use Rattle.sb_core.proofs.times.LawfulTimely.{lane_of, lawful-timely}
+use Rattle.sb_containers.specs.base.pipeline.Plans.{IsPlan}
 use Rattle.sb_core.proofs.exact.EventExact.{CarriesFrom, take-carries, arrive-carries, finish-carries, begin-carries, seal-carries, rows-carries, pass-carries, end-carries, work-carries, closed_rises}
 use Rattle.sb_core.proofs.exact.Exactly.{Carries, carried-exact}
 use Rattle.sb_core.proofs.exact.Exactly.Moved.{Nothing, Fed}
-use Rattle.sb_base.specs.pipeline.declared.transform.Down.{Down}
-use Rattle.sb_base.specs.pipeline.Shapes.{source}
-use Rattle.sb_core.proofs.times.LawfulTimely.{lawful-timely}
+use Rattle.sb_containers.specs.base.pipeline.declared.transform.Down.{Down}
 use Rattle.sb_core.proofs.lawful.BeginLawful.{closable-is, rises}
 use Rattle.sb_core.proofs.parts.MadeSteps.{after-made}
 

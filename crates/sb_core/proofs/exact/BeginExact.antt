@@ -6,35 +6,35 @@ use Rattle.std.proofs.lemmas.Bool.{eq-eqb, ne_eqb, cases_eq}
 use Rattle.std.proofs.lemmas.Option.{slice_get_cases}
 use Rattle.std.proofs.lemmas.List.Sums.{sum_by-append}
 use Rattle.std.proofs.lemmas.List.Filters.{sum_by-filter_both}
-use Rattle.sb_base.specs.records.declared.item.Record.{Record}
-use Rattle.sb_base.specs.records.declared.element.KeptRec.{KeptRec}
-use Rattle.sb_base.specs.pipeline.declared.transform.Kind.{Kind}
-use Rattle.sb_base.specs.pipeline.declared.transform.Kind.TheVariants.{Do, Group, Session, Join}
+use Rattle.sb_containers.specs.base.records.declared.item.Record.{Record}
+use Rattle.sb_containers.specs.base.records.declared.element.KeptRec.{KeptRec}
+use Rattle.sb_containers.specs.base.pipeline.declared.transform.Kind.{Kind}
+use Rattle.sb_containers.specs.base.pipeline.declared.transform.Kind.TheVariants.{Do, Group, Session, Join}
 use Rattle.sb_core.specs.declared.moment.Node.{Node}
 use Rattle.sb_core.specs.declared.held.Held.{Held}
 use Rattle.sb_core.specs.declared.held.Held.TheVariants.{Close}
-use Rattle.sb_base.specs.pipeline.declared.transform.Step.{Step}
-use Rattle.sb_base.specs.pipeline.Shapes.{Shape}
+use Rattle.sb_containers.specs.base.pipeline.declared.transform.Step.{Step}
+use Rattle.sb_containers.specs.base.pipeline.Shapes.{Shape}
 use Rattle.sb_core.specs.declared.moment.Moment.{Moment}
-use Rattle.sb_core.specs.declared.moment.Cont.{Cont}
-use Rattle.sb_core.specs.declared.moment.CoreLane.{CoreLane}
-use Rattle.sb_base.specs.records.Records.{sorted_records, before, at_least, record_cmp}
-use Rattle.sb_base.specs.pipeline.Operators.{Operator, WindowOperator, operator_of, operator_at, operator_rows}
-use Rattle.sb_base.specs.pardo.Outputs.{outputs_of}
-use Rattle.sb_base.specs.records.Elements.{on_lane, all_records}
-use Rattle.sb_base.specs.pipeline.Operators.Operator.{ParDo, Windowed, Sink}
-use Rattle.sb_core.specs.Marks.{least_begun_mark}
+use Rattle.sb_containers.specs.declared.container.Cont.{Cont}
+use Rattle.sb_containers.specs.declared.container.CoreLane.{CoreLane}
+use Rattle.sb_containers.specs.base.records.Records.{sorted_records, before, at_least, record_cmp}
+use Rattle.sb_containers.specs.base.pipeline.Operators.{Operator, WindowOperator, operator_of, operator_at, operator_rows}
+use Rattle.sb_containers.specs.base.pardo.Outputs.{outputs_of}
+use Rattle.sb_containers.specs.base.records.Elements.{on_lane, all_records}
+use Rattle.sb_containers.specs.base.pipeline.Operators.Operator.{ParDo, Windowed, Sink}
+use Rattle.sb_containers.specs.Marks.{least_begun_mark}
 use Rattle.sb_core.specs.Closings.{is_sink, kept_at, rows_at, rows_at_sink, still_open}
-use Rattle.sb_core.specs.Lanes.{with_first_closing}
+use Rattle.sb_containers.specs.Lanes.{with_first_closing}
 use Rattle.sb_core.specs.Moments.{set_lane, node_at}
 use Rattle.sb_core.specs.Exactness.{waiting_in, waiting_from, work_in, rows_left_in, rest, gives, gives_by}
-use Rattle.sb_base.specs.SumLemmas.{IsReordered, sum_by-agree, IsReordered-map, IsReordered-flat_map, IsReordered-filter}
-use Rattle.sb_core.proofs.containers.Lists.{waiting_of}
+use Rattle.sb_containers.specs.base.SumLemmas.{IsReordered, sum_by-agree, IsReordered-map, IsReordered-flat_map, IsReordered-filter}
+use Rattle.sb_containers.proofs.Lists.{waiting_of}
 use Rattle.sb_core.proofs.times.Timely.{late, late_for, IsTimely, no_sink, rest_in_time}
 use Rattle.sb_core.proofs.exact.Nodes.{lane_at-set, sum_by-waiting_set, node_at-same, node_at-set_same, node_at-set_other}
 use Rattle.sb_core.proofs.windows.WindowOperators.{IsGrouping, closing}
 use Rattle.sb_core.proofs.windows.Groupings.{early_one, all_records-append, all_records-filter, none_early}
-use Rattle.sb_base.specs.SortingLemmas.{IsReordered-in_order}
+use Rattle.sb_containers.specs.base.SortingLemmas.{IsReordered-in_order}
 use Rattle.sb_core.proofs.exact.Gives.{sum_by-rest, gives-less, sum_by-held_push}
 
 waiting-first_closing : (cs : List Cont) → waiting_of (with_first_closing cs) ≡ waiting_of cs

@@ -1,54 +1,54 @@
 -- What each single event does to what the nodes of a lawful moment have yet to give.
-use Rattle.sb_base.specs.NumberLemmas.{bind_some}
-use Rattle.sb_core.specs.Choices
+use Rattle.sb_containers.specs.base.NumberLemmas.{bind_some}
+use Rattle.sb_containers.specs.Choices
 use Rattle.sb_core.specs.Closings
 use Rattle.sb_core.specs.Events
 use Rattle.sb_core.specs.LaneSteps
 use Rattle.sb_core.specs.MomentSteps
-use Rattle.sb_core.specs.Lanes
-use Rattle.sb_core.specs.Marks
+use Rattle.sb_containers.specs.Lanes
+use Rattle.sb_containers.specs.Marks
 use Rattle.sb_core.specs.Moments
-use Rattle.sb_base.specs.records.declared.item.TheConstants
-use Rattle.std.proofs.Common.{◌≡◌, ℕ, ◌+◌, ◌-◌, ◌≤◌, ◌<◌, ◌^◌, Bool, true, false, not, cond, eqb, ltb, List, [], ◌∷◌, ◌++◌, length, take, drop, Some, Option, sym, refl, ap, subst, ◌∙◌, arith, ⊎_elim, get_or, length-drop, length-append, set as slice_set}
+use Rattle.sb_containers.specs.base.records.declared.item.TheConstants
+use Rattle.std.proofs.Common.{◌≡◌, ℕ, ◌+◌, ◌-◌, ◌≤◌, ◌<◌, ◌^◌, Bool, true, false, not, cond, eqb, List, [], ◌∷◌, ◌++◌, length, take, drop, Some, Option, sym, refl, ap, subst, ◌∙◌, arith, ⊎_elim, set as slice_set}
 use Rattle.std.specs.Prelude.{◌&&◌, nat_lt, nat_le}
 use Rattle.std.specs.List.{flat_map, sum_by, slice_get, list_all, All, AllByRecursion}
-use Rattle.std.proofs.lemmas.Bool.{eq-eqb, ne_eqb, cases_eq, le-ltb, not-true, and_parts}
+use Rattle.std.proofs.lemmas.Bool.{not-true, and_parts}
 use Rattle.std.proofs.lemmas.Bool.Decides.{nat_tests}
 use Rattle.std.proofs.lemmas.List.Elements.{All-from_recursion, All-append, All-weaker}
 use Rattle.std.proofs.lemmas.Option.{slice_get_within, same_Some}
 use Rattle.std.proofs.lemmas.List.Sums.{sum_by-append}
 use Rattle.std.proofs.Math.Nat.{add_comm}
-use Rattle.std.proofs.lemmas.List.{get_or-append_right, get_or_append_left}
-use Rattle.sb_base.specs.records.declared.item.Record.{Record}
-use Rattle.sb_base.specs.records.declared.item.Stream.{Stream}
-use Rattle.sb_base.specs.records.declared.item.Stream.TheVariants.{A, B}
-use Rattle.sb_core.specs.declared.moment.Cont.{Cont}
-use Rattle.sb_core.specs.declared.moment.CoreLane.{CoreLane}
-use Rattle.sb_base.specs.pipeline.declared.transform.Down.{Down}
+use Rattle.sb_containers.specs.base.records.declared.item.Record.{Record}
+use Rattle.sb_containers.specs.base.records.declared.item.Stream.{Stream}
+use Rattle.sb_containers.specs.base.records.declared.item.Stream.TheVariants.{A, B}
+use Rattle.sb_containers.specs.declared.container.Cont.{Cont}
+use Rattle.sb_containers.specs.declared.container.CoreLane.{CoreLane}
+use Rattle.sb_containers.specs.base.pipeline.declared.transform.Down.{Down}
 use Rattle.sb_core.specs.declared.moment.Node.{Node}
-use Rattle.sb_base.specs.pipeline.declared.transform.Step.{Step}
-use Rattle.sb_base.specs.pipeline.Shapes.{Shape, source}
+use Rattle.sb_containers.specs.base.pipeline.declared.transform.Step.{Step}
+use Rattle.sb_containers.specs.base.pipeline.Shapes.{Shape, source}
 use Rattle.sb_core.specs.declared.moment.Moment.{Moment}
 use Rattle.sb_core.specs.declared.held.Held.{Held}
 use Rattle.sb_core.specs.declared.held.Held.TheVariants.{Work, Close}
 use Rattle.sb_core.specs.declared.event.Event.TheVariants.{Finish, Begin}
 use Rattle.sb_core.specs.Exactness.{gives, work_in, rows_left_in, IsAdmissible}
 use Rattle.sb_core.specs.Moments.{node_at, floor_of, floor_at, epoch_of, epoch_at}
-use Rattle.sb_core.specs.LaneOrder.{AreContainers, IsLane, IsReady}
+use Rattle.sb_containers.specs.LaneOrder.{IsLane, IsReady}
 use Rattle.sb_core.specs.Bounds.{bound_at}
 use Rattle.sb_core.specs.Closings.{is_pardo}
 use Rattle.sb_core.proofs.sound.Orderly.{IsLawful}
-use Rattle.sb_base.specs.SumLemmas.{IsReordered, IsReordered-flat_map}
-use Rattle.sb_core.proofs.containers.Lists.{cond_is_some, waiting_of, IsReordered-pulled}
-use Rattle.sb_base.specs.pipeline.Operators.{Operator, operator_at}
-use Rattle.sb_base.specs.pardo.Outputs.{outputs_of}
-use Rattle.sb_base.specs.pipeline.Operators.Operator.{ParDo, Windowed, Sink}
+use Rattle.sb_containers.specs.base.SumLemmas.{IsReordered, IsReordered-flat_map}
+use Rattle.sb_containers.proofs.Lists.{cond_is_some, waiting_of, IsReordered-pulled}
+use Rattle.sb_containers.specs.base.pipeline.Operators.{Operator, operator_at}
+use Rattle.sb_containers.specs.base.pardo.Outputs.{outputs_of}
+use Rattle.sb_containers.specs.base.pipeline.Operators.Operator.{ParDo, Windowed, Sink}
 use Rattle.sb_core.specs.Holdings.{IsHeld}
-use Rattle.sb_core.proofs.containers.LaneLaws.{All-pulled}
-use Rattle.sb_core.proofs.exact.Nodes.{begun_mark, lane_at-set, lane_at-cases, node_at-same, node_at-set_same, lane_at-is}
+use Rattle.sb_containers.proofs.LaneLaws.{All-pulled}
+use Rattle.sb_core.proofs.exact.Nodes.{lane_at-set, lane_at-cases, node_at-same, node_at-set_same, lane_at-is}
+use Rattle.sb_containers.proofs.Begun.{begun_mark}
 use Rattle.sb_core.proofs.exact.MoveExact.{arrival-gives, calm-gives, waiting-with_seal, rows-gives, delivery-gives}
 use Rattle.sb_core.proofs.exact.FinishExact.{finished-gives}
-use Rattle.sb_base.specs.pipeline.Plans.{IsPlan}
+use Rattle.sb_containers.specs.base.pipeline.Plans.{IsPlan}
 use Rattle.sb_core.proofs.exact.BeginExact.{begun-gives}
 use Rattle.sb_core.proofs.windows.WindowsAt.{windows-at}
 use Rattle.sb_core.proofs.exact.Flow.{extra}
@@ -57,8 +57,9 @@ use Rattle.sb_core.proofs.exact.TakeExact.{take-gives}
 use Rattle.sb_core.proofs.exact.Exactly.{Carries, carries-same, carries-fed, carries-given, with_more}
 use Rattle.sb_core.proofs.exact.Exactly.Moved.{Nothing, Fed, Given}
 use Rattle.sb_core.proofs.times.Timely.{IsTimely, no_sink}
-use Rattle.sb_core.proofs.times.InTime.{begun_within}
 use Rattle.sb_core.proofs.times.LawfulTimely.{lawful-timely}
+use Rattle.sb_containers.proofs.Arriving.{arrival_calm}
+use Rattle.sb_containers.proofs.Sealing.{seal_calm, sealed_floor}
 
 -- ---- after a change of a lane that keeps its marks, no more may come
 floor-set : (m : Moment) (n l : ℕ) (node new : Node) (lane with : CoreLane) → slice_get m.nodes n ≡ Some node → slice_get node.lanes l ≡ Some lane → new.lanes ≡ slice_set node.lanes l with
@@ -93,27 +94,6 @@ take-carries plan m m' d number h =
         let held = m.held ++ Work d.node d.lane b.0.0.epoch b.0.0.floor number b.0.0.records false ∷ [] in
         let is = with_lane-is (Moments.with_held held m) d at.0 (record a.0 { conts = b.0.1 }) m' at.1 b.2 in
         ap (λ x. floor_at x e) (sym is) ∙ floor-set m d.node d.lane at.0 (Moments.set_lane d.lane (record a.0 { conts = b.0.1 }) at.0) a.0 (record a.0 { conts = b.0.1 }) at.1 at.2 refl refl e
-
--- ---- the first container of a lane stays what it is where a later epoch changes
-pub calm : (bound epoch floor : ℕ) (change : Cont → Cont) → ((c : Cont) → (change c).closing ≡ c.closing) → (e f : ℕ) (ms : List ℕ) (cs : List Cont) → AreContainers bound e f ms cs → e + length ms ≤ epoch
-    → Marks.first_is_closing (Lanes.in_epoch epoch floor change cs) ≡ Marks.first_is_closing cs
-calm bound epoch floor change same e f [] [] are h = same (Lanes.fresh epoch floor)
-calm bound epoch floor change same e f [] (c ∷ cs) are h = by_case (eqb c.epoch epoch) (ltb epoch c.epoch)
-  where
-    by_case : (a b : Bool) → Marks.first_is_closing (cond a (change c ∷ cs) (cond b (change (Lanes.fresh epoch floor) ∷ c ∷ cs) (c ∷ Lanes.in_epoch epoch floor change cs))) ≡ c.closing
-    by_case true b = same c
-    by_case false true = same (Lanes.fresh epoch floor) ∙ sym are.0.not_closing
-    by_case false false = refl
-calm bound epoch floor change same e f (m ∷ ms) [] are h = absurd are
-calm bound epoch floor change same e f (m ∷ ms) (c ∷ cs) are h =
-    ap (λ b. Marks.first_is_closing (cond b (change c ∷ cs) (cond (ltb epoch c.epoch) (change (Lanes.fresh epoch floor) ∷ c ∷ cs) (c ∷ Lanes.in_epoch epoch floor change cs)))) (ne_eqb c.epoch epoch (λ z. omega (arith, are.0.epoch_is)))
-    ∙ ap (λ b. Marks.first_is_closing (cond b (change (Lanes.fresh epoch floor) ∷ c ∷ cs) (c ∷ Lanes.in_epoch epoch floor change cs))) (le-ltb epoch c.epoch (omega (arith, are.0.epoch_is)))
-
-pub arrival_calm : (bound epoch floor : ℕ) (records : List Record) (lane : CoreLane) → IsLane bound lane → Lanes.next_epoch lane ≤ epoch → begun_mark (Lanes.with_arrival epoch floor records lane) ≡ begun_mark lane
-arrival_calm bound epoch floor records lane ok h =
-    ap (λ b. Marks.last_of_first (cond b (lane.ended + 1) lane.ended) lane.marks)
-    (calm bound epoch floor (Lanes.with_bundle (record { number = lane.arrived + 1; epoch = epoch; floor = floor; records = records })) (λ c. refl) lane.ended (Marks.last_of_first lane.ended lane.marks) (drop lane.ended lane.marks) lane.conts ok.containers
-    (omega (arith, length-drop lane.ended lane.marks, ok.ended_in)))
 
 pub nat_le-le : (a b : ℕ) → nat_le a b ≡ true → a ≤ b
 nat_le-le a b h = grind (arith, nat_tests)
@@ -200,25 +180,6 @@ begin-carries plan is_plan m m' n l h lawful later rises =
   where
     within_n : (n : ℕ) → n < length m.nodes → n ≤ length plan.steps
     within_n n h = omega (arith, lawful.nodes)
-
--- ---- a lane is sealed
-pub seal_calm : (bound mark : ℕ) (lane : CoreLane) → IsLane bound lane → begun_mark (Lanes.with_seal mark lane) ≡ begun_mark lane
-seal_calm bound mark lane ok =
-    ap (λ b. Marks.last_of_first (cond b (lane.ended + 1) lane.ended) (lane.marks ++ mark ∷ []))
-    (calm bound (Lanes.next_epoch lane) (Lanes.next_floor lane) (λ c. record c { mark = Some mark }) (λ c. refl) lane.ended (Marks.last_of_first lane.ended lane.marks) (drop lane.ended lane.marks) lane.conts ok.containers (omega (arith, length-drop lane.ended lane.marks, ok.ended_in)))
-    ∙ longer (Marks.begun_count lane) (begun_within bound lane ok)
-  where
-    longer : (n : ℕ) → n ≤ length lane.marks → Marks.last_of_first n (lane.marks ++ mark ∷ []) ≡ Marks.last_of_first n lane.marks
-    longer n h = ⊎_elim
-        (λ e. ap (λ b. cond b 0 (get_or (lane.marks ++ mark ∷ []) (n - 1) 0)) (eq-eqb n 0 e) ∙ sym (ap (λ b. cond b 0 (get_or lane.marks (n - 1) 0)) (eq-eqb n 0 e)))
-        (λ ne. ap (cond (eqb n 0) 0) (get_or_append_left lane.marks (mark ∷ []) 0 (n - 1) (omega arith)))
-        (cases_eq n 0)
-
-pub sealed_floor : (mark : ℕ) (lane : CoreLane) → Lanes.next_floor (Lanes.with_seal mark lane) ≡ mark
-sealed_floor mark lane =
-    let a : length (lane.marks ++ mark ∷ []) - 1 ≡ length lane.marks = omega (arith, length-append lane.marks (mark ∷ [])) in
-    let b : length lane.marks - length lane.marks ≡ 0 = omega arith in
-    ap (λ n. get_or (lane.marks ++ mark ∷ []) n 0) a ∙ get_or-append_right lane.marks (mark ∷ []) (length lane.marks) (length lane.marks) 0 refl (omega arith) ∙ ap (λ n. get_or (mark ∷ []) n 0) b
 
 pub seal-carries : (plan : Shape) (m m' : Moment) (s : Stream) (mark : ℕ) → MomentSteps.after_seal plan m s mark ≡ Some m' → IsLawful plan m → Carries plan m m' Nothing
 seal-carries plan m m' s mark h lawful =

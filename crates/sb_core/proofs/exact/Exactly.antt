@@ -4,19 +4,19 @@ use Rattle.std.specs.List.{sum_by, slice_get}
 use Rattle.std.proofs.lemmas.List.Sums.{sum_by-append}
 use Rattle.std.proofs.lemmas.List.Concat.{flat_map-append}
 use Rattle.std.proofs.lemmas.Bool.{ne_eqb, le-ltb, lt-ltb, cases_eq}
-use Rattle.sb_base.specs.records.declared.item.Record.{Record}
-use Rattle.sb_base.specs.records.declared.element.KeptRec.{KeptRec}
-use Rattle.sb_base.specs.records.declared.item.Stream.{Stream}
-use Rattle.sb_base.specs.records.declared.item.Stream.TheVariants.{A, B}
-use Rattle.sb_base.specs.pipeline.declared.transform.Down.{Down}
-use Rattle.sb_base.specs.pipeline.declared.transform.Step.{Step}
-use Rattle.sb_base.specs.pipeline.Shapes.{Shape, source}
+use Rattle.sb_containers.specs.base.records.declared.item.Record.{Record}
+use Rattle.sb_containers.specs.base.records.declared.element.KeptRec.{KeptRec}
+use Rattle.sb_containers.specs.base.records.declared.item.Stream.{Stream}
+use Rattle.sb_containers.specs.base.records.declared.item.Stream.TheVariants.{A, B}
+use Rattle.sb_containers.specs.base.pipeline.declared.transform.Down.{Down}
+use Rattle.sb_containers.specs.base.pipeline.declared.transform.Step.{Step}
+use Rattle.sb_containers.specs.base.pipeline.Shapes.{Shape, source}
 use Rattle.sb_core.specs.declared.moment.Moment.{Moment}
-use Rattle.sb_base.specs.records.Elements.{on_lane}
-use Rattle.sb_base.specs.pipeline.Flow.{Sent, arrivals_at, from_stream, from_streams, sent_from}
-use Rattle.sb_base.specs.pipeline.Results.{output_of}
+use Rattle.sb_containers.specs.base.records.Elements.{on_lane}
+use Rattle.sb_containers.specs.base.pipeline.Flow.{Sent, arrivals_at, from_stream, from_streams, sent_from}
+use Rattle.sb_containers.specs.base.pipeline.Results.{output_of}
 use Rattle.sb_core.specs.Exactness.{gives, final, IsAdmissible, IsExact}
-use Rattle.sb_base.specs.SumLemmas.{IsReordered}
+use Rattle.sb_containers.specs.base.SumLemmas.{IsReordered}
 use Rattle.sb_core.proofs.exact.Flow.{Moves, IsInTime, IsOnItsWay, flow_moves, flow_in_time, in_flight, in_flight_more, brought, brought_none, sum_by-brought, extra}
 use Rattle.sb_core.proofs.times.Timely.{late, IsTimely, gives_in_time, streams_in_time}
 

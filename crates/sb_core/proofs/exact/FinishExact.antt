@@ -5,29 +5,29 @@ use Rattle.std.specs.List.{filter, flat_map, sum_by, slice_get}
 use Rattle.std.proofs.lemmas.Bool.{eq-eqb, ne_eqb, cases_eq}
 use Rattle.std.proofs.lemmas.List.Sums.{sum_by-append}
 use Rattle.std.proofs.lemmas.List.Concat.{flat_map-append}
-use Rattle.sb_base.specs.records.declared.item.Record.{Record}
-use Rattle.sb_base.specs.records.declared.element.KeptRec.{KeptRec}
-use Rattle.sb_base.specs.pardo.declared.operation.Op.{Op}
+use Rattle.sb_containers.specs.base.records.declared.item.Record.{Record}
+use Rattle.sb_containers.specs.base.records.declared.element.KeptRec.{KeptRec}
+use Rattle.sb_containers.specs.base.pardo.declared.operation.Op.{Op}
 use Rattle.sb_core.specs.declared.moment.Node.{Node}
 use Rattle.sb_core.specs.declared.held.Held.{Held}
 use Rattle.sb_core.specs.declared.held.Held.TheVariants.{Work}
-use Rattle.sb_base.specs.pipeline.Shapes.{Shape}
+use Rattle.sb_containers.specs.base.pipeline.Shapes.{Shape}
 use Rattle.sb_core.specs.declared.moment.Moment.{Moment}
-use Rattle.sb_core.specs.declared.moment.Cont.{Cont}
-use Rattle.sb_core.specs.declared.moment.CoreLane.{CoreLane}
-use Rattle.sb_base.specs.records.Records.{at_least}
-use Rattle.sb_base.specs.pipeline.Operators.{Operator, operator_at, operator_rows}
-use Rattle.sb_base.specs.pardo.Outputs.{outputs_of}
-use Rattle.sb_base.specs.records.Elements.{on_lane, all_records}
-use Rattle.sb_base.specs.pipeline.Operators.Operator.{ParDo, Windowed, Sink}
-use Rattle.sb_core.specs.Marks.{least_begun_mark, first_is_closing, last_of_first}
-use Rattle.sb_core.specs.Choices.{is_empty}
+use Rattle.sb_containers.specs.declared.container.Cont.{Cont}
+use Rattle.sb_containers.specs.declared.container.CoreLane.{CoreLane}
+use Rattle.sb_containers.specs.base.records.Records.{at_least}
+use Rattle.sb_containers.specs.base.pipeline.Operators.{Operator, operator_at, operator_rows}
+use Rattle.sb_containers.specs.base.pardo.Outputs.{outputs_of}
+use Rattle.sb_containers.specs.base.records.Elements.{on_lane, all_records}
+use Rattle.sb_containers.specs.base.pipeline.Operators.Operator.{ParDo, Windowed, Sink}
+use Rattle.sb_containers.specs.Marks.{least_begun_mark, first_is_closing, last_of_first}
+use Rattle.sb_containers.specs.Choices.{is_empty}
 use Rattle.sb_core.specs.Closings.{delivery, kept_elements}
 use Rattle.sb_core.specs.Moments.{set_lane, set_node, with_held, node_at}
-use Rattle.sb_core.specs.Lanes.{finish_in}
+use Rattle.sb_containers.specs.Lanes.{finish_in}
 use Rattle.sb_core.specs.Exactness.{waiting_in, waiting_from, work_in, rows_left_in, rest, gives, gives_by}
-use Rattle.sb_base.specs.SumLemmas.{IsReordered, IsReordered-map, IsReordered-flat_map, IsReordered-filter}
-use Rattle.sb_core.proofs.containers.Lists.{waiting_of, of_cont, empty_is}
+use Rattle.sb_containers.specs.base.SumLemmas.{IsReordered, IsReordered-map, IsReordered-flat_map, IsReordered-filter}
+use Rattle.sb_containers.proofs.Lists.{waiting_of, of_cont, empty_is}
 use Rattle.sb_core.proofs.exact.Nodes.{closed-set, sum_by-waiting_set, node_at-same, node_at-set_same, node_at-set_other}
 use Rattle.sb_core.proofs.windows.Groupings.{grouped-order, all_records-append, all_records-on_lane}
 use Rattle.sb_core.proofs.exact.Gives.{sum_by-rest, gives-less}

@@ -6,15 +6,15 @@ use Rattle.std.proofs.lemmas.List.Concat.{flat_map-append}
 use Rattle.std.proofs.lemmas.Option.{slice_get_within}
 use Rattle.std.specs.Prelude.{◌≢◌}
 use Rattle.std.proofs.lemmas.Bool.{eq-eqb, ne_eqb, lt-ltb, le-ltb, cases_eq, cases_lt}
-use Rattle.sb_base.specs.records.declared.item.Record.{Record}
-use Rattle.sb_base.specs.records.declared.element.KeptRec.{KeptRec}
-use Rattle.sb_base.specs.records.declared.item.Stream.{Stream}
-use Rattle.sb_base.specs.pipeline.declared.transform.Down.{Down}
-use Rattle.sb_base.specs.pipeline.declared.transform.Step.{Step}
-use Rattle.sb_base.specs.pipeline.Shapes.{Shape}
-use Rattle.sb_base.specs.pipeline.Flow.{Sent, arrivals_at, sent_from, from_streams, flow}
-use Rattle.sb_base.specs.records.Elements.{on_lane}
-use Rattle.sb_base.specs.SumLemmas.{IsReordered, sum_by-map}
+use Rattle.sb_containers.specs.base.records.declared.item.Record.{Record}
+use Rattle.sb_containers.specs.base.records.declared.element.KeptRec.{KeptRec}
+use Rattle.sb_containers.specs.base.records.declared.item.Stream.{Stream}
+use Rattle.sb_containers.specs.base.pipeline.declared.transform.Down.{Down}
+use Rattle.sb_containers.specs.base.pipeline.declared.transform.Step.{Step}
+use Rattle.sb_containers.specs.base.pipeline.Shapes.{Shape}
+use Rattle.sb_containers.specs.base.pipeline.Flow.{Sent, arrivals_at, sent_from, from_streams, flow}
+use Rattle.sb_containers.specs.base.records.Elements.{on_lane}
+use Rattle.sb_containers.specs.base.SumLemmas.{IsReordered, sum_by-map}
 
 -- what one list on its way brings to a node
 abbrev pub brought : ℕ → Sent → List KeptRec

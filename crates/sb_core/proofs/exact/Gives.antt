@@ -1,33 +1,34 @@
 -- What a node gives, where its state changes.
-use Rattle.sb_base.specs.NumberLemmas.{bind_some}
+use Rattle.sb_containers.specs.base.NumberLemmas.{bind_some}
 use Rattle.std.proofs.Common.{◌≡◌, ℕ, ◌+◌, true, false, not, cond, eqb, ltb, List, [], ◌∷◌, ◌++◌, Some, sym, refl, ap, ◌∙◌, arith, add_assoc}
 use Rattle.std.specs.Prelude.{◌&&◌}
 use Rattle.std.specs.List.{flat_map, sum_by, slice_get}
 use Rattle.std.proofs.lemmas.List.Sums.{sum_by-append}
 use Rattle.std.proofs.lemmas.List.Concat.{flat_map-append}
 use Rattle.std.proofs.lemmas.Option.{same_Some}
-use Rattle.sb_base.specs.records.declared.item.Record.{Record}
-use Rattle.sb_base.specs.records.declared.element.KeptRec.{KeptRec}
+use Rattle.sb_containers.specs.base.records.declared.item.Record.{Record}
+use Rattle.sb_containers.specs.base.records.declared.element.KeptRec.{KeptRec}
 use Rattle.sb_core.specs.declared.moment.Node.{Node}
 use Rattle.sb_core.specs.declared.held.Held.{Held}
-use Rattle.sb_base.specs.pipeline.declared.transform.Down.{Down}
+use Rattle.sb_containers.specs.base.pipeline.declared.transform.Down.{Down}
 use Rattle.sb_core.specs.declared.held.Held.TheVariants.{Work}
-use Rattle.sb_base.specs.pipeline.Shapes.{Shape}
+use Rattle.sb_containers.specs.base.pipeline.Shapes.{Shape}
 use Rattle.sb_core.specs.declared.moment.Moment.{Moment}
-use Rattle.sb_core.specs.declared.moment.CoreLane.{CoreLane}
-use Rattle.sb_base.specs.records.Records.{at_least}
-use Rattle.sb_base.specs.pipeline.Operators.{Operator, operator_at, operator_rows}
-use Rattle.sb_base.specs.pardo.Outputs.{outputs_of}
-use Rattle.sb_base.specs.records.Elements.{on_lane, all_records}
-use Rattle.sb_base.specs.pipeline.Operators.Operator.{ParDo, Windowed, Sink}
-use Rattle.sb_core.specs.Marks.{least_begun_mark}
+use Rattle.sb_containers.specs.declared.container.CoreLane.{CoreLane}
+use Rattle.sb_containers.specs.base.records.Records.{at_least}
+use Rattle.sb_containers.specs.base.pipeline.Operators.{Operator, operator_at, operator_rows}
+use Rattle.sb_containers.specs.base.pardo.Outputs.{outputs_of}
+use Rattle.sb_containers.specs.base.records.Elements.{on_lane, all_records}
+use Rattle.sb_containers.specs.base.pipeline.Operators.Operator.{ParDo, Windowed, Sink}
+use Rattle.sb_containers.specs.Marks.{least_begun_mark}
 use Rattle.sb_core.specs.Closings.{is_sink}
 use Rattle.sb_core.specs.Moments.{lane_at, with_lane, set_lane, set_node, with_held, node_at}
 use Rattle.sb_core.specs.Exactness.{waiting_in, waiting_from, work_in, rows_left_in, rest, gives_by, gives}
-use Rattle.sb_base.specs.SumLemmas.{IsReordered, IsReordered-map, IsReordered-flat_map, IsReordered-filter}
+use Rattle.sb_containers.specs.base.SumLemmas.{IsReordered, IsReordered-map, IsReordered-flat_map, IsReordered-filter}
 use Rattle.sb_core.proofs.exact.Flow.{brought}
 use Rattle.sb_core.proofs.windows.Groupings.{grouped-order}
-use Rattle.sb_core.proofs.exact.Nodes.{begun_mark, waiting-changed, kept-changed, closed-changed}
+use Rattle.sb_core.proofs.exact.Nodes.{waiting-changed, kept-changed, closed-changed}
+use Rattle.sb_containers.proofs.Begun.{begun_mark}
 
 pub sum_by-rest : (f : KeptRec → ℕ) (k : ℕ) (node : Node) (held : List Held) (es : List KeptRec)
     → sum_by f (rest k node held es) ≡ (sum_by f (waiting_from 0 node.lanes) + sum_by f (flat_map (work_in k) held)) + sum_by f es

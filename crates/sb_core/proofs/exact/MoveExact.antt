@@ -5,28 +5,29 @@ use Rattle.std.specs.List.{flat_map, sum_by, slice_get}
 use Rattle.std.proofs.lemmas.Bool.{eq-eqb, ne_eqb, cases_eq, lt-ltb, le-ltb, cases_lt}
 use Rattle.std.proofs.lemmas.List.Sums.{sum_by-append, sum_by-take-drop}
 use Rattle.std.proofs.lemmas.List.Concat.{flat_map-append}
-use Rattle.sb_base.specs.records.declared.item.Record.{Record}
-use Rattle.sb_base.specs.records.declared.element.KeptRec.{KeptRec}
-use Rattle.sb_base.specs.pardo.declared.operation.Op.{Op}
+use Rattle.sb_containers.specs.base.records.declared.item.Record.{Record}
+use Rattle.sb_containers.specs.base.records.declared.element.KeptRec.{KeptRec}
+use Rattle.sb_containers.specs.base.pardo.declared.operation.Op.{Op}
 use Rattle.sb_core.specs.declared.moment.Node.{Node}
 use Rattle.sb_core.specs.declared.held.Held.{Held}
 use Rattle.sb_core.specs.declared.held.Held.TheVariants.{Work, Close}
-use Rattle.sb_base.specs.pipeline.declared.transform.Down.{Down}
-use Rattle.sb_base.specs.pipeline.Shapes.{Shape}
+use Rattle.sb_containers.specs.base.pipeline.declared.transform.Down.{Down}
+use Rattle.sb_containers.specs.base.pipeline.Shapes.{Shape}
 use Rattle.sb_core.specs.declared.moment.Moment.{Moment}
-use Rattle.sb_core.specs.declared.moment.CoreLane.{CoreLane}
-use Rattle.sb_base.specs.pipeline.Operators.{operator_at}
-use Rattle.sb_base.specs.pardo.Outputs.{outputs_of}
-use Rattle.sb_base.specs.records.Elements.{on_lane, all_records}
-use Rattle.sb_base.specs.pipeline.Operators.Operator.{ParDo}
+use Rattle.sb_containers.specs.declared.container.CoreLane.{CoreLane}
+use Rattle.sb_containers.specs.base.pipeline.Operators.{operator_at}
+use Rattle.sb_containers.specs.base.pardo.Outputs.{outputs_of}
+use Rattle.sb_containers.specs.base.records.Elements.{on_lane, all_records}
+use Rattle.sb_containers.specs.base.pipeline.Operators.Operator.{ParDo}
 use Rattle.sb_core.specs.Closings.{is_sink}
 use Rattle.sb_core.specs.Moments.{set_lane, set_node, with_held, node_at}
-use Rattle.sb_core.specs.Lanes.{with_arrival, with_seal, with_bundle, next_epoch, next_floor}
+use Rattle.sb_containers.specs.Lanes.{with_arrival, with_seal, with_bundle, next_epoch, next_floor}
 use Rattle.sb_core.specs.Exactness.{waiting_in, waiting_from, work_in, rows_left_in, rest, gives, gives_by}
-use Rattle.sb_base.specs.SumLemmas.{IsReordered, IsReordered-map, IsReordered-flat_map}
+use Rattle.sb_containers.specs.base.SumLemmas.{IsReordered, IsReordered-map, IsReordered-flat_map}
 use Rattle.sb_core.proofs.exact.Flow.{brought, sum_by-brought, in_flight, extra}
-use Rattle.sb_core.proofs.containers.Lists.{waiting-in_epoch, waiting-with_bundle}
-use Rattle.sb_core.proofs.exact.Nodes.{begun_mark, node_at-set_other}
+use Rattle.sb_containers.proofs.Lists.{waiting-in_epoch, waiting-with_bundle}
+use Rattle.sb_core.proofs.exact.Nodes.{node_at-set_other}
+use Rattle.sb_containers.proofs.Begun.{begun_mark}
 use Rattle.sb_core.proofs.windows.Groupings.{all_records-append, all_records-on_lane}
 use Rattle.sb_core.proofs.exact.Gives.{sum_by-rest, lane-gives, sum_by-held_push}
 

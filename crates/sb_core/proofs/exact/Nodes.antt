@@ -6,21 +6,18 @@ use Rattle.std.proofs.lemmas.List.{get_or-set_same, get_or-set_other}
 use Rattle.std.proofs.lemmas.List.Sums.{sum_by-append, sum_by-set}
 use Rattle.std.proofs.lemmas.Option.{slice_get_within, get_or_from_slice_get}
 use Rattle.std.proofs.lemmas.Bool.{eq-eqb, ne_eqb, cases_eq}
-use Rattle.sb_base.specs.records.declared.element.KeptRec.{KeptRec}
-use Rattle.sb_base.specs.pipeline.declared.transform.Down.{Down}
-use Rattle.sb_core.specs.declared.moment.CoreLane.{CoreLane}
+use Rattle.sb_containers.specs.base.records.declared.element.KeptRec.{KeptRec}
+use Rattle.sb_containers.specs.base.pipeline.declared.transform.Down.{Down}
+use Rattle.sb_containers.specs.declared.container.CoreLane.{CoreLane}
 use Rattle.sb_core.specs.declared.moment.Node.{Node}
 use Rattle.sb_core.specs.declared.moment.Moment.{Moment}
-use Rattle.sb_base.specs.records.Elements.{on_lane}
-use Rattle.sb_base.specs.records.Reading.{◌>>=◌}
-use Rattle.sb_core.specs.Marks.{begun_count, last_of_first, least_begun_mark}
+use Rattle.sb_containers.specs.base.records.Elements.{on_lane}
+use Rattle.sb_containers.specs.base.records.Reading.{◌>>=◌}
+use Rattle.sb_containers.specs.Marks.{least_begun_mark}
 use Rattle.sb_core.specs.Moments.{set_lane, set_node, lane_at, no_node, node_at}
 use Rattle.sb_core.specs.Exactness.{waiting_in, waiting_from}
 use Rattle.sb_core.proofs.exact.Flow.{brought}
-
--- the mark of the last epoch that has begun to close, or 0
-abbrev pub begun_mark : CoreLane → ℕ
-begun_mark lane = last_of_first (begun_count lane) lane.marks
+use Rattle.sb_containers.proofs.Begun.{begun_mark}
 
 -- one lane of many is another
 pub sum_by-waiting_set : (f : KeptRec → ℕ) (i : ℕ) (lanes : List CoreLane) (l : ℕ) (lane with : CoreLane) → slice_get lanes l ≡ Some lane

@@ -1,28 +1,28 @@
 -- A bundle is taken: each node gives what it gave.
-use Rattle.sb_base.specs.NumberLemmas.{bind_some}
+use Rattle.sb_containers.specs.base.NumberLemmas.{bind_some}
 use Rattle.std.proofs.Common.{◌≡◌, ℕ, ◌+◌, Bool, true, false, cond, eqb, List, [], ◌∷◌, ◌++◌, Some, Option, sym, refl, ap, subst, ◌∙◌, arith}
 use Rattle.std.specs.List.{flat_map, sum_by, list_any}
 use Rattle.std.proofs.lemmas.Option.{same_Some}
-use Rattle.sb_base.specs.records.declared.element.KeptRec.{KeptRec}
+use Rattle.sb_containers.specs.base.records.declared.element.KeptRec.{KeptRec}
 use Rattle.sb_core.specs.declared.held.Held.{Held}
 use Rattle.sb_core.specs.declared.held.Held.TheVariants.{Work}
-use Rattle.sb_base.specs.pipeline.declared.transform.Down.{Down}
-use Rattle.sb_base.specs.pipeline.Shapes.{Shape}
+use Rattle.sb_containers.specs.base.pipeline.declared.transform.Down.{Down}
+use Rattle.sb_containers.specs.base.pipeline.Shapes.{Shape}
 use Rattle.sb_core.specs.declared.moment.Moment.{Moment}
-use Rattle.sb_core.specs.declared.moment.Cont.{Cont}
-use Rattle.sb_base.specs.bundle.declared.bundle.Bundle.{Bundle}
-use Rattle.sb_core.specs.declared.moment.CoreLane.{CoreLane}
-use Rattle.sb_base.specs.records.Reading.{◌>>=◌}
+use Rattle.sb_containers.specs.declared.container.Cont.{Cont}
+use Rattle.sb_containers.specs.base.bundle.declared.bundle.Bundle.{Bundle}
+use Rattle.sb_containers.specs.declared.container.CoreLane.{CoreLane}
+use Rattle.sb_containers.specs.base.records.Reading.{◌>>=◌}
 use Rattle.sb_core.specs.Moments.{lane_at, with_held}
-use Rattle.sb_core.specs.Lanes.{take_from}
+use Rattle.sb_containers.specs.Lanes.{take_from}
 use Rattle.sb_core.specs.MomentSteps.{after_take}
-use Rattle.sb_core.specs.Marks.{last_of_first, first_is_closing}
-use Rattle.sb_core.specs.Choices.{first_and_rest}
+use Rattle.sb_containers.specs.Marks.{last_of_first, first_is_closing}
+use Rattle.sb_containers.specs.Choices.{first_and_rest}
 use Rattle.sb_core.specs.Exactness.{waiting_in, work_in, rows_left_in, gives}
-use Rattle.sb_base.specs.SumLemmas.{IsReordered}
+use Rattle.sb_containers.specs.base.SumLemmas.{IsReordered}
 use Rattle.sb_core.proofs.exact.Flow.{brought, sum_by-brought}
-use Rattle.sb_core.proofs.containers.Lists.{waiting-take_from}
-use Rattle.sb_core.proofs.exact.Nodes.{begun_mark}
+use Rattle.sb_containers.proofs.Lists.{waiting-take_from}
+use Rattle.sb_containers.proofs.Begun.{begun_mark}
 use Rattle.sb_core.proofs.exact.Gives.{lane-gives, lane_at-parts, with_lane-is, working_is, sum_by-held_push}
 
 take_from-closing : (number : ℕ) (cs : List Cont) (q : Bundle × List Cont) → take_from number cs ≡ Some q → first_is_closing q.1 ≡ first_is_closing cs

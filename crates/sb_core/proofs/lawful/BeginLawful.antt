@@ -1,7 +1,7 @@
 -- A closing begins: the moment stays lawful.
-use Rattle.sb_base.specs.ElementLemmas.{All-passed}
-use Rattle.sb_base.specs.EarlierLemmas.{at_least-high}
-use Rattle.sb_base.specs.SortingLemmas.{All-in_order}
+use Rattle.sb_containers.specs.base.ElementLemmas.{All-passed}
+use Rattle.sb_containers.specs.base.EarlierLemmas.{at_least-high}
+use Rattle.sb_containers.specs.base.SortingLemmas.{All-in_order}
 use Rattle.std.proofs.Common.{◌≡◌, ℕ, suc, zero, ◌+◌, ◌≤◌, ◌<◌, Bool, true, false, not, cond, eqb, List, [], ◌∷◌, ◌++◌, length, drop, Some, Option, sym, refl, ap, subst, ◌∙◌, arith, ⊎_elim, length-drop, set as slice_set, length-set}
 use Rattle.std.specs.Prelude.{◌&&◌, ◌||◌, ◌≢◌, ◌⊎◌, count_by, sum_by, nat_lt, is_some}
 use Rattle.std.specs.List.{slice_get, list_any, AllByRecursion}
@@ -10,40 +10,40 @@ use Rattle.std.proofs.lemmas.List.Sums.{sum_by-append}
 use Rattle.std.proofs.lemmas.List.Folds.{list_any-append}
 use Rattle.std.proofs.Math.Bool.{or-true}
 use Rattle.std.proofs.lemmas.Option.{same_Some}
-use Rattle.sb_base.specs.records.declared.item.Record.{Record}
-use Rattle.sb_core.specs.declared.moment.Cont.{Cont}
-use Rattle.sb_core.specs.declared.moment.CoreLane.{CoreLane}
-use Rattle.sb_base.specs.pipeline.declared.transform.Down.{Down}
+use Rattle.sb_containers.specs.base.records.declared.item.Record.{Record}
+use Rattle.sb_containers.specs.declared.container.Cont.{Cont}
+use Rattle.sb_containers.specs.declared.container.CoreLane.{CoreLane}
+use Rattle.sb_containers.specs.base.pipeline.declared.transform.Down.{Down}
 use Rattle.sb_core.specs.declared.moment.Node.{Node}
-use Rattle.sb_base.specs.pipeline.declared.transform.Step.{Step}
-use Rattle.sb_base.specs.pipeline.Shapes.{Shape}
+use Rattle.sb_containers.specs.base.pipeline.declared.transform.Step.{Step}
+use Rattle.sb_containers.specs.base.pipeline.Shapes.{Shape}
 use Rattle.sb_core.specs.declared.moment.Moment.{Moment}
 use Rattle.sb_core.specs.declared.held.Held.{Held}
 use Rattle.sb_core.specs.declared.held.Held.TheVariants.{Work, Close}
-use Rattle.sb_base.specs.records.declared.element.KeptRec.{KeptRec}
-use Rattle.sb_base.specs.records.Records.{record_cmp, before, at_least}
-use Rattle.sb_base.specs.pipeline.Operators.{Operator, operator_at, operator_rows}
-use Rattle.sb_base.specs.pipeline.Operators.Operator.{ParDo, Windowed, Sink}
-use Rattle.sb_base.specs.records.Reading.{◌>>=◌}
-use Rattle.sb_base.specs.SumLemmas.{any_by_count}
-use Rattle.sb_base.specs.window.declared.windows.TheConstants.{MAX_SIZE}
-use Rattle.sb_core.specs.Marks.{begun_count, least_begun_mark, last_of_first, first_is_closing}
-use Rattle.sb_core.specs.Lanes.{closable, with_first_closing}
-use Rattle.sb_core.specs.Choices.{is_empty}
+use Rattle.sb_containers.specs.base.records.declared.element.KeptRec.{KeptRec}
+use Rattle.sb_containers.specs.base.records.Records.{record_cmp, before, at_least}
+use Rattle.sb_containers.specs.base.pipeline.Operators.{Operator, operator_at, operator_rows}
+use Rattle.sb_containers.specs.base.pipeline.Operators.Operator.{ParDo, Windowed, Sink}
+use Rattle.sb_containers.specs.base.records.Reading.{◌>>=◌}
+use Rattle.sb_containers.specs.base.SumLemmas.{any_by_count}
+use Rattle.sb_containers.specs.base.window.declared.windows.TheConstants.{MAX_SIZE}
+use Rattle.sb_containers.specs.Marks.{begun_count, least_begun_mark, last_of_first, first_is_closing}
+use Rattle.sb_containers.specs.Lanes.{closable, with_first_closing}
+use Rattle.sb_containers.specs.Choices.{is_empty}
 use Rattle.sb_core.specs.Closings.{is_sink, rows_at}
 use Rattle.sb_core.specs.Moments.{is_close, is_close_of, lane_at, set_node, with_held, node_at, floor_of, floor_at, epoch_of, epoch_at}
-use Rattle.sb_core.specs.LaneOrder.{IsWithin, AreContainers, IsLane, cont_at}
+use Rattle.sb_containers.specs.LaneOrder.{IsWithin, AreContainers, IsLane, cont_at}
 use Rattle.sb_core.specs.Bounds.{bound_at}
 use Rattle.sb_core.specs.Holdings.{IsHeld, is_unpassed}
 use Rattle.sb_core.specs.Soundness.{IsSealedBelow}
 use Rattle.sb_core.proofs.sound.Orderly.{IsLawful}
-use Rattle.sb_core.proofs.containers.Lists.{cond_is_some, empty_is}
-use Rattle.sb_core.proofs.exact.Nodes.{begun_mark, lane_at-set, lane_at-cases, node_at-same, node_at-set_same, node_at-set_other, sum_by-set_get, lane_at-is, lane_at-there, of_each_node}
+use Rattle.sb_containers.proofs.Lists.{cond_is_some, empty_is}
+use Rattle.sb_core.proofs.exact.Nodes.{lane_at-set, lane_at-cases, node_at-same, node_at-set_same, node_at-set_other, sum_by-set_get, lane_at-is, lane_at-there, of_each_node}
+use Rattle.sb_containers.proofs.Begun.{begun_mark, last_of_first-rises}
 use Rattle.sb_core.proofs.sound.HeldLists.{All-last}
-use Rattle.sb_core.proofs.times.InTime.{last_of_first-rises}
 use Rattle.sb_core.proofs.exact.EventExact.{transform_is}
 use Rattle.sb_core.proofs.exact.BeginExact.{begun_lane, closing_mark, begun_node, new_close, after_beginning}
-use Rattle.sb_core.proofs.containers.LaneLaws.{same-bundles}
+use Rattle.sb_containers.proofs.LaneLaws.{same-bundles}
 use Rattle.sb_core.proofs.lawful.HeldStill.{beside}
 use Rattle.sb_core.proofs.lawful.Changed.{work_still}
 

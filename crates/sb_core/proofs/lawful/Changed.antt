@@ -1,29 +1,26 @@
 -- A lane changes and begins the same marks: what stays lawful.
-use Rattle.std.proofs.Common.{◌≡◌, ℕ, ◌≤◌, Bool, true, false, eqb, List, length, Some, sym, ap, subst, ◌∙◌, ⊎_elim, set as slice_set, length-set}
+use Rattle.std.proofs.Common.{◌≡◌, ℕ, ◌≤◌, Bool, true, false, List, length, Some, sym, ap, subst, ◌∙◌, ⊎_elim, set as slice_set, length-set}
 use Rattle.std.specs.Prelude.{◌⊎◌, count_by, sum_by}
 use Rattle.std.specs.List.{slice_get, list_any, AllByRecursion}
 use Rattle.std.proofs.lemmas.Option.{same_Some}
-use Rattle.sb_base.specs.records.declared.item.Record.{Record}
-use Rattle.sb_core.specs.declared.moment.Cont.{Cont}
-use Rattle.sb_core.specs.declared.moment.CoreLane.{CoreLane}
-use Rattle.sb_base.specs.pipeline.declared.transform.Down.{Down}
+use Rattle.sb_containers.specs.base.records.declared.item.Record.{Record}
+use Rattle.sb_containers.specs.declared.container.CoreLane.{CoreLane}
+use Rattle.sb_containers.specs.base.pipeline.declared.transform.Down.{Down}
 use Rattle.sb_core.specs.declared.moment.Node.{Node}
-use Rattle.sb_base.specs.pipeline.declared.transform.Step.{Step}
-use Rattle.sb_base.specs.pipeline.Shapes.{Shape}
+use Rattle.sb_containers.specs.base.pipeline.declared.transform.Step.{Step}
+use Rattle.sb_containers.specs.base.pipeline.Shapes.{Shape}
 use Rattle.sb_core.specs.declared.moment.Moment.{Moment}
 use Rattle.sb_core.specs.declared.held.Held.{Held}
-use Rattle.sb_core.specs.Marks.{begun_count, least_begun_mark, first_is_closing}
+use Rattle.sb_containers.specs.Marks.{begun_count, least_begun_mark, first_is_closing}
 use Rattle.sb_core.specs.Moments.{is_close, is_close_of, lane_at, set_node, with_held, node_at, floor_at, epoch_at}
-use Rattle.sb_core.specs.LaneOrder.{IsLane, cont_at}
+use Rattle.sb_containers.specs.LaneOrder.{IsLane, cont_at}
 use Rattle.sb_core.specs.Bounds.{bound_at}
 use Rattle.sb_core.specs.Holdings.{IsWork, IsClosing, IsHeld, is_unpassed}
 use Rattle.sb_core.specs.Soundness.{IsSealedBelow}
 use Rattle.sb_core.proofs.sound.Orderly.{IsLawful}
-use Rattle.sb_core.proofs.exact.Nodes.{begun_mark, closed-set, lane_at-cases, of_each_node, sum_by-set_at}
-
--- a container of the epoch, with the floor and the number out
-abbrev pub IsOutAt : ℕ → ℕ → ℕ → CoreLane → Type 0
-IsOutAt epoch floor number lane = (c : Cont) × (cont_at epoch lane.conts ≡ Some c) × (c.floor ≡ floor) × (list_any (λ n. eqb n number) c.out ≡ true)
+use Rattle.sb_core.proofs.exact.Nodes.{closed-set, lane_at-cases, of_each_node, sum_by-set_at}
+use Rattle.sb_containers.proofs.Begun.{begun_mark}
+use Rattle.sb_containers.proofs.Stays.{IsOutAt}
 
 module _ (plan : Shape) (m : Moment) (n l : ℕ) (node new : Node) (lane with : CoreLane) (at : slice_get m.nodes n ≡ Some node) (in_it : slice_get node.lanes l ≡ Some lane) (lanes : new.lanes ≡ slice_set node.lanes l with) (held : List Held) where
   abbrev now : Moment

@@ -1,35 +1,36 @@
 -- A bundle is delivered: the moment stays lawful.
-use Rattle.sb_base.specs.ElementLemmas.{every, All-flat_map}
+use Rattle.sb_containers.specs.base.ElementLemmas.{every, All-flat_map}
 use Rattle.std.proofs.Common.{eqb, ◌≡◌, ℕ, suc, zero, ◌+◌, ◌≤◌, ◌<◌, Bool, true, false, cond, List, [], ◌∷◌, ◌++◌, take, drop, Some, sym, refl, ap, subst, ◌∙◌, arith, zero-add, add-zero}
 use Rattle.std.specs.List.{flat_map, slice_get, AllByRecursion}
 use Rattle.std.proofs.lemmas.Bool.{eq-eqb, ne_eqb}
 use Rattle.std.proofs.lemmas.Option.{same_Some}
-use Rattle.sb_base.specs.records.declared.item.Record.{Record}
-use Rattle.sb_base.specs.pardo.declared.operation.Op.{Op}
-use Rattle.sb_base.specs.KeepingLemmas.{outputs_keep_time}
-use Rattle.sb_core.specs.declared.moment.CoreLane.{CoreLane}
-use Rattle.sb_base.specs.pipeline.declared.transform.Down.{Down}
+use Rattle.sb_containers.specs.base.records.declared.item.Record.{Record}
+use Rattle.sb_containers.specs.base.pardo.declared.operation.Op.{Op}
+use Rattle.sb_containers.specs.base.KeepingLemmas.{outputs_keep_time}
+use Rattle.sb_containers.specs.declared.container.CoreLane.{CoreLane}
+use Rattle.sb_containers.specs.base.pipeline.declared.transform.Down.{Down}
 use Rattle.sb_core.specs.declared.moment.Node.{Node}
-use Rattle.sb_base.specs.pipeline.Shapes.{Shape}
+use Rattle.sb_containers.specs.base.pipeline.Shapes.{Shape}
 use Rattle.sb_core.specs.declared.moment.Moment.{Moment}
 use Rattle.sb_core.specs.declared.held.Held.{Held}
 use Rattle.sb_core.specs.declared.held.Held.TheVariants.{Work, Close}
 use Rattle.sb_core.specs.Bounds.{above_from, bound_at}
-use Rattle.sb_base.specs.pardo.Outputs.{outputs_of}
-use Rattle.sb_base.specs.pipeline.Operators.{operator_at}
-use Rattle.sb_base.specs.pipeline.Plans.{IsPlan}
-use Rattle.sb_base.specs.pipeline.declared.transform.Step.{Step}
-use Rattle.sb_core.specs.Lanes.{next_epoch, next_floor, with_arrival}
+use Rattle.sb_containers.specs.base.pardo.Outputs.{outputs_of}
+use Rattle.sb_containers.specs.base.pipeline.Operators.{operator_at}
+use Rattle.sb_containers.specs.base.pipeline.Plans.{IsPlan}
+use Rattle.sb_containers.specs.base.pipeline.declared.transform.Step.{Step}
+use Rattle.sb_containers.specs.Lanes.{next_epoch, next_floor, with_arrival}
 use Rattle.sb_core.specs.Moments.{is_close, is_close_of, set_lane, set_node, with_held}
-use Rattle.sb_core.specs.LaneOrder.{IsWithin, IsLane}
-use Rattle.sb_core.proofs.containers.Fitting.{Fits}
+use Rattle.sb_containers.specs.LaneOrder.{IsWithin, IsLane}
+use Rattle.sb_containers.proofs.Fitting.{Fits}
 use Rattle.sb_core.specs.Closings.{is_pardo}
 use Rattle.sb_core.specs.Holdings.{IsWork, IsClosing, IsHeld, is_unpassed}
 use Rattle.sb_core.proofs.sound.Orderly.{IsLawful}
-use Rattle.sb_base.specs.SumLemmas.{IsReordered}
-use Rattle.sb_base.specs.window.declared.windows.TheConstants.{MAX_SIZE}
-use Rattle.sb_core.proofs.lawful.Frame.{IsKept, frame, holds_still}
-use Rattle.sb_core.proofs.lawful.ArriveLawful.{put-lane, put-kept, next_fits}
+use Rattle.sb_containers.specs.base.SumLemmas.{IsReordered}
+use Rattle.sb_containers.specs.base.window.declared.windows.TheConstants.{MAX_SIZE}
+use Rattle.sb_core.proofs.lawful.Frame.{frame, holds_still}
+use Rattle.sb_containers.proofs.Stays.{IsKept}
+use Rattle.sb_containers.proofs.Arriving.{put-lane, put-kept, next_fits}
 use Rattle.sb_core.proofs.sound.HeldLists.{any_swap, count_swap, All-last}
 use Rattle.sb_core.proofs.exact.Nodes.{lane_at-is}
 use Rattle.sb_core.proofs.lawful.HeldStill.{goes-on}

@@ -1,87 +1,33 @@
 -- A closing ends, a Work is finished: the moment stays lawful.
-use Rattle.std.proofs.Common.{◌≡◌, ℕ, suc, zero, ◌+◌, ◌≤◌, Bool, true, false, not, cond, eqb, List, [], ◌∷◌, length, drop, Some, sym, refl, ap, subst, ◌∙◌, arith, ⊎_elim, length-drop}
-use Rattle.std.specs.Prelude.{◌≢◌, ◌⊎◌, ◌&&◌, ◌||◌, count_by, slice_set}
-use Rattle.std.specs.List.{filter, slice_get, list_any, AllByRecursion}
-use Rattle.std.proofs.lemmas.Bool.{eq-eqb, ne_eqb, cases_eq, eqb-true, eqb-false}
+use Rattle.std.proofs.Common.{◌≡◌, ℕ, ◌+◌, ◌≤◌, Bool, true, false, cond, eqb, List, ◌∷◌, Some, sym, refl, ap, ◌∙◌, arith, ⊎_elim}
+use Rattle.std.specs.Prelude.{◌≢◌, ◌⊎◌, ◌&&◌, count_by, slice_set}
+use Rattle.std.specs.List.{slice_get, list_any, AllByRecursion}
+use Rattle.std.proofs.lemmas.Bool.{eq-eqb, ne_eqb, cases_eq, eqb-false}
 use Rattle.std.proofs.Math.Bool.{and-false}
 use Rattle.std.proofs.lemmas.Option.{same_Some}
-use Rattle.sb_base.specs.records.declared.item.Record.{Record}
-use Rattle.sb_core.specs.declared.moment.Cont.{Cont}
-use Rattle.sb_core.specs.declared.moment.CoreLane.{CoreLane}
-use Rattle.sb_base.specs.pipeline.declared.transform.Down.{Down}
+use Rattle.sb_containers.specs.base.records.declared.item.Record.{Record}
+use Rattle.sb_containers.specs.declared.container.CoreLane.{CoreLane}
+use Rattle.sb_containers.specs.base.pipeline.declared.transform.Down.{Down}
 use Rattle.sb_core.specs.declared.moment.Node.{Node}
-use Rattle.sb_base.specs.pipeline.Shapes.{Shape}
+use Rattle.sb_containers.specs.base.pipeline.Shapes.{Shape}
 use Rattle.sb_core.specs.declared.moment.Moment.{Moment}
 use Rattle.sb_core.specs.declared.held.Held.{Held}
 use Rattle.sb_core.specs.declared.held.Held.TheVariants.{Work, Close}
-use Rattle.sb_core.specs.Marks.{begun_count, first_is_closing, last_of_first}
-use Rattle.sb_core.specs.Lanes.{finish_in}
+use Rattle.sb_containers.specs.Marks.{begun_count, first_is_closing, last_of_first}
+use Rattle.sb_containers.specs.Lanes.{finish_in}
 use Rattle.sb_core.specs.Moments.{is_work, is_close, is_close_of, lane_at, set_lane, set_node, with_held, floor_of, floor_at, epoch_of, epoch_at}
-use Rattle.sb_core.specs.LaneOrder.{AreContainers, IsLane, IsReady, cont_at}
+use Rattle.sb_containers.specs.LaneOrder.{IsLane}
 use Rattle.sb_core.specs.Bounds.{bound_at}
 use Rattle.sb_core.specs.Holdings.{IsHeld, is_unpassed}
 use Rattle.sb_core.proofs.sound.Orderly.{IsLawful}
-use Rattle.sb_base.specs.SumLemmas.{IsReordered}
-use Rattle.sb_core.proofs.containers.LaneLaws.{DifferInBundles, containers-differ, finish_in-differ}
-use Rattle.sb_core.proofs.exact.Nodes.{begun_mark, lane_at-is, lane_at-cases, lane_at-there}
-use Rattle.sb_core.proofs.times.InTime.{next_mark, out_behind}
-use Rattle.sb_core.proofs.containers.InEpoch.{tail_calm, ready_calm}
-use Rattle.sb_core.proofs.lawful.TakeLawful.{differ-closing, differ-tail}
+use Rattle.sb_containers.specs.base.SumLemmas.{IsReordered}
+use Rattle.sb_containers.proofs.LaneLaws.{DifferInBundles, containers-differ, finish_in-differ}
+use Rattle.sb_core.proofs.exact.Nodes.{lane_at-is, lane_at-cases, lane_at-there}
+use Rattle.sb_containers.proofs.Begun.{begun_mark}
+use Rattle.sb_containers.proofs.Taking.{differ-closing, differ-tail, finish-ready, finish-out}
 use Rattle.sb_core.proofs.sound.HeldLists.{any_gone, count_gone, none_left, every_both}
-use Rattle.sb_core.proofs.lawful.Changed.{IsOutAt, work_still, close_still, below_still, lawful_still}
-
--- ---- the lane without its first container
-abbrev pub shorter : CoreLane → CoreLane
-shorter lane = record lane { conts = drop 1 lane.conts; ended = lane.ended + 1 }
-
-calm_first : (cs : List Cont) → AllByRecursion (λ c. c.closing ≡ false) cs → first_is_closing cs ≡ false
-calm_first [] all = refl
-calm_first (c ∷ cs) all = all.0
-
-module _ (bound : ℕ) (lane : CoreLane) (ok : IsLane bound lane) (closing : first_is_closing lane.conts ≡ true) where
-  pub end-calm : first_is_closing (shorter lane).conts ≡ false
-  end-calm = calm_first (drop 1 lane.conts) ok.others
-
-  pub end-begun : begun_count (shorter lane) ≡ begun_count lane
-  end-begun = ap (λ b. cond b (lane.ended + 1 + 1) (lane.ended + 1)) end-calm ∙ sym (ap (λ b. cond b (lane.ended + 1) lane.ended) closing)
-
-  pub end-mark : begun_mark (shorter lane) ≡ begun_mark lane
-  end-mark = ap (λ n. last_of_first n lane.marks) end-begun
-
-  pub end-lane : IsLane bound (shorter lane)
-  end-lane = go lane.conts refl (drop lane.ended lane.marks) refl ok.containers closing
-    where
-      go : (cs : List Cont) → lane.conts ≡ cs → (ms : List ℕ) → drop lane.ended lane.marks ≡ ms → AreContainers bound lane.ended (last_of_first lane.ended lane.marks) ms cs → first_is_closing cs ≡ true → IsLane bound (shorter lane)
-      go [] e ms em are c = cc
-      go (x ∷ cs) e [] em are c = let k : false ≡ true = sym are.0.not_closing ∙ c in cc
-      go (x ∷ cs) e (m ∷ ms) em are c =
-          let long : length (drop lane.ended lane.marks) ≡ suc (length ms) = ap length em in
-          record {
-            ended_in = omega (arith, length-drop lane.ended lane.marks);
-            rising = ok.rising;
-            containers = subst (λ l. AreContainers bound (lane.ended + 1) (last_of_first (lane.ended + 1) lane.marks) (drop (lane.ended + 1) lane.marks) (drop 1 l)) (sym e)
-                (subst (λ n. AreContainers bound (lane.ended + 1) n (drop (lane.ended + 1) lane.marks) cs) (sym (next_mark bound lane ok m ms em))
-                (subst (λ l. AreContainers bound (lane.ended + 1) m l cs) (sym (ap (λ n. drop n lane.marks) (one_more lane.ended) ∙ drop_more lane.ended lane.marks m ms em)) are.1));
-            ready = ready_calm (drop 1 lane.conts) ok.others;
-            others = tail_calm (drop 1 lane.conts) ok.others;
-          }
-        where
-          one_more : (n : ℕ) → n + 1 ≡ suc n
-          one_more n = omega arith
-
-          drop_more : (n : ℕ) (l : List ℕ) (m : ℕ) (ms : List ℕ) → drop n l ≡ m ∷ ms → drop (suc n) l ≡ ms
-          drop_more zero [] m ms e = cc
-          drop_more zero (x ∷ l) m ms e = cc
-          drop_more (suc n) [] m ms e = cc
-          drop_more (suc n) (x ∷ l) m ms e = drop_more n l m ms e
-
-  -- what is out is not of the container that goes
-  pub end-out : (epoch floor number : ℕ) → IsOutAt epoch floor number lane → IsOutAt epoch floor number (shorter lane)
-  end-out epoch floor number o = go lane.conts ok.ready closing o.1
-    where
-      go : (cs : List Cont) → IsReady cs → first_is_closing cs ≡ true → cont_at epoch cs ≡ Some o.0 → (c : Cont) × (cont_at epoch (drop 1 cs) ≡ Some c) × (c.floor ≡ floor) × (list_any (λ n. eqb n number) c.out ≡ true)
-      go [] ready c h = cc
-      go (x ∷ cs) ready c h = (o.0, out_behind epoch number o.0 x cs o.3 (ready c).1 h, o.2, o.3)
+use Rattle.sb_core.proofs.lawful.Changed.{work_still, close_still, below_still, lawful_still}
+use Rattle.sb_containers.proofs.Ending.{shorter, end-calm, end-begun, end-mark, end-lane, end-out}
 
 -- ---- a closing ends
 pub end-lawful : (plan : Shape) (m : Moment) (node : Node) (lane : CoreLane) (y l epoch serial floor mark : ℕ) (rows : List Record) (others : List Held)
@@ -149,51 +95,6 @@ end-lawful plan m node lane y l epoch serial floor mark rows others at in_it law
 
         and_right : d.lane ≢ l → (eqb y d.node && eqb l d.lane) ≡ false
         and_right ne = ap (λ b. eqb y d.node && b) (ne_eqb l d.lane (λ e. ne (sym e))) ∙ and-false (eqb y d.node)
-
--- ---- a Work is finished
-finish-ready : (epoch number : ℕ) (cs : List Cont) → IsReady cs → IsReady (finish_in epoch number cs)
-finish-ready epoch number [] ready = tt
-finish-ready epoch number (c ∷ cs) ready = one (eqb c.epoch epoch)
-  where
-    one : (b : Bool) → IsReady (cond b (record c { out = filter (λ n. not (eqb n number)) c.out }) c ∷ finish_in epoch number cs)
-    one true = λ h. ((ready h).0, ap (filter (λ n. not (eqb n number))) (ready h).1)
-    one false = ready
-
--- another number stays out
-finish-out : (epoch number at floor other : ℕ) (cs : List Cont) (c : Cont) → other ≢ number → cont_at at cs ≡ Some c → c.floor ≡ floor → list_any (λ n. eqb n other) c.out ≡ true
-    → (d : Cont) × (cont_at at (finish_in epoch number cs) ≡ Some d) × (d.floor ≡ floor) × (list_any (λ n. eqb n other) d.out ≡ true)
-finish-out epoch number at floor other [] c ne h f out = cc
-finish-out epoch number at floor other (x ∷ cs) c ne h f out = one (eqb x.epoch epoch) h (λ k. finish-out epoch number at floor other cs c ne k f out)
-  where
-    still : (l : List ℕ) → list_any (λ n. eqb n other) l ≡ true → list_any (λ n. eqb n other) (filter (λ n. not (eqb n number)) l) ≡ true
-    still [] h = cc
-    still (n ∷ l) h = two (eqb n other) (eqb n number) refl refl h (λ k. still l k)
-      where
-        two : (a b : Bool) → eqb n other ≡ a → eqb n number ≡ b → (a || list_any (λ n. eqb n other) l) ≡ true → (list_any (λ n. eqb n other) l ≡ true → list_any (λ n. eqb n other) (filter (λ n. not (eqb n number)) l) ≡ true)
-            → list_any (λ n. eqb n other) (cond (not b) (n ∷ filter (λ n. not (eqb n number)) l) (filter (λ n. not (eqb n number)) l)) ≡ true
-        two true true p q h ih = absurd (ne (sym (eqb-true n other p) ∙ eqb-true n number q))
-        two true false p q h ih = ap (λ b. b || list_any (λ n. eqb n other) (filter (λ n. not (eqb n number)) l)) p
-        two false true p q h ih = ih h
-        two false false p q h ih = ap (λ b. b || list_any (λ n. eqb n other) (filter (λ n. not (eqb n number)) l)) p ∙ ih h
-
-    one : (a : Bool) → cond (eqb x.epoch at) (Some x) (cont_at at cs) ≡ Some c
-        → (cont_at at cs ≡ Some c → (d : Cont) × (cont_at at (finish_in epoch number cs) ≡ Some d) × (d.floor ≡ floor) × (list_any (λ n. eqb n other) d.out ≡ true))
-        → (d : Cont) × (cont_at at (cond a (record x { out = filter (λ n. not (eqb n number)) x.out }) x ∷ finish_in epoch number cs) ≡ Some d) × (d.floor ≡ floor) × (list_any (λ n. eqb n other) d.out ≡ true)
-    one a h ih = both a
-      where
-        pick_true : (b : Bool) → cond b (Some x) (cont_at at cs) ≡ Some c
-            → (d : Cont) × (cond b (Some (record x { out = filter (λ n. not (eqb n number)) x.out })) (cont_at at (finish_in epoch number cs)) ≡ Some d) × (d.floor ≡ floor) × (list_any (λ n. eqb n other) d.out ≡ true)
-        pick_true true h = let k : x ≡ c = same_Some x c h in (record x { out = filter (λ n. not (eqb n number)) x.out }, refl, ap (λ (c : Cont). c.floor) k ∙ f, still x.out (subst (λ (c : Cont). list_any (λ n. eqb n other) c.out ≡ true) (sym k) out))
-        pick_true false h = ih h
-
-        pick_false : (b : Bool) → cond b (Some x) (cont_at at cs) ≡ Some c
-            → (d : Cont) × (cond b (Some x) (cont_at at (finish_in epoch number cs)) ≡ Some d) × (d.floor ≡ floor) × (list_any (λ n. eqb n other) d.out ≡ true)
-        pick_false true h = let k : x ≡ c = same_Some x c h in (x, refl, ap (λ (c : Cont). c.floor) k ∙ f, subst (λ (c : Cont). list_any (λ n. eqb n other) c.out ≡ true) (sym k) out)
-        pick_false false h = ih h
-
-        both : (a : Bool) → (d : Cont) × (cont_at at (cond a (record x { out = filter (λ n. not (eqb n number)) x.out }) x ∷ finish_in epoch number cs) ≡ Some d) × (d.floor ≡ floor) × (list_any (λ n. eqb n other) d.out ≡ true)
-        both true = pick_true (eqb x.epoch at) h
-        both false = pick_false (eqb x.epoch at) h
 
 pub finish-lawful : (plan : Shape) (m : Moment) (node new : Node) (lane : CoreLane) (k l epoch floor number : ℕ) (records : List Record) (delivered : Bool) (others : List Held)
     → slice_get m.nodes k ≡ Some node → slice_get node.lanes l ≡ Some lane → new.lanes ≡ slice_set node.lanes l (record lane { conts = finish_in epoch number lane.conts }) → new.closings ≡ node.closings

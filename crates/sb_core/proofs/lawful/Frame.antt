@@ -1,39 +1,24 @@
 -- A lane changes in its bundles alone, so it begins the same marks: what stays lawful.
-use Rattle.std.proofs.Common.{◌≡◌, ℕ, ◌+◌, ◌-◌, ◌≤◌, true, cond, eqb, List, length, Some, sym, refl, ap, ◌∙◌, arith, ⊎_elim, get_or}
+use Rattle.std.proofs.Common.{◌≡◌, ℕ, ◌-◌, ◌≤◌, List, length, Some, sym, refl, ap, ◌∙◌, arith, ⊎_elim, get_or}
 use Rattle.std.specs.Prelude.{◌⊎◌, count_by}
 use Rattle.std.specs.List.{slice_get, list_any, AllByRecursion}
 use Rattle.std.proofs.lemmas.Option.{same_Some}
-use Rattle.sb_core.specs.declared.moment.Cont.{Cont}
-use Rattle.sb_core.specs.declared.moment.CoreLane.{CoreLane}
-use Rattle.sb_base.specs.pipeline.declared.transform.Down.{Down}
+use Rattle.sb_containers.specs.declared.container.CoreLane.{CoreLane}
+use Rattle.sb_containers.specs.base.pipeline.declared.transform.Down.{Down}
 use Rattle.sb_core.specs.declared.moment.Node.{Node}
-use Rattle.sb_base.specs.pipeline.Shapes.{Shape}
+use Rattle.sb_containers.specs.base.pipeline.Shapes.{Shape}
 use Rattle.sb_core.specs.declared.moment.Moment.{Moment}
 use Rattle.sb_core.specs.declared.held.Held.{Held}
 use Rattle.sb_core.specs.declared.held.Held.TheVariants.{Work, Close}
-use Rattle.sb_core.specs.Marks.{begun_count, last_of_first, first_is_closing}
+use Rattle.sb_containers.specs.Marks.{first_is_closing}
 use Rattle.sb_core.specs.Moments.{is_close, is_close_of, set_lane, set_node, with_held, floor_of, floor_at, epoch_of, epoch_at}
-use Rattle.sb_core.specs.LaneOrder.{IsLane, cont_at}
+use Rattle.sb_containers.specs.LaneOrder.{IsLane}
 use Rattle.sb_core.specs.Bounds.{bound_at}
 use Rattle.sb_core.specs.Holdings.{IsHeld, is_unpassed}
 use Rattle.sb_core.proofs.sound.Orderly.{IsLawful}
-use Rattle.sb_core.proofs.exact.Nodes.{begun_mark, lane_at-set, lane_at-cases}
+use Rattle.sb_core.proofs.exact.Nodes.{lane_at-set, lane_at-cases}
 use Rattle.sb_core.proofs.lawful.Changed.{work_still, close_still, below_still, lawful_still}
-
--- the lane has the same marks, ends and closing, and each bundle that was out of a container is out of it
-pub record IsKept (lane with : CoreLane) : Type 0 where
-  pub marks : with.marks ≡ lane.marks
-  pub ended : with.ended ≡ lane.ended
-  pub closing : first_is_closing with.conts ≡ first_is_closing lane.conts
-  pub out : (epoch number : ℕ) (c : Cont) → cont_at epoch lane.conts ≡ Some c → list_any (λ n. eqb n number) c.out ≡ true
-      → (d : Cont) × (cont_at epoch with.conts ≡ Some d) × (d.floor ≡ c.floor) × (list_any (λ n. eqb n number) d.out ≡ true)
-
--- so it begins the same marks
-pub begun-kept : {lane with : CoreLane} → IsKept lane with → begun_count with ≡ begun_count lane
-begun-kept kept = λ i. cond (kept.closing i) (kept.ended i + 1) (kept.ended i)
-
-pub mark-kept : {lane with : CoreLane} → IsKept lane with → begun_mark with ≡ begun_mark lane
-mark-kept kept = λ i. last_of_first (begun-kept kept i) (kept.marks i)
+use Rattle.sb_containers.proofs.Stays.{IsKept, begun-kept, mark-kept}
 
 module _ (plan : Shape) (m : Moment) (d : Down) (node : Node) (lane with : CoreLane) (at : slice_get m.nodes d.node ≡ Some node) (in_it : slice_get node.lanes d.lane ≡ Some lane) (kept : IsKept lane with) (held : List Held) where
   abbrev now : Moment

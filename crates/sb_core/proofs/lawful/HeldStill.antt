@@ -1,14 +1,14 @@
 -- What is held is as it was: where no lane changes, and of a Close where only its rows do.
 use Rattle.std.proofs.Common.{◌≡◌, ℕ, ◌+◌, ◌<◌, Bool, true, false, List, [], refl}
 use Rattle.std.specs.List.{AllByRecursion}
-use Rattle.sb_base.specs.records.declared.item.Record.{Record}
-use Rattle.sb_base.specs.window.declared.windows.TheConstants.{MAX_SIZE}
-use Rattle.sb_base.specs.pipeline.Shapes.{Shape}
+use Rattle.sb_containers.specs.base.records.declared.item.Record.{Record}
+use Rattle.sb_containers.specs.base.window.declared.windows.TheConstants.{MAX_SIZE}
+use Rattle.sb_containers.specs.base.pipeline.Shapes.{Shape}
 use Rattle.sb_core.specs.declared.moment.Moment.{Moment}
 use Rattle.sb_core.specs.declared.held.Held.{Held}
 use Rattle.sb_core.specs.declared.held.Held.TheVariants.{Work, Close}
 use Rattle.sb_core.specs.Bounds.{bound_at}
-use Rattle.sb_core.specs.LaneOrder.{IsWithin}
+use Rattle.sb_containers.specs.LaneOrder.{IsWithin}
 use Rattle.sb_core.specs.Holdings.{IsClosing, IsHeld}
 
 -- it does not see what else is held, nor the rows

@@ -1,89 +1,37 @@
 -- A lane is sealed: the moment stays lawful.
-use Rattle.sb_base.specs.ElementLemmas.{every}
-use Rattle.sb_base.specs.FeedingLemmas as Feeding
-use Rattle.std.proofs.Common.{◌≡◌, ℕ, suc, zero, ◌+◌, ◌-◌, ◌≤◌, Bool, true, false, not, cond, eqb, List, [], ◌∷◌, ◌++◌, length, drop, Some, sym, refl, ap, subst, ◌∙◌, arith, ⊎_elim, get_or, length-drop, length-append}
+use Rattle.sb_containers.specs.base.ElementLemmas.{every}
+use Rattle.sb_containers.specs.base.FeedingLemmas as Feeding
+use Rattle.std.proofs.Common.{◌≡◌, ℕ, ◌+◌, ◌-◌, ◌≤◌, Bool, true, false, not, List, [], ◌∷◌, ◌++◌, length, Some, sym, refl, ap, ◌∙◌, arith, ⊎_elim, length-append}
 use Rattle.std.specs.Prelude.{◌≢◌, ◌⊎◌, ◌&&◌, count_by}
 use Rattle.std.specs.List.{slice_get, list_any, AllByRecursion}
 use Rattle.std.proofs.lemmas.Bool.{eq-eqb, ne_eqb, cases_eq, eqb-false}
-use Rattle.std.proofs.lemmas.List.{get_or_append_left}
 use Rattle.std.proofs.lemmas.Option.{same_Some}
-use Rattle.sb_base.specs.records.declared.item.Record.{Record}
-use Rattle.sb_core.specs.declared.moment.Cont.{Cont}
-use Rattle.sb_core.specs.declared.moment.CoreLane.{CoreLane}
-use Rattle.sb_base.specs.pipeline.declared.transform.Down.{Down}
+use Rattle.sb_containers.specs.base.records.declared.item.Record.{Record}
+use Rattle.sb_containers.specs.declared.container.CoreLane.{CoreLane}
+use Rattle.sb_containers.specs.base.pipeline.declared.transform.Down.{Down}
 use Rattle.sb_core.specs.declared.moment.Node.{Node}
-use Rattle.sb_base.specs.pipeline.declared.transform.Step.{Step}
-use Rattle.sb_base.specs.pipeline.Shapes.{Shape}
+use Rattle.sb_containers.specs.base.pipeline.declared.transform.Step.{Step}
+use Rattle.sb_containers.specs.base.pipeline.Shapes.{Shape}
 use Rattle.sb_core.specs.declared.moment.Moment.{Moment}
 use Rattle.sb_core.specs.declared.held.Held.{Held}
 use Rattle.sb_core.specs.declared.held.Held.TheVariants.{Work, Close}
-use Rattle.sb_base.specs.pipeline.Plans.{IsPlan}
-use Rattle.sb_core.specs.Marks.{begun_count, least_begun_mark, first_is_closing, last_of_first}
-use Rattle.sb_core.specs.Lanes.{in_epoch, next_epoch, next_floor, with_seal}
+use Rattle.sb_containers.specs.base.pipeline.Plans.{IsPlan}
+use Rattle.sb_containers.specs.Marks.{begun_count, least_begun_mark, first_is_closing}
+use Rattle.sb_containers.specs.Lanes.{next_epoch, next_floor, with_seal}
 use Rattle.sb_core.specs.Moments.{is_close, is_close_of, lane_at, set_lane, set_node, with_held, node_at, floor_of, floor_at, epoch_of, epoch_at}
-use Rattle.sb_core.specs.LaneOrder.{NeverFalls, AreContainers, IsLane}
+use Rattle.sb_containers.specs.LaneOrder.{IsLane}
 use Rattle.sb_core.specs.Bounds.{bound_at}
 use Rattle.sb_core.specs.Holdings.{IsWork, IsClosing, IsHeld, is_unpassed}
 use Rattle.sb_core.specs.Soundness.{IsSealedBelow}
 use Rattle.sb_core.proofs.sound.Orderly.{IsLawful}
-use Rattle.sb_base.specs.SumLemmas.{IsReordered}
-use Rattle.sb_core.proofs.containers.LaneLaws.{last_from, MarkFits, containers-seal}
-use Rattle.sb_core.proofs.exact.Nodes.{begun_mark, lane_at-is, lane_at-cases, lane_at-there, lane_at-other}
-use Rattle.sb_core.proofs.containers.InEpoch.{containers_out, others_calm, still_ready}
-use Rattle.sb_core.proofs.lawful.ArriveLawful.{last-next_floor}
-use Rattle.sb_core.proofs.exact.EventExact.{calm, seal_calm, sealed_floor}
+use Rattle.sb_containers.specs.base.SumLemmas.{IsReordered}
+use Rattle.sb_containers.proofs.LaneLaws.{MarkFits}
+use Rattle.sb_core.proofs.exact.Nodes.{lane_at-is, lane_at-cases, lane_at-there, lane_at-other}
+use Rattle.sb_containers.proofs.Begun.{begun_mark}
+use Rattle.sb_containers.proofs.Sealing.{seal_calm, sealed_floor, seal-lane, seal-closing, seal-begun, seal-out}
 use Rattle.sb_core.proofs.sound.HeldLists.{any_same, any_swap, count_swap, none_left, every_both, All-last}
-use Rattle.sb_core.proofs.lawful.Changed.{IsOutAt, work_still, close_still, below_still, lawful_still}
+use Rattle.sb_core.proofs.lawful.Changed.{work_still, close_still, below_still, lawful_still}
 use Rattle.sb_core.proofs.lawful.HeldStill.{goes-on}
-
-falls-snoc : (low mark : ℕ) (ms : List ℕ) → NeverFalls low ms → last_from low ms ≤ mark → NeverFalls low (ms ++ mark ∷ [])
-falls-snoc low mark [] up h = (h, tt)
-falls-snoc low mark (m ∷ ms) up h = (up.0, falls-snoc m mark ms up.1 h)
-
-pub drop-snoc : (n mark : ℕ) (ms : List ℕ) → n ≤ length ms → drop n (ms ++ mark ∷ []) ≡ drop n ms ++ mark ∷ []
-drop-snoc zero mark ms h = refl
-drop-snoc (suc n) mark [] h = absurd (omega arith)
-drop-snoc (suc n) mark (m ∷ ms) h = drop-snoc n mark ms (omega arith)
-
-pub last_of_first-longer : (n mark : ℕ) (marks : List ℕ) → n ≤ length marks → last_of_first n (marks ++ mark ∷ []) ≡ last_of_first n marks
-last_of_first-longer n mark marks h = ⊎_elim
-    (λ e. ap (λ b. cond b 0 (get_or (marks ++ mark ∷ []) (n - 1) 0)) (eq-eqb n 0 e) ∙ sym (ap (λ b. cond b 0 (get_or marks (n - 1) 0)) (eq-eqb n 0 e)))
-    (λ ne. ap (cond (eqb n 0) 0) (get_or_append_left marks (mark ∷ []) 0 (n - 1) (omega arith)))
-    (cases_eq n 0)
-
--- where no container is of an epoch after the next one
-pub marks_fit : (mark next : ℕ) (cs : List Cont) → AllByRecursion (λ c. next ≤ c.epoch → c.epoch ≡ next) cs → MarkFits mark next cs
-marks_fit mark next = every (λ c h low. absurd (let k : c.epoch ≡ next = h (omega arith) in omega arith))
-
-module _ (bound mark : ℕ) (lane : CoreLane) (ok : IsLane bound lane) (up : next_floor lane ≤ mark) (fits : MarkFits mark (next_epoch lane) lane.conts) where
-  sealed_all : lane.ended + length (drop lane.ended lane.marks) ≡ next_epoch lane
-  sealed_all = omega (arith, length-drop lane.ended lane.marks, ok.ended_in)
-
-  low : last_from (last_of_first lane.ended lane.marks) (drop lane.ended lane.marks) ≡ next_floor lane
-  low = last-next_floor lane ok.ended_in
-
-  pub seal-lane : IsLane bound (with_seal mark lane)
-  seal-lane =
-      record {
-        ended_in = omega (arith, length-append lane.marks (mark ∷ []), ok.ended_in);
-        rising = falls-snoc 0 mark lane.marks ok.rising (subst (λ n. n ≤ mark) (sym (last-next_floor (record lane { ended = 0 }) (omega arith))) up);
-        containers = subst (λ n. AreContainers bound lane.ended n (drop lane.ended (lane.marks ++ mark ∷ [])) (in_epoch (next_epoch lane) (next_floor lane) (λ c. record c { mark = Some mark }) lane.conts)) (sym (last_of_first-longer lane.ended mark lane.marks ok.ended_in))
-            (subst (λ ms. AreContainers bound lane.ended (last_of_first lane.ended lane.marks) ms (in_epoch (next_epoch lane) (next_floor lane) (λ c. record c { mark = Some mark }) lane.conts)) (sym (drop-snoc lane.ended mark lane.marks ok.ended_in))
-            (containers-seal bound mark lane.ended (last_of_first lane.ended lane.marks) (next_epoch lane) (next_floor lane) (drop lane.ended lane.marks) lane.conts ok.containers (sym sealed_all) (sym low) fits));
-        ready = still_ready bound (next_epoch lane) (next_floor lane) (λ c. record c { mark = Some mark }) (λ c. refl) (λ c. refl) (λ c. refl) (λ c. refl) lane.ended (last_of_first lane.ended lane.marks) (drop lane.ended lane.marks) lane.conts ok.containers (omega (arith, sealed_all)) ok.ready;
-        others = others_calm bound (next_epoch lane) (next_floor lane) (λ c. record c { mark = Some mark }) (λ c. refl) (λ c. refl) (λ c. refl) (λ c. refl) lane.ended (last_of_first lane.ended lane.marks) (drop lane.ended lane.marks) lane.conts ok.containers (omega (arith, sealed_all)) ok.others;
-      }
-
-  pub seal-closing : first_is_closing (with_seal mark lane).conts ≡ first_is_closing lane.conts
-  seal-closing = calm bound (next_epoch lane) (next_floor lane) (λ c. record c { mark = Some mark }) (λ c. refl) lane.ended (last_of_first lane.ended lane.marks) (drop lane.ended lane.marks) lane.conts ok.containers (omega (arith, sealed_all))
-
-  pub seal-begun : begun_count (with_seal mark lane) ≡ begun_count lane
-  seal-begun = ap (λ b. cond b (lane.ended + 1) lane.ended) seal-closing
-
-  pub seal-out : (epoch floor number : ℕ) → IsOutAt epoch floor number lane → IsOutAt epoch floor number (with_seal mark lane)
-  seal-out epoch floor number o =
-      let k = containers_out bound (next_epoch lane) (next_floor lane) (λ c. record c { mark = Some mark }) (λ c. refl) (λ c. refl) (λ c. refl) (λ c. refl) lane.ended (last_of_first lane.ended lane.marks) epoch number (drop lane.ended lane.marks) o.0 lane.conts ok.containers (omega (arith, sealed_all)) o.3 o.1 in
-      (k.0, k.1, k.2 ∙ o.2, k.3)
 
 -- ---- a moment in which a lane is sealed
 module _ (plan : Shape) (m : Moment) (d : Down) (node : Node) (lane : CoreLane) (mark : ℕ) (at : slice_get m.nodes d.node ≡ Some node) (in_it : slice_get node.lanes d.lane ≡ Some lane)

@@ -2,23 +2,23 @@
 use Rattle.std.proofs.Common.{◌≡◌, ℕ, Bool, true, false, cond, List, [], ◌∷◌, ◌++◌, Some, None, Option, refl, sym, ap, ◌∙◌, inl, inr, ⊎_elim}
 use Rattle.std.specs.Prelude.{◌⊎◌, slice_get}
 use Rattle.std.proofs.lemmas.Option.{same_Some}
-use Rattle.sb_base.specs.NumberLemmas.{bind_some}
-use Rattle.sb_base.specs.records.declared.item.Record.{Record}
-use Rattle.sb_base.specs.records.Reading.{◌>>=◌}
-use Rattle.sb_base.specs.pipeline.Shapes.{Shape}
+use Rattle.sb_containers.specs.base.NumberLemmas.{bind_some}
+use Rattle.sb_containers.specs.base.records.declared.item.Record.{Record}
+use Rattle.sb_containers.specs.base.records.Reading.{◌>>=◌}
+use Rattle.sb_containers.specs.base.pipeline.Shapes.{Shape}
 use Rattle.sb_core.specs.declared.moment.Moment.{Moment}
 use Rattle.sb_core.specs.declared.moment.Node.{Node}
 use Rattle.sb_core.specs.declared.held.Held.{Held}
 use Rattle.sb_core.specs.declared.held.Held.TheVariants.{Work, Close}
 use Rattle.sb_core.specs.declared.event.Event.{Event}
 use Rattle.sb_core.specs.declared.event.Event.TheVariants.{Arrive, Seal, Take, Deliver, Finish, Begin, Pass, End}
-use Rattle.sb_core.specs.Choices.{only_if, first_and_rest}
+use Rattle.sb_containers.specs.Choices.{only_if, first_and_rest}
 use Rattle.sb_core.specs.Events.{below, place_of, concerns, is_of_held, Part, only_node, put_in, part_after, held_after, with_part, moment_after, held_moment_after, after}
-use Rattle.sb_core.specs.Lanes.{take_from, closable}
+use Rattle.sb_containers.specs.Lanes.{take_from, closable}
 use Rattle.sb_core.specs.Laws.{OneNodeChanges, remains_of, takes_up}
 use Rattle.sb_core.specs.Moments.{with_held}
 use Rattle.sb_core.specs.Parts.{IsPart, IsHeldPart, HeldPartsAreEvents}
-use Rattle.sb_core.proofs.containers.Lists.{cond_is_some}
+use Rattle.sb_containers.proofs.Lists.{cond_is_some}
 
 -- a chain that is known step by step
 pub chain : {X Y : Type 0} (o : Option X) (f : X → Option Y) (x : X) (y : Y) → o ≡ Some x → f x ≡ Some y → (o >>= f) ≡ Some y

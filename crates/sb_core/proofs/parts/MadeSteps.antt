@@ -4,29 +4,29 @@ use Rattle.std.specs.Prelude.{◌&&◌, ◌||◌, slice_get}
 use Rattle.std.specs.List.{list_any, AllByRecursion}
 use Rattle.std.proofs.lemmas.Bool.{eqb-true, and_parts}
 use Rattle.std.proofs.lemmas.Option.{same_Some}
-use Rattle.sb_base.specs.records.declared.item.Record.{Record}
-use Rattle.sb_base.specs.records.declared.item.Stream.{Stream}
-use Rattle.sb_base.specs.records.Reading.{◌>>=◌}
-use Rattle.sb_base.specs.pipeline.declared.transform.Down.{Down}
-use Rattle.sb_base.specs.pipeline.Operators.{operator_at}
-use Rattle.sb_base.specs.pipeline.Shapes.{Shape, source}
-use Rattle.sb_core.specs.declared.moment.CoreLane.{CoreLane}
+use Rattle.sb_containers.specs.base.records.declared.item.Record.{Record}
+use Rattle.sb_containers.specs.base.records.declared.item.Stream.{Stream}
+use Rattle.sb_containers.specs.base.records.Reading.{◌>>=◌}
+use Rattle.sb_containers.specs.base.pipeline.declared.transform.Down.{Down}
+use Rattle.sb_containers.specs.base.pipeline.Operators.{operator_at}
+use Rattle.sb_containers.specs.base.pipeline.Shapes.{Shape, source}
+use Rattle.sb_containers.specs.declared.container.CoreLane.{CoreLane}
 use Rattle.sb_core.specs.declared.moment.Moment.{Moment}
 use Rattle.sb_core.specs.declared.moment.Node.{Node}
 use Rattle.sb_core.specs.declared.held.Held.{Held}
 use Rattle.sb_core.specs.declared.held.Held.TheVariants.{Work, Close}
 use Rattle.sb_core.specs.declared.event.Event.{Event}
 use Rattle.sb_core.specs.declared.event.Event.TheVariants.{Arrive, Seal, Take, Deliver, Finish, Begin, Pass, End}
-use Rattle.sb_core.specs.Choices.{only_if, is_empty, first_and_rest}
+use Rattle.sb_containers.specs.Choices.{only_if, is_empty, first_and_rest}
 use Rattle.sb_core.specs.Closings.{delivery}
 use Rattle.sb_core.specs.Events.{below, place_of, concerns, Part, only_node, put_in, held_after, with_part, held_moment_after, after}
 use Rattle.sb_core.specs.Holdings.{IsHeld}
-use Rattle.sb_core.specs.Lanes.{next_epoch, next_floor, with_arrival, with_seal, take_from, closable}
-use Rattle.sb_core.specs.Marks.{first_is_closing}
+use Rattle.sb_containers.specs.Lanes.{next_epoch, next_floor, with_arrival, with_seal, take_from, closable}
+use Rattle.sb_containers.specs.Marks.{first_is_closing}
 use Rattle.sb_core.specs.LaneSteps.{arrived_at}
 use Rattle.sb_core.specs.MomentSteps.{deliver_rows, deliver_work, after_finish, after_pass, after_end, made}
 use Rattle.sb_core.specs.Moments.{lane_at, set_lane, set_node, with_lane, with_held, is_work, is_close, is_close_of}
-use Rattle.sb_core.proofs.containers.TidyLanes.{pulled-passes}
+use Rattle.sb_core.proofs.sound.TidyLanes.{pulled-passes}
 use Rattle.sb_core.proofs.places.Carried.{then_never}
 use Rattle.sb_core.proofs.places.InPlace.{then_some}
 use Rattle.sb_core.proofs.sound.Orderly.{IsLawful}

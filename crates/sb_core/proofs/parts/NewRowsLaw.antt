@@ -4,30 +4,30 @@ use Rattle.std.specs.Prelude.{slice_get, nat_lt}
 use Rattle.std.specs.List.{AllByRecursion}
 use Rattle.std.proofs.lemmas.Bool.{eqb-true}
 use Rattle.std.proofs.lemmas.Option.{same_Some, get_or_from_slice_get, slice_get_past, slice_get_within}
-use Rattle.sb_base.specs.NumberLemmas.{bind_some}
-use Rattle.sb_base.specs.ElementLemmas.{every, All-passed}
-use Rattle.sb_base.specs.SortingLemmas.{All-in_order}
-use Rattle.sb_base.specs.records.declared.item.Record.{Record}
-use Rattle.sb_base.specs.records.Records.{record_cmp, before}
-use Rattle.sb_base.specs.records.declared.element.KeptRec.{KeptRec}
-use Rattle.sb_base.specs.pipeline.Shapes.{Shape, source}
-use Rattle.sb_base.specs.records.Elements.{all_records}
-use Rattle.sb_base.specs.pipeline.Operators.{Operator, operator_at}
-use Rattle.sb_base.specs.pipeline.Operators.Operator.{ParDo, Windowed, Sink}
+use Rattle.sb_containers.specs.base.NumberLemmas.{bind_some}
+use Rattle.sb_containers.specs.base.ElementLemmas.{every, All-passed}
+use Rattle.sb_containers.specs.base.SortingLemmas.{All-in_order}
+use Rattle.sb_containers.specs.base.records.declared.item.Record.{Record}
+use Rattle.sb_containers.specs.base.records.Records.{record_cmp, before}
+use Rattle.sb_containers.specs.base.records.declared.element.KeptRec.{KeptRec}
+use Rattle.sb_containers.specs.base.pipeline.Shapes.{Shape, source}
+use Rattle.sb_containers.specs.base.records.Elements.{all_records}
+use Rattle.sb_containers.specs.base.pipeline.Operators.{Operator, operator_at}
+use Rattle.sb_containers.specs.base.pipeline.Operators.Operator.{ParDo, Windowed, Sink}
 use Rattle.sb_core.specs.declared.moment.Moment.{Moment}
 use Rattle.sb_core.specs.declared.moment.Node.{Node}
 use Rattle.sb_core.specs.declared.event.Event.TheVariants.{Arrive, Seal, Take, Deliver, Finish, Begin, Pass, End}
 use Rattle.sb_core.specs.Bounds.{bound_at}
 use Rattle.sb_core.specs.Closings.{rows_at_sink, is_sink}
-use Rattle.sb_core.specs.Lanes.{take_from, closable, with_first_closing}
+use Rattle.sb_containers.specs.Lanes.{take_from, closable, with_first_closing}
 use Rattle.sb_core.specs.Laws.{written_to}
-use Rattle.sb_core.specs.Marks.{least_begun_mark}
+use Rattle.sb_containers.specs.Marks.{least_begun_mark}
 use Rattle.sb_core.specs.Moments.{node_at, no_node, set_lane}
 use Rattle.sb_core.specs.NewRows.{AreUnwritten, NewRowsAreLater, HeldAddNoRows}
 use Rattle.sb_core.specs.Parts.{Part}
 use Rattle.sb_core.specs.Soundness.{IsSound, AreKeptAt}
 use Rattle.sb_core.proofs.times.Timely.{sink-last}
-use Rattle.sb_core.proofs.containers.Lists.{cond_is_some}
+use Rattle.sb_containers.proofs.Lists.{cond_is_some}
 use Rattle.sb_core.proofs.parts.ByParts.{held-leaves, put_leaves}
 
 pub held-add_no_rows : HeldAddNoRows

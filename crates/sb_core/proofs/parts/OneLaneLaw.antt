@@ -3,22 +3,22 @@ use Rattle.std.proofs.Common.{◌≡◌, ℕ, ◌+◌, eqb, List, [], ◌∷◌,
 use Rattle.std.specs.Prelude.{slice_get, slice_set}
 use Rattle.std.proofs.lemmas.Bool.{eqb-true, and_parts}
 use Rattle.std.proofs.lemmas.Option.{same_Some}
-use Rattle.sb_base.specs.NumberLemmas.{bind_some}
-use Rattle.sb_base.specs.records.Reading.{◌>>=◌}
-use Rattle.sb_base.specs.records.declared.item.Record.{Record}
-use Rattle.sb_base.specs.pipeline.declared.transform.Down.{Down}
-use Rattle.sb_base.specs.pipeline.Shapes.{source}
-use Rattle.sb_core.specs.declared.moment.CoreLane.{CoreLane}
+use Rattle.sb_containers.specs.base.NumberLemmas.{bind_some}
+use Rattle.sb_containers.specs.base.records.Reading.{◌>>=◌}
+use Rattle.sb_containers.specs.base.records.declared.item.Record.{Record}
+use Rattle.sb_containers.specs.base.pipeline.declared.transform.Down.{Down}
+use Rattle.sb_containers.specs.base.pipeline.Shapes.{source}
+use Rattle.sb_containers.specs.declared.container.CoreLane.{CoreLane}
 use Rattle.sb_core.specs.declared.moment.Node.{Node}
 use Rattle.sb_core.specs.declared.held.Held.{Held}
 use Rattle.sb_core.specs.declared.held.Held.TheVariants.{Work, Close}
 use Rattle.sb_core.specs.declared.event.Event.TheVariants.{Arrive, Seal, Take, Deliver, Finish, Begin, Pass, End}
 use Rattle.sb_core.specs.Events.{below}
-use Rattle.sb_core.specs.Lanes.{with_arrival, with_seal, take_from, finish_in, closable, with_first_closing}
+use Rattle.sb_containers.specs.Lanes.{with_arrival, with_seal, take_from, finish_in, closable, with_first_closing}
 use Rattle.sb_core.specs.Moments.{set_lane}
 use Rattle.sb_core.specs.OneLane.{ChangesLane, OneLaneChanges, HeldOneLaneChanges}
 use Rattle.sb_core.specs.Parts.{Part, only_node, put_in}
-use Rattle.sb_core.proofs.containers.Lists.{cond_is_some}
+use Rattle.sb_containers.proofs.Lists.{cond_is_some}
 use Rattle.sb_core.proofs.parts.PartsLaw.{names, owner-close, owner-work}
 
 module _ (node : Node) where

@@ -5,22 +5,22 @@ use Rattle.std.specs.Option.{option_map}
 use Rattle.std.specs.List.{slice_get}
 use Rattle.std.proofs.lemmas.Bool.{ne_eqb}
 use Rattle.std.proofs.lemmas.Option.{same_Some}
-use Rattle.sb_base.specs.records.declared.item.Record.{Record}
-use Rattle.sb_base.specs.records.Reading.{◌>>=◌}
-use Rattle.sb_base.specs.pipeline.declared.transform.Down.{Down}
-use Rattle.sb_base.specs.pipeline.declared.transform.Step.{Step}
-use Rattle.sb_base.specs.pipeline.Operators.{operator_at}
-use Rattle.sb_base.specs.pipeline.Shapes.{Shape}
-use Rattle.sb_core.specs.declared.moment.CoreLane.{CoreLane}
+use Rattle.sb_containers.specs.base.records.declared.item.Record.{Record}
+use Rattle.sb_containers.specs.base.records.Reading.{◌>>=◌}
+use Rattle.sb_containers.specs.base.pipeline.declared.transform.Down.{Down}
+use Rattle.sb_containers.specs.base.pipeline.declared.transform.Step.{Step}
+use Rattle.sb_containers.specs.base.pipeline.Operators.{operator_at}
+use Rattle.sb_containers.specs.base.pipeline.Shapes.{Shape}
+use Rattle.sb_containers.specs.declared.container.CoreLane.{CoreLane}
 use Rattle.sb_core.specs.declared.moment.Node.{Node}
 use Rattle.sb_core.specs.declared.moment.Moment.{Moment}
 use Rattle.sb_core.specs.declared.held.Held.{Held}
 use Rattle.sb_core.specs.declared.held.Held.TheVariants.{Work, Close}
-use Rattle.sb_core.specs.Choices.{first_and_rest, is_empty}
+use Rattle.sb_containers.specs.Choices.{first_and_rest, is_empty}
 use Rattle.sb_core.specs.Closings.{delivery}
 use Rattle.sb_core.specs.Events.{below}
 use Rattle.sb_core.specs.MomentSteps.{bundle_delivered, rows_delivered, mark_passed}
-use Rattle.sb_core.specs.Lanes.{with_arrival, with_seal}
+use Rattle.sb_containers.specs.Lanes.{with_arrival, with_seal}
 use Rattle.sb_core.specs.LaneSteps.{arrived_at, sealed_at}
 use Rattle.sb_core.specs.Moments.{lane_at, set_lane, set_node, with_lane, with_held, is_work, is_close, is_close_of}
 use Rattle.sb_core.proofs.places.InPlace.{then_some}

@@ -4,18 +4,18 @@ use Rattle.std.specs.List.{slice_get, slice_set}
 use Rattle.std.proofs.lemmas.Bool.{lt-ltb}
 use Rattle.std.proofs.lemmas.List.{set-get_or}
 use Rattle.std.proofs.lemmas.Option.{slice_get_read, slice_get_past, slice_get_within, get_or_from_slice_get}
-use Rattle.sb_base.specs.records.declared.item.Record.{Record}
-use Rattle.sb_base.specs.records.Reading.{◌>>=◌}
-use Rattle.sb_base.specs.bundle.declared.bundle.Bundle.{Bundle}
-use Rattle.sb_base.specs.pipeline.declared.transform.Down.{Down}
-use Rattle.sb_core.specs.declared.moment.CoreLane.{CoreLane}
+use Rattle.sb_containers.specs.base.records.declared.item.Record.{Record}
+use Rattle.sb_containers.specs.base.records.Reading.{◌>>=◌}
+use Rattle.sb_containers.specs.base.bundle.declared.bundle.Bundle.{Bundle}
+use Rattle.sb_containers.specs.base.pipeline.declared.transform.Down.{Down}
+use Rattle.sb_containers.specs.declared.container.CoreLane.{CoreLane}
 use Rattle.sb_core.specs.declared.moment.Node.{Node}
 use Rattle.sb_core.specs.declared.moment.Moment.{Moment}
 use Rattle.sb_core.specs.declared.held.Held.{Held}
 use Rattle.sb_core.specs.declared.held.Held.TheVariants.{Work}
 use Rattle.sb_core.specs.MomentSteps.{after_take}
 use Rattle.sb_core.specs.LaneSteps.{arrived_at, TakesOut}
-use Rattle.sb_core.specs.Lanes.{take_from, with_arrival}
+use Rattle.sb_containers.specs.Lanes.{take_from, with_arrival}
 use Rattle.sb_core.specs.Moments.{lane_at, set_lane, set_node, with_lane, with_held}
 use Rattle.sb_core.proofs.exact.Gives.{lane_at-parts}
 

@@ -1,26 +1,26 @@
 -- Each event keeps a sound moment sound and exact, and so does a list of events.
-use Rattle.sb_base.specs.NumberLemmas.{bind_some}
-use Rattle.sb_core.specs.Choices
+use Rattle.sb_containers.specs.base.NumberLemmas.{bind_some}
+use Rattle.sb_containers.specs.Choices
 use Rattle.sb_core.specs.Events
 use Rattle.sb_core.specs.MomentSteps
 use Rattle.sb_core.specs.Moments
 use Rattle.sb_core.proofs.sound.Orderly.{lawful_of, tidy_of}
 use Rattle.std.proofs.Common.{◌≡◌, Bool, true, false, cond, eqb, List, [], ◌∷◌, Some, Option, sym, subst, ◌∙◌}
 use Rattle.std.proofs.lemmas.Option.{same_Some}
-use Rattle.sb_base.specs.records.declared.item.Record.{Record}
-use Rattle.sb_base.specs.records.declared.item.Stream.{Stream}
-use Rattle.sb_base.specs.pipeline.Shapes.{Shape}
+use Rattle.sb_containers.specs.base.records.declared.item.Record.{Record}
+use Rattle.sb_containers.specs.base.records.declared.item.Stream.{Stream}
+use Rattle.sb_containers.specs.base.pipeline.Shapes.{Shape}
 use Rattle.sb_core.specs.declared.moment.Moment.{Moment}
 use Rattle.sb_core.specs.declared.event.Event.{Event}
 use Rattle.sb_core.specs.declared.event.Event.TheVariants.{Arrive, Seal, Take, Deliver, Finish, Begin, Pass, End}
-use Rattle.sb_base.specs.pipeline.Plans.{IsPlan}
-use Rattle.sb_base.specs.records.Reading.{◌>>=◌}
+use Rattle.sb_containers.specs.base.pipeline.Plans.{IsPlan}
+use Rattle.sb_containers.specs.base.records.Reading.{◌>>=◌}
 use Rattle.sb_core.specs.Exactness.{IsExact}
 use Rattle.sb_core.specs.Holdings.{IsHeld, IsCloseOf}
 use Rattle.sb_core.specs.Soundness.{IsSound}
 use Rattle.sb_core.specs.Laws.{EventsKeepSound, records_fed_after, records_fed_by}
-use Rattle.sb_core.proofs.containers.Lists.{IsReordered-pulled}
-use Rattle.sb_core.proofs.containers.LaneLaws.{All-pulled}
+use Rattle.sb_containers.proofs.Lists.{IsReordered-pulled}
+use Rattle.sb_containers.proofs.LaneLaws.{All-pulled}
 use Rattle.sb_core.proofs.exact.AfterExact.{events-keep_exact}
 use Rattle.sb_core.proofs.parts.MadeSteps.{after-made}
 use Rattle.sb_core.proofs.sound.PutSound.{arrive-sound, rows-sound, work-sound}

@@ -1,6 +1,6 @@
 -- What is held may stand in any order.
-use Rattle.sb_base.specs.ElementLemmas.{every}
-use Rattle.sb_core.specs.Lanes
+use Rattle.sb_containers.specs.base.ElementLemmas.{every}
+use Rattle.sb_containers.specs.Lanes
 use Rattle.sb_core.specs.Moments
 use Rattle.sb_core.proofs.sound.Orderly.{lawful_of, tidy_of, sound_of, IsLawful, IsTidy}
 use Rattle.std.proofs.Common.{◌≡◌, ℕ, ◌+◌, ◌≤◌, Bool, true, cond, List, [], ◌∷◌, ◌++◌, sym, refl, ap, subst, ◌∙◌, arith}
@@ -8,23 +8,23 @@ use Rattle.std.specs.Prelude.{◌≢◌, IsPermutation, sum_by}
 use Rattle.std.specs.List.{flat_map, slice_get, list_any, AllByRecursion}
 use Rattle.std.proofs.lemmas.List.Sorted.{IsPermutation-to_front, sum_by-IsPermutation, All-permutation, IsPermutation-append_comm}
 use Rattle.std.proofs.lemmas.List.Elements.{All-from_recursion, recursion_from_All}
-use Rattle.sb_base.specs.records.declared.item.Record.{Record}
-use Rattle.sb_base.specs.records.declared.item.Stream.{Stream}
-use Rattle.sb_base.specs.records.declared.item.Stream.TheVariants.{A, B}
-use Rattle.sb_base.specs.pipeline.Shapes.{Shape}
+use Rattle.sb_containers.specs.base.records.declared.item.Record.{Record}
+use Rattle.sb_containers.specs.base.records.declared.item.Stream.{Stream}
+use Rattle.sb_containers.specs.base.records.declared.item.Stream.TheVariants.{A, B}
+use Rattle.sb_containers.specs.base.pipeline.Shapes.{Shape}
 use Rattle.sb_core.specs.declared.moment.Moment.{Moment}
 use Rattle.sb_core.specs.declared.event.Event.{Event}
 use Rattle.sb_core.specs.declared.event.Event.TheVariants.{Arrive, Seal, Take, Deliver, Finish, Begin, Pass, End}
 use Rattle.sb_core.specs.declared.held.Held.{Held}
 use Rattle.sb_core.specs.declared.held.Held.TheVariants.{Work, Close}
-use Rattle.sb_base.specs.pipeline.Operators.{operator_at}
+use Rattle.sb_containers.specs.base.pipeline.Operators.{operator_at}
 use Rattle.sb_core.specs.Moments.{with_held, node_at}
 use Rattle.sb_core.specs.Exactness.{waiting_from, work_in, rows_left_in, rest, gives, IsExact}
-use Rattle.sb_base.specs.records.declared.element.KeptRec.{KeptRec}
+use Rattle.sb_containers.specs.base.records.declared.element.KeptRec.{KeptRec}
 use Rattle.sb_core.specs.Holdings.{IsHeld, is_unpassed, IsCloseOf}
 use Rattle.sb_core.specs.Soundness.{IsOpenBelow, IsSound}
 use Rattle.sb_core.specs.Laws.{NewAtTheHead, IdleByItsLanes, takes_up, HeldInAnyOrder, EventsAtTheHead, concerns, remains_of, records_fed_after}
-use Rattle.sb_base.specs.SumLemmas.{IsReordered, IsReordered-flat_map}
+use Rattle.sb_containers.specs.base.SumLemmas.{IsReordered, IsReordered-flat_map}
 use Rattle.sb_core.proofs.exact.Gives.{gives-less, sum_by-rest}
 use Rattle.sb_core.proofs.exact.Exactly.{Carries, carries-same, carried-exact}
 use Rattle.sb_core.proofs.exact.Exactly.Moved.{Nothing}

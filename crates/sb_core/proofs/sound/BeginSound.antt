@@ -1,7 +1,7 @@
 -- The beginning of a closing keeps a moment sound.
-use Rattle.sb_base.specs.EarlierLemmas.{ascending-join}
-use Rattle.sb_base.specs.NumberLemmas.{bind_some}
-use Rattle.sb_base.specs.ElementLemmas.{All-join, All-passed, every}
+use Rattle.sb_containers.specs.base.EarlierLemmas.{ascending-join}
+use Rattle.sb_containers.specs.base.NumberLemmas.{bind_some}
+use Rattle.sb_containers.specs.base.ElementLemmas.{All-join, All-passed, every}
 use Rattle.sb_core.proofs.windows.WindowOperators.{IsGrouping, kept-closed}
 use Rattle.sb_core.proofs.windows.WindowsAt.{windows-at}
 use Rattle.sb_core.proofs.sound.Orderly.{lawful_of, tidy_of, sound_of, IsLawful, IsTidy}
@@ -12,40 +12,39 @@ use Rattle.std.proofs.lemmas.Bool.{cases_eq, ltb-true, ltb-false, not-true}
 use Rattle.std.proofs.lemmas.List.Sums.{sum_by-cons}
 use Rattle.std.proofs.lemmas.List.Folds.{list_any-append}
 use Rattle.std.proofs.lemmas.Option.{slice_get_within, same_Some}
-use Rattle.sb_base.specs.records.declared.element.KeptRec.{KeptRec}
-use Rattle.sb_core.specs.declared.moment.Cont.{Cont}
-use Rattle.sb_core.specs.declared.moment.CoreLane.{CoreLane}
-use Rattle.sb_base.specs.pipeline.declared.transform.Down.{Down}
+use Rattle.sb_containers.specs.base.records.declared.element.KeptRec.{KeptRec}
+use Rattle.sb_containers.specs.declared.container.Cont.{Cont}
+use Rattle.sb_containers.specs.declared.container.CoreLane.{CoreLane}
+use Rattle.sb_containers.specs.base.pipeline.declared.transform.Down.{Down}
 use Rattle.sb_core.specs.declared.moment.Node.{Node}
-use Rattle.sb_base.specs.pipeline.declared.transform.Step.{Step}
-use Rattle.sb_core.specs.Soundness.{IsOpenAtSource}
-use Rattle.sb_base.specs.pipeline.Shapes.{Shape}
+use Rattle.sb_containers.specs.base.pipeline.declared.transform.Step.{Step}
+use Rattle.sb_core.specs.Soundness.{IsOpenAtSource, out_of, numbers_of, Begins, IsOpenBelow, AreKeptAt, IsSound}
+use Rattle.sb_containers.specs.base.pipeline.Shapes.{Shape}
 use Rattle.sb_core.specs.declared.moment.Moment.{Moment}
 use Rattle.sb_core.specs.declared.held.Held.{Held}
 use Rattle.sb_core.specs.declared.held.Held.TheVariants.{Work, Close}
-use Rattle.sb_base.specs.records.Orders.{IsAscending}
-use Rattle.sb_base.specs.records.Records.{record_cmp, before, at_least}
-use Rattle.sb_base.specs.pipeline.Operators.{Operator, operator_rows, operator_at, WindowOperator}
-use Rattle.sb_base.specs.records.Elements.{all_records}
-use Rattle.sb_base.specs.pipeline.Plans.{IsPlan}
-use Rattle.sb_base.specs.pipeline.Operators.Operator.{ParDo, Windowed, Sink}
-use Rattle.sb_base.specs.OnLaneLemmas.{All-all_records}
-use Rattle.sb_core.specs.Marks.{before_closing, first_is_closing, last_of_first, least_begun_mark}
+use Rattle.sb_containers.specs.base.records.Orders.{IsAscending}
+use Rattle.sb_containers.specs.base.records.Records.{record_cmp, before, at_least}
+use Rattle.sb_containers.specs.base.pipeline.Operators.{Operator, operator_rows, operator_at, WindowOperator}
+use Rattle.sb_containers.specs.base.records.Elements.{all_records}
+use Rattle.sb_containers.specs.base.pipeline.Plans.{IsPlan}
+use Rattle.sb_containers.specs.base.pipeline.Operators.Operator.{ParDo, Windowed, Sink}
+use Rattle.sb_containers.specs.base.OnLaneLemmas.{All-all_records}
+use Rattle.sb_containers.specs.Marks.{before_closing, first_is_closing, last_of_first, least_begun_mark}
 use Rattle.sb_core.specs.Moments.{is_close, is_work, lane_at, node_at}
-use Rattle.sb_core.specs.Lanes.{closable, next_epoch, with_first_closing}
+use Rattle.sb_containers.specs.Lanes.{closable, next_epoch, with_first_closing}
 use Rattle.sb_core.specs.Closings.{is_sink, kept_at, rows_at, rows_at_sink, is_pardo}
 use Rattle.sb_core.specs.MomentSteps.{after_begin}
 use Rattle.sb_core.specs.Bounds.{bound_at}
 use Rattle.sb_core.specs.Holdings.{is_unpassed, IsCloseOf}
-use Rattle.sb_core.specs.Soundness.{out_of, numbers_of, Begins, IsOpenBelow, AreKeptAt, IsSound}
-use Rattle.sb_core.proofs.containers.Lists.{cond_is_some}
+use Rattle.sb_containers.proofs.Lists.{cond_is_some}
 use Rattle.sb_core.proofs.exact.Nodes.{lane_at-cases, node_at-same, node_at-set_same, node_at-set_other, lane_at-is, of_each_node}
-use Rattle.sb_base.specs.SortingLemmas.{records_total, in_order-ascending, All-in_order}
+use Rattle.sb_containers.specs.base.SortingLemmas.{records_total, in_order-ascending, All-in_order}
 use Rattle.sb_core.proofs.exact.EventExact.{transform_is}
 use Rattle.sb_core.proofs.exact.BeginExact.{none_past, begun_lane, closing_mark, begun_node, new_close, after_beginning}
 use Rattle.sb_core.proofs.lawful.BeginLawful.{IsClosable, closable-is, rises, begin-lawful, idle-calm}
 use Rattle.sb_core.proofs.sound.HeldLists.{count_snoc, All-last}
-use Rattle.sb_core.proofs.containers.TidyLanes.{SameEpochs, numbered-less, All-same, has-same, same_epochs, same-first_closing}
+use Rattle.sb_core.proofs.sound.TidyLanes.{SameEpochs, numbered-less, All-same, has-same, same_epochs, same-first_closing}
 use Rattle.sb_core.proofs.sound.TidyFrame.{before-set, lone_set}
 use Rattle.sb_core.proofs.sound.PutTidy.{open_moves, lanes_move}
 use Rattle.sb_core.proofs.times.WithinBound.{rows-bounded}

@@ -1,7 +1,7 @@
 -- A Take, a finished Work and the end of a closing keep a moment sound.
-use Rattle.sb_base.specs.NumberLemmas.{bind_some}
-use Rattle.sb_base.specs.ElementLemmas.{All-join, every}
-use Rattle.sb_core.specs.LaneOrder
+use Rattle.sb_containers.specs.base.NumberLemmas.{bind_some}
+use Rattle.sb_containers.specs.base.ElementLemmas.{All-join, every}
+use Rattle.sb_containers.specs.LaneOrder
 use Rattle.sb_core.specs.Moments
 use Rattle.sb_core.proofs.windows.WindowOperators.{kept-more}
 use Rattle.sb_core.proofs.windows.WindowsAt.{windows-at}
@@ -13,44 +13,45 @@ use Rattle.std.proofs.lemmas.Bool.{eqb-false, eq-eqb, ne_eqb, cases_eq, eqb-true
 use Rattle.std.proofs.lemmas.List.Sums.{sum_by-cons, sum_by-le-sum_by}
 use Rattle.std.proofs.Math.Bool.{and-false}
 use Rattle.std.proofs.lemmas.Option.{same_Some}
-use Rattle.sb_base.specs.bundle.declared.bundle.Bundle.{Bundle}
-use Rattle.sb_core.specs.declared.moment.Cont.{Cont}
-use Rattle.sb_core.specs.declared.moment.CoreLane.{CoreLane}
-use Rattle.sb_base.specs.pipeline.declared.transform.Down.{Down}
+use Rattle.sb_containers.specs.base.bundle.declared.bundle.Bundle.{Bundle}
+use Rattle.sb_containers.specs.declared.container.Cont.{Cont}
+use Rattle.sb_containers.specs.declared.container.CoreLane.{CoreLane}
+use Rattle.sb_containers.specs.base.pipeline.declared.transform.Down.{Down}
 use Rattle.sb_core.specs.declared.moment.Node.{Node}
-use Rattle.sb_base.specs.pipeline.declared.transform.Step.{Step}
-use Rattle.sb_base.specs.pipeline.Shapes.{Shape}
+use Rattle.sb_containers.specs.base.pipeline.declared.transform.Step.{Step}
+use Rattle.sb_containers.specs.base.pipeline.Shapes.{Shape}
 use Rattle.sb_core.specs.declared.moment.Moment.{Moment}
 use Rattle.sb_core.specs.declared.held.Held.{Held}
 use Rattle.sb_core.specs.declared.held.Held.TheVariants.{Work, Close}
-use Rattle.sb_base.specs.pipeline.Operators.{Operator, operator_at}
-use Rattle.sb_base.specs.records.Elements.{on_lane}
-use Rattle.sb_base.specs.pipeline.Plans.{IsPlan}
-use Rattle.sb_base.specs.OnLaneLemmas.{All-on_lane}
-use Rattle.sb_base.specs.pipeline.Operators.Operator.{ParDo, Windowed, Sink}
-use Rattle.sb_core.specs.Marks.{before_closing, begun_count, least_begun_mark, last_of_first, first_is_closing}
+use Rattle.sb_containers.specs.base.pipeline.Operators.{Operator, operator_at}
+use Rattle.sb_containers.specs.base.records.Elements.{on_lane}
+use Rattle.sb_containers.specs.base.pipeline.Plans.{IsPlan}
+use Rattle.sb_containers.specs.base.OnLaneLemmas.{All-on_lane}
+use Rattle.sb_containers.specs.base.pipeline.Operators.Operator.{ParDo, Windowed, Sink}
+use Rattle.sb_containers.specs.Marks.{before_closing, begun_count, least_begun_mark, last_of_first, first_is_closing}
 use Rattle.sb_core.specs.Moments.{is_work, is_close, lane_at, set_lane, set_node, with_held, node_at, epoch_of}
 use Rattle.sb_core.specs.Closings.{kept_elements, is_pardo}
-use Rattle.sb_core.specs.Lanes.{finish_in, next_epoch, take_from}
+use Rattle.sb_containers.specs.Lanes.{finish_in, next_epoch, take_from}
 use Rattle.sb_core.specs.MomentSteps.{after_take, after_finish, after_end}
-use Rattle.sb_core.specs.LaneOrder.{IsLane, IsReady, AreContainers}
-use Rattle.sb_core.specs.Soundness.{IsOpenAtSource}
+use Rattle.sb_containers.specs.LaneOrder.{IsLane, IsReady, AreContainers}
+use Rattle.sb_core.specs.Soundness.{IsOpenAtSource, out_of, numbers_of, has_cont, IsOpenBelow, AreKeptAt, IsSound}
 use Rattle.sb_core.specs.Bounds.{bound_at}
 use Rattle.sb_core.specs.Holdings.{IsHeld, is_unpassed, IsCloseOf}
-use Rattle.sb_core.specs.Soundness.{out_of, numbers_of, has_cont, IsOpenBelow, AreKeptAt, IsSound}
-use Rattle.sb_base.specs.SumLemmas.{IsReordered}
-use Rattle.sb_core.proofs.containers.Lists.{cond_is_some}
+use Rattle.sb_containers.specs.base.SumLemmas.{IsReordered}
+use Rattle.sb_containers.proofs.Lists.{cond_is_some}
 use Rattle.sb_core.proofs.exact.Gives.{lane_at-parts, with_lane-is}
-use Rattle.sb_core.proofs.exact.Nodes.{begun_mark, node_at-set_other, lane_at-is}
-use Rattle.sb_core.proofs.times.InTime.{work_floor, closed_least}
-use Rattle.sb_core.proofs.containers.LaneLaws.{DifferInBundles, take_from-differ, finish_in-differ}
+use Rattle.sb_core.proofs.exact.Nodes.{node_at-set_other, lane_at-is}
+use Rattle.sb_containers.proofs.Begun.{begun_mark, work_floor, closed_least}
+use Rattle.sb_containers.proofs.LaneLaws.{DifferInBundles, take_from-differ, finish_in-differ}
 use Rattle.sb_core.proofs.times.LawfulTimely.{lane_of}
-use Rattle.sb_core.proofs.lawful.TakeLawful.{take-lawful, differ-closing}
+use Rattle.sb_core.proofs.lawful.TakeLawful.{take-lawful}
+use Rattle.sb_containers.proofs.Taking.{differ-closing}
 use Rattle.sb_core.proofs.exact.AfterExact.{lone}
-use Rattle.sb_core.proofs.lawful.EndLawful.{shorter, end-mark, end-lawful, finish-lawful}
+use Rattle.sb_core.proofs.lawful.EndLawful.{end-lawful, finish-lawful}
+use Rattle.sb_containers.proofs.Ending.{shorter, end-mark}
 use Rattle.sb_core.proofs.lawful.DeliverLawful.{All-drop}
 use Rattle.sb_core.proofs.sound.HeldLists.{every_both, any_gone, any_same, count_gone, count_snoc, none_left, All-last}
-use Rattle.sb_core.proofs.containers.TidyLanes.{SameEpochs, numbered-less, taken-sums, finished-sums, finished-none, All-same, has-same, same-differ}
+use Rattle.sb_core.proofs.sound.TidyLanes.{SameEpochs, numbered-less, taken-sums, finished-sums, finished-none, All-same, has-same, same-differ}
 use Rattle.sb_core.proofs.sound.TidyFrame.{closes_still, tidy_still}
 use Rattle.sb_core.proofs.sound.PutTidy.{open_moves, lanes_move}
 

@@ -1,8 +1,8 @@
 -- The first moment of a plan is sound, and exact for nothing fed.
-use Rattle.sb_base.specs.NumberLemmas.{bind_some}
-use Rattle.sb_base.specs.bundle.declared.bundle.TheConstants.{MAX_BUNDLE}
-use Rattle.sb_base.specs.StepLemmas.{place-at}
-use Rattle.sb_base.specs.FeedingLemmas as Feeding
+use Rattle.sb_containers.specs.base.NumberLemmas.{bind_some}
+use Rattle.sb_containers.specs.base.bundle.declared.bundle.TheConstants.{MAX_BUNDLE}
+use Rattle.sb_containers.specs.base.StepLemmas.{place-at}
+use Rattle.sb_containers.specs.base.FeedingLemmas as Feeding
 use Rattle.sb_core.proofs.sound.Orderly.{sound_of, IsLawful}
 use Rattle.std.proofs.Common.{◌≡◌, ℕ, suc, zero, ◌+◌, ◌≤◌, ◌<◌, true, false, not, cond, List, [], ◌∷◌, ◌++◌, length, map, Some, Option, sym, refl, ap, subst, ◌∙◌, arith, zero-add, ⊎_elim}
 use Rattle.std.specs.Prelude.{min, replicate, sum_by}
@@ -11,32 +11,31 @@ use Rattle.std.proofs.lemmas.Bool.{le-ltb, cases_lt}
 use Rattle.std.proofs.lemmas.List.Sums.{sum_by-cons}
 use Rattle.std.proofs.lemmas.Option.{get_or_from_slice_get, same_Some, slice_get-get_or, slice_get_within}
 use Rattle.std.proofs.lemmas.List.{length-replicate, get_or-replicate, get_or_past}
-use Rattle.sb_base.specs.records.declared.item.Record.{Record}
-use Rattle.sb_base.specs.records.declared.element.KeptRec.{KeptRec}
-use Rattle.sb_base.specs.pipeline.declared.transform.Down.{Down}
-use Rattle.sb_base.specs.pipeline.declared.transform.Step.{Step}
+use Rattle.sb_containers.specs.base.records.declared.item.Record.{Record}
+use Rattle.sb_containers.specs.base.records.declared.element.KeptRec.{KeptRec}
+use Rattle.sb_containers.specs.base.pipeline.declared.transform.Down.{Down}
+use Rattle.sb_containers.specs.base.pipeline.declared.transform.Step.{Step}
 use Rattle.sb_core.specs.declared.moment.Node.{Node}
-use Rattle.sb_core.specs.declared.moment.CoreLane.{CoreLane}
-use Rattle.sb_core.specs.Soundness.{IsOpenAtSource}
-use Rattle.sb_base.specs.pipeline.Shapes.{Shape}
-use Rattle.sb_base.specs.records.Records.{at_least}
-use Rattle.sb_base.specs.pipeline.Operators.{Operator, operator_of, operator_at, lanes_of, operator_rows, output}
-use Rattle.sb_base.specs.pardo.Outputs.{outputs_of}
-use Rattle.sb_base.specs.records.Elements.{all_records}
-use Rattle.sb_base.specs.pipeline.Flow.{arrivals_at, from_streams}
-use Rattle.sb_base.specs.pipeline.Plans.{IsPlace, IsPlan}
-use Rattle.sb_base.specs.pipeline.Operators.Operator.{ParDo, Windowed, Sink}
-use Rattle.sb_base.specs.records.Reading.{◌>>=◌}
-use Rattle.sb_core.specs.Marks.{begun_count, least_begun_mark, first_is_closing}
+use Rattle.sb_containers.specs.declared.container.CoreLane.{CoreLane}
+use Rattle.sb_core.specs.Soundness.{IsOpenAtSource, out_of, AreNumbered, Begins, IsOpenBelow, AreKeptAt, IsSound}
+use Rattle.sb_containers.specs.base.pipeline.Shapes.{Shape}
+use Rattle.sb_containers.specs.base.records.Records.{at_least}
+use Rattle.sb_containers.specs.base.pipeline.Operators.{Operator, operator_of, operator_at, lanes_of, operator_rows, output}
+use Rattle.sb_containers.specs.base.pardo.Outputs.{outputs_of}
+use Rattle.sb_containers.specs.base.records.Elements.{all_records}
+use Rattle.sb_containers.specs.base.pipeline.Flow.{arrivals_at, from_streams}
+use Rattle.sb_containers.specs.base.pipeline.Plans.{IsPlace, IsPlan}
+use Rattle.sb_containers.specs.base.pipeline.Operators.Operator.{ParDo, Windowed, Sink}
+use Rattle.sb_containers.specs.base.records.Reading.{◌>>=◌}
+use Rattle.sb_containers.specs.Marks.{begun_count, least_begun_mark, first_is_closing}
 use Rattle.sb_core.specs.Moments.{lane_at, empty_lane, empty_node, first, node_at, no_node, floor_of, epoch_of}
-use Rattle.sb_core.specs.Lanes.{next_epoch}
+use Rattle.sb_containers.specs.Lanes.{next_epoch}
 use Rattle.sb_core.specs.Exactness.{waiting_from, gives, gives_by, IsExact}
-use Rattle.sb_core.specs.LaneOrder.{IsLane}
+use Rattle.sb_containers.specs.LaneOrder.{IsLane}
 use Rattle.sb_core.specs.Bounds.{bound_at}
 use Rattle.sb_core.specs.Closings.{is_pardo}
-use Rattle.sb_core.specs.Soundness.{out_of, AreNumbered, Begins, IsOpenBelow, AreKeptAt, IsSound}
 use Rattle.sb_core.specs.Laws.{RunsAreSound}
-use Rattle.sb_base.specs.SumLemmas.{IsReordered, IsReordered-map, IsReordered-flat_map}
+use Rattle.sb_containers.specs.base.SumLemmas.{IsReordered, IsReordered-map, IsReordered-flat_map}
 use Rattle.sb_core.proofs.exact.Flow.{brought_none, flow_same}
 use Rattle.sb_core.proofs.windows.Groupings.{grouped-order}
 use Rattle.sb_core.proofs.sound.AfterSound.{runs-keep}

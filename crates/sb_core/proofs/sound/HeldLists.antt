@@ -3,8 +3,8 @@ use Rattle.std.proofs.Common.{◌≡◌, ℕ, ◌+◌, ◌≤◌, Bool, true, fa
 use Rattle.std.specs.Prelude.{count_by}
 use Rattle.std.specs.List.{list_any, AllByRecursion}
 use Rattle.std.proofs.lemmas.List.Sums.{sum_by-append, sum_by-cons}
-use Rattle.sb_base.specs.SumLemmas.{IsReordered, any_by_count}
-use Rattle.sb_base.specs.ElementLemmas.{All-join}
+use Rattle.sb_containers.specs.base.SumLemmas.{IsReordered, any_by_count}
+use Rattle.sb_containers.specs.base.ElementLemmas.{All-join}
 
 -- as many, so as well any
 pub any_same : {X : Type 0} (p : X → Bool) (xs ys : List X) → count_by p xs ≡ count_by p ys → list_any p xs ≡ list_any p ys

@@ -1,9 +1,9 @@
 -- An arrival and the deliveries keep a moment sound.
-use Rattle.sb_base.specs.NumberLemmas.{bind_some}
-use Rattle.sb_base.specs.ElementLemmas.{every}
-use Rattle.sb_core.specs.LaneOrder
+use Rattle.sb_containers.specs.base.NumberLemmas.{bind_some}
+use Rattle.sb_containers.specs.base.ElementLemmas.{every}
+use Rattle.sb_containers.specs.LaneOrder
 use Rattle.sb_core.specs.Moments
-use Rattle.sb_base.specs.FeedingLemmas as Feeding
+use Rattle.sb_containers.specs.base.FeedingLemmas as Feeding
 use Rattle.sb_core.proofs.sound.Orderly.{lawful_of, tidy_of, sound_of, IsLawful, IsTidy}
 use Rattle.std.proofs.Common.{◌≡◌, ℕ, suc, zero, ◌+◌, ◌-◌, ◌^◌, ◌≤◌, ◌<◌, Bool, true, false, not, cond, eqb, List, [], ◌∷◌, ◌++◌, length, take, drop, Some, sym, refl, ap, subst, ◌∙◌, arith, ⊎_elim}
 use Rattle.std.specs.Prelude.{◌&&◌, ◌||◌, nat_lt, nat_le, sum_by}
@@ -12,51 +12,52 @@ use Rattle.std.proofs.lemmas.Bool.{cases_lt, eq-eqb, not-true, and_parts}
 use Rattle.std.proofs.Math.Bool.{or-false}
 use Rattle.std.proofs.lemmas.Option.{same_Some}
 use Rattle.std.proofs.lemmas.List.{drop_all}
-use Rattle.sb_base.specs.records.declared.item.Record.{Record}
-use Rattle.sb_core.specs.declared.moment.Cont.{Cont}
-use Rattle.sb_core.specs.declared.moment.CoreLane.{CoreLane}
-use Rattle.sb_base.specs.records.declared.item.Stream.{Stream}
-use Rattle.sb_base.specs.pipeline.declared.transform.Down.{Down}
+use Rattle.sb_containers.specs.base.records.declared.item.Record.{Record}
+use Rattle.sb_containers.specs.declared.container.Cont.{Cont}
+use Rattle.sb_containers.specs.declared.container.CoreLane.{CoreLane}
+use Rattle.sb_containers.specs.base.records.declared.item.Stream.{Stream}
+use Rattle.sb_containers.specs.base.pipeline.declared.transform.Down.{Down}
 use Rattle.sb_core.specs.declared.moment.Node.{Node}
-use Rattle.sb_base.specs.pipeline.declared.transform.Step.{Step}
-use Rattle.sb_base.specs.pipeline.Shapes.{Shape, source}
+use Rattle.sb_containers.specs.base.pipeline.declared.transform.Step.{Step}
+use Rattle.sb_containers.specs.base.pipeline.Shapes.{Shape, source}
 use Rattle.sb_core.specs.declared.moment.Moment.{Moment}
 use Rattle.sb_core.specs.declared.held.Held.{Held}
 use Rattle.sb_core.specs.declared.held.Held.TheVariants.{Work, Close}
-use Rattle.sb_base.specs.records.Orders.{IsAscending}
-use Rattle.sb_base.specs.pipeline.Operators.{Operator, operator_at}
-use Rattle.sb_base.specs.pardo.Outputs.{outputs_of}
-use Rattle.sb_base.specs.pipeline.Plans.{IsPlan}
-use Rattle.sb_base.specs.pipeline.Operators.Operator.{ParDo, Windowed, Sink}
-use Rattle.sb_core.specs.Marks.{begun_count, least_begun_mark}
+use Rattle.sb_containers.specs.base.records.Orders.{IsAscending}
+use Rattle.sb_containers.specs.base.pipeline.Operators.{Operator, operator_at}
+use Rattle.sb_containers.specs.base.pardo.Outputs.{outputs_of}
+use Rattle.sb_containers.specs.base.pipeline.Plans.{IsPlan}
+use Rattle.sb_containers.specs.base.pipeline.Operators.Operator.{ParDo, Windowed, Sink}
+use Rattle.sb_containers.specs.Marks.{begun_count, least_begun_mark}
 use Rattle.sb_core.specs.Moments.{is_work, lane_at, set_lane, set_node, with_held, node_at, floor_of, floor_at, epoch_of, epoch_at}
 use Rattle.sb_core.specs.Closings.{is_sink, delivery, is_pardo}
-use Rattle.sb_core.specs.Choices.{is_empty}
-use Rattle.sb_core.specs.Lanes.{next_epoch, next_floor, with_arrival}
-use Rattle.sb_base.specs.records.declared.item.TheConstants.{MAX_TIME}
+use Rattle.sb_containers.specs.Choices.{is_empty}
+use Rattle.sb_containers.specs.Lanes.{next_epoch, next_floor, with_arrival}
+use Rattle.sb_containers.specs.base.records.declared.item.TheConstants.{MAX_TIME}
 use Rattle.sb_core.specs.Events.{below}
 use Rattle.sb_core.specs.LaneSteps.{arrived_at}
 use Rattle.sb_core.specs.MomentSteps.{deliver_rows, deliver_work, after_arrive}
-use Rattle.sb_core.specs.LaneOrder.{IsWithin, IsLane}
-use Rattle.sb_core.proofs.containers.Fitting.{Fits}
-use Rattle.sb_base.specs.records.Records.{record_cmp}
+use Rattle.sb_containers.specs.LaneOrder.{IsWithin, IsLane}
+use Rattle.sb_containers.proofs.Fitting.{Fits}
+use Rattle.sb_containers.specs.base.records.Records.{record_cmp}
 use Rattle.sb_core.specs.Bounds.{bound_at}
 use Rattle.sb_core.specs.Holdings.{IsWork, IsClosing, IsHeld, is_unpassed, IsCloseOf}
 use Rattle.sb_core.specs.Soundness.{has_cont, IsOpenBelow, IsSound}
-use Rattle.sb_base.specs.SumLemmas.{IsReordered}
-use Rattle.sb_base.specs.window.declared.windows.TheConstants.{MAX_SIZE}
-use Rattle.sb_core.proofs.containers.Lists.{cond_is_some}
+use Rattle.sb_containers.specs.base.SumLemmas.{IsReordered}
+use Rattle.sb_containers.specs.base.window.declared.windows.TheConstants.{MAX_SIZE}
+use Rattle.sb_containers.proofs.Lists.{cond_is_some}
 use Rattle.sb_core.proofs.exact.Gives.{lane_at-parts, with_lane-is}
-use Rattle.sb_core.proofs.exact.Nodes.{begun_mark, lane_at-is}
-use Rattle.sb_core.proofs.times.InTime.{work_floor, work_epoch}
+use Rattle.sb_core.proofs.exact.Nodes.{lane_at-is}
+use Rattle.sb_containers.proofs.Begun.{begun_mark, work_floor, work_epoch}
 use Rattle.sb_core.proofs.times.LawfulTimely.{lane_of, lawful-timely}
 use Rattle.sb_core.proofs.exact.EventExact.{nat_le-le, list_all-AllByRecursion, below-is, transform_is}
 use Rattle.sb_core.proofs.exact.AfterExact.{lone, not_sealed, unpassed_under}
-use Rattle.sb_core.proofs.lawful.ArriveLawful.{arrival-lawful, arrival-kept, put-kept, next_fits}
+use Rattle.sb_core.proofs.lawful.ArriveLawful.{arrival-lawful}
+use Rattle.sb_containers.proofs.Arriving.{arrival-kept, put-kept, next_fits}
 use Rattle.sb_core.proofs.lawful.DeliverLawful.{rows-lawful, work-lawful, All-take, images_within, bound-rises}
-use Rattle.sb_core.proofs.containers.Ordered.{begun_floor, lane-fits, has_one}
+use Rattle.sb_containers.proofs.Ordered.{begun_floor, lane-fits, has_one}
 use Rattle.sb_core.proofs.sound.HeldLists.{any_same, any_swap, count_swap, every_both, All-last}
-use Rattle.sb_core.proofs.containers.TidyLanes.{has-at}
+use Rattle.sb_core.proofs.sound.TidyLanes.{has-at}
 use Rattle.sb_core.proofs.sound.PutTidy.{put-tidy}
 
 -- a record that may come shows that the floor is a time

@@ -1,31 +1,31 @@
 -- A bundle comes into a lane: the moment stays tidy.
-use Rattle.sb_base.specs.ElementLemmas.{every}
+use Rattle.sb_containers.specs.base.ElementLemmas.{every}
 use Rattle.std.proofs.Common.{◌≡◌, ℕ, suc, zero, ◌+◌, ◌≤◌, Bool, true, false, List, [], ◌∷◌, Some, sym, refl, ap, subst, ◌∙◌, ⊎_elim, set as slice_set}
 use Rattle.std.specs.Prelude.{◌||◌, count_by}
 use Rattle.std.specs.List.{slice_get, list_any, AllByRecursion}
 use Rattle.std.proofs.lemmas.Bool.{cases_eq}
 use Rattle.std.proofs.Math.Bool.{or-true}
-use Rattle.sb_base.specs.records.declared.item.Record.{Record}
-use Rattle.sb_core.specs.declared.moment.Cont.{Cont}
-use Rattle.sb_core.specs.declared.moment.CoreLane.{CoreLane}
-use Rattle.sb_base.specs.records.declared.item.Stream.{Stream}
-use Rattle.sb_base.specs.pipeline.declared.transform.Down.{Down}
+use Rattle.sb_containers.specs.base.records.declared.item.Record.{Record}
+use Rattle.sb_containers.specs.declared.container.Cont.{Cont}
+use Rattle.sb_containers.specs.declared.container.CoreLane.{CoreLane}
+use Rattle.sb_containers.specs.base.records.declared.item.Stream.{Stream}
+use Rattle.sb_containers.specs.base.pipeline.declared.transform.Down.{Down}
 use Rattle.sb_core.specs.declared.moment.Node.{Node}
-use Rattle.sb_base.specs.pipeline.declared.transform.Step.{Step}
-use Rattle.sb_base.specs.pipeline.Shapes.{Shape, source}
+use Rattle.sb_containers.specs.base.pipeline.declared.transform.Step.{Step}
+use Rattle.sb_containers.specs.base.pipeline.Shapes.{Shape, source}
 use Rattle.sb_core.specs.declared.moment.Moment.{Moment}
 use Rattle.sb_core.specs.declared.held.Held.{Held}
-use Rattle.sb_base.specs.pipeline.Operators.{Operator, operator_at}
-use Rattle.sb_base.specs.pipeline.Plans.{IsPlan}
-use Rattle.sb_base.specs.pipeline.Operators.Operator.{ParDo, Windowed, Sink}
+use Rattle.sb_containers.specs.base.pipeline.Operators.{Operator, operator_at}
+use Rattle.sb_containers.specs.base.pipeline.Plans.{IsPlan}
+use Rattle.sb_containers.specs.base.pipeline.Operators.Operator.{ParDo, Windowed, Sink}
 use Rattle.sb_core.specs.Moments.{is_work, lane_at, set_lane, set_node, with_held, node_at}
-use Rattle.sb_core.specs.Lanes.{next_epoch, with_bundle, with_arrival}
+use Rattle.sb_containers.specs.Lanes.{next_epoch, with_bundle, with_arrival}
 use Rattle.sb_core.specs.Holdings.{is_unpassed, IsCloseOf}
 use Rattle.sb_core.specs.Soundness.{has_cont, IsOpenAtSource, IsOpenBelow}
 use Rattle.sb_core.proofs.sound.Orderly.{IsTidy}
-use Rattle.sb_core.proofs.lawful.Frame.{IsKept, mark-kept}
+use Rattle.sb_containers.proofs.Stays.{IsKept, mark-kept}
 use Rattle.sb_core.proofs.exact.Nodes.{node_at-same, node_at-set_same, node_at-set_other, lane_at-is}
-use Rattle.sb_core.proofs.containers.TidyLanes.{numbered-arrival, outs-arrival, All-in_epoch, has-in_epoch}
+use Rattle.sb_core.proofs.sound.TidyLanes.{numbered-arrival, outs-arrival, All-in_epoch, has-in_epoch}
 use Rattle.sb_core.proofs.sound.TidyFrame.{closes_still, tidy_still}
 
 -- ---- what is open below, where lanes and what is held change

@@ -1,53 +1,54 @@
 -- A seal and a passed mark keep a moment sound.
-use Rattle.sb_base.specs.NumberLemmas.{bind_some}
-use Rattle.sb_base.specs.ElementLemmas.{every}
+use Rattle.sb_containers.specs.base.NumberLemmas.{bind_some}
+use Rattle.sb_containers.specs.base.ElementLemmas.{every}
 use Rattle.sb_core.specs.Moments
-use Rattle.sb_base.specs.FeedingLemmas as Feeding
+use Rattle.sb_containers.specs.base.FeedingLemmas as Feeding
 use Rattle.sb_core.proofs.sound.Orderly.{lawful_of, tidy_of, sound_of, IsLawful, IsTidy}
 use Rattle.std.proofs.Common.{◌≡◌, ℕ, suc, zero, ◌+◌, ◌-◌, ◌≤◌, ◌<◌, Bool, true, false, not, cond, eqb, List, [], ◌∷◌, ◌++◌, length, Some, sym, refl, ap, subst, ◌∙◌, arith, get_or, length-append}
 use Rattle.std.specs.Prelude.{◌≢◌, ◌&&◌, nat_le, count_by, sum_by}
 use Rattle.std.specs.List.{slice_get, list_any, AllByRecursion}
 use Rattle.std.proofs.lemmas.Bool.{ne_eqb, not-true, and_parts}
 use Rattle.std.proofs.lemmas.Option.{same_Some}
-use Rattle.sb_core.specs.declared.moment.Cont.{Cont}
-use Rattle.sb_core.specs.declared.moment.CoreLane.{CoreLane}
-use Rattle.sb_base.specs.records.declared.item.Stream.{Stream}
-use Rattle.sb_base.specs.pipeline.declared.transform.Down.{Down}
+use Rattle.sb_containers.specs.declared.container.Cont.{Cont}
+use Rattle.sb_containers.specs.declared.container.CoreLane.{CoreLane}
+use Rattle.sb_containers.specs.base.records.declared.item.Stream.{Stream}
+use Rattle.sb_containers.specs.base.pipeline.declared.transform.Down.{Down}
 use Rattle.sb_core.specs.declared.moment.Node.{Node}
-use Rattle.sb_base.specs.pipeline.declared.transform.Step.{Step}
-use Rattle.sb_base.specs.pipeline.Shapes.{Shape, source}
+use Rattle.sb_containers.specs.base.pipeline.declared.transform.Step.{Step}
+use Rattle.sb_containers.specs.base.pipeline.Shapes.{Shape, source}
 use Rattle.sb_core.specs.declared.moment.Moment.{Moment}
 use Rattle.sb_core.specs.declared.held.Held.{Held}
 use Rattle.sb_core.specs.declared.held.Held.TheVariants.{Work, Close}
-use Rattle.sb_base.specs.pipeline.Operators.{Operator, operator_at}
-use Rattle.sb_base.specs.pipeline.Plans.{IsPlan}
-use Rattle.sb_base.specs.pipeline.Operators.Operator.{ParDo, Windowed, Sink}
-use Rattle.sb_core.specs.Marks.{begun_count, last_of_first}
+use Rattle.sb_containers.specs.base.pipeline.Operators.{Operator, operator_at}
+use Rattle.sb_containers.specs.base.pipeline.Plans.{IsPlan}
+use Rattle.sb_containers.specs.base.pipeline.Operators.Operator.{ParDo, Windowed, Sink}
+use Rattle.sb_containers.specs.Marks.{begun_count, last_of_first}
 use Rattle.sb_core.specs.Moments.{is_work, lane_at, set_lane, set_node, with_held, node_at, floor_of, floor_at, epoch_of, epoch_at}
-use Rattle.sb_core.specs.Choices.{is_empty}
-use Rattle.sb_core.specs.Lanes.{next_epoch, next_floor, with_seal}
+use Rattle.sb_containers.specs.Choices.{is_empty}
+use Rattle.sb_containers.specs.Lanes.{next_epoch, next_floor, with_seal}
 use Rattle.sb_core.specs.Events.{below}
 use Rattle.sb_core.specs.MomentSteps.{after_seal, after_pass}
-use Rattle.sb_base.specs.records.declared.item.TheConstants.{END_MARK}
-use Rattle.sb_core.specs.LaneOrder.{IsLane}
+use Rattle.sb_containers.specs.base.records.declared.item.TheConstants.{END_MARK}
+use Rattle.sb_containers.specs.LaneOrder.{IsLane}
 use Rattle.sb_core.specs.Bounds.{bound_at}
 use Rattle.sb_core.specs.Closings.{is_pardo}
 use Rattle.sb_core.specs.Holdings.{IsClosing, IsHeld, is_unpassed, IsCloseOf}
 use Rattle.sb_core.specs.Soundness.{has_cont, Begins, IsOpenAtSource, IsOpenBelow, IsSound}
-use Rattle.sb_base.specs.SumLemmas.{IsReordered}
-use Rattle.sb_core.proofs.containers.Lists.{cond_is_some, empty_is}
+use Rattle.sb_containers.specs.base.SumLemmas.{IsReordered}
+use Rattle.sb_containers.proofs.Lists.{cond_is_some, empty_is}
 use Rattle.sb_core.proofs.exact.Gives.{lane_at-parts, with_lane-is}
-use Rattle.sb_core.proofs.exact.Nodes.{begun_mark, lane_at-is}
-use Rattle.sb_core.proofs.times.InTime.{begun_within}
-use Rattle.sb_core.proofs.containers.LaneLaws.{MarkFits}
+use Rattle.sb_core.proofs.exact.Nodes.{lane_at-is}
+use Rattle.sb_containers.proofs.Begun.{begun_mark, begun_within, last_of_first-longer}
+use Rattle.sb_containers.proofs.LaneLaws.{MarkFits}
 use Rattle.sb_core.proofs.times.LawfulTimely.{lane_of}
-use Rattle.sb_core.proofs.exact.EventExact.{nat_le-le, below-is, seal_calm}
+use Rattle.sb_core.proofs.exact.EventExact.{nat_le-le, below-is}
+use Rattle.sb_containers.proofs.Sealing.{seal_calm, marks_fit}
 use Rattle.sb_core.proofs.exact.AfterExact.{lone}
-use Rattle.sb_core.proofs.containers.Ordered.{closing_fits, has_one}
-use Rattle.sb_core.proofs.lawful.SealLawful.{last_of_first-longer, marks_fit, seal-lawful, pass-lawful}
+use Rattle.sb_containers.proofs.Ordered.{closing_fits, has_one}
+use Rattle.sb_core.proofs.lawful.SealLawful.{seal-lawful, pass-lawful}
 use Rattle.sb_core.proofs.sound.PutSound.{lone_has, lone_closed}
 use Rattle.sb_core.proofs.sound.HeldLists.{any_swap, count_swap, All-last}
-use Rattle.sb_core.proofs.containers.TidyLanes.{numbered-less, numbered-seal, outs-seal, All-in_epoch, has-in_epoch}
+use Rattle.sb_core.proofs.sound.TidyLanes.{numbered-less, numbered-seal, outs-seal, All-in_epoch, has-in_epoch}
 use Rattle.sb_core.proofs.sound.TidyFrame.{closes_still, tidy_still}
 use Rattle.sb_core.proofs.sound.PutTidy.{open_moves, lanes_move}
 

@@ -1,29 +1,29 @@
 -- A lane changes and begins the same marks: what stays tidy.
-use Rattle.sb_base.specs.ElementLemmas.{every}
+use Rattle.sb_containers.specs.base.ElementLemmas.{every}
 use Rattle.std.proofs.Common.{length-set, refl, ◌≡◌, ℕ, suc, zero, ◌≤◌, ◌<◌, List, [], ◌∷◌, length, Some, sym, ap, subst, ◌∙◌, arith, ⊎_elim, inl, inr, set as slice_set}
 use Rattle.std.specs.Prelude.{◌⊎◌, ◌≢◌, count_by, sum_by}
 use Rattle.std.specs.List.{slice_get, list_any, AllByRecursion}
 use Rattle.std.proofs.lemmas.Bool.{cases_eq}
 use Rattle.std.proofs.lemmas.Option.{same_Some}
-use Rattle.sb_core.specs.declared.moment.CoreLane.{CoreLane}
-use Rattle.sb_base.specs.records.declared.item.Stream.{Stream}
-use Rattle.sb_base.specs.pipeline.declared.transform.Down.{Down}
+use Rattle.sb_containers.specs.declared.container.CoreLane.{CoreLane}
+use Rattle.sb_containers.specs.base.records.declared.item.Stream.{Stream}
+use Rattle.sb_containers.specs.base.pipeline.declared.transform.Down.{Down}
 use Rattle.sb_core.specs.declared.moment.Node.{Node}
-use Rattle.sb_base.specs.pipeline.declared.transform.Step.{Step}
-use Rattle.sb_core.specs.Soundness.{IsOpenAtSource}
-use Rattle.sb_base.specs.pipeline.Shapes.{Shape, source}
+use Rattle.sb_containers.specs.base.pipeline.declared.transform.Step.{Step}
+use Rattle.sb_core.specs.Soundness.{IsOpenAtSource, out_of, AreNumbered, Begins, IsOpenBelow, AreKeptAt}
+use Rattle.sb_containers.specs.base.pipeline.Shapes.{Shape, source}
 use Rattle.sb_core.specs.declared.moment.Moment.{Moment}
 use Rattle.sb_core.specs.declared.held.Held.{Held}
 use Rattle.sb_core.specs.declared.held.Held.TheVariants.{Work, Close}
-use Rattle.sb_base.specs.pipeline.Operators.{operator_at}
-use Rattle.sb_core.specs.Marks.{before_closing, last_of_first, least_begun_mark}
+use Rattle.sb_containers.specs.base.pipeline.Operators.{operator_at}
+use Rattle.sb_containers.specs.Marks.{before_closing, last_of_first, least_begun_mark}
 use Rattle.sb_core.specs.Moments.{is_work, lane_at, set_node, with_held, node_at}
-use Rattle.sb_core.specs.Lanes.{next_epoch}
+use Rattle.sb_containers.specs.Lanes.{next_epoch}
 use Rattle.sb_core.specs.Bounds.{bound_at}
 use Rattle.sb_core.specs.Holdings.{is_unpassed, IsCloseOf}
-use Rattle.sb_core.specs.Soundness.{out_of, AreNumbered, Begins, IsOpenBelow, AreKeptAt}
 use Rattle.sb_core.proofs.sound.Orderly.{IsTidy}
-use Rattle.sb_core.proofs.exact.Nodes.{begun_mark, closed-set, least-set, lane_at-cases, lane_at-there, lane_at-other, of_each_node, node_at-same, node_at-set_same, node_at-set_other}
+use Rattle.sb_core.proofs.exact.Nodes.{closed-set, least-set, lane_at-cases, lane_at-there, lane_at-other, of_each_node, node_at-same, node_at-set_same, node_at-set_other}
+use Rattle.sb_containers.proofs.Begun.{begun_mark}
 
 -- is it the place
 pub place_or : (n l : ℕ) (d : Down) → (d ≡ record { node = n; lane = l }) ⊎ (d ≢ record { node = n; lane = l })

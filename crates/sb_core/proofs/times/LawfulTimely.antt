@@ -1,5 +1,5 @@
 -- A lawful moment is timely.
-use Rattle.sb_base.specs.NumberLemmas.{bind_some}
+use Rattle.sb_containers.specs.base.NumberLemmas.{bind_some}
 use Rattle.std.proofs.Common.{◌≡◌, ℕ, suc, ◌+◌, ◌≤◌, ◌<◌, Bool, true, false, not, cond, eqb, List, [], ◌∷◌, length, Some, None, Option, sym, refl, ap, ◌∙◌, arith, ⊎_elim}
 use Rattle.std.specs.Prelude.{◌&&◌, ◌||◌, ◌≢◌}
 use Rattle.std.specs.List.{flat_map, sum_by, slice_get, list_any, AllByRecursion}
@@ -7,31 +7,31 @@ use Rattle.std.proofs.lemmas.Bool.{ne_eqb, cases_eq, eqb-true, cases_lt}
 use Rattle.std.proofs.lemmas.List.Sums.{sum_by-append, sum_by-cons}
 use Rattle.std.proofs.lemmas.List.{get_or_past}
 use Rattle.std.proofs.lemmas.Option.{get_or_from_slice_get, slice_get-get_or}
-use Rattle.sb_base.specs.records.declared.item.Record.{Record}
-use Rattle.sb_core.specs.declared.moment.CoreLane.{CoreLane}
+use Rattle.sb_containers.specs.base.records.declared.item.Record.{Record}
+use Rattle.sb_containers.specs.declared.container.CoreLane.{CoreLane}
 use Rattle.sb_core.specs.declared.moment.Node.{Node}
-use Rattle.sb_base.specs.pipeline.declared.transform.Step.{Step}
-use Rattle.sb_base.specs.pipeline.Shapes.{Shape}
+use Rattle.sb_containers.specs.base.pipeline.declared.transform.Step.{Step}
+use Rattle.sb_containers.specs.base.pipeline.Shapes.{Shape}
 use Rattle.sb_core.specs.declared.moment.Moment.{Moment}
 use Rattle.sb_core.specs.declared.held.Held.{Held}
 use Rattle.sb_core.specs.declared.held.Held.TheVariants.{Work, Close}
-use Rattle.sb_base.specs.records.Elements.{on_lane}
-use Rattle.sb_base.specs.records.Reading.{◌>>=◌}
-use Rattle.sb_core.specs.Marks.{least_begun_mark}
-use Rattle.sb_core.specs.Lanes.{next_floor}
+use Rattle.sb_containers.specs.base.records.Elements.{on_lane}
+use Rattle.sb_containers.specs.base.records.Reading.{◌>>=◌}
+use Rattle.sb_containers.specs.Marks.{least_begun_mark}
+use Rattle.sb_containers.specs.Lanes.{next_floor}
 use Rattle.sb_core.specs.Moments.{lane_at, node_at, no_node, floor_of, floor_at}
 use Rattle.sb_core.specs.Exactness.{waiting_in, waiting_from, work_in, rows_left_in}
-use Rattle.sb_core.specs.LaneOrder.{IsWithin}
+use Rattle.sb_containers.specs.LaneOrder.{IsWithin}
 use Rattle.sb_core.specs.Bounds.{bound_at}
 use Rattle.sb_core.specs.Holdings.{IsHeld, is_unpassed}
 use Rattle.sb_core.specs.Soundness.{IsSealedBelow}
 use Rattle.sb_core.proofs.sound.Orderly.{IsLawful}
-use Rattle.sb_base.specs.SumLemmas.{sum_by-flat_map, sum_by-map}
-use Rattle.sb_base.specs.window.declared.windows.TheConstants.{MAX_SIZE}
-use Rattle.sb_core.proofs.exact.Nodes.{begun_mark}
+use Rattle.sb_containers.specs.base.SumLemmas.{sum_by-flat_map, sum_by-map}
+use Rattle.sb_containers.specs.base.window.declared.windows.TheConstants.{MAX_SIZE}
+use Rattle.sb_containers.proofs.Begun.{begun_mark, work_floor, begun_behind, closed_least}
 use Rattle.sb_core.proofs.windows.Groupings.{early, early_one}
 use Rattle.sb_core.proofs.times.Timely.{zero_early, early_weaker, IsTimelyAt, IsTimely}
-use Rattle.sb_core.proofs.times.InTime.{lane_late, work_floor, begun_behind, closed_least}
+use Rattle.sb_core.proofs.times.InTime.{lane_late}
 
 on_lane_late : (low l : ℕ) (rs : List Record) → sum_by (early low) rs ≡ 0 → sum_by (early_one low) (on_lane l rs) ≡ 0
 on_lane_late low l rs h = sum_by-map (early_one low) (λ r. record { lane = l; rec = r }) rs ∙ h

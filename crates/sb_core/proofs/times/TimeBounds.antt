@@ -3,10 +3,10 @@ use Rattle.std.proofs.Common.{eqb, ◌≡◌, ℕ, suc, ◌+◌, ◌≤◌, ◌<
 use Rattle.std.specs.Prelude.{◌≢◌}
 use Rattle.std.specs.List.{slice_get}
 use Rattle.std.proofs.lemmas.Bool.{eq-eqb, ne_eqb, eqb-true, cases_lt}
-use Rattle.sb_base.specs.records.declared.item.TheConstants.{END_MARK}
-use Rattle.sb_base.specs.pipeline.declared.transform.Step.{Step}
-use Rattle.sb_base.specs.pipeline.Plans.{IsPlan}
-use Rattle.sb_base.specs.pipeline.Shapes.{Shape}
+use Rattle.sb_containers.specs.base.records.declared.item.TheConstants.{END_MARK}
+use Rattle.sb_containers.specs.base.pipeline.declared.transform.Step.{Step}
+use Rattle.sb_containers.specs.base.pipeline.Plans.{IsPlan}
+use Rattle.sb_containers.specs.base.pipeline.Shapes.{Shape}
 use Rattle.sb_core.specs.Bounds.{above_from, bound_at}
 
 abbrev one : Bool → ℕ

@@ -7,32 +7,32 @@ use Rattle.std.proofs.lemmas.Bool.{le-ltb, ltb-false, cases_eq, eq-eqb, ne_eqb}
 use Rattle.std.proofs.lemmas.List.Sums.{sum_by-append, sum_by-cons}
 use Rattle.std.proofs.lemmas.List.Elements.{recursion_from_All}
 use Rattle.std.proofs.lemmas.List.Concat.{flat_map-append}
-use Rattle.sb_base.specs.records.declared.item.Record.{Record}
-use Rattle.sb_base.specs.records.declared.element.KeptRec.{KeptRec}
-use Rattle.sb_base.specs.records.declared.item.Stream.{Stream}
-use Rattle.sb_base.specs.records.declared.item.Stream.TheVariants.{A, B}
-use Rattle.sb_base.specs.pardo.declared.operation.Op.{Op}
-use Rattle.sb_base.specs.KeepingLemmas.{outputs_keep_time}
-use Rattle.sb_base.specs.pipeline.declared.transform.Down.{Down}
-use Rattle.sb_base.specs.pipeline.declared.transform.Step.{Step}
-use Rattle.sb_base.specs.pipeline.Shapes.{Shape, source}
+use Rattle.sb_containers.specs.base.records.declared.item.Record.{Record}
+use Rattle.sb_containers.specs.base.records.declared.element.KeptRec.{KeptRec}
+use Rattle.sb_containers.specs.base.records.declared.item.Stream.{Stream}
+use Rattle.sb_containers.specs.base.records.declared.item.Stream.TheVariants.{A, B}
+use Rattle.sb_containers.specs.base.pardo.declared.operation.Op.{Op}
+use Rattle.sb_containers.specs.base.KeepingLemmas.{outputs_keep_time}
+use Rattle.sb_containers.specs.base.pipeline.declared.transform.Down.{Down}
+use Rattle.sb_containers.specs.base.pipeline.declared.transform.Step.{Step}
+use Rattle.sb_containers.specs.base.pipeline.Shapes.{Shape, source}
 use Rattle.sb_core.specs.declared.moment.Moment.{Moment}
-use Rattle.sb_core.specs.declared.moment.CoreLane.{CoreLane}
-use Rattle.sb_base.specs.records.Records.{at_least}
-use Rattle.sb_base.specs.pipeline.Operators.{Operator, operator_of, operator_at, operator_rows}
-use Rattle.sb_base.specs.pardo.Outputs.{outputs_of}
-use Rattle.sb_base.specs.records.Elements.{on_lane, all_records}
-use Rattle.sb_base.specs.pipeline.Flow.{arrivals_at, from_stream, from_streams}
-use Rattle.sb_base.specs.pipeline.Operators.Operator.{ParDo, Windowed, Sink}
-use Rattle.sb_base.specs.pipeline.declared.transform.Kind.{Kind}
-use Rattle.sb_base.specs.pipeline.declared.transform.Kind.TheVariants.{Do, Group, Session, Join}
-use Rattle.sb_core.specs.Marks.{least_begun_mark}
-use Rattle.sb_core.specs.Lanes.{next_floor}
+use Rattle.sb_containers.specs.declared.container.CoreLane.{CoreLane}
+use Rattle.sb_containers.specs.base.records.Records.{at_least}
+use Rattle.sb_containers.specs.base.pipeline.Operators.{Operator, operator_of, operator_at, operator_rows}
+use Rattle.sb_containers.specs.base.pardo.Outputs.{outputs_of}
+use Rattle.sb_containers.specs.base.records.Elements.{on_lane, all_records}
+use Rattle.sb_containers.specs.base.pipeline.Flow.{arrivals_at, from_stream, from_streams}
+use Rattle.sb_containers.specs.base.pipeline.Operators.Operator.{ParDo, Windowed, Sink}
+use Rattle.sb_containers.specs.base.pipeline.declared.transform.Kind.{Kind}
+use Rattle.sb_containers.specs.base.pipeline.declared.transform.Kind.TheVariants.{Do, Group, Session, Join}
+use Rattle.sb_containers.specs.Marks.{least_begun_mark}
+use Rattle.sb_containers.specs.Lanes.{next_floor}
 use Rattle.sb_core.specs.Moments.{lane_at, node_at, floor_of, floor_at}
 use Rattle.sb_core.specs.Closings.{is_sink}
-use Rattle.sb_base.specs.records.declared.item.TheConstants.{MAX_TIME}
+use Rattle.sb_containers.specs.base.records.declared.item.TheConstants.{MAX_TIME}
 use Rattle.sb_core.specs.Exactness.{waiting_from, work_in, rows_left_in, rest, gives, gives_by, IsAdmissible}
-use Rattle.sb_base.specs.SumLemmas.{sum_by-flat_map, sum_by-map, sum_by-filter}
+use Rattle.sb_containers.specs.base.SumLemmas.{sum_by-flat_map, sum_by-map, sum_by-filter}
 use Rattle.sb_core.proofs.exact.Flow.{brought}
 use Rattle.sb_core.proofs.windows.Groupings.{early, early_one}
 use Rattle.sb_core.proofs.exact.Gives.{sum_by-rest}

@@ -2,15 +2,15 @@
 use Rattle.std.proofs.Common.{◌≡◌, ℕ, ◌+◌, ◌≤◌, Bool, not, List, refl, arith}
 use Rattle.std.specs.Prelude.{nat_lt}
 use Rattle.std.specs.List.{filter, AllByRecursion}
-use Rattle.sb_base.specs.records.declared.item.Record.{Record}
-use Rattle.sb_base.specs.records.Records.{record_cmp, before, at_least}
-use Rattle.sb_base.specs.ElementLemmas.{every, All-passed}
-use Rattle.sb_base.specs.SortingLemmas.{All-in_order}
-use Rattle.sb_base.specs.window.declared.windows.TheConstants.{MAX_SIZE}
-use Rattle.sb_base.specs.records.declared.element.KeptRec.{KeptRec}
-use Rattle.sb_base.specs.pipeline.Shapes.{Shape}
-use Rattle.sb_base.specs.pipeline.Operators.{Operator, WindowOperator, operator_rows}
-use Rattle.sb_base.specs.pipeline.Operators.Operator.{ParDo, Windowed, Sink}
+use Rattle.sb_containers.specs.base.records.declared.item.Record.{Record}
+use Rattle.sb_containers.specs.base.records.Records.{record_cmp, before, at_least}
+use Rattle.sb_containers.specs.base.ElementLemmas.{every, All-passed}
+use Rattle.sb_containers.specs.base.SortingLemmas.{All-in_order}
+use Rattle.sb_containers.specs.base.window.declared.windows.TheConstants.{MAX_SIZE}
+use Rattle.sb_containers.specs.base.records.declared.element.KeptRec.{KeptRec}
+use Rattle.sb_containers.specs.base.pipeline.Shapes.{Shape}
+use Rattle.sb_containers.specs.base.pipeline.Operators.{Operator, WindowOperator, operator_rows}
+use Rattle.sb_containers.specs.base.pipeline.Operators.Operator.{ParDo, Windowed, Sink}
 use Rattle.sb_core.specs.Closings.{rows_at}
 use Rattle.sb_core.specs.Bounds.{bound_at}
 use Rattle.sb_core.specs.Soundness.{AreKeptAt}

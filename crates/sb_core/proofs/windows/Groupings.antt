@@ -6,29 +6,29 @@ use Rattle.std.proofs.lemmas.Bool.{le-ltb, ltb-false}
 use Rattle.std.proofs.lemmas.List.{nil_from_length, map-append}
 use Rattle.std.proofs.lemmas.List.Sums.{sum_by-cons, length-filter}
 use Rattle.std.proofs.lemmas.List.Elements.{filter-append, All-from_recursion}
-use Rattle.sb_base.specs.records.declared.item.Record.{Record}
-use Rattle.sb_base.specs.records.Records.{before, at_least}
-use Rattle.sb_base.specs.SumLemmas.{IsReordered, IsReordered-map, IsReordered-filter}
-use Rattle.sb_base.specs.window.Spacing.{Spacing, AreWindows}
-use Rattle.sb_base.specs.RowLemmas.{is_open_at, rows_by-same, rows_by-before}
-use Rattle.sb_base.specs.aggregate.declared.aggregate.Agg.{Agg}
-use Rattle.sb_base.specs.aggregate.Aggregates.{aggregate_values, aggregate_rows}
-use Rattle.sb_base.specs.aggregate.Sessions.{session_rows, is_session_open}
-use Rattle.sb_base.specs.OrderlessLemmas.{aggregate_rows-orderless}
-use Rattle.sb_base.specs.SessionRowLemmas.{session_rows-orderless, closed_sessions-final, open_sessions-rest, open-fewer, open-more, open-late, session_rows-times}
-use Rattle.sb_base.specs.AggregateTimeLemmas.{aggregate_rows-times}
-use Rattle.sb_base.specs.join.declared.join.Combine.{Combine}
-use Rattle.sb_base.specs.join.Joins.{join_rows}
-use Rattle.sb_base.specs.PairLemmas.{join_rows-same, join_rows-reordered, joins-before}
-use Rattle.sb_base.specs.JoinTimeLemmas.{join_rows-times}
-use Rattle.sb_base.specs.records.declared.element.KeptRec.{KeptRec}
-use Rattle.sb_base.specs.aggregate.declared.session.TheConstants.{MAX_GAP}
-use Rattle.sb_base.specs.records.Elements.{on_lane, of_lane, all_records}
-use Rattle.sb_base.specs.pipeline.Operators.{WindowOperator, operator_rows}
-use Rattle.sb_base.specs.pipeline.Operators.WindowOperator.{Aggregated, Sessions, Joined}
-use Rattle.sb_base.specs.OnLaneLemmas.{All-all_records, All-of_lane}
+use Rattle.sb_containers.specs.base.records.declared.item.Record.{Record}
+use Rattle.sb_containers.specs.base.records.Records.{before, at_least}
+use Rattle.sb_containers.specs.base.SumLemmas.{IsReordered, IsReordered-map, IsReordered-filter}
+use Rattle.sb_containers.specs.base.window.Spacing.{Spacing, AreWindows}
+use Rattle.sb_containers.specs.base.RowLemmas.{is_open_at, rows_by-same, rows_by-before}
+use Rattle.sb_containers.specs.base.aggregate.declared.aggregate.Agg.{Agg}
+use Rattle.sb_containers.specs.base.aggregate.Aggregates.{aggregate_values, aggregate_rows}
+use Rattle.sb_containers.specs.base.aggregate.Sessions.{session_rows, is_session_open}
+use Rattle.sb_containers.specs.base.OrderlessLemmas.{aggregate_rows-orderless}
+use Rattle.sb_containers.specs.base.SessionRowLemmas.{session_rows-orderless, closed_sessions-final, open_sessions-rest, open-fewer, open-more, open-late, session_rows-times}
+use Rattle.sb_containers.specs.base.AggregateTimeLemmas.{aggregate_rows-times}
+use Rattle.sb_containers.specs.base.join.declared.join.Combine.{Combine}
+use Rattle.sb_containers.specs.base.join.Joins.{join_rows}
+use Rattle.sb_containers.specs.base.PairLemmas.{join_rows-same, join_rows-reordered, joins-before}
+use Rattle.sb_containers.specs.base.JoinTimeLemmas.{join_rows-times}
+use Rattle.sb_containers.specs.base.records.declared.element.KeptRec.{KeptRec}
+use Rattle.sb_containers.specs.base.aggregate.declared.session.TheConstants.{MAX_GAP}
+use Rattle.sb_containers.specs.base.records.Elements.{on_lane, of_lane, all_records}
+use Rattle.sb_containers.specs.base.pipeline.Operators.{WindowOperator, operator_rows}
+use Rattle.sb_containers.specs.base.pipeline.Operators.WindowOperator.{Aggregated, Sessions, Joined}
+use Rattle.sb_containers.specs.base.OnLaneLemmas.{All-all_records, All-of_lane}
 use Rattle.sb_core.specs.Closings.{still_open}
-use Rattle.sb_core.proofs.containers.Lists.{filter_swap}
+use Rattle.sb_containers.proofs.Lists.{filter_swap}
 use Rattle.sb_core.proofs.windows.WindowOperators.{AreFrom, IsGrouping}
 use Rattle.sb_core.proofs.windows.OpenWindows.{same-open, ends-later}
 

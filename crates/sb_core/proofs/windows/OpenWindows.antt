@@ -6,10 +6,10 @@ use Rattle.std.proofs.lemmas.Bool.{eq-eqb, cases_eq, cases_lt, lt-ltb, ltb-false
 use Rattle.std.proofs.Math.Nat.{mul-mod_right, mod-add-div, mod-lt}
 use Rattle.std.proofs.Math.Bool.{or-true}
 use Rattle.std.proofs.lemmas.List.Elements.{filter-append}
-use Rattle.sb_base.specs.records.declared.item.Record.{Record}
-use Rattle.sb_base.specs.window.Spacing.{Spacing, AreWindows}
-use Rattle.sb_base.specs.window.Windows.{window_ends, is_in}
-use Rattle.sb_base.specs.RowLemmas.{SameIn, is_open_at, in_open, none_in_zero}
+use Rattle.sb_containers.specs.base.records.declared.item.Record.{Record}
+use Rattle.sb_containers.specs.base.window.Spacing.{Spacing, AreWindows}
+use Rattle.sb_containers.specs.base.window.Windows.{window_ends, is_in}
+use Rattle.sb_containers.specs.base.RowLemmas.{SameIn, is_open_at, in_open, none_in_zero}
 
 -- what no open window holds can be given up
 pub same-open : (windows : Spacing) (mark : ℕ) (l later : List Record) → SameIn windows (λ q. not (nat_lt (q.end - 1) mark)) (l ++ later) (filter (is_open_at windows mark) l ++ later)

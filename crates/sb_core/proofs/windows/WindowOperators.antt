@@ -5,16 +5,16 @@ use Rattle.std.specs.List.{filter, sum_by, AllByRecursion}
 use Rattle.std.proofs.lemmas.Bool.{le-ltb, ltb-false, not-true}
 use Rattle.std.proofs.lemmas.List.Sums.{sum_by-append}
 use Rattle.std.proofs.lemmas.List.Filters.{sum_by-filter_both}
-use Rattle.sb_base.specs.records.declared.item.Record.{Record}
-use Rattle.sb_base.specs.records.Records.{record_cmp, sorted_records, before, at_least}
-use Rattle.sb_base.specs.ElementLemmas.{every, All-join, All-passed, filter_of_filter}
-use Rattle.sb_base.specs.SortingLemmas.{IsReordered-in_order}
-use Rattle.sb_base.specs.window.declared.windows.TheConstants.{MAX_SIZE}
-use Rattle.sb_base.specs.records.Reorderings.{IsReordered}
-use Rattle.sb_base.specs.records.declared.element.KeptRec.{KeptRec}
-use Rattle.sb_base.specs.pipeline.Operators.{WindowOperator, operator_rows, reach}
+use Rattle.sb_containers.specs.base.records.declared.item.Record.{Record}
+use Rattle.sb_containers.specs.base.records.Records.{record_cmp, sorted_records, before, at_least}
+use Rattle.sb_containers.specs.base.ElementLemmas.{every, All-join, All-passed, filter_of_filter}
+use Rattle.sb_containers.specs.base.SortingLemmas.{IsReordered-in_order}
+use Rattle.sb_containers.specs.base.window.declared.windows.TheConstants.{MAX_SIZE}
+use Rattle.sb_containers.specs.base.records.Reorderings.{IsReordered}
+use Rattle.sb_containers.specs.base.records.declared.element.KeptRec.{KeptRec}
+use Rattle.sb_containers.specs.base.pipeline.Operators.{WindowOperator, operator_rows, reach}
 use Rattle.sb_core.specs.Closings.{is_open}
-use Rattle.sb_core.proofs.containers.Lists.{filter_swap}
+use Rattle.sb_containers.proofs.Lists.{filter_swap}
 
 -- no element is before the mark
 abbrev pub AreFrom : ℕ → List KeptRec → Type 0

@@ -1,15 +1,15 @@
 -- The window operators of a plan meet their laws.
 use Rattle.std.proofs.Common.{◌≡◌, ℕ, Option, Some, None, refl, subst}
 use Rattle.std.specs.List.{slice_get}
-use Rattle.sb_base.specs.pipeline.declared.transform.Kind.{Kind}
-use Rattle.sb_base.specs.pipeline.declared.transform.Kind.TheVariants.{Do, Group, Session, Join}
-use Rattle.sb_base.specs.pipeline.declared.transform.Step.{Step}
-use Rattle.sb_base.specs.pipeline.Shapes.{Shape}
-use Rattle.sb_base.specs.pipeline.Plans.{IsPlan, IsValidKind}
-use Rattle.sb_base.specs.pipeline.Operators.{WindowOperator, operator_of, operator_at}
-use Rattle.sb_base.specs.pipeline.Operators.Operator.{Windowed}
-use Rattle.sb_base.specs.pipeline.Operators.WindowOperator.{Aggregated, Sessions, Joined}
-use Rattle.sb_base.specs.StepLemmas.{kind-at}
+use Rattle.sb_containers.specs.base.pipeline.declared.transform.Kind.{Kind}
+use Rattle.sb_containers.specs.base.pipeline.declared.transform.Kind.TheVariants.{Do, Group, Session, Join}
+use Rattle.sb_containers.specs.base.pipeline.declared.transform.Step.{Step}
+use Rattle.sb_containers.specs.base.pipeline.Shapes.{Shape}
+use Rattle.sb_containers.specs.base.pipeline.Plans.{IsPlan, IsValidKind}
+use Rattle.sb_containers.specs.base.pipeline.Operators.{WindowOperator, operator_of, operator_at}
+use Rattle.sb_containers.specs.base.pipeline.Operators.Operator.{Windowed}
+use Rattle.sb_containers.specs.base.pipeline.Operators.WindowOperator.{Aggregated, Sessions, Joined}
+use Rattle.sb_containers.specs.base.StepLemmas.{kind-at}
 use Rattle.sb_core.proofs.windows.WindowOperators.{IsGrouping}
 use Rattle.sb_core.proofs.windows.Groupings.{aggregated, sessions, joined}
 

@@ -6,10 +6,10 @@ use Rattle.std.proofs.lemmas.List.Sums.{sum_by-cons}
 use Rattle.std.proofs.lemmas.Option.{same_Some}
 use Rattle.sb_shown.specs.base.records.Reading.{◌>>=◌}
 use Rattle.sb_shown.specs.base.bundle.declared.bundle.Bundle.{Bundle}
-use Rattle.sb_shown.specs.core.declared.moment.Cont.{Cont}
-use Rattle.sb_shown.specs.core.LaneOrder.{cont_at}
-use Rattle.sb_shown.specs.core.Lanes.{in_epoch, fresh, with_bundle, with_first_closing}
-use Rattle.sb_shown.specs.core.Marks.{first_is_closing}
+use Rattle.sb_shown.specs.core.containers.declared.container.Cont.{Cont}
+use Rattle.sb_shown.specs.core.containers.LaneOrder.{cont_at}
+use Rattle.sb_shown.specs.core.containers.Lanes.{in_epoch, fresh, with_bundle, with_first_closing}
+use Rattle.sb_shown.specs.core.containers.Marks.{first_is_closing}
 use Rattle.sb_shown.specs.lane.declared.answers.LaneClose.{LaneClose}
 use Rattle.sb_shown.specs.lane.LaneView.{LaneView}
 use Rattle.sb_shown.specs.lane.Looks.{look_of, look_closing}

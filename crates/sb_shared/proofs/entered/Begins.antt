@@ -2,7 +2,7 @@
 use Rattle.std.proofs.Common.{◌≡◌, ◌≤◌, ℕ, ◌+◌, List, length, map, Bool, false, ap, subst, arith}
 use Rattle.sb_shown.specs.base.records.declared.item.Record.{Record}
 use Rattle.sb_shown.specs.diary.Diaries.{with_spare}
-use Rattle.sb_shown.specs.core.declared.moment.CoreLane.{CoreLane}
+use Rattle.sb_shown.specs.core.containers.declared.container.CoreLane.{CoreLane}
 use Rattle.sb_shown.specs.lane.LaneView.{lane_of}
 use Rattle.sb_shown.specs.lane.Placed.{conts_of}
 use Rattle.sb_shown.specs.node.Changes.{ClosesKept}

@@ -4,10 +4,10 @@ use Rattle.std.specs.Prelude.{◌||◌, Ok}
 use Rattle.std.specs.List.{slice_get, slice_set, list_any}
 use Rattle.std.proofs.lemmas.List.{length-map}
 use Rattle.sb_shown.specs.core.declared.event.Event.TheVariants.{Begin}
-use Rattle.sb_shown.specs.core.declared.moment.CoreLane.{CoreLane}
+use Rattle.sb_shown.specs.core.containers.declared.container.CoreLane.{CoreLane}
 use Rattle.sb_shown.specs.core.Bounds.{bound_at}
-use Rattle.sb_shown.specs.core.Lanes.{closable, with_first_closing}
-use Rattle.sb_shown.specs.core.Marks.{before_closing, first_is_closing, least_begun_mark}
+use Rattle.sb_shown.specs.core.containers.Lanes.{closable, with_first_closing}
+use Rattle.sb_shown.specs.core.containers.Marks.{before_closing, first_is_closing, least_begun_mark}
 use Rattle.sb_shown.specs.core.Parts.{Part, part_after}
 use Rattle.sb_shown.proofs.core.parts.PartsLaw.{chain, parts-keep_sound, passing}
 use Rattle.sb_shown.specs.lane.declared.answers.LaneClose.{LaneClose}

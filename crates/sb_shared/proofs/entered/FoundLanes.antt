@@ -13,12 +13,12 @@ use Rattle.sb_shown.specs.base.pipeline.Shapes.{source}
 use Rattle.sb_shown.specs.base.pipeline.Operators.{Operator, lanes_of}
 use Rattle.sb_shown.specs.base.pipeline.Operators.Operator.{ParDo, Windowed, Sink}
 use Rattle.sb_shown.specs.base.pipeline.Operators.WindowOperator.{Aggregated, Sessions, Joined}
-use Rattle.sb_shown.specs.core.declared.moment.CoreLane.{CoreLane}
+use Rattle.sb_shown.specs.core.containers.declared.container.CoreLane.{CoreLane}
 use Rattle.sb_shown.specs.core.declared.moment.Node.{Node}
 use Rattle.sb_shown.specs.core.Bounds.{bound_at}
 use Rattle.sb_shown.specs.core.Closings.{is_sink}
 use Rattle.sb_shown.specs.core.Events.{below}
-use Rattle.sb_shown.specs.core.LaneOrder.{IsLane}
+use Rattle.sb_shown.specs.core.containers.LaneOrder.{IsLane}
 use Rattle.sb_shown.specs.core.Moments.{lane_at, node_at}
 use Rattle.sb_shown.proofs.core.times.Timely.{sink-last}
 use Rattle.sb_shown.specs.lane.LaneView.{LaneView, lane_of}

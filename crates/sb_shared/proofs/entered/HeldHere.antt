@@ -9,15 +9,14 @@ use Rattle.sb_shown.specs.base.window.Groupings.{IsFrom}
 use Rattle.sb_shown.specs.base.pipeline.Operators.{Operator, lanes_of}
 use Rattle.sb_shown.specs.base.pipeline.Operators.Operator.{ParDo, Windowed, Sink}
 use Rattle.sb_shown.specs.core.declared.held.Held.{Held}
-use Rattle.sb_shown.specs.core.declared.moment.CoreLane.{CoreLane}
+use Rattle.sb_shown.specs.core.containers.declared.container.CoreLane.{CoreLane}
 use Rattle.sb_shown.specs.core.declared.moment.Node.{Node}
 use Rattle.sb_shown.specs.core.Bounds.{bound_at}
 use Rattle.sb_shown.specs.core.Closings.{is_pardo}
 use Rattle.sb_shown.specs.core.Holdings.{IsClosing, IsHeld, IsWork}
-use Rattle.sb_shown.specs.core.LaneOrder.{IsWithin, cont_at}
-use Rattle.sb_shown.specs.core.Marks.{begun_count, least_begun_mark, first_is_closing}
-use Rattle.sb_shown.proofs.core.times.InTime.{begun_within, closed_least, work_floor}
-use Rattle.sb_shown.proofs.core.exact.Nodes.{begun_mark}
+use Rattle.sb_shown.specs.core.containers.LaneOrder.{IsWithin, cont_at}
+use Rattle.sb_shown.specs.core.containers.Marks.{begun_count, least_begun_mark, first_is_closing}
+use Rattle.sb_shown.proofs.core.containers.Begun.{begun_within, closed_least, work_floor, begun_mark}
 use Rattle.sb_shown.specs.lane.LaneView.{LaneView}
 use Rattle.sb_shown.specs.lane.Placed.{conts_of}
 use Rattle.sb_shown.specs.node.Changes.{HasLane}

@@ -13,14 +13,14 @@ use Rattle.sb_shown.specs.base.pipeline.Operators.{Operator}
 use Rattle.sb_shown.specs.base.pipeline.Operators.Operator.{ParDo, Windowed, Sink}
 use Rattle.sb_shown.specs.core.declared.event.Event.TheVariants.{Deliver}
 use Rattle.sb_shown.specs.core.declared.held.Held.{Held}
-use Rattle.sb_shown.specs.core.declared.moment.CoreLane.{CoreLane}
+use Rattle.sb_shown.specs.core.containers.declared.container.CoreLane.{CoreLane}
 use Rattle.sb_shown.specs.core.declared.moment.Node.{Node}
 use Rattle.sb_shown.specs.core.Bounds.{bound_at}
-use Rattle.sb_shown.specs.core.Choices.{is_empty}
+use Rattle.sb_shown.specs.core.containers.Choices.{is_empty}
 use Rattle.sb_shown.specs.core.Closings.{delivery, is_pardo}
 use Rattle.sb_shown.specs.core.Events.{below}
-use Rattle.sb_shown.specs.core.LaneOrder.{IsLane}
-use Rattle.sb_shown.specs.core.Lanes.{in_epoch, next_floor, with_arrival}
+use Rattle.sb_shown.specs.core.containers.LaneOrder.{IsLane}
+use Rattle.sb_shown.specs.core.containers.Lanes.{in_epoch, next_floor, with_arrival}
 use Rattle.sb_shown.specs.core.Laws.{concerns}
 use Rattle.sb_shown.specs.core.Moments.{epoch_at, epoch_of, floor_of, lane_at, set_lane, with_held}
 use Rattle.sb_shown.specs.core.Parts.{Part, held_after, only_node, with_part_first}

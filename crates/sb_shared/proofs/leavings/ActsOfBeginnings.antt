@@ -12,11 +12,11 @@ use Rattle.sb_shown.specs.base.pipeline.Operators.{Operator}
 use Rattle.sb_shown.specs.base.pipeline.Operators.Operator.{ParDo, Windowed, Sink}
 use Rattle.sb_shown.specs.core.declared.event.Event.TheVariants as event
 use Rattle.sb_shown.specs.core.declared.held.Held.TheVariants.{Close}
-use Rattle.sb_shown.specs.core.declared.moment.CoreLane.{CoreLane}
+use Rattle.sb_shown.specs.core.containers.declared.container.CoreLane.{CoreLane}
 use Rattle.sb_shown.specs.core.declared.moment.Node.{Node}
 use Rattle.sb_shown.specs.core.Closings.{kept_at, rows_at, rows_at_sink, is_sink}
-use Rattle.sb_shown.specs.core.Lanes.{with_first_closing}
-use Rattle.sb_shown.specs.core.Marks.{before_closing, least_begun_mark}
+use Rattle.sb_shown.specs.core.containers.Lanes.{with_first_closing}
+use Rattle.sb_shown.specs.core.containers.Marks.{before_closing, least_begun_mark}
 use Rattle.sb_shown.specs.core.Moments.{empty_lane, set_lane}
 use Rattle.sb_shown.specs.core.Parts.{Part}
 use Rattle.sb_shown.specs.diary.declared.event.DiaryEvent.{DiaryEvent}

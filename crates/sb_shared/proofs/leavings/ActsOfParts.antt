@@ -12,14 +12,14 @@ use Rattle.sb_shown.specs.base.pipeline.Operators.{Operator}
 use Rattle.sb_shown.specs.base.pipeline.Operators.Operator.{ParDo, Windowed, Sink}
 use Rattle.sb_shown.specs.core.declared.event.Event.TheVariants as event
 use Rattle.sb_shown.specs.core.declared.held.Held.{Held}
-use Rattle.sb_shown.specs.core.declared.moment.CoreLane.{CoreLane}
+use Rattle.sb_shown.specs.core.containers.declared.container.CoreLane.{CoreLane}
 use Rattle.sb_shown.specs.core.declared.moment.Node.{Node}
 use Rattle.sb_shown.specs.core.Bounds.{bound_at}
-use Rattle.sb_shown.specs.core.Choices.{is_empty}
+use Rattle.sb_shown.specs.core.containers.Choices.{is_empty}
 use Rattle.sb_shown.specs.core.Closings.{kept_elements, delivery, is_pardo}
-use Rattle.sb_shown.specs.core.Lanes.{finish_in}
+use Rattle.sb_shown.specs.core.containers.Lanes.{finish_in}
 use Rattle.sb_shown.specs.core.Laws.{concerns}
-use Rattle.sb_shown.specs.core.Marks.{least_begun_mark}
+use Rattle.sb_shown.specs.core.containers.Marks.{least_begun_mark}
 use Rattle.sb_shown.specs.core.Moments.{set_lane, with_held}
 use Rattle.sb_shown.specs.core.Parts.{Part, held_after, only_node, with_part_first}
 use Rattle.sb_shown.specs.core.Soundness.{IsSound}

@@ -3,10 +3,10 @@ use Rattle.std.proofs.Common.{◌≡◌, ℕ, ◌+◌, ◌-◌, ◌^◌, ◌<◌
 use Rattle.std.specs.declared.snapshot.Snapshot.{Snapshot}
 use Rattle.sb_shown.specs.base.records.declared.item.Record.{Record}
 use Rattle.sb_shown.specs.base.pipeline.declared.transform.Down.{Down}
-use Rattle.sb_shown.specs.core.Choices.{is_empty}
+use Rattle.sb_shown.specs.core.containers.Choices.{is_empty}
 use Rattle.sb_shown.specs.core.Closings.{is_sink}
 use Rattle.sb_shown.specs.core.Events.{below}
-use Rattle.sb_shown.specs.core.Lanes.{next_epoch, with_arrival, with_seal}
+use Rattle.sb_shown.specs.core.containers.Lanes.{next_epoch, with_arrival, with_seal}
 use Rattle.sb_shown.specs.diary.declared.event.DiaryEvent.TheVariants as line
 use Rattle.sb_shown.specs.lane.LaneView.{LaneView, lane_of}
 use Rattle.sb_shown.specs.lane.Placed.{conts_of}

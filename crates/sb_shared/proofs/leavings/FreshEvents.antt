@@ -9,12 +9,12 @@ use Rattle.sb_shown.specs.base.records.declared.item.Stream.{Stream}
 use Rattle.sb_shown.specs.base.records.declared.item.TheConstants.{END_MARK, MAX_TIME}
 use Rattle.sb_shown.specs.base.pipeline.declared.transform.Down.{Down}
 use Rattle.sb_shown.specs.base.pipeline.Shapes.{source}
-use Rattle.sb_shown.specs.core.declared.moment.CoreLane.{CoreLane}
+use Rattle.sb_shown.specs.core.containers.declared.container.CoreLane.{CoreLane}
 use Rattle.sb_shown.specs.core.declared.held.Held.{Held}
 use Rattle.sb_shown.specs.core.declared.held.Held.TheVariants.{Work}
 use Rattle.sb_shown.specs.core.declared.event.Event.TheVariants as event
-use Rattle.sb_shown.specs.core.Choices.{is_empty}
-use Rattle.sb_shown.specs.core.Lanes.{next_epoch, next_floor, take_from, with_arrival, with_seal}
+use Rattle.sb_shown.specs.core.containers.Choices.{is_empty}
+use Rattle.sb_shown.specs.core.containers.Lanes.{next_epoch, next_floor, take_from, with_arrival, with_seal}
 use Rattle.sb_shown.specs.diary.declared.event.DiaryEvent.TheVariants as line
 use Rattle.sb_shown.specs.tally.Written as written
 use Rattle.sb_shown.specs.tally.Written.{arrival_line, seal_line}

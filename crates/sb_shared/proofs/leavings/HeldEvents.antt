@@ -10,15 +10,15 @@ use Rattle.sb_shown.specs.base.records.Elements.{on_lane}
 use Rattle.sb_shown.specs.base.pipeline.declared.transform.Down.{Down}
 use Rattle.sb_shown.specs.base.pipeline.Operators.{Operator}
 use Rattle.sb_shown.specs.base.pipeline.Operators.Operator.{ParDo, Windowed, Sink}
-use Rattle.sb_shown.specs.core.declared.moment.CoreLane.{CoreLane}
+use Rattle.sb_shown.specs.core.containers.declared.container.CoreLane.{CoreLane}
 use Rattle.sb_shown.specs.core.declared.moment.Node.{Node}
 use Rattle.sb_shown.specs.core.declared.held.Held.{Held}
 use Rattle.sb_shown.specs.core.declared.event.Event.TheVariants as event
 use Rattle.sb_shown.specs.core.Bounds.{bound_at}
-use Rattle.sb_shown.specs.core.Choices.{is_empty}
+use Rattle.sb_shown.specs.core.containers.Choices.{is_empty}
 use Rattle.sb_shown.specs.core.Closings.{kept_elements, delivery, is_pardo}
 use Rattle.sb_shown.specs.core.Events.{below}
-use Rattle.sb_shown.specs.core.Lanes.{finish_in, next_epoch, with_arrival, with_seal}
+use Rattle.sb_shown.specs.core.containers.Lanes.{finish_in, next_epoch, with_arrival, with_seal}
 use Rattle.sb_shown.specs.core.Moments.{set_lane}
 use Rattle.sb_shown.specs.core.Parts.{only_node, put_in}
 use Rattle.sb_shown.specs.diary.declared.event.DiaryEvent.{DiaryEvent}

@@ -4,7 +4,7 @@ use Rattle.std.specs.Prelude.{min}
 use Rattle.std.proofs.lemmas.Bool.{cases_lt}
 use Rattle.std.proofs.lemmas.List.{drop-drop, drop_all, length-drop, take_min}
 use Rattle.sb_shown.specs.base.records.declared.item.Record.{Record}
-use Rattle.sb_shown.specs.core.Choices.{is_empty}
+use Rattle.sb_shown.specs.core.containers.Choices.{is_empty}
 
 module _ (first count most : ℕ) (rows : List Record) (counted : count ≡ min most (length (drop first rows))) where
   -- a count of rows that stops at the last one is as good as the most that may go

@@ -4,12 +4,12 @@ use Rattle.std.specs.List.{slice_get, slice_set}
 use Rattle.std.proofs.lemmas.List.{map-set}
 use Rattle.std.proofs.lemmas.Option.{get_or_from_slice_get}
 use Rattle.sb_shown.specs.base.bundle.declared.bundle.Bundle.{Bundle}
-use Rattle.sb_shown.specs.core.declared.moment.CoreLane.{CoreLane}
+use Rattle.sb_shown.specs.core.containers.declared.container.CoreLane.{CoreLane}
 use Rattle.sb_shown.specs.core.declared.moment.Moment.{Moment}
 use Rattle.sb_shown.specs.core.declared.held.Held.{Held}
 use Rattle.sb_shown.specs.core.declared.event.Event.{Event}
 use Rattle.sb_shown.specs.core.Laws.{concerns, place_of}
-use Rattle.sb_shown.specs.core.Marks.{least_begun_mark}
+use Rattle.sb_shown.specs.core.containers.Marks.{least_begun_mark}
 use Rattle.sb_shown.specs.core.Moments.{empty_lane, set_lane, with_held}
 use Rattle.sb_shown.specs.core.Parts.{Part, only_node, part_after, held_after, with_part_first}
 use Rattle.sb_shown.specs.core.Soundness.{IsSound}

@@ -7,7 +7,7 @@ use mathlib.Core.Option.{some, some-injective}
 use lib.ListN.{get_elem?}
 use Rattle.atomic_table.proofs.Lists.{at_set, set_else}
 use Rattle.sb_shown.specs.core.declared.held.Held.TheVariants.{Work}
-use Rattle.sb_shown.specs.core.declared.moment.CoreLane.{CoreLane}
+use Rattle.sb_shown.specs.core.containers.declared.container.CoreLane.{CoreLane}
 use Rattle.sb_shown.proofs.core.exact.Nodes.{slice_get-set_same, slice_get-set_other}
 use Rattle.sb_shown.specs.lane.LaneView.{LaneView, lane_of}
 use Rattle.sb_shown.specs.lane.Links.{Link, links_of}

@@ -3,7 +3,7 @@ use Rattle.std.proofs.Common.{◌≡◌, ℕ, ◌≤◌, ◌<◌, Bool, true, fa
 use Rattle.std.specs.Prelude.{◌≢◌, is_some}
 use Rattle.std.specs.Option.{option_map}
 use Rattle.std.proofs.lemmas.Bool.{cases_eq}
-use Rattle.sb_shown.specs.core.declared.moment.Cont.{Cont}
+use Rattle.sb_shown.specs.core.containers.declared.container.Cont.{Cont}
 use Rattle.sb_shown.specs.lane.LaneView.{LaneView, lane_of}
 use Rattle.sb_shown.specs.lane.Links.{Link, down_of, link_in, with_link, links_of, with_place}
 use Rattle.sb_shown.specs.lane.Placed.{Placed, conts_of}

@@ -17,7 +17,7 @@ use Rattle.sb_shown.specs.core.declared.held.Held.TheVariants.{Work}
 use Rattle.sb_shown.specs.core.declared.moment.Moment.{Moment}
 use Rattle.sb_shown.specs.core.Bounds.{bound_at}
 use Rattle.sb_shown.specs.core.Events.{below}
-use Rattle.sb_shown.specs.core.LaneOrder.{IsLane}
+use Rattle.sb_shown.specs.core.containers.LaneOrder.{IsLane}
 use Rattle.sb_shown.proofs.core.exact.Nodes.{slice_get-set_same}
 use Rattle.sb_shown.specs.lane.LaneView.{LaneView, lane_of}
 use Rattle.sb_shown.specs.lane.Links.{links_of, with_place}

@@ -9,11 +9,11 @@ use lib.ListN.{get_elem?}
 use Rattle.sb_shown.specs.base.records.Reading.{◌>>=◌}
 use Rattle.sb_shown.specs.base.records.declared.item.Record.{Record}
 use Rattle.sb_shown.specs.core.declared.held.Held.{Held}
-use Rattle.sb_shown.specs.core.declared.moment.CoreLane.{CoreLane}
+use Rattle.sb_shown.specs.core.containers.declared.container.CoreLane.{CoreLane}
 use Rattle.sb_shown.specs.core.declared.moment.Moment.{Moment}
 use Rattle.sb_shown.specs.core.declared.moment.Node.{Node}
 use Rattle.sb_shown.specs.core.Holdings.{IsClosing, IsHeld}
-use Rattle.sb_shown.specs.core.Marks.{first_is_closing}
+use Rattle.sb_shown.specs.core.containers.Marks.{first_is_closing}
 use Rattle.sb_shown.specs.core.Moments.{lane_at}
 use Rattle.sb_shown.specs.lane.LaneView.{LaneView, lane_of}
 use Rattle.sb_shown.specs.lane.Links.{Link, down_of, link_in, links_of}

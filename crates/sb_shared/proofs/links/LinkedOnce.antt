@@ -2,7 +2,7 @@
 use Rattle.std.proofs.Common.{◌≡◌, ℕ, cond, ap, sym, ◌∙◌}
 use Rattle.std.specs.Prelude.{Option, Some, None, slice_set, is_some}
 use Rattle.std.proofs.lemmas.List.{set-set}
-use Rattle.sb_shown.specs.core.declared.moment.CoreLane.{CoreLane}
+use Rattle.sb_shown.specs.core.containers.declared.container.CoreLane.{CoreLane}
 use Rattle.sb_shown.specs.diary.declared.event.DiaryEvent.{DiaryEvent}
 use Rattle.sb_shown.specs.lane.LaneView.{LaneView}
 use Rattle.sb_shown.specs.lane.Links.{down_of, with_link, links_of}

@@ -10,10 +10,10 @@ use Rattle.sb_shown.specs.base.records.declared.item.Record.{Record}
 use Rattle.sb_shown.specs.core.declared.event.Event.TheVariants as event
 use Rattle.sb_shown.specs.core.declared.held.Held.{Held}
 use Rattle.sb_shown.specs.core.declared.moment.Node.{Node}
-use Rattle.sb_shown.specs.core.Choices.{is_empty}
+use Rattle.sb_shown.specs.core.containers.Choices.{is_empty}
 use Rattle.sb_shown.specs.core.Events.{below}
 use Rattle.sb_shown.specs.core.Holdings.{IsCloseOf}
-use Rattle.sb_shown.specs.core.Lanes.{take_from}
+use Rattle.sb_shown.specs.core.containers.Lanes.{take_from}
 use Rattle.sb_shown.specs.core.Parts.{Part, held_after, part_after}
 use Rattle.sb_shown.proofs.core.containers.Lists.{cond_is_some}
 use Rattle.sb_shown.specs.node.declared.closing.Closing.{Closing}

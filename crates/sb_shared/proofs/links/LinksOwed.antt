@@ -10,8 +10,8 @@ use Rattle.sb_shown.specs.base.pipeline.declared.transform.Down.{Down}
 use Rattle.sb_shown.specs.base.pipeline.declared.transform.Step.{Step}
 use Rattle.sb_shown.specs.work.declared.outputs.Part.{Part}
 use Rattle.sb_shown.specs.core.Events.{below}
-use Rattle.sb_shown.specs.core.declared.moment.CoreLane.{CoreLane}
-use Rattle.sb_shown.specs.core.Lanes.{with_arrival, with_seal}
+use Rattle.sb_shown.specs.core.containers.declared.container.CoreLane.{CoreLane}
+use Rattle.sb_shown.specs.core.containers.Lanes.{with_arrival, with_seal}
 use Rattle.sb_shown.specs.lane.LaneView.{LaneView, lane_of}
 use Rattle.sb_shown.specs.lane.Links.{links_of}
 use Rattle.sb_shown.specs.lane.Placed.{conts_of}

@@ -5,7 +5,7 @@ use Rattle.sb_shown.specs.base.pipeline.declared.transform.Step.{Step}
 use Rattle.sb_shown.specs.base.pipeline.Plans.{IsPlan}
 use Rattle.sb_shown.specs.base.pipeline.Shapes.{Shape}
 use Rattle.sb_shown.specs.base.pipeline.Operators.{operator_at}
-use Rattle.sb_shown.specs.core.declared.moment.CoreLane.{CoreLane}
+use Rattle.sb_shown.specs.core.containers.declared.container.CoreLane.{CoreLane}
 use Rattle.sb_shown.specs.core.declared.moment.Moment.{Moment}
 use Rattle.sb_shown.specs.core.Bounds.{bound_at}
 use Rattle.sb_shown.specs.core.Closings.{is_pardo}

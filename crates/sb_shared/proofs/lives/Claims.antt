@@ -10,11 +10,11 @@ use Rattle.sb_shown.proofs.base.records.Numbers.{bind_some}
 use Rattle.sb_shown.specs.core.declared.event.Event.TheVariants.{Take}
 use Rattle.sb_shown.specs.core.declared.held.Held.{Held}
 use Rattle.sb_shown.specs.core.declared.held.Held.TheVariants.{Work}
-use Rattle.sb_shown.specs.core.declared.moment.Cont.{Cont}
+use Rattle.sb_shown.specs.core.containers.declared.container.Cont.{Cont}
 use Rattle.sb_shown.specs.core.Bounds.{bound_at}
 use Rattle.sb_shown.specs.core.Holdings.{IsHeld, IsWork}
-use Rattle.sb_shown.specs.core.LaneOrder.{IsWithin}
-use Rattle.sb_shown.specs.core.Lanes.{take_from}
+use Rattle.sb_shown.specs.core.containers.LaneOrder.{IsWithin}
+use Rattle.sb_shown.specs.core.containers.Lanes.{take_from}
 use Rattle.sb_shown.specs.core.Moments.{set_lane}
 use Rattle.sb_shown.specs.core.Parts.{Part, only_node, part_after, with_part_first}
 use Rattle.sb_shown.proofs.core.parts.PartsLaw.{chain, parts-keep_sound}

@@ -9,8 +9,8 @@ use Rattle.sb_shown.specs.base.pipeline.declared.transform.Down.{Down}
 use Rattle.sb_shown.specs.base.pipeline.Shapes.{Shape}
 use Rattle.sb_shown.specs.core.declared.held.Held.{Held}
 use Rattle.sb_shown.specs.core.declared.held.Held.TheVariants.{Work, Close}
-use Rattle.sb_shown.specs.core.declared.moment.Cont.{Cont}
-use Rattle.sb_shown.specs.core.declared.moment.CoreLane.{CoreLane}
+use Rattle.sb_shown.specs.core.containers.declared.container.Cont.{Cont}
+use Rattle.sb_shown.specs.core.containers.declared.container.CoreLane.{CoreLane}
 use Rattle.sb_shown.specs.core.declared.moment.Moment.{Moment}
 use Rattle.sb_shown.specs.core.Holdings.{IsHeld}
 use Rattle.sb_shown.specs.core.Moments.{is_close, is_close_of, is_work, lane_at}

@@ -1,7 +1,7 @@
 use Rattle.std.proofs.Common.{◌∷◌, [], true, false, refl}
 use Rattle.sb_shown.specs.core.declared.event.Event.TheVariants.{Pass}
 use Rattle.sb_hand.specs.Runs.{close_of, deliveries}
-use Rattle.sb_shown.specs.core.Lanes.{next_epoch}
+use Rattle.sb_shown.specs.core.containers.Lanes.{next_epoch}
 use Rattle.sb_shown.specs.diary.declared.event.DiaryEvent.TheVariants as line
 use Rattle.sb_shown.specs.lane.LaneView.{lane_of}
 use Rattle.sb_hand.proofs.KeptLinks.{end-keeps, seal-keeps}

@@ -1,5 +1,5 @@
 use Rattle.std.proofs.Common.{◌+◌, length}
-use Rattle.sb_shown.specs.core.Lanes.{with_arrival}
+use Rattle.sb_shown.specs.core.containers.Lanes.{with_arrival}
 use Rattle.sb_shown.specs.diary.declared.event.DiaryEvent.TheVariants as line
 use Rattle.sb_shown.specs.lane.LaneView.{lane_of}
 use Rattle.sb_shown.proofs.lane.Results.{ok-some}

@@ -1,6 +1,6 @@
 use Rattle.std.proofs.Common.{sym, ap, ◌∙◌, arith, drop}
 use Rattle.std.proofs.lemmas.List.{length-map}
-use Rattle.sb_core.specs.Lanes.{fresh}
+use Rattle.sb_containers.specs.Lanes.{fresh}
 use Rattle.sb_lane.specs.Looks.{look_of}
 use Rattle.sb_lane.specs.Placed.{Placed, conts_of, cont_of}
 use Rattle.sb_lane.proofs.Firsts.{head-is}

@@ -1,7 +1,7 @@
 use Rattle.std.proofs.Common.{◌≡◌, ℕ, [], sym, ap, ◌∙◌, arith, ⊎_elim}
 use Rattle.std.proofs.lemmas.Bool.{cases_lt, eqb-true}
 use Rattle.std.proofs.lemmas.List.{nil_from_length}
-use Rattle.sb_core.specs.declared.moment.Cont.{Cont}
+use Rattle.sb_containers.specs.declared.container.Cont.{Cont}
 use Rattle.sb_lane.specs.Placed.{conts_of}
 use Rattle.std.specs.Prelude.{slice_index_or}
 use Rattle.sb_lane.proofs.finding.first_waiting.Goals as goal

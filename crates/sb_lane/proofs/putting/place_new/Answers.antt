@@ -1,5 +1,5 @@
 use Rattle.std.proofs.Common.{ap, ◌∙◌}
-use Rattle.sb_core.specs.declared.moment.Cont.{Cont}
+use Rattle.sb_containers.specs.declared.container.Cont.{Cont}
 use Rattle.sb_lane.proofs.Results.{ok-some, ok-map}
 use Rattle.sb_lane.proofs.Views.{put-new}
 use Rattle.sb_lane.proofs.Firsts.{place-new}

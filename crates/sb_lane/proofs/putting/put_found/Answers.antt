@@ -1,4 +1,4 @@
-use Rattle.sb_core.specs.Lanes.{with_bundle}
+use Rattle.sb_containers.specs.Lanes.{with_bundle}
 use Rattle.sb_lane.proofs.Results.{on_ok}
 use Rattle.sb_lane.proofs.Views.{put-there}
 use Rattle.sb_lane.proofs.putting.put_found.Goals as goal

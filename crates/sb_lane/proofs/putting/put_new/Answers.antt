@@ -1,5 +1,5 @@
 use Rattle.std.proofs.Common.{refl}
-use Rattle.sb_core.specs.Lanes.{with_bundle}
+use Rattle.sb_containers.specs.Lanes.{with_bundle}
 use Rattle.sb_lane.proofs.Views.{put-new}
 use Rattle.sb_lane.proofs.putting.put_new.Goals as goal
 

@@ -1,6 +1,6 @@
 use Rattle.std.proofs.Common.{sym, ap, ◌∙◌, arith, get_or, filter, not, ◌==◌}
 use Rattle.std.proofs.lemmas.List.{length-map}
-use Rattle.sb_core.specs.Lanes.{fresh}
+use Rattle.sb_containers.specs.Lanes.{fresh}
 use Rattle.sb_lane.specs.Unfinished.{unfinished_of}
 use Rattle.sb_lane.specs.Placed.{Placed, conts_of}
 use Rattle.sb_lane.proofs.Firsts.{finish_first-at, finish_first-none, self-get}

@@ -1,6 +1,6 @@
 use Rattle.std.proofs.Common.{◌≡◌, None, Some, length, get_or, sym, ap, ◌∙◌, rules, arith}
 use Rattle.std.proofs.lemmas.List.{length-map}
-use Rattle.sb_core.specs.Lanes.{fresh}
+use Rattle.sb_containers.specs.Lanes.{fresh}
 use Rattle.sb_lane.specs.Unfinished.{unfinished_of}
 use Rattle.sb_lane.specs.Taking.{take_first}
 use Rattle.sb_lane.specs.Placed.{Placed, conts_of}

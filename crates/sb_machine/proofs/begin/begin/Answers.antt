@@ -1,11 +1,11 @@
 use Rattle.std.proofs.Common.{rules, ◌≡◌, List, ◌++◌, ◌∷◌, [], ◌+◌, Some, get_or, set as slice_set, sym, ap, ◌∙◌}
 use Rattle.std.proofs.lemmas.Option.{get_or_from_slice_get}
-use Rattle.sb_core.specs.declared.moment.CoreLane.{CoreLane}
+use Rattle.sb_core.specs.containers.declared.container.CoreLane.{CoreLane}
 use Rattle.sb_core.specs.declared.moment.Moment.{Moment}
 use Rattle.sb_core.specs.declared.moment.Node.{Node}
 use Rattle.sb_core.specs.declared.held.Held.{Held}
 use Rattle.sb_core.specs.declared.held.Held.TheVariants.{Close}
-use Rattle.sb_core.specs.Lanes.{with_first_closing}
+use Rattle.sb_core.specs.containers.Lanes.{with_first_closing}
 use Rattle.sb_machine.proofs.BeginParts.{begin-done}
 use Rattle.sb_machine.proofs.begin.begin.Goals as goal
 

@@ -4,11 +4,11 @@ use Rattle.std.specs.List.{slice_get, list_any}
 use Rattle.sb_slow.specs.base.records.declared.item.TheConstants.{END_MARK}
 use Rattle.sb_slow.specs.base.records.declared.element.KeptRec.{KeptRec}
 use Rattle.sb_slow.specs.base.pipeline.Operators.{operator_at}
-use Rattle.sb_core.specs.declared.moment.CoreLane.{CoreLane}
+use Rattle.sb_core.specs.containers.declared.container.CoreLane.{CoreLane}
 use Rattle.sb_core.specs.declared.held.Held.{Held}
 use Rattle.sb_core.specs.Closings.{kept_at, rows_at, rows_at_sink}
-use Rattle.sb_core.specs.Lanes.{closable, with_first_closing}
-use Rattle.sb_core.specs.Marks.{begun_count, least_begun_mark}
+use Rattle.sb_core.specs.containers.Lanes.{closable, with_first_closing}
+use Rattle.sb_core.specs.containers.Marks.{begun_count, least_begun_mark}
 use Rattle.sb_core.specs.Moments.{is_close}
 use Rattle.sb_core.proofs.times.Timely.{sink-last}
 use Rattle.sb_machine.proofs.BeginParts.{any-first, closable-first, closable-found, node-within, kept-times, lanes-few, lanes-begun, begun-is, begin-refused}

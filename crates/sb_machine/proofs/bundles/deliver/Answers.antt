@@ -6,7 +6,7 @@ use Rattle.sb_slow.specs.base.pipeline.Operators.{operator_at}
 use Rattle.sb_core.specs.declared.moment.Moment.{Moment}
 use Rattle.sb_core.specs.declared.held.Held.{Held}
 use Rattle.sb_core.specs.declared.held.Held.TheVariants.{Work}
-use Rattle.sb_core.specs.Choices.{is_empty}
+use Rattle.sb_core.specs.containers.Choices.{is_empty}
 use Rattle.sb_core.specs.Closings.{delivery}
 use Rattle.sb_core.specs.LaneSteps.{arrived_at}
 use Rattle.sb_core.specs.Moments.{with_held}

@@ -5,7 +5,7 @@ use Rattle.sb_slow.specs.base.records.Elements.{on_lane}
 use Rattle.sb_slow.specs.base.pipeline.Operators.{operator_at}
 use Rattle.sb_core.specs.declared.moment.Moment.{Moment}
 use Rattle.sb_core.specs.declared.moment.Node.{Node}
-use Rattle.sb_core.specs.Choices.{is_empty}
+use Rattle.sb_core.specs.containers.Choices.{is_empty}
 use Rattle.sb_core.specs.Closings.{delivery, kept_elements}
 use Rattle.sb_core.specs.Moments.{set_node, with_held}
 use Rattle.sb_core.proofs.places.Carried.{empty-by_length}

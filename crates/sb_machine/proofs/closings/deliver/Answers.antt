@@ -6,7 +6,7 @@ use Rattle.std.proofs.lemmas.Option.{get_or_from_slice_get}
 use Rattle.sb_core.specs.declared.moment.Moment.{Moment}
 use Rattle.sb_core.specs.declared.held.Held.{Held}
 use Rattle.sb_core.specs.declared.held.Held.TheVariants.{Close}
-use Rattle.sb_core.specs.Choices.{is_empty}
+use Rattle.sb_core.specs.containers.Choices.{is_empty}
 use Rattle.sb_core.specs.LaneSteps.{arrived_at}
 use Rattle.sb_core.specs.Moments.{with_held}
 use Rattle.sb_machine.proofs.FromHeld.{close-in_lane}

@@ -1,6 +1,6 @@
 use Rattle.std.proofs.Common.{◌≡◌, ◌<◌, ◌-◌, ◌^◌, ◌∙◌, ap, sym, subst}
-use Rattle.sb_core.specs.declared.moment.CoreLane.{CoreLane}
-use Rattle.sb_core.specs.Lanes.{with_arrival}
+use Rattle.sb_core.specs.containers.declared.container.CoreLane.{CoreLane}
+use Rattle.sb_core.specs.containers.Lanes.{with_arrival}
 use Rattle.sb_core.specs.Moments.{with_lane}
 use Rattle.sb_core.proofs.places.InPlace.{arrived-there, lane-is, lane-kept, lane-written}
 use Rattle.sb_machine.proofs.Becoming.{becomes-memory}

@@ -1,5 +1,5 @@
 use Rattle.std.proofs.Common.{◌≡◌, ◌∙◌, ap, sym}
-use Rattle.sb_core.specs.Lanes.{with_seal}
+use Rattle.sb_core.specs.containers.Lanes.{with_seal}
 use Rattle.sb_core.specs.Moments.{with_lane}
 use Rattle.sb_machine.proofs.Becoming.{becomes-memory}
 use Rattle.sb_core.proofs.places.InPlace.{then_some, lane-is, lane-kept, lane-written}

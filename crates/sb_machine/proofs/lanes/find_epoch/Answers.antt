@@ -1,7 +1,7 @@
 use Rattle.std.proofs.Common.{◌<◌, length, arith, refl, ap, sym, subst, ◌∙◌}
 use Rattle.std.proofs.lemmas.Option.{slice_get_read}
-use Rattle.sb_core.specs.declared.moment.Cont.{Cont}
-use Rattle.sb_core.proofs.places.Placing.{in_epoch-there, in_epoch-new, in_epoch-last}
+use Rattle.sb_core.specs.containers.declared.container.Cont.{Cont}
+use Rattle.sb_core.proofs.containers.Placing.{in_epoch-there, in_epoch-new, in_epoch-last}
 use Rattle.sb_machine.proofs.lanes.find_epoch.Goals as goal
 
 pub returns-then-there-epoch : goal.returns-then-there-epoch

@@ -1,5 +1,5 @@
 use Rattle.std.proofs.Common.{ℕ, ◌<◌, get_or}
-use Rattle.sb_core.specs.declared.moment.Cont.{Cont}
+use Rattle.sb_core.specs.containers.declared.container.Cont.{Cont}
 use Rattle.sb_machine.proofs.lanes.find_epoch.Given as goal
 
 abbrev pub invariant-loop-place : goal.invariant-loop-place

@@ -1,9 +1,9 @@
 use Rattle.std.proofs.Common.{◌≡◌, Some, length, arith, refl, ap, sym, subst, ◌∙◌}
 use Rattle.std.specs.Prelude.{remove}
 use Rattle.std.proofs.lemmas.Option.{slice_get_read}
-use Rattle.sb_core.specs.declared.moment.Cont.{Cont}
+use Rattle.sb_core.specs.containers.declared.container.Cont.{Cont}
 use Rattle.sb_core.specs.Finding.{IsFirst}
-use Rattle.sb_core.proofs.places.Placing.{of_number, take_from-at, take_from-none}
+use Rattle.sb_core.proofs.containers.Placing.{of_number, take_from-at, take_from-none}
 use Rattle.sb_machine.proofs.lanes.find_waiting.Goals as goal
 
 pub returns-in-Some : goal.returns-in-Some

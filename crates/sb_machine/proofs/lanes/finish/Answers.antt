@@ -1,7 +1,7 @@
 use Rattle.std.proofs.Common.{◌≡◌, ◌==◌, ◌<◌, ◌∙◌, ap, sym, not, filter, if◌then◌else◌, set, length, arith}
 use Rattle.std.proofs.lemmas.List.Edits.{map_over_more}
-use Rattle.sb_core.specs.declared.moment.Cont.{Cont}
-use Rattle.sb_core.specs.declared.moment.CoreLane.{CoreLane}
+use Rattle.sb_core.specs.containers.declared.container.Cont.{Cont}
+use Rattle.sb_core.specs.containers.declared.container.CoreLane.{CoreLane}
 use Rattle.sb_machine.proofs.lanes.finish.Goals as goal
 
 pub loop-cont-preserved : goal.loop-cont-preserved

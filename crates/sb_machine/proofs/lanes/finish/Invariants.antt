@@ -1,5 +1,5 @@
 use Rattle.std.proofs.Common.{◌≡◌, ◌++◌, take, drop}
-use Rattle.sb_core.specs.Lanes.{finish_in}
+use Rattle.sb_core.specs.containers.Lanes.{finish_in}
 use Rattle.sb_machine.proofs.lanes.finish.Given as goal
 
 abbrev pub invariant-loop-cont : goal.invariant-loop-cont

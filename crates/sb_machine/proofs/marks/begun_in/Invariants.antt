@@ -1,5 +1,5 @@
 use Rattle.std.proofs.Common.{◌≡◌, ◌≤◌, ◌*◌, ◌-◌, ◌^◌, take, sum_by}
-use Rattle.sb_core.specs.Marks.{begun_count}
+use Rattle.sb_core.specs.containers.Marks.{begun_count}
 use Rattle.sb_machine.proofs.marks.begun_in.Given as goal
 
 abbrev pub invariant-loop-lane : goal.invariant-loop-lane

@@ -1,6 +1,6 @@
 use Rattle.std.proofs.Common.{ℕ, ◌<◌, ◌-◌, ◌^◌, sym, subst, ◌∙◌, arith}
-use Rattle.sb_lane.specs.core.LaneOrder.{IsLane}
-use Rattle.sb_lane.specs.core.declared.moment.CoreLane.{CoreLane}
+use Rattle.sb_lane.specs.containers.LaneOrder.{IsLane}
+use Rattle.sb_lane.specs.containers.declared.container.CoreLane.{CoreLane}
 use Rattle.sb_lane.specs.LaneView.{lane_of}
 use Rattle.sb_node.proofs.PlacedFirst.{arrives-placed}
 use Rattle.sb_node.proofs.arriving.deliver_first.Goals as goal

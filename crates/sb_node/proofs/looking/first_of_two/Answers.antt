@@ -1,6 +1,6 @@
 use Rattle.std.proofs.Common.{rules, ◌≡◌, ◌⊎◌, inl, inr, suc, zero, ◌+◌, Bool, true, false, [], ◌∷◌, sym, refl, ◌∙◌, arith}
 use Rattle.std.specs.Prelude.{All, Err}
-use Rattle.sb_lane.specs.core.Marks.{first_is_closing}
+use Rattle.sb_lane.specs.containers.Marks.{first_is_closing}
 use Rattle.sb_lane.specs.LaneView.{LaneView}
 use Rattle.sb_lane.specs.Looks.{look_of}
 use Rattle.sb_lane.specs.Placed.{conts_of}

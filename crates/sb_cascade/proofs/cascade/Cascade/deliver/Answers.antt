@@ -1,6 +1,6 @@
 use Rattle.std.proofs.Common.{rules, ◌≡◌, ◌<◌, false, List, [], ◌∷◌, length, Some, refl, ap, ◌∙◌, sym, subst}
 use Rattle.sb_hand.specs.base.records.declared.item.Record.{Record}
-use Rattle.sb_hand.specs.core.Choices.{is_empty}
+use Rattle.sb_hand.specs.core.containers.Choices.{is_empty}
 use Rattle.sb_hand.specs.core.Closings.{delivery}
 use Rattle.sb_hand.specs.core.Events.{below}
 use Rattle.sb_hand.proofs.core.places.Carried.{below-down}

@@ -1,5 +1,5 @@
 use Rattle.std.proofs.Common.{◌+◌, length, ap, refl, arith, sym, ◌∙◌}
-use Rattle.sb_core.specs.declared.moment.Cont.{Cont}
+use Rattle.sb_containers.specs.declared.container.Cont.{Cont}
 use Rattle.sb_lane.proofs.Places.{stands-in, changes, cont-read}
 use Rattle.sb_lane.proofs.arena.Arena.finish.Goals as goal
 

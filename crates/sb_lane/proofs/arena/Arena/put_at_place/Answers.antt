@@ -1,5 +1,5 @@
 use Rattle.std.proofs.Common.{refl, arith}
-use Rattle.sb_core.specs.Lanes.{with_bundle}
+use Rattle.sb_containers.specs.Lanes.{with_bundle}
 use Rattle.sb_lane.proofs.Results.{on_ok, on_err}
 use Rattle.sb_lane.proofs.Places.{stands-at, changes, same, room-read}
 use Rattle.sb_lane.proofs.arena.Arena.put_at_place.Goals as goal

@@ -1,5 +1,5 @@
 use Rattle.std.proofs.Common.{ap, refl, arith, ◌∙◌}
-use Rattle.sb_core.specs.declared.moment.Cont.{Cont}
+use Rattle.sb_containers.specs.declared.container.Cont.{Cont}
 use Rattle.sb_lane.proofs.Results.{some-and, if_none}
 use Rattle.sb_lane.proofs.Places.{stands-in, changes, same, cont-read}
 use Rattle.sb_lane.proofs.arena.Arena.take.Goals as goal

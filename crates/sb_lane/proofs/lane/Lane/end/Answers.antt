@@ -1,7 +1,7 @@
 use Rattle.std.proofs.Common.{◌≡◌, ◌<◌, length, ap, subst, sym, ◌∙◌, arith, drop}
 use Rattle.std.proofs.lemmas.List.{length-map}
-use Rattle.sb_core.specs.Lanes.{fresh}
-use Rattle.sb_core.specs.Marks.{first_is_closing}
+use Rattle.sb_containers.specs.Lanes.{fresh}
+use Rattle.sb_containers.specs.Marks.{first_is_closing}
 use Rattle.sb_lane.specs.LaneView.{LaneView}
 use Rattle.sb_lane.specs.Placed.{Placed, conts_of}
 use Rattle.sb_lane.specs.Unfinished.{unfinished_of}

@@ -1,5 +1,5 @@
 use Rattle.std.proofs.Common.{◌≡◌, ◌+◌, ap, ◌∙◌, Some, arith}
-use Rattle.sb_core.specs.declared.moment.Cont.{Cont}
+use Rattle.sb_containers.specs.declared.container.Cont.{Cont}
 use Rattle.sb_lane.specs.Placed.{conts_of}
 use Rattle.sb_lane.specs.Unfinished.{unfinished_of}
 use Rattle.sb_lane.proofs.Counts.{unfinished-in_epoch}

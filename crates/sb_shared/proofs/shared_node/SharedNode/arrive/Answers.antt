@@ -1,7 +1,7 @@
 use Rattle.std.proofs.Common.{rules, ◌≡◌, ◌+◌, max, arith, ap, ◌∙◌}
 use Rattle.sb_shown.specs.base.bundle.declared.bundle.Bundle.{Bundle}
 use Rattle.sb_shown.specs.diary.Diaries.{with_spare}
-use Rattle.sb_shown.specs.core.declared.moment.CoreLane.{CoreLane}
+use Rattle.sb_shown.specs.core.containers.declared.container.CoreLane.{CoreLane}
 use Rattle.sb_shown.specs.lane.Placed.{conts_of}
 use Rattle.sb_shown.specs.node.declared.state.NodeState.{NodeState}
 use Rattle.sb_shared.proofs.diaries.Promises.{owed_of, owed-arrived}

@@ -1,10 +1,10 @@
 use Rattle.std.proofs.Common.{rules, ◌≡◌, ◌≤◌, subst, arith, sym, ap, ◌∙◌}
-use Rattle.sb_shown.specs.core.declared.moment.CoreLane.{CoreLane}
+use Rattle.sb_shown.specs.core.containers.declared.container.CoreLane.{CoreLane}
 use Rattle.sb_shown.specs.lane.LaneView.{lane_of}
 use Rattle.sb_shown.specs.lane.Placed.{conts_of}
 use Rattle.sb_shown.specs.node.Changes.{HasLane, Turns}
-use Rattle.sb_shared.proofs.diaries.Promises.{owed_of, owed-finished}
-use Rattle.sb_shared.proofs.diaries.Rooms.{HasRoom, room-set, room-is}
+use Rattle.sb_shared.proofs.diaries.Promises.{owed_of, owed-finished, owed-in}
+use Rattle.sb_shared.proofs.diaries.Rooms.{HasRoom, room-set, room-is, room-same}
 use Rattle.std.specs.Prelude.{◌-◌, slice_get, Some, None}
 use Rattle.sb_shown.proofs.core.exact.Nodes.{slice_get-set_same}
 use Rattle.sb_shown.specs.diary.declared.event.DiaryEvent.TheVariants as line
@@ -12,8 +12,6 @@ use Rattle.sb_shown.specs.lane.Links.{down_of, links_of}
 use Rattle.sb_shown.specs.lane.Taking.{finish_first}
 use Rattle.sb_shared.specs.SharedNodes.{FinishesLinked, with_link_once}
 use Rattle.sb_shared.proofs.links.LinkedOnce.{turns-linked, turns-unlinked}
-use Rattle.sb_shared.proofs.diaries.Promises.{owed-in}
-use Rattle.sb_shared.proofs.diaries.Rooms.{room-same}
 use Rattle.sb_shared.proofs.shared_node.SharedNode.finish.Goals as goal
 use Rattle.sb_shared.proofs.shared_node.SharedNode.finish.Goals.{in-Some+then-is_none, in-Some+else-is_none, in_default}
 

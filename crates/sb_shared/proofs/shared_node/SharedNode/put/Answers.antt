@@ -1,6 +1,6 @@
 use Rattle.std.proofs.Common.{rules, ◌+◌, inl, inr, subst, max, arith, sym, ap, ◌∙◌}
 use Rattle.sb_shown.specs.base.bundle.declared.bundle.Bundle.{Bundle}
-use Rattle.sb_shown.specs.core.declared.moment.CoreLane.{CoreLane}
+use Rattle.sb_shown.specs.core.containers.declared.container.CoreLane.{CoreLane}
 use Rattle.sb_shown.specs.lane.LaneView.{lane_of}
 use Rattle.sb_shown.specs.lane.Placed.{conts_of}
 use Rattle.sb_shown.specs.node.Changes.{HasLane}
@@ -10,7 +10,7 @@ use Rattle.sb_shared.proofs.diaries.Rooms.{HasRoom, room-set, room-stays, room-r
 use Rattle.sb_shown.specs.lane.Changes.{StandsAt}
 use Rattle.std.specs.Prelude.{length}
 use Rattle.sb_shown.specs.diary.declared.event.DiaryEvent.TheVariants as line
-use Rattle.sb_shown.specs.core.Lanes.{with_arrival}
+use Rattle.sb_shown.specs.core.containers.Lanes.{with_arrival}
 use Rattle.sb_shown.specs.lane.Links.{link_in}
 use Rattle.sb_shown.specs.node.LinkChanges.{FindsPlace, LinksStay}
 use Rattle.sb_shared.specs.SharedNodes.{PutsAt}

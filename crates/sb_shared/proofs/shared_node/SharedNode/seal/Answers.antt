@@ -1,6 +1,6 @@
 use Rattle.std.proofs.Common.{rules, ◌+◌, max, arith, ap, ◌∙◌}
-use Rattle.sb_shown.specs.core.declared.moment.CoreLane.{CoreLane}
-use Rattle.sb_shown.specs.core.Lanes.{next_epoch, next_floor}
+use Rattle.sb_shown.specs.core.containers.declared.container.CoreLane.{CoreLane}
+use Rattle.sb_shown.specs.core.containers.Lanes.{next_epoch, next_floor}
 use Rattle.sb_shown.specs.lane.LaneView.{lane_of}
 use Rattle.sb_shown.specs.lane.Placed.{conts_of}
 use Rattle.sb_shown.specs.node.declared.state.NodeState.{NodeState}

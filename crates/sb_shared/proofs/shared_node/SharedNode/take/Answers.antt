@@ -1,12 +1,11 @@
 use Rattle.std.proofs.Common.{rules, ◌≡◌, ◌≤◌, subst, arith, ap, ◌∙◌, sym}
 use Rattle.sb_shown.specs.lane.Placed.{conts_of}
 use Rattle.sb_shown.specs.node.Changes.{HasLane}
-use Rattle.sb_shared.proofs.diaries.Promises.{owed-taken, owed-waits}
+use Rattle.sb_shared.proofs.diaries.Promises.{owed-taken, owed-waits, owed-in}
 use Rattle.sb_shared.proofs.diaries.Rooms.{room-set, HasRoom, room-is}
 use Rattle.std.specs.Prelude.{◌-◌, slice_get}
 use Rattle.sb_shown.proofs.core.exact.Nodes.{slice_get-set_same}
 use Rattle.sb_shown.specs.lane.Links.{down_of, links_of}
-use Rattle.sb_shared.proofs.diaries.Promises.{owed-in}
 use Rattle.sb_shared.proofs.shared_node.SharedNode.take.Goals as goal
 use Rattle.sb_shared.proofs.shared_node.SharedNode.take.Goals.{then-lane-eq0, else-lane-eq0}
 

@@ -4,10 +4,10 @@ use Rattle.std.specs.Prelude.{◌≢◌}
 use Rattle.std.specs.List.{list_any, AllByRecursion}
 use Rattle.std.proofs.lemmas.Bool.{eq-eqb, ne_eqb, cases_eq, cases_lt, eqb-true, lt-ltb}
 use Rattle.std.proofs.lemmas.Option.{same_Some}
-use Rattle.sb_core.specs.declared.moment.Cont.{Cont}
-use Rattle.sb_core.specs.Lanes.{fresh, in_epoch}
-use Rattle.sb_core.specs.LaneOrder.{AreOpen, AreContainers, IsReady, cont_at}
-use Rattle.sb_core.proofs.containers.LaneLaws.{passes_by}
+use Rattle.sb_containers.specs.declared.container.Cont.{Cont}
+use Rattle.sb_containers.specs.Lanes.{fresh, in_epoch}
+use Rattle.sb_containers.specs.LaneOrder.{AreOpen, AreContainers, IsReady, cont_at}
+use Rattle.sb_containers.proofs.LaneLaws.{passes_by}
 
 -- ---- containers of which none is closing
 pub tail_calm : (cs : List Cont) → AllByRecursion (λ c. c.closing ≡ false) cs → AllByRecursion (λ c. c.closing ≡ false) (drop 1 cs)

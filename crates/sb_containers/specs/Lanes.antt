@@ -5,9 +5,9 @@ use Rattle.std.specs.List.{list_any}
 use Rattle.sb_base.specs.records.declared.item.Record.{Record}
 use Rattle.sb_base.specs.records.Reading.{◌>>=◌}
 use Rattle.sb_base.specs.bundle.declared.bundle.Bundle.{Bundle}
-use Rattle.sb_core.specs.declared.moment.Cont.{Cont}
-use Rattle.sb_core.specs.declared.moment.CoreLane.{CoreLane}
-use Rattle.sb_core.specs.Choices.{only_if, is_empty, first_and_rest}
+use Rattle.sb_containers.specs.declared.container.Cont.{Cont}
+use Rattle.sb_containers.specs.declared.container.CoreLane.{CoreLane}
+use Rattle.sb_containers.specs.Choices.{only_if, is_empty, first_and_rest}
 
 -- the next epoch is the first that is not sealed
 abbrev pub next_epoch : CoreLane → ℕ

@@ -1,7 +1,7 @@
 -- The marks up to which lanes and nodes are closed.
 use Rattle.std.specs.Prelude.{ℕ, ◌+◌, ◌-◌, ◌==◌, Bool, false, if◌then◌else◌, min, List, [], ◌∷◌, slice_index}
-use Rattle.sb_core.specs.declared.moment.Cont.{Cont}
-use Rattle.sb_core.specs.declared.moment.CoreLane.{CoreLane}
+use Rattle.sb_containers.specs.declared.container.Cont.{Cont}
+use Rattle.sb_containers.specs.declared.container.CoreLane.{CoreLane}
 
 abbrev pub first_is_closing : List Cont → Bool
 first_is_closing [] = false

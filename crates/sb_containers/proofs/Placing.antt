@@ -5,10 +5,10 @@ use Rattle.std.proofs.lemmas.Bool.{eq-eqb, ne_eqb, lt-ltb, le-ltb}
 use Rattle.std.proofs.lemmas.Option.{same_Some}
 use Rattle.sb_base.specs.bundle.declared.bundle.Bundle.{Bundle}
 use Rattle.sb_base.specs.records.Reading.{◌>>=◌}
-use Rattle.sb_core.specs.declared.moment.Cont.{Cont}
-use Rattle.sb_core.specs.Choices.{first_and_rest}
-use Rattle.sb_core.specs.Lanes.{fresh, in_epoch, take_from}
-use Rattle.sb_core.proofs.containers.Lists.{any-pulled}
+use Rattle.sb_containers.specs.declared.container.Cont.{Cont}
+use Rattle.sb_containers.specs.Choices.{first_and_rest}
+use Rattle.sb_containers.specs.Lanes.{fresh, in_epoch, take_from}
+use Rattle.sb_containers.proofs.Lists.{any-pulled}
 
 less_is_other : (a b : ℕ) → a < b → a ≢ b
 less_is_other a b h e = absurd (omega arith)

@@ -9,10 +9,10 @@ use Rattle.std.proofs.lemmas.Option.{same_Some}
 use Rattle.std.specs.Prelude.{is_some, ◌||◌}
 use Rattle.sb_base.specs.records.declared.item.Record.{Record}
 use Rattle.sb_base.specs.bundle.declared.bundle.Bundle.{Bundle}
-use Rattle.sb_core.specs.declared.moment.Cont.{Cont}
+use Rattle.sb_containers.specs.declared.container.Cont.{Cont}
 use Rattle.sb_base.specs.records.Reading.{◌>>=◌}
-use Rattle.sb_core.specs.Choices.{first_and_rest, is_empty}
-use Rattle.sb_core.specs.Lanes.{fresh, in_epoch, with_bundle, take_from}
+use Rattle.sb_containers.specs.Choices.{first_and_rest, is_empty}
+use Rattle.sb_containers.specs.Lanes.{fresh, in_epoch, with_bundle, take_from}
 use Rattle.sb_base.specs.SumLemmas.{IsReordered, sum_by-flat_map}
 
 pub cond_is_some : {X : Type 0} (b : Bool) (o : Option X) (x : X) → cond b o None ≡ Some x → (b ≡ true) × (o ≡ Some x)

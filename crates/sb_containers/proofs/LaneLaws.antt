@@ -7,14 +7,13 @@ use Rattle.std.proofs.lemmas.Bool.{eq-eqb, ne_eqb, cases_eq, lt-ltb, le-ltb, cas
 use Rattle.std.proofs.lemmas.Option.{same_Some}
 use Rattle.sb_base.specs.records.declared.item.Record.{Record}
 use Rattle.sb_base.specs.bundle.declared.bundle.Bundle.{Bundle}
-use Rattle.sb_core.specs.declared.moment.Cont.{Cont}
+use Rattle.sb_containers.specs.declared.container.Cont.{Cont}
 use Rattle.sb_base.specs.records.Reading.{◌>>=◌}
-use Rattle.sb_base.specs.ElementLemmas.{every}
-use Rattle.sb_core.specs.Lanes.{fresh, in_epoch, with_bundle, take_from, finish_in, next_floor}
-use Rattle.sb_core.specs.Choices.{first_and_rest}
-use Rattle.sb_core.specs.LaneOrder.{NeverFalls, IsWithin, IsBundleOf, IsSealed, IsOpen, AreOpen, AreContainers}
-use Rattle.sb_core.proofs.containers.Fitting.{Fits}
-use Rattle.sb_core.proofs.sound.HeldLists.{All-last}
+use Rattle.sb_base.specs.ElementLemmas.{every, All-join}
+use Rattle.sb_containers.specs.Lanes.{fresh, in_epoch, with_bundle, take_from, finish_in, next_floor}
+use Rattle.sb_containers.specs.Choices.{first_and_rest}
+use Rattle.sb_containers.specs.LaneOrder.{NeverFalls, IsWithin, IsBundleOf, IsSealed, IsOpen, AreOpen, AreContainers}
+use Rattle.sb_containers.proofs.Fitting.{Fits}
 
 -- the last of the marks, or what was before them
 abbrev pub last_from : ℕ → List ℕ → ℕ
@@ -34,9 +33,9 @@ same-bundles bound c d e f = every (λ b h. record { epoch = h.epoch ∙ sym e; 
 module _ (bound epoch floor number : ℕ) (records : List Record) (times : IsWithin floor bound records) where
   in_its_epoch : (c : Cont) → c.epoch ≡ epoch → c.floor ≡ floor → AllByRecursion (IsBundleOf bound c) c.waiting → AllByRecursion (IsBundleOf bound (with_bundle (record { number = number; epoch = epoch; floor = floor; records = records }) c)) (c.waiting ++ record { number = number; epoch = epoch; floor = floor; records = records } ∷ [])
   in_its_epoch c e f all =
-      All-last (IsBundleOf bound (with_bundle (record { number = number; epoch = epoch; floor = floor; records = records }) c)) c.waiting _
+      All-join (IsBundleOf bound (with_bundle (record { number = number; epoch = epoch; floor = floor; records = records }) c)) c.waiting (record { number = number; epoch = epoch; floor = floor; records = records } ∷ [])
       (same-bundles bound c _ refl refl c.waiting all)
-      (record { epoch = sym e; floor = sym f; times = subst (λ n. IsWithin n bound records) (sym f) times })
+      (record { epoch = sym e; floor = sym f; times = subst (λ n. IsWithin n bound records) (sym f) times }, tt)
 
   open-arrival : (next next_floor e f : ℕ) (cs : List Cont) → AreOpen bound next next_floor e f cs → e ≤ epoch → f ≤ floor → (epoch ≡ next → floor ≡ next_floor) → Fits epoch floor cs
       → AreOpen bound next next_floor e f (in_epoch epoch floor (with_bundle (record { number = number; epoch = epoch; floor = floor; records = records })) cs)

@@ -1,5 +1,5 @@
 -- What the changes of a lane do to numbers, epochs and floors.
-use Rattle.sb_base.specs.NumberLemmas.{bind_some}
+use Rattle.sb_containers.specs.base.NumberLemmas.{bind_some}
 use Rattle.std.proofs.Common.{◌≡◌, ℕ, suc, zero, ◌+◌, ◌≤◌, Bool, true, false, not, cond, eqb, ltb, List, [], ◌∷◌, ◌++◌, Some, Option, sym, refl, ap, subst, ◌∙◌, arith, ⊎_elim, zero-add}
 use Rattle.std.specs.Prelude.{◌&&◌, ◌||◌, ◌≢◌, count_by, sum_by}
 use Rattle.std.specs.List.{filter, list_any, AllByRecursion}
@@ -7,18 +7,18 @@ use Rattle.std.proofs.lemmas.Bool.{eqb-true, eqb-false, eq-eqb, ne_eqb, cases_eq
 use Rattle.std.proofs.lemmas.List.Sums.{sum_by-cons}
 use Rattle.std.proofs.Math.Bool.{or-true}
 use Rattle.std.proofs.lemmas.Option.{same_Some}
-use Rattle.sb_base.specs.records.declared.item.Record.{Record}
-use Rattle.sb_base.specs.bundle.declared.bundle.Bundle.{Bundle}
-use Rattle.sb_core.specs.declared.moment.Cont.{Cont}
-use Rattle.sb_core.specs.declared.moment.CoreLane.{CoreLane}
-use Rattle.sb_base.specs.records.Reading.{◌>>=◌}
-use Rattle.sb_base.specs.SumLemmas.{any_by_count}
-use Rattle.sb_core.specs.Lanes.{fresh, in_epoch, take_from, finish_in, with_first_closing, with_bundle, with_arrival, with_seal}
-use Rattle.sb_core.specs.Choices.{first_and_rest}
-use Rattle.sb_core.specs.LaneOrder.{cont_at}
+use Rattle.sb_containers.specs.base.records.declared.item.Record.{Record}
+use Rattle.sb_containers.specs.base.bundle.declared.bundle.Bundle.{Bundle}
+use Rattle.sb_containers.specs.declared.container.Cont.{Cont}
+use Rattle.sb_containers.specs.declared.container.CoreLane.{CoreLane}
+use Rattle.sb_containers.specs.base.records.Reading.{◌>>=◌}
+use Rattle.sb_containers.specs.base.SumLemmas.{any_by_count}
+use Rattle.sb_containers.specs.Lanes.{fresh, in_epoch, take_from, finish_in, with_first_closing, with_bundle, with_arrival, with_seal}
+use Rattle.sb_containers.specs.Choices.{first_and_rest}
+use Rattle.sb_containers.specs.LaneOrder.{cont_at}
 use Rattle.sb_core.specs.Soundness.{out_of, numbers_of, AreNumbered}
-use Rattle.sb_core.proofs.containers.Lists.{IsReordered-pulled}
-use Rattle.sb_core.proofs.containers.LaneLaws.{DifferInBundles}
+use Rattle.sb_containers.proofs.Lists.{IsReordered-pulled}
+use Rattle.sb_containers.proofs.LaneLaws.{DifferInBundles}
 use Rattle.sb_core.proofs.sound.HeldLists.{count_snoc}
 
 -- ---- a change in an epoch

@@ -4,13 +4,12 @@ use Rattle.std.specs.Prelude.{◌&&◌, ◌||◌}
 use Rattle.std.specs.List.{list_any, AllByRecursion}
 use Rattle.std.proofs.lemmas.Bool.{eqb-true, eq-eqb, ne_eqb, and_parts}
 use Rattle.std.proofs.lemmas.Option.{same_Some}
-use Rattle.sb_core.specs.declared.moment.Cont.{Cont}
-use Rattle.sb_core.specs.declared.moment.CoreLane.{CoreLane}
-use Rattle.sb_core.specs.Marks.{begun_count, first_is_closing, last_of_first}
-use Rattle.sb_core.specs.LaneOrder.{NeverFalls, AreOpen, AreContainers, IsLane, cont_at}
-use Rattle.sb_core.proofs.containers.Fitting.{Fits}
-use Rattle.sb_core.proofs.times.InTime.{ups, next_mark}
-use Rattle.sb_core.proofs.exact.Nodes.{begun_mark}
+use Rattle.sb_containers.specs.declared.container.Cont.{Cont}
+use Rattle.sb_containers.specs.declared.container.CoreLane.{CoreLane}
+use Rattle.sb_containers.specs.Marks.{begun_count, first_is_closing, last_of_first}
+use Rattle.sb_containers.specs.LaneOrder.{NeverFalls, AreOpen, AreContainers, IsLane, cont_at}
+use Rattle.sb_containers.proofs.Fitting.{Fits}
+use Rattle.sb_containers.proofs.Begun.{ups, next_mark, begun_mark}
 use Rattle.sb_base.specs.ElementLemmas.{every}
 
 -- epochs rise, and floors do not fall
