@@ -1,16 +1,16 @@
 //! What no clause says: worked rows of an input that is cut and goes on.
 
 ghost use Rattle.std.specs.Prelude.{◌≤◌, IfOk, IfSome, length};
-ghost use Rattle.sb_cut.specs.checkpoint.Saved.{items_in};
-ghost use Rattle.sb_cut.specs.run.alone.RunEnds.{AreSizes};
+ghost use Rattle.sb_run.specs.checkpoint.Saved.{items_in};
+ghost use Rattle.sb_run.specs.alone.RunEnds.{AreSizes};
 
 use sb_base::{Refusal, Stop, sum_plan};
-use sb_cut::{
+use sb_emit::Printing;
+use sb_outside::{MemSink, MemSource};
+use sb_run::{
     CutEnd, MAX_WORKERS, RowsFrom, RunEnd, Saved, Sizes, has_session, run_part, run_rest, save,
     write_checkpoint,
 };
-use sb_emit::Printing;
-use sb_outside::{MemSink, MemSource};
 use std::alloc::{AllocError, Global};
 use std::sync::Wait;
 use std::test::Fail;

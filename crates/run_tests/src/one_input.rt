@@ -5,9 +5,9 @@ ghost use Rattle.std.specs.Prelude.{◌≤◌, All, IfOk};
 use sb_base::{
     Agg, Down, Dropped, Kind, LatePolicy, MAX_BUNDLE, Op, Plan, Refusal, Sequence, Step, Windows,
 };
-use sb_cut::{Gate, MAX_WORKERS, OpenGate, RunEnd, Sizes, Team, execute, execute_alone};
 use sb_emit::{CountTap, Printing, Tap};
 use sb_outside::{MemSink, MemSource};
+use sb_run::{Gate, MAX_WORKERS, OpenGate, RunEnd, Sizes, Team, execute, execute_alone};
 use std::alloc::{AllocError, Global};
 use std::sync::Wait;
 use std::test::Fail;

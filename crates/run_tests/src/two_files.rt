@@ -3,9 +3,9 @@
 ghost use Rattle.std.specs.Prelude.{◌≤◌, length, IfOk};
 
 use sb_base::{Combine, Down, Dropped, Kind, LatePolicy, Plan, Refusal, Step, Stream, Windows};
-use sb_cut::{ByStream, MAX_FILE_LENGTH, MAX_WORKERS, OpenGate, Sizes, Team, TwoEnd, execute_two};
 use sb_emit::{CountTap, Printing, Tap};
 use sb_outside::MemSink;
+use sb_run::{ByStream, MAX_FILE_LENGTH, MAX_WORKERS, OpenGate, Sizes, Team, TwoEnd, execute_two};
 use std::alloc::{AllocError, Global};
 use std::sync::Wait;
 use std::test::Fail;

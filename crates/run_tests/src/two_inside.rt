@@ -2,7 +2,7 @@
 
 use crate::one_input::{FIRST, run, said, source, sums};
 use sb_base::LatePolicy;
-use sb_cut::{Gate, Team};
+use sb_run::{Gate, Team};
 use std::sync::atomic::{AtomicU64, Ordering};
 use std::test::Fail;
 use std::thread;

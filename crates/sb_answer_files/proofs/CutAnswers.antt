@@ -14,9 +14,9 @@ use Rattle.sb_answer_runs.specs.answers.base.pipeline.Shapes.{Shape}
 use Rattle.sb_answer_runs.specs.answers.checkpoint.Checkpoints.{low_of}
 use Rattle.sb_answer_runs.specs.answers.one_feed.Due.{AreFirstRows, rows_below}
 use Rattle.sb_answer_runs.specs.answers.one_feed.Given.{Given, part_items}
-use Rattle.sb_answer_runs.specs.cut.declared.cut_end.CutEnd.{CutEnd}
-use Rattle.sb_answer_runs.specs.cut.declared.cut_end.CutEnd.TheVariants as cut
-use Rattle.sb_answer_runs.specs.cut.CutEnds.{EndsCut, EndsCutEarly, PartEnds}
+use Rattle.sb_answer_runs.specs.run.declared.cut.cut_end.CutEnd.{CutEnd}
+use Rattle.sb_answer_runs.specs.run.declared.cut.cut_end.CutEnd.TheVariants as cut
+use Rattle.sb_answer_runs.specs.run.CutEnds.{EndsCut, EndsCutEarly, PartEnds}
 use Rattle.sb_answer_runs.specs.answers.words.declared.options.Options.{Options}
 use Rattle.sb_answer_runs.specs.answers.told.declared.status.Status.{Status}
 use Rattle.sb_answer_runs.specs.answers.told.declared.status.Status.TheVariants.{Output, Memory}

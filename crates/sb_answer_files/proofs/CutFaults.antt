@@ -5,9 +5,9 @@ use Rattle.sb_answer_runs.specs.answers.outside.Folders.{Load}
 use Rattle.sb_answer_runs.specs.answers.outside.Sinks.{SinkCause, SinkState}
 use Rattle.sb_answer_runs.specs.answers.outside.declared.sink.SinkFault.{SinkFault}
 use Rattle.sb_answer_runs.specs.answers.outside.declared.sink.SinkFault.TheVariants as fault
-use Rattle.sb_answer_runs.specs.cut.declared.cut_end.CutEnd.{CutEnd}
-use Rattle.sb_answer_runs.specs.cut.declared.cut_end.CutEnd.TheVariants as cut
-use Rattle.sb_answer_runs.specs.cut.CutEnds.{CutCause, CutOutputCause, IsCutWritten}
+use Rattle.sb_answer_runs.specs.run.declared.cut.cut_end.CutEnd.{CutEnd}
+use Rattle.sb_answer_runs.specs.run.declared.cut.cut_end.CutEnd.TheVariants as cut
+use Rattle.sb_answer_runs.specs.run.CutEnds.{CutCause, CutOutputCause, IsCutWritten}
 use Rattle.sb_answer_runs.specs.answers.told.Outcomes.{IsNoTap, IsRead}
 use Rattle.sb_answer_runs.specs.answers.told.declared.status.Status.TheVariants.{Done}
 use Rattle.sb_answer_files.specs.CutSteps.{status_after_cut}

@@ -4,9 +4,9 @@ use Rattle.sb_answer_runs.specs.answers.base.records.declared.intake.Refusal.{Re
 use Rattle.sb_answer_runs.specs.answers.base.records.declared.item.Dropped.{Dropped}
 use Rattle.sb_answer_runs.specs.answers.base.records.declared.item.Record.{Record}
 use Rattle.sb_answer_runs.specs.answers.base.pipeline.Shapes.{Shape}
-use Rattle.sb_answer_runs.specs.cut.declared.cut_end.CutEnd.{CutEnd}
-use Rattle.sb_answer_runs.specs.cut.declared.cut_end.CutEnd.TheVariants.{Done, Refused, Input, Output, Memory}
-use Rattle.sb_answer_runs.specs.cut.CutEnds.{EndsCut, EndsCutEarly, PartEnds}
+use Rattle.sb_answer_runs.specs.run.declared.cut.cut_end.CutEnd.{CutEnd}
+use Rattle.sb_answer_runs.specs.run.declared.cut.cut_end.CutEnd.TheVariants.{Done, Refused, Input, Output, Memory}
+use Rattle.sb_answer_runs.specs.run.CutEnds.{EndsCut, EndsCutEarly, PartEnds}
 
 -- what is said of an output by two relations is said by two others that follow from them
 module _ {O P : Type 0} (after part : O → List Record → O → Type 0) (after' part' : P → List Record → P → Type 0) (o p : O) (o' p' : P)

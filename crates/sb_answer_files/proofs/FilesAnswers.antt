@@ -26,7 +26,7 @@ use Rattle.sb_answer_runs.specs.answers.alone.declared.two_end.TwoEnd.{TwoEnd}
 use Rattle.sb_answer_runs.specs.answers.alone.declared.two_end.TwoEnd.TheVariants as two
 use Rattle.sb_answer_runs.specs.answers.alone.feeds.Files.{items_of_file, items_of_files, stream_alone}
 use Rattle.sb_answer_runs.specs.answers.base.Inputs.{by_stream}
-use Rattle.sb_answer_runs.specs.run.files.TwoEnds.{FilesEndAt, FilesEndEarly, TwoEnds, as_run}
+use Rattle.sb_answer_runs.specs.run.TwoEnds.{FilesEndAt, FilesEndEarly, TwoEnds, as_run}
 use Rattle.sb_answer_runs.specs.answers.words.declared.options.Options.{Options}
 use Rattle.sb_answer_runs.specs.answers.told.declared.late.LateRecords.TheVariants.{OfFiles}
 use Rattle.sb_answer_runs.specs.answers.told.declared.status.Status.TheVariants.{Tap}

@@ -8,7 +8,7 @@ use Rattle.sb_answer_runs.specs.answers.outside.declared.sink.SinkFault.TheVaria
 use Rattle.sb_answer_runs.specs.answers.alone.declared.two_end.TwoEnd.{TwoEnd}
 use Rattle.sb_answer_runs.specs.answers.alone.declared.two_end.TwoEnd.TheVariants as two
 use Rattle.sb_answer_runs.specs.answers.alone.RunEnds.{IsWritten, OutputCause}
-use Rattle.sb_answer_runs.specs.run.files.TwoEnds.{as_run}
+use Rattle.sb_answer_runs.specs.run.TwoEnds.{as_run}
 use Rattle.sb_answer_runs.specs.answers.Faults.{HasCause, HidesNoFault, faults_of}
 use Rattle.sb_answer_runs.specs.answers.FileSteps.{status_after_two}
 use Rattle.sb_answer_runs.proofs.answers.RunFaults.{rose_before, rose_later, same_faults, writes_same}

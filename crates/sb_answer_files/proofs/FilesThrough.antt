@@ -10,7 +10,7 @@ use Rattle.sb_answer_runs.specs.answers.emit.Taps.{TapState}
 use Rattle.sb_answer_runs.specs.answers.alone.declared.two_end.TwoEnd.{TwoEnd}
 use Rattle.sb_answer_runs.specs.answers.alone.declared.two_end.TwoEnd.TheVariants.{Done, Refused, Output, Tap, Memory}
 use Rattle.sb_answer_runs.specs.answers.alone.declared.sizes.Sizes.{Sizes}
-use Rattle.sb_answer_runs.specs.run.files.TwoEnds.{FilesEndAt, FilesEndEarly, TwoEnds}
+use Rattle.sb_answer_runs.specs.run.TwoEnds.{FilesEndAt, FilesEndEarly, TwoEnds}
 use Rattle.sb_answer_runs.specs.answers.Answers.{Wrote, WrotePrefix}
 
 -- what is said of an output by two relations is said by two others that follow from them

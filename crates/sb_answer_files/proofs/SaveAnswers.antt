@@ -7,7 +7,7 @@ use Rattle.sb_answer_runs.specs.answers.base.pipeline.Shapes.{Shape}
 use Rattle.sb_answer_runs.specs.answers.checkpoint.declared.checkpoint.Checkpoint.{Checkpoint}
 use Rattle.sb_answer_runs.specs.answers.checkpoint.Keeping.{IsCheckpointOf}
 use Rattle.sb_answer_runs.specs.answers.checkpoint.Texts.{checkpoint_text}
-use Rattle.sb_answer_runs.specs.cut.Saves.{Saves, SavesNone}
+use Rattle.sb_answer_runs.specs.run.Saves.{Saves, SavesNone}
 use Rattle.sb_answer_runs.specs.answers.one_feed.Given.{Given, part_items}
 use Rattle.sb_answer_runs.specs.answers.words.Options.{defaults}
 use Rattle.sb_answer_runs.specs.answers.told.declared.status.Status.{Status}

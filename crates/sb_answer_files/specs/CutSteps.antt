@@ -5,8 +5,8 @@ use Rattle.sb_answer_runs.specs.answers.checkpoint.Saved.{items_in}
 use Rattle.sb_answer_runs.specs.answers.checkpoint.Texts.{checkpoint_text}
 use Rattle.sb_answer_runs.specs.answers.outside.declared.sink.SinkFault.{SinkFault}
 use Rattle.sb_answer_runs.specs.answers.outside.declared.sink.SinkFault.TheVariants as fault
-use Rattle.sb_answer_runs.specs.cut.declared.cut_end.CutEnd.{CutEnd}
-use Rattle.sb_answer_runs.specs.cut.declared.cut_end.CutEnd.TheVariants as cut
+use Rattle.sb_answer_runs.specs.run.declared.cut.cut_end.CutEnd.{CutEnd}
+use Rattle.sb_answer_runs.specs.run.declared.cut.cut_end.CutEnd.TheVariants as cut
 use Rattle.sb_answer_runs.specs.answers.told.declared.status.Status.{Status}
 use Rattle.sb_answer_runs.specs.answers.told.declared.status.Status.TheVariants.{Done, Line, Input, Output, Memory}
 

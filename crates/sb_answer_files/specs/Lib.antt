@@ -6,7 +6,6 @@ pub use Rattle.sb_answer_runs.specs.answers.live
 pub use Rattle.sb_answer_runs.specs.answers.base
 pub use Rattle.sb_answer_runs.specs.answers.one_feed
 pub use Rattle.sb_answer_runs.specs.run
-pub use Rattle.sb_answer_runs.specs.cut
 pub use Rattle.sb_answer_runs.specs.answers.words
 pub use Rattle.sb_answer_runs.specs.answers.generator
 pub use Rattle.sb_answer_runs.specs.answers.checkpoint

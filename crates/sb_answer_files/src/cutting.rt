@@ -7,7 +7,7 @@ ghost use Rattle.sb_answer_runs.specs.answers.outside.Sinks.{SinkCause, WritesAl
 ghost use Rattle.sb_answer_runs.specs.answers.outside.Sources.{Rose};
 ghost use Rattle.sb_answer_runs.specs.answers.checkpoint.Reach.{HasNoSession};
 ghost use Rattle.sb_answer_runs.specs.answers.alone.RunEnds as ends;
-ghost use Rattle.sb_answer_runs.specs.cut.CutEnds as cuts;
+ghost use Rattle.sb_answer_runs.specs.run.CutEnds as cuts;
 ghost use Rattle.sb_answer_runs.specs.answers.words.Options.{AreInRange, defaults};
 ghost use Rattle.sb_answer_runs.specs.answers.words.Words.Asked.{Part, Save};
 ghost use Rattle.sb_answer_runs.specs.answers.told.Outcomes.{HasPrinted, IsNoTap, IsRead, IsUnread, IsWritten};

@@ -6,7 +6,7 @@ ghost use Rattle.sb_answer_runs.specs.answers.outside.Folders.{Load};
 ghost use Rattle.sb_answer_runs.specs.answers.outside.Sinks.{SinkCause};
 ghost use Rattle.sb_answer_runs.specs.answers.base.Inputs.{by_stream};
 ghost use Rattle.sb_answer_runs.specs.answers.alone.RunEnds as ends;
-ghost use Rattle.sb_answer_runs.specs.run.files.TwoEnds.{TwoEnds, as_run};
+ghost use Rattle.sb_answer_runs.specs.run.TwoEnds.{TwoEnds, as_run};
 ghost use Rattle.sb_answer_runs.specs.answers.words.Options.{AreInRange};
 ghost use Rattle.sb_answer_runs.specs.answers.words.Words.Asked.{Feeds};
 ghost use Rattle.sb_answer_runs.specs.answers.Answers.{IsAnswer, IsAnswerToTwo, Wrote, WrotePrefix};

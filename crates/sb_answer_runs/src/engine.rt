@@ -15,7 +15,7 @@ use sb_answers::{
     Diaries, Dropped, Ending, LateRecords, Lent, Options, Plan, Sequence, Sink, Source, Status,
     Tap, finish_after, sizes_of, status_behind,
 };
-use sb_cut::{RunEnd, Sizes, run};
+use sb_run::{RunEnd, Sizes, run};
 use std::sync::Wait;
 use std::thread::Threads;
 use std::time::Clock;

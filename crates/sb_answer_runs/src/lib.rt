@@ -22,7 +22,7 @@ pub use sb_answers::{
     WORK_WINDOW, finish_after, load_both, load_checkpoint, load_plan, note_of, plan_to_cut,
     sizes_of, status_behind,
 };
-pub use sb_cut::{
+pub use sb_run::{
     ByStream, Checkpoint, CutEnd, MAX_FILE_LENGTH, RowsFrom, RunEnd, Saved, Sizes, Team, TwoEnd,
     execute_two, run, run_part, run_rest, save, write_checkpoint,
 };

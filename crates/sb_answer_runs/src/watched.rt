@@ -9,7 +9,7 @@ ghost use Rattle.sb_answer_runs.specs.Watches.{WatchCause, Watches};
 use sb_answers::{
     Dropped, Key, LiveOut, LiveRows, NoMemory, Plan, Record, Source, Stop, key_named, live,
 };
-use sb_cut::{RunEnd, Sizes, run};
+use sb_run::{RunEnd, Sizes, run};
 use std::sync::Wait;
 use std::thread::Threads;
 use std::time::Clock;

@@ -19,7 +19,7 @@ use sb_answers::{
     Ending, GenSource, NoMemory, Note, Options, Plan, Sink, Status, Summary, WORK_WINDOW, print,
     sizes_of, sum_plan,
 };
-use sb_cut::{RunEnd, Sizes, run};
+use sb_run::{RunEnd, Sizes, run};
 use std::sync::Wait;
 use std::thread::Threads;
 use std::time::Clock;

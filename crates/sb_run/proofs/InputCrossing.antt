@@ -8,18 +8,18 @@ use denote.Ref.{NamedLft}
 use denote.Struct.Field.{shr_ref_field}
 use denote.Struct.Tuple.{TupleAt, type_at}
 use denote.Builtin.{u32}
-use Rattle.sb_files.specs.feeds.base.records.contracts.item.Dropped as dropped_row
-use Rattle.sb_files.proofs.feeds.base.records.item.Dropped.TheSendSync as dropped_crossing
-use Rattle.sb_files.specs.feeds.contracts.input.ends.InputOut as outward
-use Rattle.sb_files.proofs.feeds.input.ends.InputOut.TheSendSync as outward_crossing
-use Rattle.sb_files.specs.feeds.contracts.input.signals.Signals as signals
-use Rattle.sb_files.proofs.feeds.input.signals.Signals.TheSendSync as signals_crossing
+use Rattle.sb_engines.specs.feeds.base.records.contracts.item.Dropped as dropped_row
+use Rattle.sb_engines.proofs.feeds.base.records.item.Dropped.TheSendSync as dropped_crossing
+use Rattle.sb_engines.specs.feeds.contracts.input.ends.InputOut as outward
+use Rattle.sb_engines.proofs.feeds.input.ends.InputOut.TheSendSync as outward_crossing
+use Rattle.sb_engines.specs.feeds.contracts.input.signals.Signals as signals
+use Rattle.sb_engines.proofs.feeds.input.signals.Signals.TheSendSync as signals_crossing
 use Rattle.sb_run.specs.contracts.ahead.Ahead as ahead
 use Rattle.sb_run.proofs.ahead.Ahead.TheSendSync as ahead_crossing
-use Rattle.sb_files.specs.engines.contracts.shared.common.Passes as passes
-use Rattle.sb_files.proofs.FilesCrossing.{captured}
-use Rattle.sb_files.specs.worker.cascade.contracts.pass.CascadePass as pass
-use Rattle.sb_files.proofs.worker.Crossing.{Pass-send}
+use Rattle.sb_engines.specs.contracts.shared.common.Passes as passes
+use Rattle.sb_run.proofs.FilesCrossing.{captured}
+use Rattle.sb_engines.specs.worker.cascade.contracts.pass.CascadePass as pass
+use Rattle.sb_engines.proofs.worker.Crossing.{Pass-send}
 use Rattle.std.proofs.Crossing.{Vec-send}
 
 pub Out-send : IsSend outward.the_row

@@ -1,34 +1,34 @@
 -- What was fed into a ring of rows, and printed by another thread, is as if the feeder had printed it.
 use Rattle.std.proofs.Common.{◌≡◌, ℕ, List, [], ◌++◌, Option, Result, Ok, Err, inl, inr, refl, sym, ap, subst, ◌∙◌, append_assoc, append-nil}
 use mathlib.Core.List.{IsPrefix}
-use Rattle.sb_files.specs.feeds.base.records.declared.intake.Stop.{Stop}
-use Rattle.sb_files.specs.feeds.base.records.declared.intake.Stop.TheVariants as stop_is
-use Rattle.sb_files.specs.feeds.base.records.declared.item.Dropped.{Dropped}
-use Rattle.sb_files.specs.feeds.base.records.declared.item.Item.{Item}
-use Rattle.sb_files.specs.feeds.base.records.declared.item.Record.{Record}
-use Rattle.sb_files.specs.feeds.base.records.Streams.{dropped_of}
-use Rattle.sb_files.specs.feeds.base.pipeline.Shapes.{Shape}
-use Rattle.sb_files.specs.feeds.emit.Taps.{TapState}
-use Rattle.sb_files.specs.feeds.outside.Sinks.{SinkState}
-use Rattle.sb_files.specs.feeds.one_feed.declared.give.GiveStop.{GiveStop}
-use Rattle.sb_files.specs.feeds.one_feed.declared.give.GiveStop.TheVariants as give
-use Rattle.sb_files.specs.feeds.one_feed.Due.{AreFirstRows}
-use Rattle.sb_files.specs.feeds.one_feed.Feeds.{AreRowsSoFar, Fed}
-use Rattle.sb_files.specs.feeds.one_feed.GiveCauses.{GiveCause, WritingWentWell}
-use Rattle.sb_files.specs.feeds.one_feed.Given.{items_of}
-use Rattle.sb_files.specs.feeds.one_feed.Gives.{WroteAt}
-use Rattle.sb_files.specs.feeds.one_feed.InputFeeds.{Feeds}
-use Rattle.sb_files.specs.feeds.one_feed.Reads.{FaultCause}
-use Rattle.sb_files.proofs.feeds.one_feed.GivesInTurn.{AddsUp}
-use Rattle.sb_files.specs.feeds.declared.rows.ends.RowsOut.{RowsOut}
-use Rattle.sb_files.specs.feeds.declared.rows.fed.RowsFed.{RowsFed}
-use Rattle.sb_files.specs.feeds.RowsEnds.{rows_sent}
-use Rattle.sb_files.specs.feeds.RowsLaws as rows_law
-use Rattle.sb_files.specs.feeds.RowsSends.{AreSent, AreSentInPart, Prints, PrintsSome}
-use Rattle.sb_files.proofs.feeds.RowsPrinted.{printed_first, printed_whole}
+use Rattle.sb_engines.specs.feeds.base.records.declared.intake.Stop.{Stop}
+use Rattle.sb_engines.specs.feeds.base.records.declared.intake.Stop.TheVariants as stop_is
+use Rattle.sb_engines.specs.feeds.base.records.declared.item.Dropped.{Dropped}
+use Rattle.sb_engines.specs.feeds.base.records.declared.item.Item.{Item}
+use Rattle.sb_engines.specs.feeds.base.records.declared.item.Record.{Record}
+use Rattle.sb_engines.specs.feeds.base.records.Streams.{dropped_of}
+use Rattle.sb_engines.specs.feeds.base.pipeline.Shapes.{Shape}
+use Rattle.sb_engines.specs.feeds.emit.Taps.{TapState}
+use Rattle.sb_engines.specs.feeds.outside.Sinks.{SinkState}
+use Rattle.sb_engines.specs.feeds.one_feed.declared.give.GiveStop.{GiveStop}
+use Rattle.sb_engines.specs.feeds.one_feed.declared.give.GiveStop.TheVariants as give
+use Rattle.sb_engines.specs.feeds.one_feed.Due.{AreFirstRows}
+use Rattle.sb_engines.specs.feeds.one_feed.Feeds.{AreRowsSoFar, Fed}
+use Rattle.sb_engines.specs.feeds.one_feed.GiveCauses.{GiveCause, WritingWentWell}
+use Rattle.sb_engines.specs.feeds.one_feed.Given.{items_of}
+use Rattle.sb_engines.specs.feeds.one_feed.Gives.{WroteAt}
+use Rattle.sb_engines.specs.feeds.one_feed.InputFeeds.{Feeds}
+use Rattle.sb_engines.specs.feeds.one_feed.Reads.{FaultCause}
+use Rattle.sb_engines.proofs.feeds.one_feed.GivesInTurn.{AddsUp}
+use Rattle.sb_engines.specs.feeds.declared.rows.ends.RowsOut.{RowsOut}
+use Rattle.sb_engines.specs.feeds.declared.rows.fed.RowsFed.{RowsFed}
+use Rattle.sb_engines.specs.feeds.RowsEnds.{rows_sent}
+use Rattle.sb_engines.specs.feeds.RowsLaws as rows_law
+use Rattle.sb_engines.specs.feeds.RowsSends.{AreSent, AreSentInPart, Prints, PrintsSome}
+use Rattle.sb_engines.proofs.feeds.RowsPrinted.{printed_first, printed_whole}
 use Rattle.sb_run.specs.InputPrints.{FeedsRing, FeedsRows, ends_with}
-use Rattle.sb_files.specs.alone.RunEnds.{MayHaveFailed, SharedFeedCause}
-use Rattle.sb_files.proofs.engines.Returned.{end-first}
+use Rattle.sb_engines.specs.alone.RunEnds.{MayHaveFailed, SharedFeedCause}
+use Rattle.sb_engines.proofs.Returned.{end-first}
 use Rattle.sb_run.proofs.Tied.{feeds_none}
 
 -- ---- the feeder

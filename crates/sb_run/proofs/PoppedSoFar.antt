@@ -1,24 +1,24 @@
 -- How far the feeding of what comes out of the ring of an input has come.
 use Rattle.std.proofs.Common.{◌≡◌, ℕ, List, [], ◌∷◌, ◌++◌, Some, None, sym, ap, subst, ◌∙◌, append-nil}
-use Rattle.sb_files.specs.feeds.base.records.declared.intake.Stop.{Stop}
-use Rattle.sb_files.specs.feeds.base.records.declared.item.Record.{Record}
-use Rattle.sb_files.specs.feeds.base.pipeline.Shapes.{Shape, streams_of}
-use Rattle.sb_files.specs.feeds.emit.Taps.{TapState}
-use Rattle.sb_files.specs.feeds.one_feed.declared.give.GiveStop.{GiveStop}
-use Rattle.sb_files.specs.feeds.one_feed.declared.give.GiveStop.TheVariants as give
-use Rattle.sb_files.specs.feeds.one_feed.Feeds.{AreRowsSoFar, Fed, nothing_fed}
-use Rattle.sb_files.specs.feeds.one_feed.Gives.{GivesOut, StopsOut}
-use Rattle.sb_files.specs.feeds.one_feed.TapLists.{LeavesThoseThatStay}
-use Rattle.sb_files.proofs.feeds.one_feed.GivesInTurn.{AddsUp, stops_none, stops_then, taps_behind, wrote_behind}
-use Rattle.sb_files.proofs.feeds.one_feed.OfferedRows.{both_offered, none_offered}
-use Rattle.sb_files.proofs.feeds.one_feed.RowsApart.{apart_so_far}
-use Rattle.sb_files.specs.feeds.declared.input.fed.InputFed.{InputFed}
-use Rattle.sb_files.specs.feeds.declared.input.fed.InputFed.TheVariants as fed
-use Rattle.sb_files.specs.feeds.InputEnds.{begun_values}
-use Rattle.sb_files.specs.feeds.InputFed.{MayCome, MayFollow, fed_by, fed_with}
-use Rattle.sb_files.proofs.feeds.InputValues.{fed_then, may_come, so_far_with}
+use Rattle.sb_engines.specs.feeds.base.records.declared.intake.Stop.{Stop}
+use Rattle.sb_engines.specs.feeds.base.records.declared.item.Record.{Record}
+use Rattle.sb_engines.specs.feeds.base.pipeline.Shapes.{Shape, streams_of}
+use Rattle.sb_engines.specs.feeds.emit.Taps.{TapState}
+use Rattle.sb_engines.specs.feeds.one_feed.declared.give.GiveStop.{GiveStop}
+use Rattle.sb_engines.specs.feeds.one_feed.declared.give.GiveStop.TheVariants as give
+use Rattle.sb_engines.specs.feeds.one_feed.Feeds.{AreRowsSoFar, Fed, nothing_fed}
+use Rattle.sb_engines.specs.feeds.one_feed.Gives.{GivesOut, StopsOut}
+use Rattle.sb_engines.specs.feeds.one_feed.TapLists.{LeavesThoseThatStay}
+use Rattle.sb_engines.proofs.feeds.one_feed.GivesInTurn.{AddsUp, stops_none, stops_then, taps_behind, wrote_behind}
+use Rattle.sb_engines.proofs.feeds.one_feed.OfferedRows.{both_offered, none_offered}
+use Rattle.sb_engines.proofs.feeds.one_feed.RowsApart.{apart_so_far}
+use Rattle.sb_engines.specs.feeds.declared.input.fed.InputFed.{InputFed}
+use Rattle.sb_engines.specs.feeds.declared.input.fed.InputFed.TheVariants as fed
+use Rattle.sb_engines.specs.feeds.InputEnds.{begun_values}
+use Rattle.sb_engines.specs.feeds.InputFed.{MayCome, MayFollow, fed_by, fed_with}
+use Rattle.sb_engines.proofs.feeds.InputValues.{fed_then, may_come, so_far_with}
 use Rattle.sb_run.specs.InputPops.{FeedsInPart, FeedsToStop, HaveCome}
-use Rattle.sb_files.proofs.alone.Sharing.{gives_as}
+use Rattle.sb_engines.proofs.alone.Sharing.{gives_as}
 
 -- what lies around the engine: where its rows go
 pub record AroundRows (O : Type 0) : Type 0 where

@@ -1,26 +1,26 @@
 -- How a run ends, said in other words.
 use Rattle.std.proofs.Common.{◌≡◌, ℕ, List, [], ◌++◌, Option, Result, Ok, Err, inl, refl, sym, append-nil}
-use Rattle.sb_files.specs.feeds.base.records.declared.intake.Stop.{Stop}
-use Rattle.sb_files.specs.feeds.base.records.declared.intake.Stop.TheVariants as at
-use Rattle.sb_files.specs.feeds.base.records.declared.item.Dropped.{Dropped}
-use Rattle.sb_files.specs.feeds.base.records.declared.item.Item.{Item}
-use Rattle.sb_files.specs.feeds.base.records.declared.item.Record.{Record}
-use Rattle.sb_files.specs.feeds.base.records.declared.item.TheConstants.{END_MARK}
-use Rattle.sb_files.specs.feeds.base.records.Records.{before, sorted_records}
-use Rattle.sb_files.specs.feeds.base.records.Streams.{low_watermark}
-use Rattle.sb_files.specs.feeds.base.pipeline.Results.{output_of}
-use Rattle.sb_files.specs.feeds.base.pipeline.Shapes.{Shape, streams_of}
-use Rattle.sb_files.specs.feeds.emit.Taps.{TapState}
-use Rattle.sb_files.specs.worker.hand.Hands.{HandView}
-use Rattle.sb_files.specs.feeds.one_feed.Due.{due_mark, due_rows, streams_in}
-use Rattle.sb_files.specs.feeds.one_feed.Given.{items_of}
-use Rattle.sb_files.specs.feeds.one_feed.declared.give.GiveStop.{GiveStop}
-use Rattle.sb_files.specs.feeds.one_feed.declared.give.GiveStop.TheVariants as stop
-use Rattle.sb_files.specs.alone.Ending.{end_by}
-use Rattle.sb_files.specs.alone.declared.run_end.RunEnd.{RunEnd}
-use Rattle.sb_files.specs.alone.declared.run_end.RunEnd.TheVariants.{Done, Refused, Input, Output, Tap, Memory}
-use Rattle.sb_files.specs.alone.declared.sizes.Sizes.{Sizes}
-use Rattle.sb_files.specs.alone.RunEnds.{Ends, EndsAt, EndsEarly, InputCause, IsDone, SharedInputCause}
+use Rattle.sb_engines.specs.feeds.base.records.declared.intake.Stop.{Stop}
+use Rattle.sb_engines.specs.feeds.base.records.declared.intake.Stop.TheVariants as at
+use Rattle.sb_engines.specs.feeds.base.records.declared.item.Dropped.{Dropped}
+use Rattle.sb_engines.specs.feeds.base.records.declared.item.Item.{Item}
+use Rattle.sb_engines.specs.feeds.base.records.declared.item.Record.{Record}
+use Rattle.sb_engines.specs.feeds.base.records.declared.item.TheConstants.{END_MARK}
+use Rattle.sb_engines.specs.feeds.base.records.Records.{before, sorted_records}
+use Rattle.sb_engines.specs.feeds.base.records.Streams.{low_watermark}
+use Rattle.sb_engines.specs.feeds.base.pipeline.Results.{output_of}
+use Rattle.sb_engines.specs.feeds.base.pipeline.Shapes.{Shape, streams_of}
+use Rattle.sb_engines.specs.feeds.emit.Taps.{TapState}
+use Rattle.sb_engines.specs.worker.hand.Hands.{HandView}
+use Rattle.sb_engines.specs.feeds.one_feed.Due.{due_mark, due_rows, streams_in}
+use Rattle.sb_engines.specs.feeds.one_feed.Given.{items_of}
+use Rattle.sb_engines.specs.feeds.one_feed.declared.give.GiveStop.{GiveStop}
+use Rattle.sb_engines.specs.feeds.one_feed.declared.give.GiveStop.TheVariants as stop
+use Rattle.sb_engines.specs.alone.Ending.{end_by}
+use Rattle.sb_engines.specs.alone.declared.run_end.RunEnd.{RunEnd}
+use Rattle.sb_engines.specs.alone.declared.run_end.RunEnd.TheVariants.{Done, Refused, Input, Output, Tap, Memory}
+use Rattle.sb_engines.specs.alone.declared.sizes.Sizes.{Sizes}
+use Rattle.sb_engines.specs.alone.RunEnds.{Ends, EndsAt, EndsEarly, InputCause, IsDone, SharedInputCause}
 
 -- the rows are the first of sorted ones
 abbrev pub AreFirstSorted : List Record → Type 0

@@ -2,31 +2,31 @@
 use Rattle.std.proofs.Common.{◌≡◌, ℕ, List, [], ◌∷◌, ◌++◌, false, Option, Some, None, Result, Ok, Err, inl, inr, refl, sym, ap, subst, ◌∙◌, append_assoc, append-nil, arith}
 use mathlib.Core.List.{IsPrefix}
 use Rattle.std.proofs.KnownBytes.{Consumes-nil}
-use Rattle.sb_files.specs.feeds.base.records.declared.intake.Stop.{Stop}
-use Rattle.sb_files.specs.feeds.base.records.declared.intake.Stop.TheVariants as stop_is
-use Rattle.sb_files.specs.feeds.base.records.declared.item.Dropped.{Dropped}
-use Rattle.sb_files.specs.feeds.base.records.declared.item.Record.{Record}
-use Rattle.sb_files.specs.feeds.base.records.declared.item.TheConstants.{END_MARK}
-use Rattle.sb_files.specs.feeds.base.records.Streams.{dropped_of}
-use Rattle.sb_files.specs.feeds.base.pipeline.Shapes.{Shape, streams_of}
-use Rattle.sb_files.specs.feeds.emit.Taps.{TapState}
-use Rattle.sb_files.specs.feeds.one_feed.declared.give.GiveStop.{GiveStop}
-use Rattle.sb_files.specs.feeds.one_feed.declared.give.GiveStop.TheVariants as give
-use Rattle.sb_files.specs.feeds.one_feed.Due.{AreFirstRows, rows_below}
-use Rattle.sb_files.specs.feeds.one_feed.FedByItems.{IsFedBy, end_items, new_cutters}
-use Rattle.sb_files.specs.feeds.one_feed.Feeds.{AreRowsSoFar, Fed, nothing_fed}
-use Rattle.sb_files.specs.feeds.one_feed.Given.{Given, items_of}
-use Rattle.sb_files.specs.feeds.one_feed.InputFeeds.{Feeds, FeedsSome}
-use Rattle.sb_files.proofs.feeds.one_feed.FirstRows.{fed_covers, rows_are_first}
-use Rattle.sb_files.proofs.feeds.one_feed.GivesInTurn.{AddsUp}
-use Rattle.sb_files.proofs.feeds.one_feed.ItemSteps.{fed_nothing}
-use Rattle.sb_files.proofs.feeds.one_feed.LaterItems.{no_more}
-use Rattle.sb_files.specs.feeds.declared.input.fed.InputFed.{InputFed}
-use Rattle.sb_files.specs.feeds.declared.input.fed.InputFed.TheVariants as fed
-use Rattle.sb_files.specs.feeds.InputEnds.{begun_values}
-use Rattle.sb_files.specs.feeds.InputFed.{IsReadOf, IsSentWhole, IsWholeIf, ReadCause, fed_after, fed_by, fed_with, stop_among, stop_value}
+use Rattle.sb_engines.specs.feeds.base.records.declared.intake.Stop.{Stop}
+use Rattle.sb_engines.specs.feeds.base.records.declared.intake.Stop.TheVariants as stop_is
+use Rattle.sb_engines.specs.feeds.base.records.declared.item.Dropped.{Dropped}
+use Rattle.sb_engines.specs.feeds.base.records.declared.item.Record.{Record}
+use Rattle.sb_engines.specs.feeds.base.records.declared.item.TheConstants.{END_MARK}
+use Rattle.sb_engines.specs.feeds.base.records.Streams.{dropped_of}
+use Rattle.sb_engines.specs.feeds.base.pipeline.Shapes.{Shape, streams_of}
+use Rattle.sb_engines.specs.feeds.emit.Taps.{TapState}
+use Rattle.sb_engines.specs.feeds.one_feed.declared.give.GiveStop.{GiveStop}
+use Rattle.sb_engines.specs.feeds.one_feed.declared.give.GiveStop.TheVariants as give
+use Rattle.sb_engines.specs.feeds.one_feed.Due.{AreFirstRows, rows_below}
+use Rattle.sb_engines.specs.feeds.one_feed.FedByItems.{IsFedBy, end_items, new_cutters}
+use Rattle.sb_engines.specs.feeds.one_feed.Feeds.{AreRowsSoFar, Fed, nothing_fed}
+use Rattle.sb_engines.specs.feeds.one_feed.Given.{Given, items_of}
+use Rattle.sb_engines.specs.feeds.one_feed.InputFeeds.{Feeds, FeedsSome}
+use Rattle.sb_engines.proofs.feeds.one_feed.FirstRows.{fed_covers, rows_are_first}
+use Rattle.sb_engines.proofs.feeds.one_feed.GivesInTurn.{AddsUp}
+use Rattle.sb_engines.proofs.feeds.one_feed.ItemSteps.{fed_nothing}
+use Rattle.sb_engines.proofs.feeds.one_feed.LaterItems.{no_more}
+use Rattle.sb_engines.specs.feeds.declared.input.fed.InputFed.{InputFed}
+use Rattle.sb_engines.specs.feeds.declared.input.fed.InputFed.TheVariants as fed
+use Rattle.sb_engines.specs.feeds.InputEnds.{begun_values}
+use Rattle.sb_engines.specs.feeds.InputFed.{IsReadOf, IsSentWhole, IsWholeIf, ReadCause, fed_after, fed_by, fed_with, stop_among, stop_value}
 use Rattle.sb_run.specs.InputPops.{FeedsPopped, HaveCome}
-use Rattle.sb_files.specs.alone.RunEnds.{MayHaveFailed, SharedFeedCause}
+use Rattle.sb_engines.specs.alone.RunEnds.{MayHaveFailed, SharedFeedCause}
 
 -- ---- the first of the values
 -- nothing was there where nothing is

@@ -1,15 +1,15 @@
 -- What feeding the values of the ring of an input does.
 use Rattle.std.specs.Prelude.{◌≡◌, ℕ, List, [], ◌∷◌, ◌++◌, Option, Some, Result, Ok, Err}
-use Rattle.sb_files.specs.feeds.base.records.declared.intake.Stop.{Stop}
-use Rattle.sb_files.specs.feeds.base.records.declared.item.Record.{Record}
-use Rattle.sb_files.specs.feeds.base.pipeline.Shapes.{Shape, streams_of}
-use Rattle.sb_files.specs.feeds.emit.Taps.{TapState}
-use Rattle.sb_files.specs.feeds.one_feed.declared.give.GiveStop.{GiveStop}
-use Rattle.sb_files.specs.feeds.one_feed.Feeds.{AreRowsSoFar, Fed}
-use Rattle.sb_files.specs.feeds.one_feed.Gives.{GivesOut, TapsAt, WroteAt}
-use Rattle.sb_files.specs.feeds.declared.input.fed.InputFed.{InputFed}
-use Rattle.sb_files.specs.feeds.declared.input.fed.InputFed.TheVariants.{Begin}
-use Rattle.sb_files.specs.feeds.InputFed.{fed_by, stop_value}
+use Rattle.sb_engines.specs.feeds.base.records.declared.intake.Stop.{Stop}
+use Rattle.sb_engines.specs.feeds.base.records.declared.item.Record.{Record}
+use Rattle.sb_engines.specs.feeds.base.pipeline.Shapes.{Shape, streams_of}
+use Rattle.sb_engines.specs.feeds.emit.Taps.{TapState}
+use Rattle.sb_engines.specs.feeds.one_feed.declared.give.GiveStop.{GiveStop}
+use Rattle.sb_engines.specs.feeds.one_feed.Feeds.{AreRowsSoFar, Fed}
+use Rattle.sb_engines.specs.feeds.one_feed.Gives.{GivesOut, TapsAt, WroteAt}
+use Rattle.sb_engines.specs.feeds.declared.input.fed.InputFed.{InputFed}
+use Rattle.sb_engines.specs.feeds.declared.input.fed.InputFed.TheVariants.{Begin}
+use Rattle.sb_engines.specs.feeds.InputFed.{fed_by, stop_value}
 
 -- the values that came of an input: what is read, then what is fed, and then the stop, if it came
 abbrev pub HaveCome : Shape → ℕ → List InputFed → List InputFed → Option Stop → Type 0

@@ -1,19 +1,19 @@
 -- What feeding an input into a ring of rows does, which another thread prints.
 use Rattle.std.specs.Prelude.{◌≡◌, ◌++◌, ℕ, List, Option, Result, Ok, Err}
-use Rattle.sb_files.specs.feeds.base.records.declared.intake.Stop.{Stop}
-use Rattle.sb_files.specs.feeds.base.records.declared.item.Dropped.{Dropped}
-use Rattle.sb_files.specs.feeds.base.records.declared.item.Record.{Record}
-use Rattle.sb_files.specs.feeds.base.records.Streams.{dropped_of}
-use Rattle.sb_files.specs.feeds.base.pipeline.Shapes.{Shape, streams_of}
-use Rattle.sb_files.specs.feeds.one_feed.declared.cutters.Cutters.{Cutters}
-use Rattle.sb_files.specs.feeds.one_feed.declared.give.GiveStop.{GiveStop}
-use Rattle.sb_files.specs.feeds.one_feed.declared.give.GiveStop.TheVariants as give
-use Rattle.sb_files.specs.feeds.one_feed.Due.{AreFirstDropped, AreFirstRows}
-use Rattle.sb_files.specs.feeds.one_feed.FedByItems.{IsFedBy, end_items}
-use Rattle.sb_files.specs.feeds.one_feed.Feeds.{Fed}
-use Rattle.sb_files.specs.feeds.one_feed.Given.{Given, items_of, stop_at}
-use Rattle.sb_files.specs.feeds.declared.rows.ends.RowsOut.{RowsOut}
-use Rattle.sb_files.specs.feeds.RowsSends.{AreSent, AreSentInPart, EndsRows}
+use Rattle.sb_engines.specs.feeds.base.records.declared.intake.Stop.{Stop}
+use Rattle.sb_engines.specs.feeds.base.records.declared.item.Dropped.{Dropped}
+use Rattle.sb_engines.specs.feeds.base.records.declared.item.Record.{Record}
+use Rattle.sb_engines.specs.feeds.base.records.Streams.{dropped_of}
+use Rattle.sb_engines.specs.feeds.base.pipeline.Shapes.{Shape, streams_of}
+use Rattle.sb_engines.specs.feeds.one_feed.declared.cutters.Cutters.{Cutters}
+use Rattle.sb_engines.specs.feeds.one_feed.declared.give.GiveStop.{GiveStop}
+use Rattle.sb_engines.specs.feeds.one_feed.declared.give.GiveStop.TheVariants as give
+use Rattle.sb_engines.specs.feeds.one_feed.Due.{AreFirstDropped, AreFirstRows}
+use Rattle.sb_engines.specs.feeds.one_feed.FedByItems.{IsFedBy, end_items}
+use Rattle.sb_engines.specs.feeds.one_feed.Feeds.{Fed}
+use Rattle.sb_engines.specs.feeds.one_feed.Given.{Given, items_of, stop_at}
+use Rattle.sb_engines.specs.feeds.declared.rows.ends.RowsOut.{RowsOut}
+use Rattle.sb_engines.specs.feeds.RowsSends.{AreSent, AreSentInPart, EndsRows}
 
 -- the input was fed up to where reading stopped, and the rows that came out were sent
 pub record FeedsAllRows (plan : Shape) (size : ℕ) (left left' : Option (List ℕ)) (stands : Fed → List Record → Type 0)

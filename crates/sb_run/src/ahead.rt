@@ -3,7 +3,7 @@
 //! A feeder that brings all that was read fills the lane of each stream. Then the workers process bundles faster than
 //! windows are closed, and parts of later epochs pile up: that takes many times the memory, and each closing longer.
 
-use sb_files::{Down, Gate, Plan, Stream};
+use sb_engines::{Down, Gate, Plan, Stream};
 use std::sync::atomic::{AtomicU64, Ordering};
 
 /// How many of the bundles that the feeder brought wait for each worker at most before it brings more: one to be taken

@@ -1,19 +1,19 @@
 //! Feeding what comes out of the ring of an input to a shared cascade.
 
 ghost use Rattle.std.specs.Prelude.{◌≡◌, ◌≤◌, ◌<◌, ◌^◌, ◌++◌, ◌∷◌, [], false, List, map, length, OnOk, IfNone, IfSome};
-ghost use Rattle.sb_files.specs.feeds.base.records.declared.item.Record.{Record as ARecord};
-ghost use Rattle.sb_files.specs.feeds.base.pipeline.Shapes.{streams_of};
-ghost use Rattle.sb_files.specs.worker.cascade.Calls.{plan_of, setting_of};
-ghost use Rattle.sb_files.specs.feeds.one_feed.Feeds.{Fed, nothing_fed};
-ghost use Rattle.sb_files.specs.feeds.one_feed.GiveCauses.{GiveCause};
-ghost use Rattle.sb_files.specs.feeds.one_feed.Gives.{Gives};
-ghost use Rattle.sb_files.specs.feeds.InputFed.{MayCome, MayFollow, fed_with};
-ghost use Rattle.sb_files.specs.feeds.InputEnds.{begun_values, ring_in, values_received};
-ghost use Rattle.sb_files.specs.engines.Feeders.{HasFed, IsStill};
+ghost use Rattle.sb_engines.specs.feeds.base.records.declared.item.Record.{Record as ARecord};
+ghost use Rattle.sb_engines.specs.feeds.base.pipeline.Shapes.{streams_of};
+ghost use Rattle.sb_engines.specs.worker.cascade.Calls.{plan_of, setting_of};
+ghost use Rattle.sb_engines.specs.feeds.one_feed.Feeds.{Fed, nothing_fed};
+ghost use Rattle.sb_engines.specs.feeds.one_feed.GiveCauses.{GiveCause};
+ghost use Rattle.sb_engines.specs.feeds.one_feed.Gives.{Gives};
+ghost use Rattle.sb_engines.specs.feeds.InputFed.{MayCome, MayFollow, fed_with};
+ghost use Rattle.sb_engines.specs.feeds.InputEnds.{begun_values, ring_in, values_received};
+ghost use Rattle.sb_engines.specs.Feeders.{HasFed, IsStill};
 ghost use Rattle.sb_run.specs.InputPops.{FeedsPopped};
 
 use crate::ahead::Ahead;
-use sb_files::{
+use sb_engines::{
     CascadePass, Common, Did, Feeder, Gate, GiveStop, InputFed, InputIn, NoMemory, Pace, Patience,
     RowOut, Signals, Stop, Tap, end_work, give_out, reason_of, step_too, take_out, take_value,
 };

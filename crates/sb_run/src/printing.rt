@@ -3,20 +3,20 @@
 ghost use Rattle.std.specs.Prelude.{◌≡◌, ◌≤◌, ◌<◌, ◌^◌, [], true, false, map, length, Ok, OnOk};
 ghost use Rattle.std.specs.List.{AllByRecursion};
 ghost use Rattle.std.specs.Thread.{IsSync};
-ghost use Rattle.sb_files.specs.worker.cascade.Calls.{plan_of, setting_of};
-ghost use Rattle.sb_files.specs.feeds.RowsEnds.{row_ring_in, row_ring_out, rows_received, rows_sent};
-ghost use Rattle.sb_files.specs.feeds.RowsSends.{Prints};
-ghost use Rattle.sb_files.specs.feeds.one_feed.Feeds.{nothing_fed};
-ghost use Rattle.sb_files.specs.feeds.one_feed.GiveCauses.{GiveCause};
-ghost use Rattle.sb_files.specs.feeds.one_feed.InputFeeds.{Feeds};
-ghost use Rattle.sb_files.specs.engines.Feeders.{Begins, HasFed, IsStill};
+ghost use Rattle.sb_engines.specs.worker.cascade.Calls.{plan_of, setting_of};
+ghost use Rattle.sb_engines.specs.feeds.RowsEnds.{row_ring_in, row_ring_out, rows_received, rows_sent};
+ghost use Rattle.sb_engines.specs.feeds.RowsSends.{Prints};
+ghost use Rattle.sb_engines.specs.feeds.one_feed.Feeds.{nothing_fed};
+ghost use Rattle.sb_engines.specs.feeds.one_feed.GiveCauses.{GiveCause};
+ghost use Rattle.sb_engines.specs.feeds.one_feed.InputFeeds.{Feeds};
+ghost use Rattle.sb_engines.specs.Feeders.{Begins, HasFed, IsStill};
 ghost use Rattle.sb_run.specs.InputPrints.{FeedsRing, ends_with};
-ghost use Rattle.sb_files.specs.alone.RunEnds.{SharedFeedCause};
-ghost use Rattle.sb_files.specs.worker.Helping.{IsFirst, IsHelper};
+ghost use Rattle.sb_engines.specs.alone.RunEnds.{SharedFeedCause};
+ghost use Rattle.sb_engines.specs.worker.Helping.{IsFirst, IsHelper};
 
 use crate::ahead::Ahead;
 use crate::working::work;
-use sb_files::{
+use sb_engines::{
     Common, Dropped, Gate, GiveStop, MAX_BUNDLE, Passes, RowOut, RowsIn, RowsSender, Signals,
     Source, Stop, Tap, print_rows, rows_pair,
 };

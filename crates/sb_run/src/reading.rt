@@ -3,13 +3,13 @@
 ghost use Rattle.std.specs.Prelude.{◌≡◌, ◌≤◌, true, false, length, Some};
 ghost use Rattle.std.specs.List.{AllByRecursion};
 ghost use Rattle.std.specs.Thread.{IsSync};
-ghost use Rattle.sb_files.specs.feeds.base.pipeline.Shapes.{streams_of};
-ghost use Rattle.sb_files.specs.feeds.InputFed.{IsReadOf};
-ghost use Rattle.sb_files.specs.feeds.InputEnds.{begun_values, ring_out, values_sent};
-ghost use Rattle.sb_files.specs.worker.cascade.Calls.{plan_of};
-ghost use Rattle.sb_files.specs.worker.Helping.{IsHelper};
+ghost use Rattle.sb_engines.specs.feeds.base.pipeline.Shapes.{streams_of};
+ghost use Rattle.sb_engines.specs.feeds.InputFed.{IsReadOf};
+ghost use Rattle.sb_engines.specs.feeds.InputEnds.{begun_values, ring_out, values_sent};
+ghost use Rattle.sb_engines.specs.worker.cascade.Calls.{plan_of};
+ghost use Rattle.sb_engines.specs.worker.Helping.{IsHelper};
 
-use sb_files::{
+use sb_engines::{
     CascadePass, Common, Dropped, Gate, InputOut, MAX_BUNDLE, Signals, Source, Stop, feed_input,
     help_all,
 };

@@ -1,10 +1,12 @@
 //! A run by as many workers as its sizes say.
 
 ghost use Rattle.std.specs.Prelude.{◌≡◌, ◌<◌, ◌^◌, map, length};
-ghost use Rattle.sb_files.specs.alone.RunEnds.{AreSizes, Ends, InputCause, IsDone, OutputCause, SharedInputCause};
+ghost use Rattle.sb_engines.specs.alone.RunEnds.{AreSizes, Ends, InputCause, IsDone, OutputCause, SharedInputCause};
 
 use crate::together::execute;
-use sb_files::{Dropped, OpenGate, Plan, RowOut, RunEnd, Sizes, Source, Tap, Team, execute_alone};
+use sb_engines::{
+    Dropped, OpenGate, Plan, RowOut, RunEnd, Sizes, Source, Tap, Team, execute_alone,
+};
 use std::sync::Wait;
 use std::thread::Threads;
 use std::time::Clock;

@@ -1,11 +1,11 @@
 //! A run by several workers.
 
 ghost use Rattle.std.specs.Prelude.{◌≡◌, ◌<◌, ◌^◌, map, length};
-ghost use Rattle.sb_files.specs.alone.RunEnds.{AreSizes, Ends, IsDone, OutputCause, SharedInputCause};
+ghost use Rattle.sb_engines.specs.alone.RunEnds.{AreSizes, Ends, IsDone, OutputCause, SharedInputCause};
 
 use crate::ahead::Ahead;
 use crate::printing::work_and_print;
-use sb_files::{
+use sb_engines::{
     Begun, Common, Dropped, Gate, NoMemory, Plan, RowOut, RunEnd, Sizes, Source, Tap, Team, begin,
     come_back, early_end, end_of,
 };

@@ -3,22 +3,22 @@
 ghost use Rattle.std.specs.Prelude.{◌≡◌, ◌≤◌, ◌<◌, ◌^◌, [], true, false, map, length, Ok, Some, OnOk};
 ghost use Rattle.std.specs.List.{AllByRecursion};
 ghost use Rattle.std.specs.Thread.{IsSync};
-ghost use Rattle.sb_files.specs.feeds.base.pipeline.Shapes.{streams_of};
-ghost use Rattle.sb_files.specs.feeds.InputFed.{IsReadOf};
-ghost use Rattle.sb_files.specs.feeds.InputEnds.{begun_values, ring_in, ring_out, values_received, values_sent};
-ghost use Rattle.sb_files.specs.worker.cascade.Calls.{plan_of, setting_of};
-ghost use Rattle.sb_files.specs.feeds.one_feed.Feeds.{nothing_fed};
-ghost use Rattle.sb_files.specs.feeds.one_feed.GiveCauses.{GiveCause};
-ghost use Rattle.sb_files.specs.feeds.one_feed.InputFeeds.{Feeds};
-ghost use Rattle.sb_files.specs.engines.Feeders.{Begins, HasFed, IsStill};
+ghost use Rattle.sb_engines.specs.feeds.base.pipeline.Shapes.{streams_of};
+ghost use Rattle.sb_engines.specs.feeds.InputFed.{IsReadOf};
+ghost use Rattle.sb_engines.specs.feeds.InputEnds.{begun_values, ring_in, ring_out, values_received, values_sent};
+ghost use Rattle.sb_engines.specs.worker.cascade.Calls.{plan_of, setting_of};
+ghost use Rattle.sb_engines.specs.feeds.one_feed.Feeds.{nothing_fed};
+ghost use Rattle.sb_engines.specs.feeds.one_feed.GiveCauses.{GiveCause};
+ghost use Rattle.sb_engines.specs.feeds.one_feed.InputFeeds.{Feeds};
+ghost use Rattle.sb_engines.specs.Feeders.{Begins, HasFed, IsStill};
 ghost use Rattle.sb_run.specs.InputPops.{FeedsPopped};
-ghost use Rattle.sb_files.specs.alone.RunEnds.{SharedFeedCause};
-ghost use Rattle.sb_files.specs.worker.Helping.{IsFirst, IsHelper};
+ghost use Rattle.sb_engines.specs.alone.RunEnds.{SharedFeedCause};
+ghost use Rattle.sb_engines.specs.worker.Helping.{IsFirst, IsHelper};
 
 use crate::ahead::Ahead;
 use crate::feeding::feed_popped;
 use crate::reading::read_and_help;
-use sb_files::{
+use sb_engines::{
     Common, Dropped, Gate, GiveStop, InputIn, InputOut, MAX_BUNDLE, Passes, RowOut, Signals,
     Source, Stop, Tap, feed_beside_helpers, input_pair,
 };

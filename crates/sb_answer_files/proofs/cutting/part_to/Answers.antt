@@ -1,5 +1,5 @@
 use Rattle.std.proofs.Common.{◌≡◌, sym, subst}
-use Rattle.sb_answer_runs.specs.cut.CutEnds.{CutOutputCause}
+use Rattle.sb_answer_runs.specs.run.CutEnds.{CutOutputCause}
 use Rattle.sb_answer_runs.specs.answers.Answers.{Wrote, WrotePrefix}
 use Rattle.sb_answer_files.proofs.CutThrough.{in_part, part_through}
 use Rattle.sb_answer_files.proofs.cutting.part_to.Goals as goal

@@ -1,7 +1,7 @@
 use Rattle.std.proofs.Common.{◌≡◌, sym, subst}
 use Rattle.sb_answer_runs.specs.answers.alone.RunEnds.{OutputCause}
 use Rattle.sb_answer_runs.specs.answers.base.Inputs.{by_stream}
-use Rattle.sb_answer_runs.specs.run.files.TwoEnds.{as_run}
+use Rattle.sb_answer_runs.specs.run.TwoEnds.{as_run}
 use Rattle.sb_answer_runs.specs.answers.Answers.{Wrote, WrotePrefix}
 use Rattle.sb_answer_files.proofs.FilesThrough.{files_through, in_files}
 use Rattle.sb_answer_files.proofs.feeds.files_to.Goals as goal

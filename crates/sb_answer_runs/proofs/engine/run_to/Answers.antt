@@ -1,6 +1,6 @@
 use Rattle.std.proofs.Common.{◌≡◌, sym, subst}
 use Rattle.sb_answers.specs.alone.RunEnds.{OutputCause}
-use Rattle.sb_cut.proofs.runs.Through.{ends_through, in_ends}
+use Rattle.sb_run.proofs.Through.{ends_through, in_ends}
 use Rattle.sb_answers.specs.Answers.{Wrote, WrotePrefix}
 use Rattle.sb_answer_runs.proofs.engine.run_to.Goals as goal
 

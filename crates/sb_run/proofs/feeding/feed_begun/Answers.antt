@@ -1,7 +1,7 @@
-use Rattle.sb_files.specs.worker.cascade.Calls.{plan_of, setting_of}
-use Rattle.sb_files.proofs.feeds.one_feed.GivesInTurn.{AddsUp}
-use Rattle.sb_files.specs.feeds.InputEnds.{values_received}
-use Rattle.sb_files.specs.engines.Feeders.{HasFed}
+use Rattle.sb_engines.specs.worker.cascade.Calls.{plan_of, setting_of}
+use Rattle.sb_engines.proofs.feeds.one_feed.GivesInTurn.{AddsUp}
+use Rattle.sb_engines.specs.feeds.InputEnds.{values_received}
+use Rattle.sb_engines.specs.Feeders.{HasFed}
 use Rattle.sb_run.proofs.PoppedSoFar.{popped_as, popped_without}
 use Rattle.sb_run.proofs.feeding.feed_begun.Goals as goal
 

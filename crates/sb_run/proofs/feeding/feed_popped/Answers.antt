@@ -1,8 +1,8 @@
-use Rattle.sb_files.specs.worker.cascade.Calls.{plan_of, setting_of}
-use Rattle.sb_files.proofs.feeds.one_feed.GivesInTurn.{AddsUp}
-use Rattle.sb_files.proofs.feeds.one_feed.GiveLaws.{cause_of_none}
-use Rattle.sb_files.specs.feeds.InputEnds.{values_received}
-use Rattle.sb_files.specs.engines.EngineLaws.{still_here}
+use Rattle.sb_engines.specs.worker.cascade.Calls.{plan_of, setting_of}
+use Rattle.sb_engines.proofs.feeds.one_feed.GivesInTurn.{AddsUp}
+use Rattle.sb_engines.proofs.feeds.one_feed.GiveLaws.{cause_of_none}
+use Rattle.sb_engines.specs.feeds.InputEnds.{values_received}
+use Rattle.sb_engines.specs.EngineLaws.{still_here}
 use Rattle.sb_run.proofs.PoppedSoFar.{popped_none}
 use Rattle.sb_run.proofs.feeding.feed_popped.Goals as goal
 

@@ -1,11 +1,11 @@
 use Rattle.std.proofs.Common.{[], ◌∙◌, ◌∷◌, ◌++◌, ◌≡◌, arith, refl, subst}
-use Rattle.sb_files.specs.worker.cascade.Calls.{plan_of, setting_of}
-use Rattle.sb_files.proofs.feeds.one_feed.GiveLaws.{cause_of_none, cause_then}
-use Rattle.sb_files.proofs.feeds.one_feed.GivesInTurn.{AddsUp}
-use Rattle.sb_files.specs.feeds.InputEnds.{values_received}
-use Rattle.sb_files.specs.feeds.InputFed.{fed_by}
-use Rattle.sb_files.specs.engines.Feeders.{HasFed}
-use Rattle.sb_files.specs.engines.EngineLaws.{still_here, still_then}
+use Rattle.sb_engines.specs.worker.cascade.Calls.{plan_of, setting_of}
+use Rattle.sb_engines.proofs.feeds.one_feed.GiveLaws.{cause_of_none, cause_then}
+use Rattle.sb_engines.proofs.feeds.one_feed.GivesInTurn.{AddsUp}
+use Rattle.sb_engines.specs.feeds.InputEnds.{values_received}
+use Rattle.sb_engines.specs.feeds.InputFed.{fed_by}
+use Rattle.sb_engines.specs.Feeders.{HasFed}
+use Rattle.sb_engines.specs.EngineLaws.{still_here, still_then}
 use Rattle.sb_run.proofs.PoppedSoFar.{nothing_popped, popped_all, popped_fails, popped_lack, popped_more, popped_still, popped_stops, value_may_come}
 use Rattle.sb_run.proofs.feeding.feed_values.Goals as goal
 

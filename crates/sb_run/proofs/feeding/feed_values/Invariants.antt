@@ -1,8 +1,8 @@
 use Rattle.std.proofs.Common.{◌≡◌, ◌≤◌, Ok, length, map}
-use Rattle.sb_files.specs.worker.cascade.Calls.{plan_of, setting_of}
-use Rattle.sb_files.specs.feeds.one_feed.GiveCauses.{GiveCause}
-use Rattle.sb_files.specs.feeds.InputEnds.{ring_in, values_received}
-use Rattle.sb_files.specs.engines.Feeders.{HasFed, IsStill}
+use Rattle.sb_engines.specs.worker.cascade.Calls.{plan_of, setting_of}
+use Rattle.sb_engines.specs.feeds.one_feed.GiveCauses.{GiveCause}
+use Rattle.sb_engines.specs.feeds.InputEnds.{ring_in, values_received}
+use Rattle.sb_engines.specs.Feeders.{HasFed, IsStill}
 use Rattle.sb_run.proofs.PoppedSoFar.{PoppedSoFar}
 use Rattle.sb_run.proofs.feeding.feed_values.Given as goal
 

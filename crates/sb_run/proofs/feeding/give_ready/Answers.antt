@@ -1,7 +1,7 @@
 use Rattle.std.proofs.Common.{◌++◌, refl, subst, sym}
-use Rattle.sb_files.specs.worker.cascade.Calls.{plan_of}
-use Rattle.sb_files.proofs.feeds.one_feed.GivesInTurn.{AddsUp, gives_due}
-use Rattle.sb_files.specs.engines.Feeders.{HasFed}
+use Rattle.sb_engines.specs.worker.cascade.Calls.{plan_of}
+use Rattle.sb_engines.proofs.feeds.one_feed.GivesInTurn.{AddsUp, gives_due}
+use Rattle.sb_engines.specs.Feeders.{HasFed}
 use Rattle.sb_run.proofs.feeding.give_ready.Goals as goal
 
 pub returns-clause-gives : goal.returns-clause-gives

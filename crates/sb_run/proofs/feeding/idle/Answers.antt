@@ -1,6 +1,6 @@
-use Rattle.sb_files.specs.worker.cascade.Calls.{plan_of}
-use Rattle.sb_files.proofs.feeds.one_feed.GivesInTurn.{AddsUp, gives_none, stops_none}
-use Rattle.sb_files.specs.engines.Feeders.{HasFed}
+use Rattle.sb_engines.specs.worker.cascade.Calls.{plan_of}
+use Rattle.sb_engines.proofs.feeds.one_feed.GivesInTurn.{AddsUp, gives_none, stops_none}
+use Rattle.sb_engines.specs.Feeders.{HasFed}
 use Rattle.sb_run.proofs.feeding.idle.Goals as goal
 
 pub returns-in-Ok-Bundle-clause-gives : goal.returns-in-Ok-Bundle-clause-gives

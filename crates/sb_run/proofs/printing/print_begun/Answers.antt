@@ -1,5 +1,5 @@
-use Rattle.sb_files.proofs.feeds.one_feed.GivesInTurn.{AddsUp}
-use Rattle.sb_files.specs.feeds.RowsEnds.{rows_received}
+use Rattle.sb_engines.proofs.feeds.one_feed.GivesInTurn.{AddsUp}
+use Rattle.sb_engines.specs.feeds.RowsEnds.{rows_received}
 use Rattle.sb_run.proofs.InputPrinted.{prints_none}
 use Rattle.sb_run.proofs.printing.print_begun.Goals as goal
 

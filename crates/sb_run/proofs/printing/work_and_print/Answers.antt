@@ -1,11 +1,11 @@
 use Rattle.std.proofs.Common.{ap, subst, ◌∙◌}
 use mathlib.Core.List.{IsPrefix}
-use Rattle.sb_files.specs.worker.cascade.Calls.{plan_of}
-use Rattle.sb_files.proofs.feeds.one_feed.GivesInTurn.{AddsUp}
-use Rattle.sb_files.proofs.feeds.one_feed.GiveLaws.{cause_of_none}
-use Rattle.sb_files.specs.feeds.RowsEnds.{rows_received, rows_sent}
-use Rattle.sb_files.specs.engines.EngineLaws.{still_here}
-use Rattle.sb_files.specs.engines.Feeders.{HasFed}
+use Rattle.sb_engines.specs.worker.cascade.Calls.{plan_of}
+use Rattle.sb_engines.proofs.feeds.one_feed.GivesInTurn.{AddsUp}
+use Rattle.sb_engines.proofs.feeds.one_feed.GiveLaws.{cause_of_none}
+use Rattle.sb_engines.specs.feeds.RowsEnds.{rows_received, rows_sent}
+use Rattle.sb_engines.specs.EngineLaws.{still_here}
+use Rattle.sb_engines.specs.Feeders.{HasFed}
 use Rattle.sb_run.proofs.InputPrinted.{input_printed, printed_cause, printed_ended, printed_source}
 use Rattle.sb_run.proofs.Tied.{feeds_none}
 use Rattle.sb_run.proofs.printing.work_and_print.Goals as goal

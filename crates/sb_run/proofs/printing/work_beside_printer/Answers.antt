@@ -1,7 +1,7 @@
 use denote.Param.Send.{arg_send, mut_send, param_send}
 use Rattle.std.proofs.Crossing.{Vec-send}
-use Rattle.sb_files.proofs.feeds.rows.sending.RowsSender.TheSendSync as sender_crossing
-use Rattle.sb_files.proofs.worker.Crossing.{Bound-lent, Cascade-lent, Heap-lent, Mut-lent}
+use Rattle.sb_engines.proofs.feeds.rows.sending.RowsSender.TheSendSync as sender_crossing
+use Rattle.sb_engines.proofs.worker.Crossing.{Bound-lent, Cascade-lent, Heap-lent, Mut-lent}
 use Rattle.sb_run.proofs.InputCrossing.{Ahead-lent, Dropped-send, Passes-send, Signals-lent, Size-lent, Ten-send}
 use Rattle.sb_run.proofs.printing.work_beside_printer.Goals as goal
 

@@ -1,5 +1,5 @@
-use Rattle.sb_files.specs.worker.cascade.Calls.{plan_of}
-use Rattle.sb_files.specs.engines.Feeders.{HasFed}
+use Rattle.sb_engines.specs.worker.cascade.Calls.{plan_of}
+use Rattle.sb_engines.specs.Feeders.{HasFed}
 use Rattle.sb_run.proofs.InputPrinted.{ring_unfed, rows_fed}
 use Rattle.sb_run.proofs.printing.work_for_printer.Goals as goal
 

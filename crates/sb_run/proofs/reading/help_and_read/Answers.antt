@@ -1,6 +1,6 @@
 use denote.Param.Send.{arg_send, mut_send, param_send}
 use Rattle.std.proofs.Crossing.{Vec-send}
-use Rattle.sb_files.proofs.worker.Crossing.{Bound-lent, Cascade-lent, Five-send, Heap-lent, Mut-lent, Pass-send}
+use Rattle.sb_engines.proofs.worker.Crossing.{Bound-lent, Cascade-lent, Five-send, Heap-lent, Mut-lent, Pass-send}
 use Rattle.sb_run.proofs.reading.help_and_read.Goals as goal
 
 pub join_mut-requires-send-F : goal.join_mut-requires-send-F

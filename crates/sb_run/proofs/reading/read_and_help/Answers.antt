@@ -1,5 +1,5 @@
-use Rattle.sb_files.specs.worker.cascade.Calls.{plan_of}
-use Rattle.sb_files.specs.feeds.InputEnds.{values_sent}
+use Rattle.sb_engines.specs.worker.cascade.Calls.{plan_of}
+use Rattle.sb_engines.specs.feeds.InputEnds.{values_sent}
 use Rattle.sb_run.proofs.Tied.{unread}
 use Rattle.sb_run.proofs.reading.read_and_help.Goals as goal
 

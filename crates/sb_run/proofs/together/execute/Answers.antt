@@ -1,7 +1,7 @@
 use Rattle.std.proofs.Common.{[], true}
-use Rattle.sb_files.proofs.feeds.one_feed.GivesInTurn.{AddsUp}
-use Rattle.sb_files.proofs.engines.Returned.{output-early, shared-done, shared-early, shared-early_cause, shared-stopped, shared-wanting}
-use Rattle.sb_files.proofs.alone.Starting.{ends_none}
+use Rattle.sb_engines.proofs.feeds.one_feed.GivesInTurn.{AddsUp}
+use Rattle.sb_engines.proofs.Returned.{output-early, shared-done, shared-early, shared-early_cause, shared-stopped, shared-wanting}
+use Rattle.sb_engines.proofs.alone.Starting.{ends_none}
 use Rattle.sb_run.proofs.together.execute.Goals as goal
 
 pub returns-in-Err-clause-ends : goal.returns-in-Err-clause-ends

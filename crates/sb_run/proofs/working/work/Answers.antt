@@ -1,9 +1,9 @@
-use Rattle.sb_files.specs.worker.cascade.Calls.{plan_of, setting_of}
-use Rattle.sb_files.proofs.feeds.one_feed.GivesInTurn.{AddsUp}
-use Rattle.sb_files.proofs.feeds.one_feed.GiveLaws.{cause_of_none}
-use Rattle.sb_files.specs.feeds.InputEnds.{values_received, values_sent}
-use Rattle.sb_files.specs.engines.EngineLaws.{still_here}
-use Rattle.sb_files.specs.engines.Feeders.{HasFed}
+use Rattle.sb_engines.specs.worker.cascade.Calls.{plan_of, setting_of}
+use Rattle.sb_engines.proofs.feeds.one_feed.GivesInTurn.{AddsUp}
+use Rattle.sb_engines.proofs.feeds.one_feed.GiveLaws.{cause_of_none}
+use Rattle.sb_engines.specs.feeds.InputEnds.{values_received, values_sent}
+use Rattle.sb_engines.specs.EngineLaws.{still_here}
+use Rattle.sb_engines.specs.Feeders.{HasFed}
 use Rattle.sb_run.proofs.Tied.{feeds_none, input_cause, input_ended, input_fed, popped_sized}
 use Rattle.sb_run.proofs.working.work.Goals as goal
 

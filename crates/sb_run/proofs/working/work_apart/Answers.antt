@@ -1,6 +1,6 @@
 use denote.Param.Send.{arg_send, mut_send, param_send}
 use Rattle.std.proofs.Crossing.{Vec-send}
-use Rattle.sb_files.proofs.worker.Crossing.{Bound-lent, Cascade-lent, Heap-lent, Mut-lent, Pass-send}
+use Rattle.sb_engines.proofs.worker.Crossing.{Bound-lent, Cascade-lent, Heap-lent, Mut-lent, Pass-send}
 use Rattle.sb_run.proofs.InputCrossing.{Ahead-lent, Dropped-send, Out-send, Signals-lent, Size-lent, Ten-send}
 use Rattle.sb_run.proofs.working.work_apart.Goals as goal
 
