@@ -17,4 +17,4 @@ pub use held::Held;
 pub use moment::{Moment, Node};
 
 // What the crates above name of the crates below.
-pub use sb_containers::{Bundle, NoMemory, Trail};
+pub use sb_containers::{Bundle, Cont, CoreLane, NoMemory, Trail};
