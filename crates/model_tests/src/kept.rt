@@ -2,7 +2,7 @@
 
 ghost use Rattle.std.specs.Prelude.{◌≡◌, ◌≤◌, length, slice_get, OnOk, IfOk};
 ghost use Rattle.sb_hand.specs.base.pipeline.Operators.{operator_at};
-ghost use Rattle.sb_hand.specs.kept.Keeping.{IsMadeFor, closed_mark};
+ghost use Rattle.sb_hand.specs.node.Keeping.{IsMadeFor, closed_mark};
 
 use crate::plans::{alone, expanded, join, joined};
 use sb_base::{Agg, Bundle, Combine, END_MARK, Key, Kind, NoMemory, Plan, Record, Sequence};

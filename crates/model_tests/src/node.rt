@@ -1,7 +1,7 @@
 //! A node by example: events come, and its diary tells them.
 
 ghost use Rattle.std.specs.Prelude.{◌≡◌, ◌≤◌, [], ◌∷◌, IfOk, IsTrue, OnOk, length, slice_get};
-ghost use Rattle.sb_hand.specs.kept.Keeping.{IsMadeFor, closed_mark};
+ghost use Rattle.sb_hand.specs.node.Keeping.{IsMadeFor, closed_mark};
 ghost use Rattle.sb_hand.specs.lane.LaneView.{LaneView, empty_lane};
 ghost use Rattle.sb_hand.specs.node.Changes.{HasLane};
 ghost use Rattle.sb_hand.specs.base.pipeline.Operators.{operator_at};

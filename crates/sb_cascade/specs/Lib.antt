@@ -14,6 +14,5 @@ pub use Rattle.sb_hand.specs.work
 pub use Rattle.sb_hand.specs.core
 pub use Rattle.sb_hand.specs.lane
 pub use Rattle.sb_hand.specs.tally
-pub use Rattle.sb_hand.specs.kept
 pub use Rattle.sb_hand.specs.node
 pub use Rattle.sb_hand.specs as hand

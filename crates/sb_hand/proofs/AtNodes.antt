@@ -9,7 +9,7 @@ use Rattle.sb_shown.proofs.core.exact.Nodes.{slice_get-set_same}
 use Rattle.sb_shown.specs.diary.Diaries.{Written, with_spare}
 use Rattle.sb_shown.specs.diary.declared.event.DiaryEvent.{DiaryEvent}
 use Rattle.sb_shown.specs.diary.declared.event.DiaryEvent.TheVariants as line
-use Rattle.sb_shown.specs.kept.declared.kept.Kept.{Kept}
+use Rattle.sb_shown.specs.node.declared.kept.Kept.{Kept}
 use Rattle.sb_shown.specs.lane.LaneView.{LaneView, lane_of}
 use Rattle.sb_shown.specs.work.declared.outputs.Part.{Part}
 use Rattle.sb_shown.specs.node.declared.closing.Closing.{Closing}

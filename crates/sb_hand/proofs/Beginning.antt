@@ -34,8 +34,8 @@ use Rattle.sb_shown.specs.lane.LaneView.{LaneView, lane_of}
 use Rattle.sb_shown.specs.lane.Placed.{conts_of}
 use Rattle.sb_shown.specs.node.declared.closing.Closing.{Closing}
 use Rattle.sb_shown.specs.node.declared.state.NodeState.{NodeState}
-use Rattle.sb_shown.specs.kept.declared.kept.Kept.{Kept}
-use Rattle.sb_shown.specs.kept.Keeping.{IsMadeFor, IsSpent, ShowsKept, closed_mark, output_from, gives}
+use Rattle.sb_shown.specs.node.declared.kept.Kept.{Kept}
+use Rattle.sb_shown.specs.node.Keeping.{IsMadeFor, IsSpent, ShowsKept, closed_mark, output_from, gives}
 use Rattle.sb_shown.specs.node.Marking.{mark_for}
 use Rattle.sb_hand.specs.Runs.{close_of}
 use Rattle.sb_shown.specs.Sets.{HasLane, BeginsAt}

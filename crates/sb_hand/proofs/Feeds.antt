@@ -27,7 +27,7 @@ use Rattle.sb_shown.specs.core.Parts.{only_node, put_in}
 use Rattle.sb_shown.proofs.core.exact.Nodes.{slice_get-set_same, slice_get-set_other}
 use Rattle.sb_shown.specs.diary.declared.event.DiaryEvent.{DiaryEvent}
 use Rattle.sb_shown.specs.diary.declared.event.DiaryEvent.TheVariants as line
-use Rattle.sb_shown.specs.kept.declared.kept.Kept.{Kept}
+use Rattle.sb_shown.specs.node.declared.kept.Kept.{Kept}
 use Rattle.sb_shown.specs.lane.declared.answers.ArriveStop.{ArriveStop}
 use Rattle.sb_shown.specs.lane.declared.answers.ArriveStop.TheVariants.{Full, Memory}
 use Rattle.sb_shown.specs.lane.LaneView.{LaneView, lane_of}

@@ -36,8 +36,8 @@ use Rattle.sb_shown.specs.lane.Placed.{conts_of}
 use Rattle.sb_shown.specs.lane.Taking.{finish_first}
 use Rattle.sb_shown.specs.node.declared.state.NodeState.{NodeState}
 use Rattle.sb_shown.specs.base.window.Groupings.{IsFrom}
-use Rattle.sb_shown.specs.kept.declared.kept.Kept.{Kept}
-use Rattle.sb_shown.specs.kept.Keeping.{IsMadeFor, IsSpent, IsPartFor, ShowsKept, closed_mark, gives}
+use Rattle.sb_shown.specs.node.declared.kept.Kept.{Kept}
+use Rattle.sb_shown.specs.node.Keeping.{IsMadeFor, IsSpent, IsPartFor, ShowsKept, closed_mark, gives}
 use Rattle.sb_shown.specs.work.declared.outputs.Part.{Part as WorkPart}
 use Rattle.sb_shown.specs.Sets.{Turns, Absorbs}
 use Rattle.sb_shown.specs.diary.declared.event.DiaryEvent.TheVariants as line

@@ -5,7 +5,7 @@ use Rattle.std.specs.List.{slice_get, slice_set}
 use Rattle.std.proofs.lemmas.Bool.{cases_eq}
 use Rattle.std.proofs.lemmas.Option.{same_Some}
 use Rattle.sb_shown.specs.diary.declared.event.DiaryEvent.{DiaryEvent}
-use Rattle.sb_shown.specs.kept.declared.kept.Kept.{Kept}
+use Rattle.sb_shown.specs.node.declared.kept.Kept.{Kept}
 use Rattle.sb_shown.specs.base.pipeline.declared.transform.Step.{Step}
 use Rattle.sb_shown.specs.base.pipeline.Shapes.{Shape}
 use Rattle.sb_shown.specs.base.pipeline.Plans.{IsPlan}

@@ -31,7 +31,7 @@ use Rattle.sb_hand.proofs.LeftToDo.{lowers-then, begins-lowers, ends-lowers}
 use Rattle.sb_hand.proofs.Having.{closing-lane, lanes-are}
 use Rattle.sb_shown.proofs.Steps.{lanes_two}
 use Rattle.sb_shown.proofs.SettingsStay.{settings-lane, settings-node}
-use Rattle.sb_shown.specs.kept.Keeping.{closed_mark}
+use Rattle.sb_shown.specs.node.Keeping.{closed_mark}
 use Rattle.sb_shown.proofs.Single.{there-too}
 
 pub transform-op : (steps : List Step) (k : ℕ) → k < length steps → is_sink (operator_at (slice_get steps k)) ≡ false

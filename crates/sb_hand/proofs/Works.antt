@@ -28,7 +28,7 @@ use Rattle.sb_hand.specs.Runs.{work_of, bundle_events, FinishesWork, WorksOff}
 use Rattle.sb_shown.specs.Sets.{HasLane, SetsLane, Takes, Turns, Absorbs}
 use Rattle.sb_shown.specs.diary.declared.event.DiaryEvent.TheVariants as line
 use Rattle.sb_shown.specs.Showing.{CanStand, Does, ShowsNode, settings_of}
-use Rattle.sb_shown.specs.kept.Keeping.{IsPartFor}
+use Rattle.sb_shown.specs.node.Keeping.{IsPartFor}
 use Rattle.sb_shown.specs.base.window.Groupings.{IsFrom}
 use Rattle.sb_shown.specs.work.Processing.{IsPart}
 use Rattle.sb_shown.specs.work.declared.outputs.Part.{Part}

@@ -18,5 +18,4 @@ pub use Rattle.sb_shown.specs.work
 pub use Rattle.sb_shown.specs.core
 pub use Rattle.sb_shown.specs.lane
 pub use Rattle.sb_shown.specs.tally
-pub use Rattle.sb_shown.specs.kept
 pub use Rattle.sb_shown.specs.node

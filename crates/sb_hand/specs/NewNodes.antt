@@ -2,7 +2,7 @@
 use Rattle.std.specs.Prelude.{◌≡◌, ℕ, Bool, List, [], length, replicate, Some, slice_get}
 use Rattle.sb_shown.specs.base.pipeline.Operators.{Operator, lanes_of, operator_at}
 use Rattle.sb_shown.specs.base.pipeline.Shapes.{Shape}
-use Rattle.sb_shown.specs.kept.Keeping.{IsSpent, IsMadeFor, ShowsKept, closed_mark}
+use Rattle.sb_shown.specs.node.Keeping.{IsSpent, IsMadeFor, ShowsKept, closed_mark}
 use Rattle.sb_shown.specs.lane.LaneView.{empty_lane}
 use Rattle.sb_shown.specs.node.declared.state.NodeState.{NodeState}
 

@@ -6,7 +6,7 @@ ghost use Rattle.sb_shown.specs.core.containers.LaneOrder.{IsLane};
 ghost use Rattle.sb_shown.specs.core.containers.Lanes.{in_epoch, next_epoch, with_arrival, with_seal};
 ghost use Rattle.sb_shown.specs.core.containers.Marks.{first_is_closing};
 ghost use Rattle.sb_shown.specs.diary.declared.event.DiaryEvent.TheVariants as line;
-ghost use Rattle.sb_shown.specs.kept.Keeping.{IsPartFor, closed_mark};
+ghost use Rattle.sb_shown.specs.node.Keeping.{IsPartFor, closed_mark};
 ghost use Rattle.sb_shown.specs.lane.Changes.{StandsAt};
 ghost use Rattle.sb_shown.specs.lane.LaneView.{LaneView, lane_of};
 ghost use Rattle.sb_shown.specs.lane.Links.{down_of, links_of};

@@ -1,7 +1,9 @@
 pub mod PlacedFirst
-pub use Rattle.sb_kept.proofs.session
+pub mod Parts
+pub mod Staying
+pub use Rattle.sb_session.proofs as session
 pub use Rattle.sb_diary.proofs as diary
-pub use Rattle.sb_kept.proofs.sink
-pub use Rattle.sb_kept.proofs.base
-pub use Rattle.sb_kept.proofs.work
+pub use Rattle.sb_sink.proofs as sink
+pub use Rattle.sb_work.proofs.base
+pub use Rattle.sb_work.proofs as work
 pub use Rattle.sb_lane.proofs as lane

@@ -1,8 +1,8 @@
 -- A container is made, and a bundle comes into it.
 use Rattle.std.proofs.Common.{◌≡◌, ℕ, ◌+◌, Bool, true, false, cond, eqb, ltb, List, [], ◌∷◌, refl, ap, ◌∙◌}
 use Rattle.std.proofs.lemmas.Bool.{eq-eqb}
-use Rattle.sb_kept.specs.base.records.declared.item.Record.{Record}
-use Rattle.sb_kept.specs.base.bundle.declared.bundle.Bundle.{Bundle}
+use Rattle.sb_work.specs.base.records.declared.item.Record.{Record}
+use Rattle.sb_work.specs.base.bundle.declared.bundle.Bundle.{Bundle}
 use Rattle.sb_lane.specs.containers.declared.container.Cont.{Cont}
 use Rattle.sb_lane.specs.containers.declared.container.CoreLane.{CoreLane}
 use Rattle.sb_lane.specs.containers.Lanes.{fresh, in_epoch, with_arrival, with_bundle}

@@ -1,18 +1,18 @@
 -- What an event makes of a node: one lane of it changes, and its diary has a line more.
 use Rattle.std.specs.Prelude.{◌≡◌, ℕ, ◌+◌, List, length, map, Some, slice_get, slice_set}
-use Rattle.sb_kept.specs.base.records.declared.item.Record.{Record}
-use Rattle.sb_kept.specs.base.records.Elements.{on_lane}
-use Rattle.sb_kept.specs.base.bundle.declared.bundle.Bundle.{Bundle}
-use Rattle.sb_kept.specs.base.window.Groupings.{Adds, Closes}
-use Rattle.sb_kept.specs.base.pipeline.Operators.{Operator}
-use Rattle.sb_kept.specs.work.declared.outputs.Part.{Part}
+use Rattle.sb_work.specs.base.records.declared.item.Record.{Record}
+use Rattle.sb_work.specs.base.records.Elements.{on_lane}
+use Rattle.sb_work.specs.base.bundle.declared.bundle.Bundle.{Bundle}
+use Rattle.sb_work.specs.base.window.Groupings.{Adds, Closes}
+use Rattle.sb_work.specs.base.pipeline.Operators.{Operator}
+use Rattle.sb_work.specs.declared.outputs.Part.{Part}
 use Rattle.sb_lane.specs.containers.declared.container.CoreLane.{CoreLane}
 use Rattle.sb_lane.specs.containers.Lanes.{with_first_closing}
 use Rattle.sb_lane.specs.containers.Marks.{before_closing}
 use Rattle.sb_diary.specs.Diaries.{with_line}
 use Rattle.sb_diary.specs.declared.event.DiaryEvent.{DiaryEvent}
 use Rattle.sb_diary.specs.declared.event.DiaryEvent.TheVariants as line
-use Rattle.sb_kept.specs.Keeping.{IsSpent, IsMadeFor, IsPartFor, closed_mark, gives}
+use Rattle.sb_node.specs.Keeping.{IsSpent, IsMadeFor, IsPartFor, closed_mark, gives}
 use Rattle.sb_lane.specs.LaneView.{LaneView, lane_of}
 use Rattle.sb_lane.specs.Placed.{conts_of}
 use Rattle.sb_lane.specs.Taking.{take_first, finish_first}

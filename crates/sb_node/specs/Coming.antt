@@ -1,6 +1,6 @@
 -- A bundle that comes back from a lane.
 use Rattle.std.specs.Prelude.{◌≡◌, ◌≤◌}
-use Rattle.sb_kept.specs.base.bundle.declared.bundle.Bundle.{Bundle}
+use Rattle.sb_work.specs.base.bundle.declared.bundle.Bundle.{Bundle}
 use Rattle.sb_lane.specs.declared.answers.ArriveStop.{ArriveStop}
 use Rattle.sb_lane.specs.declared.answers.ArriveStop.TheVariants.{Full, Memory}
 use Rattle.sb_lane.specs.LaneView.{LaneView}

@@ -15,8 +15,8 @@ ghost use Rattle.sb_node.specs.LinkChanges.{FindsPlace, GetsPlace, LinksStay};
 
 use crate::state::NodeState;
 use sb_diary::DiaryEvent;
-use sb_kept::{Bundle, NoMemory};
 use sb_lane::{ArriveStop, Lane};
+use sb_work::{Bundle, NoMemory};
 
 /// Puts a bundle into the container of its epoch, which stands at a place of a lane.
 fn deliver_there(lane: &mut Lane, place: u64, bundle: Bundle) -> Result<u64, NoMemory>

@@ -1,6 +1,6 @@
 //! A closing in hand.
 
-use sb_kept::Record;
+use sb_work::Record;
 
 /// A closing that has begun.
 #[derive(Drop)]

@@ -4,7 +4,7 @@ ghost use Rattle.std.specs.Prelude.{◌≡◌, ◌≤◌, ◌<◌, ◌+◌, true
 ghost use Rattle.sb_lane.specs.containers.Lanes.{next_epoch, with_seal};
 ghost use Rattle.sb_lane.specs.containers.Marks.{before_closing, first_is_closing};
 ghost use Rattle.sb_diary.specs.declared.event.DiaryEvent.TheVariants as line;
-ghost use Rattle.sb_kept.specs.Keeping.{IsSpent, closed_mark};
+ghost use Rattle.sb_node.specs.Keeping.{IsSpent, closed_mark};
 ghost use Rattle.sb_lane.specs.LaneView.{LaneView, lane_of};
 ghost use Rattle.sb_lane.specs.Looks.{look_of};
 ghost use Rattle.sb_lane.specs.Placed.{conts_of};
@@ -16,8 +16,8 @@ ghost use Rattle.sb_node.specs.Marking as spec;
 use crate::closing::Closing;
 use crate::state::NodeState;
 use sb_diary::DiaryEvent;
-use sb_kept::{NoMemory, Record};
 use sb_lane::Lane;
+use sb_work::{NoMemory, Record};
 
 /// The mark up to which a node is closed once the oldest container of a lane is closing.
 fn mark_for(lanes: &[Lane], lane: u32) -> u64

@@ -1,7 +1,7 @@
 //! The state of a node.
 
+use crate::kept::Kept;
 use sb_diary::Diary;
-use sb_kept::Kept;
 use sb_lane::Lane;
 
 /// The state of a transform or of the sink.

@@ -2,8 +2,8 @@
 
 ghost use Rattle.std.specs.Prelude.{◌≡◌, ◌≤◌, ℕ, true, List, length, is_some, OnErr, OnOk};
 ghost use Rattle.sb_diary.specs.declared.event.DiaryEvent.TheVariants as line;
-ghost use Rattle.sb_kept.specs.base.records.declared.item.Record.{Record as ARecord};
-ghost use Rattle.sb_kept.specs.Keeping.{IsPartFor, IsSpent};
+ghost use Rattle.sb_work.specs.base.records.declared.item.Record.{Record as ARecord};
+ghost use Rattle.sb_node.specs.Keeping.{IsPartFor, IsSpent};
 ghost use Rattle.sb_lane.specs.LaneView.{LaneView, lane_of};
 ghost use Rattle.sb_lane.specs.Links.{down_of, links_of};
 ghost use Rattle.sb_lane.specs.Placed.{conts_of};
@@ -13,7 +13,7 @@ ghost use Rattle.sb_node.specs.LinkChanges.{LinksStay};
 
 use crate::state::NodeState;
 use sb_diary::DiaryEvent;
-use sb_kept::{Bundle, NoMemory, Part};
+use sb_work::{Bundle, NoMemory, Part};
 
 impl NodeState {
     /// Takes the first waiting bundle of a lane in which one waits. It takes no memory.

@@ -11,7 +11,7 @@ ghost use Rattle.sb_shown.specs.core.containers.Lanes.{in_epoch, next_epoch, wit
 ghost use Rattle.sb_shown.specs.core.containers.Marks.{first_is_closing};
 ghost use Rattle.sb_shown.specs.diary.declared.diary.TheConstants.{MAX_DIARY_LINES};
 ghost use Rattle.sb_shown.specs.diary.declared.event.DiaryEvent.TheVariants as line;
-ghost use Rattle.sb_shown.specs.kept.Keeping.{IsPartFor, closed_mark};
+ghost use Rattle.sb_shown.specs.node.Keeping.{IsPartFor, closed_mark};
 ghost use Rattle.sb_shown.specs.lane.Changes.{StandsAt};
 ghost use Rattle.sb_shown.specs.lane.LaneView.{LaneView, lane_of};
 ghost use Rattle.sb_shown.specs.lane.Links.{down_of, links_of};

@@ -21,8 +21,8 @@ use Rattle.sb_tally.specs.core.Soundness.{IsSound}
 use Rattle.sb_tally.proofs.core.exact.Nodes.{slice_get-set_same}
 use Rattle.sb_node.specs.lane.LaneView.{LaneView, lane_of}
 use Rattle.sb_node.specs.declared.state.NodeState.{NodeState}
-use Rattle.sb_node.specs.kept.declared.kept.Kept.{Kept}
-use Rattle.sb_node.specs.kept.Keeping.{IsMadeFor, IsSpent, ShowsKept, closed_mark}
+use Rattle.sb_node.specs.declared.kept.Kept.{Kept}
+use Rattle.sb_node.specs.Keeping.{IsMadeFor, IsSpent, ShowsKept, closed_mark}
 use Rattle.sb_shown.specs.Sets.{SetsLane}
 use Rattle.std.proofs.lemmas.Option.{get_or_from_slice_get}
 use Rattle.sb_node.specs.diary.declared.event.DiaryEvent.{DiaryEvent}

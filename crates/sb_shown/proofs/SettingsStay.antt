@@ -4,7 +4,7 @@ use Rattle.std.specs.List.{slice_get, slice_set}
 use Rattle.std.proofs.lemmas.List.{map-set}
 use Rattle.std.proofs.lemmas.Option.{same_Some}
 use Rattle.sb_node.specs.diary.declared.event.DiaryEvent.{DiaryEvent}
-use Rattle.sb_node.specs.kept.declared.kept.Kept.{Kept}
+use Rattle.sb_node.specs.declared.kept.Kept.{Kept}
 use Rattle.sb_node.specs.lane.LaneView.{LaneView}
 use Rattle.sb_node.specs.declared.state.NodeState.{NodeState}
 use Rattle.sb_shown.specs.Sets.{SetsLane, SetsNode}

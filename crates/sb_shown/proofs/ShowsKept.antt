@@ -22,7 +22,7 @@ use Rattle.sb_node.specs.base.records.Orders.{IsAscending}
 use Rattle.sb_node.proofs.base.records.Sorting.{IsReordered-in_order, records_total, in_order-ascending, sorted-unique}
 use Rattle.sb_node.specs.base.records.Reorderings.{IsReordered}
 use Rattle.sb_node.specs.base.window.Groupings.{IsFrom, Adds, Closes}
-use Rattle.sb_node.specs.kept.Keeping.{output_from}
+use Rattle.sb_node.specs.Keeping.{output_from}
 
 pub all-append : {X : Type 0} (P : X → Type 0) (a b : List X) → AllByRecursion P a → AllByRecursion P b → AllByRecursion P (a ++ b)
 all-append P [] b h k = k

@@ -8,7 +8,6 @@ pub use Rattle.sb_node.specs.work
 pub use Rattle.sb_tally.specs.core
 pub use Rattle.sb_node.specs.lane
 pub use Rattle.sb_tally.specs as tally
-pub use Rattle.sb_node.specs.kept
 pub use Rattle.sb_node.specs as node
 pub use Rattle.sb_tally.specs.AnyOrder
 pub use Rattle.sb_tally.proofs.Orders as TallyOrders

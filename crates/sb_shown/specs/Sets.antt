@@ -15,8 +15,8 @@ use Rattle.sb_node.specs.base.pipeline.Operators.{Operator}
 use Rattle.sb_node.specs.work.declared.outputs.Part.{Part}
 use Rattle.sb_tally.specs.core.containers.Marks.{before_closing}
 use Rattle.sb_node.specs.Marking.{mark_for}
-use Rattle.sb_node.specs.kept.declared.kept.Kept.{Kept}
-use Rattle.sb_node.specs.kept.Keeping.{IsSpent, IsMadeFor, IsPartFor, closed_mark, gives}
+use Rattle.sb_node.specs.declared.kept.Kept.{Kept}
+use Rattle.sb_node.specs.Keeping.{IsSpent, IsMadeFor, IsPartFor, closed_mark, gives}
 use Rattle.sb_node.specs.declared.closing.Closing.{Closing}
 use Rattle.sb_node.specs.declared.state.NodeState.{NodeState}
 

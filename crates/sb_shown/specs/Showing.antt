@@ -14,8 +14,8 @@ use Rattle.sb_tally.specs.core.Soundness.{IsSound}
 use Rattle.sb_node.specs.diary.declared.event.DiaryEvent.{DiaryEvent}
 use Rattle.sb_tally.specs.Keeping.{diaries_by}
 use Rattle.sb_node.specs.lane.LaneView.{lane_of}
-use Rattle.sb_node.specs.kept.declared.kept.Kept.{Kept}
-use Rattle.sb_node.specs.kept.Keeping.{IsSpent, IsMadeFor, ShowsKept, closed_mark}
+use Rattle.sb_node.specs.declared.kept.Kept.{Kept}
+use Rattle.sb_node.specs.Keeping.{IsSpent, IsMadeFor, ShowsKept, closed_mark}
 use Rattle.sb_node.specs.declared.state.NodeState.{NodeState}
 
 -- what is kept is any list that the node's grouping stands for

@@ -32,7 +32,7 @@ use Rattle.sb_cascade.specs.lane.contracts.lane.Lane as lane
 use Rattle.sb_cascade.proofs.lane.arena.Arena.TheSendSync as arena_crossing
 use Rattle.sb_cascade.specs.diary.contracts.diary.Diary as diary
 use Rattle.sb_cascade.proofs.diary.event.DiaryEvent.TheSendSync as event_crossing
-use Rattle.sb_cascade.specs.kept.contracts.kept.Kept as kept
+use Rattle.sb_cascade.specs.node.contracts.kept.Kept as kept
 use Rattle.sb_cascade.specs.node.contracts.state.NodeState as node
 use Rattle.sb_cascade.specs.turn.contracts.turns.Slot as slot
 use Rattle.sb_cascade.proofs.turn.turns.Slot.TheSendSync as slot_crossing

@@ -14,7 +14,7 @@ use Rattle.sb_hand.specs.diary.declared.event.DiaryEvent.TheVariants as line
 use Rattle.sb_hand.specs.lane.LaneView.{LaneView, lane_of}
 use Rattle.sb_hand.specs.lane.Placed.{conts_of}
 use Rattle.sb_hand.specs.lane.Taking.{finish_first}
-use Rattle.sb_hand.specs.kept.Keeping.{IsPartFor}
+use Rattle.sb_hand.specs.node.Keeping.{IsPartFor}
 use Rattle.sb_hand.specs.node.Changes.{Absorbs, Turns}
 use Rattle.sb_hand.specs.work.declared.claim.Claim.{Claim}
 use Rattle.sb_hand.specs.work.declared.outputs.Part.{Part}

@@ -15,7 +15,7 @@ use Rattle.sb_shown.specs.lane.declared.answers.LaneClose.{LaneClose}
 use Rattle.sb_shown.specs.lane.LaneView.{LaneView, lane_of}
 use Rattle.sb_shown.specs.lane.Looks.{look_of}
 use Rattle.sb_shown.specs.lane.Placed.{conts_of}
-use Rattle.sb_shown.specs.kept.Keeping.{IsPartFor, closed_mark}
+use Rattle.sb_shown.specs.node.Keeping.{IsPartFor, closed_mark}
 use Rattle.sb_shown.specs.node.Changes.{HasLane}
 use Rattle.sb_shown.specs.node.Looking.{NoneClosing}
 use Rattle.sb_shown.specs.node.Marking.{mark_for}

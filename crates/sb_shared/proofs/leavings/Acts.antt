@@ -6,7 +6,7 @@ use Rattle.sb_shown.specs.base.records.declared.item.Record.{Record}
 use Rattle.sb_shown.specs.core.declared.moment.Node.{Node}
 use Rattle.sb_shown.specs.core.Parts.{only_node}
 use Rattle.sb_shown.specs.Showing.{IsKept}
-use Rattle.sb_shown.specs.kept.declared.kept.Kept.{Kept}
+use Rattle.sb_shown.specs.node.declared.kept.Kept.{Kept}
 use Rattle.sb_shared.specs.declared.telling.Change.{Change}
 use Rattle.sb_shared.specs.declared.telling.Change.TheVariants.{Drain, Spent}
 use Rattle.sb_shared.specs.declared.telling.Hands.{Hands}

@@ -23,7 +23,7 @@ use Rattle.sb_shown.specs.diary.declared.event.DiaryEvent.{DiaryEvent}
 use Rattle.sb_shown.specs.diary.declared.event.DiaryEvent.TheVariants as line
 use Rattle.sb_shown.specs.lane.LaneView.{LaneView, lane_of}
 use Rattle.sb_shown.specs.lane.Placed.{conts_of}
-use Rattle.sb_shown.specs.kept.Keeping.{IsMadeFor, IsSpent, ShowsKept, closed_mark, output_from, gives}
+use Rattle.sb_shown.specs.node.Keeping.{IsMadeFor, IsSpent, ShowsKept, closed_mark, output_from, gives}
 use Rattle.sb_shown.specs.node.Changes.{HasLane}
 use Rattle.sb_shown.specs.node.Marking.{mark_for}
 use Rattle.sb_shown.specs.node.declared.closing.Closing.{Closing}

@@ -28,7 +28,7 @@ use Rattle.sb_shown.proofs.core.parts.PartsLaw.{chain, held-parts_keep_sound, pa
 use Rattle.sb_shown.specs.diary.declared.event.DiaryEvent.TheVariants as line
 use Rattle.sb_shown.specs.lane.LaneView.{LaneView, lane_of}
 use Rattle.sb_shown.specs.lane.Placed.{conts_of}
-use Rattle.sb_shown.specs.kept.Keeping.{IsPartFor, ShowsKept, closed_mark, gives}
+use Rattle.sb_shown.specs.node.Keeping.{IsPartFor, ShowsKept, closed_mark, gives}
 use Rattle.sb_shown.specs.node.Changes.{Absorbs, HasLane}
 use Rattle.sb_shown.specs.work.declared.claim.Claim.{Claim}
 use Rattle.sb_shown.specs.work.declared.outputs.Part.{Part as WorkPart}

@@ -1,8 +1,8 @@
 use Rattle.std.proofs.Common.{sym, ap, subst, ◌∙◌}
-use Rattle.sb_kept.specs.base.records.Elements.{on_lane}
-use Rattle.sb_kept.specs.base.window.Groupings.{Adds}
-use Rattle.sb_kept.specs.declared.kept.Kept.{Kept}
-use Rattle.sb_kept.specs.Keeping.{IsMadeFor, IsSpent, closed_mark, gives}
+use Rattle.sb_work.specs.base.records.Elements.{on_lane}
+use Rattle.sb_work.specs.base.window.Groupings.{Adds}
+use Rattle.sb_node.specs.declared.kept.Kept.{Kept}
+use Rattle.sb_node.specs.Keeping.{IsMadeFor, IsSpent, closed_mark, gives}
 use Rattle.sb_node.proofs.state.NodeState.absorb.Goals as goal
 
 pub returns-clause-absorbs : goal.returns-clause-absorbs

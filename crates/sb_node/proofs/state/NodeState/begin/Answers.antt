@@ -1,10 +1,10 @@
 use Rattle.std.proofs.Common.{◌≡◌, ◌+◌, length, map, rules, sym, ap, subst, ◌∙◌}
 use Rattle.std.specs.List.{slice_set}
-use Rattle.sb_kept.specs.base.window.Groupings.{Closes}
+use Rattle.sb_work.specs.base.window.Groupings.{Closes}
 use Rattle.sb_lane.specs.containers.Marks.{before_closing}
 use Rattle.sb_diary.specs.Diaries.{with_line}
 use Rattle.sb_diary.specs.declared.event.DiaryEvent.TheVariants as line
-use Rattle.sb_kept.specs.Keeping.{IsMadeFor, IsSpent, closed_mark, gives}
+use Rattle.sb_node.specs.Keeping.{IsMadeFor, IsSpent, closed_mark, gives}
 use Rattle.sb_lane.specs.LaneView.{lane_of}
 use Rattle.sb_node.specs.Changes.{HasLane}
 use Rattle.sb_node.specs.Marking.{mark_for}

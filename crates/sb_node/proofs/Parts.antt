@@ -19,9 +19,9 @@ use Rattle.sb_work.specs.base.pipeline.Operators.WindowOperator.{Aggregated, Ses
 use Rattle.sb_work.specs.declared.outputs.Part.{Part}
 use Rattle.sb_work.specs.declared.outputs.Part.TheVariants as part
 use Rattle.sb_work.specs.Processing.{IsPart, side_of}
-use Rattle.sb_kept.specs.declared.kept.Kept.{Kept}
-use Rattle.sb_kept.specs.declared.kept.Kept.TheVariants as kept
-use Rattle.sb_kept.specs.Keeping.{IsSpent, IsMadeFor, IsPartFor, closed_mark, gives}
+use Rattle.sb_node.specs.declared.kept.Kept.{Kept}
+use Rattle.sb_node.specs.declared.kept.Kept.TheVariants as kept
+use Rattle.sb_node.specs.Keeping.{IsSpent, IsMadeFor, IsPartFor, closed_mark, gives}
 
 -- what taking in a part makes of a grouping, and that it was made for the same nodes
 abbrev pub AddsPart : Kept → Part → Kept → Type 0

@@ -1,9 +1,9 @@
 use Rattle.std.proofs.Common.{rules}
 use Rattle.std.proofs.lemmas.Result.{on_ok_weaker}
-use Rattle.sb_kept.proofs.Parts.{AddsPart, StaysMade, carried, aggregate-adds, aggregate-stands, session-adds, join-adds, sink-adds}
-use Rattle.sb_kept.proofs.Staying.{aggregate-stays}
-use Rattle.sb_kept.proofs.kept.Kept.absorb.Goals as goal
-use Rattle.sb_kept.proofs.kept.Kept.absorb.Goals.{in-Aggregate-Agg, in-Session-Rows, in-Join-Join, in-Sink-Rows, in_default+in-Agg+in-More-1, in_default+in-Agg+in-Start-1, in_default+in-Join+in-More-1, in_default+in-Join+in-Start-1, in_default+in-Rows-1}
+use Rattle.sb_node.proofs.Parts.{AddsPart, StaysMade, carried, aggregate-adds, aggregate-stands, session-adds, join-adds, sink-adds}
+use Rattle.sb_node.proofs.Staying.{aggregate-stays}
+use Rattle.sb_node.proofs.kept.Kept.absorb.Goals as goal
+use Rattle.sb_node.proofs.kept.Kept.absorb.Goals.{in-Aggregate-Agg, in-Session-Rows, in-Join-Join, in-Sink-Rows, in_default+in-Agg+in-More-1, in_default+in-Agg+in-Start-1, in_default+in-Join+in-More-1, in_default+in-Join+in-Start-1, in_default+in-Rows-1}
 
 pub returns-clause-made : goal.returns-clause-made
 returns-clause-made c =

@@ -1,8 +1,8 @@
 use Rattle.std.proofs.Common.{ap, ◌∙◌}
 use Rattle.sb_work.specs.base.pipeline.Operators.{operator_at, operator_of}
 use Rattle.std.specs.Prelude.{slice_get}
-use Rattle.sb_kept.proofs.Staying.{session-fresh}
-use Rattle.sb_kept.proofs.kept.Kept.new.Goals as goal
+use Rattle.sb_node.proofs.Staying.{session-fresh}
+use Rattle.sb_node.proofs.kept.Kept.new.Goals as goal
 
 pub returns-in-Session-clause-empty : goal.returns-in-Session-clause-empty
 returns-in-Session-clause-empty c =

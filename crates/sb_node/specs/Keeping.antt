@@ -16,8 +16,8 @@ use Rattle.sb_work.specs.base.pipeline.Operators.Operator.{ParDo, Windowed, Sink
 use Rattle.sb_work.specs.base.pipeline.Operators.WindowOperator.{Aggregated, Sessions, Joined}
 use Rattle.sb_work.specs.declared.outputs.Part.{Part}
 use Rattle.sb_work.specs.Processing.{IsPart}
-use Rattle.sb_kept.specs.declared.kept.Kept.{Kept}
-use Rattle.sb_kept.specs.declared.kept.Kept.TheVariants as kept
+use Rattle.sb_node.specs.declared.kept.Kept.{Kept}
+use Rattle.sb_node.specs.declared.kept.Kept.TheVariants as kept
 
 -- no memory was found, so the content is unknown
 abbrev pub IsSpent : Kept → Type 0

@@ -5,7 +5,7 @@ ghost use Rattle.sb_work.specs.base.records.declared.item.Record.{Record as ARec
 ghost use Rattle.sb_work.specs.base.records.Elements.{on_lane};
 ghost use Rattle.sb_work.specs.base.window.Groupings.{Adds, Closes};
 ghost use Rattle.sb_work.specs.base.pipeline.Operators.{Operator, operator_at};
-ghost use Rattle.sb_kept.specs.Keeping.{IsSpent, IsMadeFor, IsPartFor, ShowsKept, closed_mark, gives};
+ghost use Rattle.sb_node.specs.Keeping.{IsSpent, IsMadeFor, IsPartFor, ShowsKept, closed_mark, gives};
 
 use sb_session::Session;
 use sb_sink::SinkKept;

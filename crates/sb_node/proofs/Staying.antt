@@ -10,8 +10,8 @@ use Rattle.sb_work.specs.base.pipeline.Operators.{Operator}
 use Rattle.sb_work.specs.base.pipeline.Operators.Operator.{ParDo, Windowed, Sink}
 use Rattle.sb_work.specs.base.pipeline.Operators.WindowOperator.{Aggregated, Sessions, Joined}
 use Rattle.sb_session.specs.SessionStates.{SessionState, fresh}
-use Rattle.sb_kept.specs.declared.kept.Kept.TheVariants as kept
-use Rattle.sb_kept.specs.Keeping.{IsMadeFor, ShowsKept}
+use Rattle.sb_node.specs.declared.kept.Kept.TheVariants as kept
+use Rattle.sb_node.specs.Keeping.{IsMadeFor, ShowsKept}
 
 -- sessions of which nothing was taken show that nothing came
 pub session-fresh : (agg : Agg) (gap : ℕ) (g : SessionState) (op : Operator) → g ≡ fresh agg gap → op ≡ Windowed (Sessions agg gap) → ShowsKept op (kept.Session g) []

@@ -3,11 +3,11 @@ use Rattle.std.specs.Prelude.{OnOk, IfOk}
 use Rattle.std.proofs.lemmas.Result.{on_ok_weaker}
 use Rattle.sb_work.specs.base.pipeline.Operators.{Operator}
 use Rattle.sb_work.specs.base.window.Groupings.{Closes}
-use Rattle.sb_kept.specs.declared.kept.Kept.{Kept}
-use Rattle.sb_kept.specs.declared.kept.Kept.TheVariants as kept
-use Rattle.sb_kept.specs.Keeping.{IsMadeFor, gives}
-use Rattle.sb_kept.proofs.Staying.{aggregate-stays}
-use Rattle.sb_kept.proofs.kept.Kept.close.Goals as goal
+use Rattle.sb_node.specs.declared.kept.Kept.{Kept}
+use Rattle.sb_node.specs.declared.kept.Kept.TheVariants as kept
+use Rattle.sb_node.specs.Keeping.{IsMadeFor, gives}
+use Rattle.sb_node.proofs.Staying.{aggregate-stays}
+use Rattle.sb_node.proofs.kept.Kept.close.Goals as goal
 
 pub returns-in-Aggregate-clause-made : goal.returns-in-Aggregate-clause-made
 returns-in-Aggregate-clause-made c =
