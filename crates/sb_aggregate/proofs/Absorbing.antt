@@ -17,12 +17,12 @@ use Rattle.sb_runs.specs.window.Groupings.{Closes}
 use Rattle.sb_runs.specs.window.Aggregations.{rows_by}
 use Rattle.sb_runs.proofs.window.Closing.{is_between, closes-between}
 use Rattle.sb_runs.proofs.window.Rows.{when}
-use Rattle.sb_aggregate.specs.declared.aggregate.Agg.{Agg}
-use Rattle.sb_aggregate.specs.Aggregates.{aggregate_values, aggregate_rows}
+use Rattle.sb_windowed.specs.declared.aggregate.Agg.{Agg}
+use Rattle.sb_windowed.specs.Aggregates.{aggregate_values, aggregate_rows}
 use Rattle.sb_aggregate.specs.Partials.{PartialValues, partial_values, join_values, final_values}
 use Rattle.sb_aggregate.specs.Groups.{HasPartials, HasPartialsFrom}
 use Rattle.sb_runs.specs.Runs.{IsRun, found, found_in}
-use Rattle.sb_aggregate.specs.Orderless.{aggregate_rows-orderless}
+use Rattle.sb_windowed.proofs.Orderless.{aggregate_rows-orderless}
 use Rattle.sb_aggregate.proofs.PartialValues.{final-partial}
 use Rattle.sb_aggregate.proofs.EndsPassed.{partial_from-append, partials-closed, partials-open}
 use Rattle.sb_runs.proofs.RunRows.{rows-when}

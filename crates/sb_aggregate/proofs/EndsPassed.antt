@@ -12,7 +12,7 @@ use Rattle.sb_runs.specs.window.Gatherings.{joined_value}
 use Rattle.sb_runs.proofs.window.Gathering.{gathered-append}
 use Rattle.sb_runs.proofs.window.Rows.{end-of}
 use Rattle.sb_runs.proofs.window.Closing.{is_between, none_late}
-use Rattle.sb_aggregate.specs.declared.aggregate.Agg.{Agg}
+use Rattle.sb_windowed.specs.declared.aggregate.Agg.{Agg}
 use Rattle.sb_aggregate.specs.Partials.{partial_values, join_values, partial_at, partial_from}
 use Rattle.sb_aggregate.proofs.PartialValues.{partials-joined}
 

@@ -1,9 +1,3 @@
-pub mod Sums
-pub mod Orderless
-pub mod Times
-pub mod SessionEnds
-pub mod SessionLaws
-pub mod SessionRows
 pub mod PartialValues
 pub mod Singles
 pub mod LeastOfTwo

@@ -12,7 +12,7 @@ use Rattle.sb_runs.specs.Runs.{found, spread_value}
 use Rattle.sb_runs.proofs.PaneEnds.{whole-panes, every-small}
 use Rattle.sb_runs.proofs.Placed.{placed-reordered, placed-gathered}
 use Rattle.sb_runs.proofs.Spreading.{spread-gathered, placed-panes, ends-bounded}
-use Rattle.sb_aggregate.specs.declared.aggregate.Agg.{Agg}
+use Rattle.sb_windowed.specs.declared.aggregate.Agg.{Agg}
 use Rattle.sb_aggregate.specs.Partials.{PartialValues, partial_values, join_values, partial_at}
 use Rattle.sb_aggregate.proofs.PartialValues.{partials-orderless, partials-joined}
 

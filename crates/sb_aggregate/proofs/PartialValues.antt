@@ -12,10 +12,10 @@ use Rattle.sb_runs.proofs.records.Firsts.{firsts-kept}
 use Rattle.sb_runs.proofs.records.Different.{distinct-reordered, distinct-kept}
 use Rattle.sb_runs.specs.window.Reorderings.{IgnoresOrder}
 use Rattle.sb_runs.specs.window.Aggregations.{sum_values}
-use Rattle.sb_aggregate.specs.declared.aggregate.Agg.{Agg}
-use Rattle.sb_aggregate.specs.declared.aggregate.Agg.TheVariants.{Count, Sum, Min, Max, Distinct, Top}
-use Rattle.sb_aggregate.specs.Aggregates.{IsValid, signed_value, aggregate_values}
-use Rattle.sb_aggregate.specs.Orderless.{greatest_total, exact_greatest, aggregates-orderless}
+use Rattle.sb_windowed.specs.declared.aggregate.Agg.{Agg}
+use Rattle.sb_windowed.specs.declared.aggregate.Agg.TheVariants.{Count, Sum, Min, Max, Distinct, Top}
+use Rattle.sb_windowed.specs.Aggregates.{IsValid, signed_value, aggregate_values}
+use Rattle.sb_windowed.proofs.Orderless.{greatest_total, exact_greatest, aggregates-orderless}
 use Rattle.sb_aggregate.specs.Partials.{partial_values, joining, join_values, final_values}
 use Rattle.sb_runs.specs.Runs.{IsAssociative}
 

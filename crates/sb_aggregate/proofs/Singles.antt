@@ -6,8 +6,8 @@ use Rattle.std.proofs.lemmas.Int.{to_z-of_z}
 use mir.ValLaws.{of_z_fits}
 use Rattle.std.proofs.lemmas.List.Sums.{sum_by-cons}
 use Rattle.sb_runs.specs.window.Aggregations.{sum_values}
-use Rattle.sb_aggregate.specs.declared.aggregate.Agg.{Agg}
-use Rattle.sb_aggregate.specs.declared.aggregate.Agg.TheVariants.{Count, Sum, Min, Max, Distinct, Top}
+use Rattle.sb_windowed.specs.declared.aggregate.Agg.{Agg}
+use Rattle.sb_windowed.specs.declared.aggregate.Agg.TheVariants.{Count, Sum, Min, Max, Distinct, Top}
 use Rattle.sb_aggregate.specs.Partials.{final_values, is_single, joining, partial_values}
 
 sum-one : (v : ℤ) → SFits w64 v → sum_values (v ∷ []) ≡ v ∷ []

@@ -7,8 +7,8 @@ use Rattle.sb_runs.specs.records.Records.{at_least}
 use Rattle.sb_runs.specs.records.Reorderings.{IsReordered}
 use Rattle.sb_runs.specs.window.declared.keyed_window.KeyedWindow.{KeyedWindow}
 use Rattle.sb_runs.specs.window.Spacing.{Spacing}
-use Rattle.sb_aggregate.specs.declared.aggregate.Agg.{Agg}
-use Rattle.sb_aggregate.specs.Aggregates.{aggregate_rows}
+use Rattle.sb_windowed.specs.declared.aggregate.Agg.{Agg}
+use Rattle.sb_windowed.specs.Aggregates.{aggregate_rows}
 use Rattle.sb_aggregate.specs.Partials.{PartialValues, join_values, partial_at, partial_from}
 use Rattle.sb_runs.specs.Runs.{found, found_in}
 

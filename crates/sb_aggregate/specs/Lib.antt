@@ -1,6 +1,3 @@
-pub mod Aggregates
-pub mod Sessions
-pub mod Laws
 pub mod Orderless
 pub mod Partials
 pub mod Held

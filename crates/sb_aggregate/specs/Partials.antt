@@ -6,9 +6,9 @@ use Rattle.sb_runs.specs.records.Orders.{distinct}
 use Rattle.sb_runs.specs.window.declared.keyed_window.KeyedWindow.{KeyedWindow}
 use Rattle.sb_runs.specs.window.Spacing.{Spacing}
 use Rattle.sb_runs.specs.window.Gatherings.{gathered_value}
-use Rattle.sb_aggregate.specs.declared.aggregate.Agg.{Agg}
-use Rattle.sb_aggregate.specs.declared.aggregate.Agg.TheVariants.{Count, Sum, Distinct, Top}
-use Rattle.sb_aggregate.specs.Aggregates.{signed_value, aggregate_values}
+use Rattle.sb_windowed.specs.declared.aggregate.Agg.{Agg}
+use Rattle.sb_windowed.specs.declared.aggregate.Agg.TheVariants.{Count, Sum, Distinct, Top}
+use Rattle.sb_windowed.specs.Aggregates.{signed_value, aggregate_values}
 
 -- a partial value for each of some keyed windows
 abbrev pub PartialValues : Type 0

@@ -2,13 +2,13 @@
 
 ghost use Rattle.std.specs.Prelude.{◌≡◌, ◌≤◌, ℕ, [], List, true, false, OnOk, OnErr, IfOk};
 ghost use Rattle.sb_aggregate.specs.Groups.{given, IsLike, IsMadeOf};
-ghost use Rattle.sb_aggregate.specs.Aggregates.{IsValid};
+ghost use Rattle.sb_windowed.specs.Aggregates.{IsValid};
 ghost use Rattle.sb_aggregate.specs.Orderless.{given-orderless};
 
-use crate::aggregate::Agg;
 use crate::part::AggPart;
 use crate::partials::KeptPartials;
 use sb_runs::{Grouping, NoMemory, Record, Trail, Windows};
+use sb_windowed::Agg;
 use std::alloc::Global;
 use std::marker::Model;
 

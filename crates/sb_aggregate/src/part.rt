@@ -4,14 +4,15 @@ ghost use Rattle.std.specs.Prelude.{◌≡◌, ◌<◌, All, map, OnOk, IfOk};
 ghost use Rattle.std.specs.Option.{option_to_list};
 ghost use Rattle.sb_runs.specs.window.declared.keyed_window.KeyedWindow.{KeyedWindow as Window};
 ghost use Rattle.sb_runs.specs.window.Gatherings.{joined_value};
-ghost use Rattle.sb_aggregate.specs.Aggregates.{IsValid};
+ghost use Rattle.sb_windowed.specs.Aggregates.{IsValid};
 ghost use Rattle.sb_aggregate.specs.Partials.{partial_values, joining, join_values};
 ghost use Rattle.sb_runs.specs.Placed.{placed_first, placed_value};
 
-use crate::aggregate::Agg;
+use crate::partial::first_of;
 use crate::partials::Partials;
 use crate::placing::{Placing, SLOTS};
 use sb_runs::{END_MARK, KeyedWindow, NoMemory, Record, Trail, Windows};
+use sb_windowed::Agg;
 use std::alloc::Global;
 use std::marker::Model;
 
@@ -82,7 +83,7 @@ fn place(
         (placed_value (partial_values agg) (placed_first windows.now «record».now) q)) }
 {
     if let Some(pane) = pane_of(windows, record) {
-        placing.add(slots, agg, pane, agg.first(record.value))?;
+        placing.add(slots, agg, pane, first_of(agg, record.value))?;
     }
     Ok(())
 }

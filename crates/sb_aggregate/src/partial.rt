@@ -1,13 +1,13 @@
 //! Partial values: what is kept of the values of a keyed window until it closes.
 
 ghost use Rattle.std.specs.Prelude.{◌≡◌, ◌∷◌, ◌++◌, [], ◌%◌, ◌^◌, length, true, IsSome, IfSome, IfOk, OnOk};
-ghost use Rattle.sb_aggregate.specs.Aggregates.{IsValid};
+ghost use Rattle.sb_windowed.specs.Aggregates.{IsValid};
 ghost use Rattle.sb_aggregate.specs.Partials.{is_single, partial_values, join_values, final_values, joining, rows_of_values};
 ghost use Rattle.sb_aggregate.specs.Held.{held_values};
 
-use crate::aggregate::{Agg, aggregated};
 use crate::value_set::ValueSet;
 use sb_runs::{Joiner, KeyedWindow, NoMemory, Record, compare_windows, later_window};
+use sb_windowed::{Agg, aggregated};
 use std::alloc::Global;
 use std::cmp::Ordering;
 use std::marker::Model;
@@ -37,38 +37,36 @@ impl Model for Partial {
     ghost view = { λ p. held_values p.held };
 }
 
-impl Agg {
-    // The aggregation that makes one partial value of two.
-    pub(crate) fn joining(self) -> Agg
-        ensures { result ≡ joining self }
-    {
-        match self {
-            Agg::Count => Agg::Sum,
-            agg => agg,
-        }
+/// The aggregation that makes one partial value of two.
+pub(crate) fn joining_of(agg: Agg) -> Agg
+    ensures { result ≡ joining agg }
+{
+    match agg {
+        Agg::Count => Agg::Sum,
+        agg => agg,
     }
+}
 
-    /// What stands for a value where partial values are joined: counts begin at 1.
-    pub(crate) fn first(self, value: i64) -> i64
-        ensures { partial_values (joining self) (result ∷ []) ≡ partial_values self (value ∷ []) }
-    {
-        match self {
-            Agg::Count => 1,
-            _ => value,
-        }
+/// What stands for a value where partial values are joined: counts begin at 1.
+pub(crate) fn first_of(agg: Agg, value: i64) -> i64
+    ensures { partial_values (joining agg) (result ∷ []) ≡ partial_values agg (value ∷ []) }
+{
+    match agg {
+        Agg::Count => 1,
+        _ => value,
     }
+}
 
-    /// What two partial values come to, each a single value, where it is always a single value too.
-    pub(crate) fn joined(self, one: i64, other: i64) -> Option<i64>
-        ensures joined { IfSome result (λ value. value ∷ [] ≡ join_values self (one ∷ []) (other ∷ [])) }
-        ensures some { is_single self ≡ true → IsSome result }
-    {
-        match self {
-            Agg::Count | Agg::Sum => Some(one.wrapping_add(other)),
-            Agg::Min => Some(one.min(other)),
-            Agg::Max => Some(one.max(other)),
-            Agg::Distinct | Agg::Top(_) => None,
-        }
+/// What two partial values come to, each a single value, where it is always a single value too.
+pub(crate) fn joined_of(agg: Agg, one: i64, other: i64) -> Option<i64>
+    ensures joined { IfSome result (λ value. value ∷ [] ≡ join_values agg (one ∷ []) (other ∷ [])) }
+    ensures some { is_single agg ≡ true → IsSome result }
+{
+    match agg {
+        Agg::Count | Agg::Sum => Some(one.wrapping_add(other)),
+        Agg::Min => Some(one.min(other)),
+        Agg::Max => Some(one.max(other)),
+        Agg::Distinct | Agg::Top(_) => None,
     }
 }
 
@@ -105,7 +103,7 @@ impl Partial {
         ensures { OnOk result (self.new ≡ join_values agg self.old more) }
     {
         if let (Held::One(one), Held::One(other)) = (&self.held, &more.held) {
-            if let Some(joined) = agg.joined(*one, *other) {
+            if let Some(joined) = joined_of(agg, *one, *other) {
                 self.held = Held::One(joined);
                 return Ok(());
             }
@@ -268,7 +266,7 @@ fn with_values(alloc: Global, agg: Agg, held: Held, more: Held) -> Result<Held, 
 fn made_of(alloc: Global, agg: Agg, values: Vec<i64>) -> Result<Held, NoMemory>
     ensures { IfOk result (λ h. held_values h ≡ partial_values (joining agg) values.items) }
 {
-    match agg.joining() {
+    match joining_of(agg) {
         Agg::Distinct => Ok(Held::Different(ValueSet::of_values(alloc, values)?)),
         agg => {
             let mut values = values;

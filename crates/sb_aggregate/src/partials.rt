@@ -12,11 +12,11 @@ ghost use Rattle.sb_runs.specs.Runs.{found, found_in, spread_value, IsRun};
 ghost use Rattle.sb_aggregate.specs.Held.{run_of, runs_of};
 ghost use Rattle.sb_aggregate.specs.Partials.{final_values, join_values, PartialValues};
 
-use crate::aggregate::Agg;
 use crate::partial::{Partial, PartialJoiner};
 use crate::rows::{rows_of, rows_of_singles};
 use crate::single::SingleJoiner;
 use sb_runs::{NoMemory, Record, Run, Runs, spread};
+use sb_windowed::Agg;
 use std::alloc::Global;
 use std::collections::VecDeque;
 

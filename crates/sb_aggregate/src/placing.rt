@@ -8,19 +8,19 @@ ghost use Rattle.sb_runs.specs.records.Reorderings.{IsReordered};
 ghost use Rattle.sb_runs.specs.records.declared.key.Key.TheVariants.{Number};
 ghost use Rattle.sb_runs.specs.window.declared.keyed_window.KeyedWindow.{KeyedWindow as Window};
 ghost use Rattle.sb_runs.specs.window.Gatherings.{joined_value};
-ghost use Rattle.sb_aggregate.specs.Aggregates.{IsValid};
+ghost use Rattle.sb_windowed.specs.Aggregates.{IsValid};
 ghost use Rattle.sb_aggregate.specs.Partials.{is_single, partial_values, joining, join_values};
 ghost use Rattle.sb_runs.specs.Placed.{placed_value};
 ghost use Rattle.sb_aggregate.specs.Held.{run_of};
 ghost use Rattle.sb_aggregate.specs.Numbers.{numbered_entry};
 ghost use Rattle.sb_runs.specs.Runs.{found};
 
-use crate::aggregate::Agg;
-use crate::partial::{Partial, PartialJoiner};
+use crate::partial::{Partial, PartialJoiner, joined_of, joining_of};
 use crate::partials::Partials;
 use crate::ranking::sort_numbers;
 use crate::single::SingleJoiner;
 use sb_runs::{Key, KeyedWindow, NoMemory, Run};
+use sb_windowed::Agg;
 use std::alloc::Global;
 use std::marker::Model;
 
@@ -168,7 +168,7 @@ fn join_at(agg: Agg, numbers: &mut Vec<Numbered>, at: usize, entry: &Numbered) -
     if end != entry.end || key != entry.key {
         return false;
     }
-    let Some(joined) = agg.joined(value, entry.value) else {
+    let Some(joined) = joined_of(agg, value, entry.value) else {
         return false;
     };
     numbers[at] = Numbered {
@@ -234,7 +234,7 @@ fn run_of_numbers(
     let joiner = PartialJoiner { alloc, agg };
     let mut run = Run::with_room(alloc, numbers.len())?;
     for entry in numbers {
-        let partial = Partial::of_one(agg.joining(), entry.value);
+        let partial = Partial::of_one(joining_of(agg), entry.value);
         run.add(alloc, &joiner, (entry.window(), partial))?;
     }
     Ok(run)
@@ -254,7 +254,7 @@ fn run_of_words(
     let mut run = Run::with_room(alloc, words.len())?;
     for entry in words {
         let window = KeyedWindow { ..entry.0 };
-        let partial = Partial::of_one(agg.joining(), entry.1);
+        let partial = Partial::of_one(joining_of(agg), entry.1);
         run.add(alloc, &joiner, (window, partial))?;
     }
     Ok(run)

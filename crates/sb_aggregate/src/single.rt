@@ -4,10 +4,10 @@ ghost use Rattle.std.specs.Prelude.{◌≡◌, ◌∷◌, [], true, IsSome, IfSo
 ghost use Rattle.sb_aggregate.specs.Partials.{is_single, join_values};
 ghost use Rattle.sb_aggregate.specs.Numbers.{single_entry};
 
-use crate::aggregate::Agg;
-use crate::partial::Partial;
+use crate::partial::{Partial, joined_of};
 use crate::placing::Numbered;
 use sb_runs::{Joiner, NoMemory};
+use sb_windowed::Agg;
 use std::cmp::Ordering;
 use std::marker::Model;
 
@@ -20,7 +20,7 @@ pub(crate) struct SingleJoiner {
 
 impl Model for SingleJoiner {
     ghost use Rattle.std.specs.Prelude.{◌≡◌, true};
-    ghost use Rattle.sb_aggregate.specs.declared.aggregate.Agg.{Agg as AnAgg};
+    ghost use Rattle.sb_windowed.specs.declared.aggregate.Agg.{Agg as AnAgg};
     ghost use Rattle.sb_aggregate.specs.Partials.{is_single};
 
     ghost Value = { AnAgg };
@@ -46,7 +46,7 @@ impl SingleJoiner {
     fn joined(&self, one: i64, other: i64) -> i64
         ensures { result ∷ [] ≡ join_values self.now (one ∷ []) (other ∷ []) }
     {
-        match self.agg.joined(one, other) {
+        match joined_of(self.agg, one, other) {
             Some(value) => value,
             None => unreachable!(),
         }

@@ -5,8 +5,8 @@ ghost use Rattle.std.specs.List.Sorted.{IsStrictlySortedBy};
 ghost use Rattle.std.specs.Ordering.{int_cmp};
 ghost use Rattle.sb_runs.specs.records.Orders.{distinct};
 
-use crate::aggregate::keep_distinct;
 use sb_runs::NoMemory;
+use sb_windowed::keep_distinct;
 use std::alloc::Global;
 use std::collections::BTreeSet;
 use std::marker::Model;

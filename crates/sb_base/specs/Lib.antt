@@ -2,8 +2,7 @@ pub mod Inputs
 pub use Rattle.sb_pipeline.specs.records
 pub use Rattle.sb_pipeline.specs.window
 pub use Rattle.sb_pipeline.specs.pardo
-pub use Rattle.sb_pipeline.specs.aggregate
-pub use Rattle.sb_pipeline.specs.join
+pub use Rattle.sb_pipeline.specs.windowed
 pub use Rattle.sb_pipeline.specs as pipeline
 pub use Rattle.sb_bundle.specs as bundle
 pub use Rattle.sb_pipeline.specs.window.EarlierLemmas

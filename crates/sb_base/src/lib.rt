@@ -8,12 +8,11 @@
 
 pub use sb_bundle::{Bundle, Cutter, MAX_BUNDLE};
 pub use sb_pipeline::{
-    Agg, AggPart, Aggregate, BadWindow, Change, Combine, Down, Dropped, END_MARK, Ends, Field,
-    Grouping, Intake, Item, JoinKept, JoinPart, KeptRec, Key, KeyedWindow, Keys, Kind, LatePolicy,
-    MAX_ADDENDS, MAX_GAP, MAX_KEY, MAX_LINE_LENGTH, MAX_LINES, MAX_ROW_LENGTH, MAX_ROWS, MAX_SIZE,
-    MAX_TIME, MAX_TOP, MAX_TRANSFORMS, MAX_WINDOWS_OF_A_TIME, MAX_WORD_LENGTH, Malformed, NoMemory,
-    Op, Plan, Record, Refusal, RowBuf, RowFault, Sequence, Side, Step, Stop, Stream, Streams,
-    Table, TableFault, TableStop, Test, TextBuf, Trail, UsualRecord, Windows, Word, aggregated,
-    apply, is_valid, join_part_of, pair_values, part_of, read_line, read_number, row_bytes,
-    sum_plan,
+    Agg, BadWindow, Change, Combine, Down, Dropped, END_MARK, Ends, Field, Grouping, Intake, Item,
+    KeptRec, Key, KeyedWindow, Keys, Kind, LatePolicy, MAX_ADDENDS, MAX_GAP, MAX_KEY,
+    MAX_LINE_LENGTH, MAX_LINES, MAX_ROW_LENGTH, MAX_ROWS, MAX_SIZE, MAX_TIME, MAX_TOP,
+    MAX_TRANSFORMS, MAX_WINDOWS_OF_A_TIME, MAX_WORD_LENGTH, Malformed, NoMemory, Op, Plan, Record,
+    Refusal, RowBuf, RowFault, Sequence, Side, Step, Stop, Stream, Streams, Table, TableFault,
+    TableStop, Test, TextBuf, Trail, UsualRecord, Windows, Word, aggregated, apply, is_valid,
+    pair_values, read_line, read_number, row_bytes, sum_plan,
 };

@@ -16,8 +16,8 @@ use Rattle.sb_pipeline.proofs.window.Rows.{when, SameIn, end-of, rows_by-same}
 use Rattle.sb_pipeline.specs.pardo.declared.operation.Op.{Op}
 use Rattle.sb_pipeline.specs.pardo.Outputs.{outputs_of}
 use Rattle.sb_pipeline.proofs.pardo.Keeping.{outputs_keep_time}
-use Rattle.sb_pipeline.specs.aggregate.Aggregates.{aggregate_values}
-use Rattle.sb_pipeline.proofs.join.Pairs.{join_rows-same}
+use Rattle.sb_pipeline.specs.windowed.Aggregates.{aggregate_values}
+use Rattle.sb_pipeline.proofs.windowed.Pairs.{join_rows-same}
 use Rattle.sb_pipeline.specs.declared.transform.Down.{Down}
 use Rattle.sb_pipeline.specs.records.declared.element.KeptRec.{KeptRec}
 use Rattle.sb_pipeline.specs.declared.transform.Kind.{Kind}

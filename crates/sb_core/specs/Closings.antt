@@ -5,7 +5,7 @@ use Rattle.sb_containers.specs.base.records.declared.item.Record.{Record}
 use Rattle.sb_containers.specs.base.records.Records.{sorted_records, before, at_least}
 use Rattle.sb_containers.specs.base.window.Windows.{window_ends}
 use Rattle.sb_containers.specs.base.pardo.Outputs.{outputs_of}
-use Rattle.sb_containers.specs.base.aggregate.Sessions.{is_session_open}
+use Rattle.sb_containers.specs.base.windowed.Sessions.{is_session_open}
 use Rattle.sb_containers.specs.base.records.declared.element.KeptRec.{KeptRec}
 use Rattle.sb_containers.specs.base.records.Elements.{all_records}
 use Rattle.sb_containers.specs.base.pipeline.Operators.{Operator, WindowOperator, operator_rows}

@@ -28,17 +28,17 @@ use Rattle.sb_runs.specs.window.Windows.{window_ends, is_in, values_in}
 use Rattle.sb_runs.proofs.window.Closing.{none_late}
 use Rattle.sb_runs.proofs.window.Marks.{from-reordered, before-all, at_least-all, All-at_least}
 use Rattle.sb_runs.proofs.window.Multiples.{All-window_ends}
-use Rattle.sb_join.specs.declared.join.Combine.{Combine}
-use Rattle.sb_join.specs.declared.join.Side.{Side}
-use Rattle.sb_join.specs.declared.join.Side.TheVariants.{Left, Right}
+use Rattle.sb_windowed.specs.declared.join.Combine.{Combine}
+use Rattle.sb_windowed.specs.declared.join.Side.{Side}
+use Rattle.sb_windowed.specs.declared.join.Side.TheVariants.{Left, Right}
 use Rattle.sb_join.specs.Entries.{Sided, of_side, combined_values, values_at, kept_at, entries_of, IsOpen, AreKept, HasPart}
-use Rattle.sb_join.specs.Joins.{join_rows}
+use Rattle.sb_windowed.specs.Joins.{join_rows}
 use Rattle.sb_join.specs.Kept.{JoinState, OneSided, IsLike, lane_of}
 use Rattle.sb_join.specs.Orderless.{gives-orderless}
 use Rattle.sb_join.proofs.Fixed.{values_in-append}
 use Rattle.sb_join.proofs.KeptRows.{rows-times, join_rows-from, join_rows-kept}
 use Rattle.sb_join.proofs.KeptValues.{AreOpen, entries-found, all-found-windows, values_in-kept}
-use Rattle.sb_join.proofs.Pairs.{join_rows-agree, join_rows-alike}
+use Rattle.sb_windowed.proofs.Pairs.{join_rows-agree, join_rows-alike}
 use Rattle.sb_join.proofs.Sides.{append, values_at-joined, is_some-joined, none-at}
 
 -- the times of records of a lane, and of what is made of a bundle

@@ -21,9 +21,9 @@ use Rattle.sb_runs.specs.window.Windows.{keyed_window_cmp, windows_of, keyed_win
 use Rattle.sb_runs.specs.Runs.{IsRun, found}
 use Rattle.sb_runs.proofs.window.Gathering.{all-found}
 use Rattle.sb_runs.proofs.window.Rows.{row, keyed_windows_total, exact_keyed_windows, any_keyed_windows, All-keyed_windows, end-of}
-use Rattle.sb_join.specs.declared.join.Combine.{Combine}
-use Rattle.sb_join.specs.declared.join.Side.TheVariants.{Left, Right}
-use Rattle.sb_join.specs.Joins.{pair_values, pairs, join_rows}
+use Rattle.sb_windowed.specs.declared.join.Combine.{Combine}
+use Rattle.sb_windowed.specs.declared.join.Side.TheVariants.{Left, Right}
+use Rattle.sb_windowed.specs.Joins.{pair_values, pairs, join_rows}
 use Rattle.sb_join.specs.Entries.{Sided, of_side, combined_values, values_at}
 use Rattle.sb_join.proofs.KeptValues.{AreOpen, values_in-kept}
 

@@ -25,7 +25,7 @@ use Rattle.sb_runs.specs.window.Gatherings.{rows_of_entries}
 use Rattle.sb_runs.specs.window.Spacing.{Spacing}
 use Rattle.sb_runs.specs.window.Windows.{window_ends, keyed_window_cmp, values_in}
 use Rattle.sb_runs.proofs.window.Rows.{row, keyed_windows_total, exact_keyed_windows}
-use Rattle.sb_join.specs.declared.join.Side.{Side}
+use Rattle.sb_windowed.specs.declared.join.Side.{Side}
 use Rattle.sb_join.specs.Entries.{Sided, of_side, values_at, kept_at, entries_of, IsOpen, AreKept}
 use Rattle.sb_join.proofs.Fixed.{one_window, values_in-append, values_in-rows}
 use Rattle.sb_join.proofs.Sides.{is_some-joined}

@@ -1,5 +1,3 @@
-pub mod Pairs
-pub mod Times
 pub mod Fixed
 pub mod Sides
 pub mod PartValues

@@ -13,8 +13,8 @@ use Rattle.sb_runs.proofs.records.Sums.{IsReordered-map, IsReordered-filter, any
 use Rattle.sb_runs.specs.window.declared.keyed_window.KeyedWindow.{KeyedWindow}
 use Rattle.sb_runs.specs.window.Spacing.{Spacing}
 use Rattle.sb_runs.specs.window.Windows.{is_in, values_in}
-use Rattle.sb_join.specs.declared.join.Side.{Side}
-use Rattle.sb_join.specs.declared.join.Side.TheVariants.{Left, Right}
+use Rattle.sb_windowed.specs.declared.join.Side.{Side}
+use Rattle.sb_windowed.specs.declared.join.Side.TheVariants.{Left, Right}
 use Rattle.sb_join.specs.Kept.{lane_of}
 use Rattle.sb_join.specs.Entries.{Sided, same_side, of_side, values_at, HasPart}
 use Rattle.sb_join.proofs.Fixed.{placed-once}

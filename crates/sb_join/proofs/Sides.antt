@@ -7,7 +7,7 @@ use Rattle.std.proofs.lemmas.List.{map-append}
 use Rattle.std.proofs.lemmas.List.Elements.{filter-append}
 use Rattle.sb_runs.specs.Runs.{IsAssociative}
 use Rattle.sb_runs.specs.window.Gatherings.{joined_value}
-use Rattle.sb_join.specs.declared.join.Side.{Side}
+use Rattle.sb_windowed.specs.declared.join.Side.{Side}
 use Rattle.sb_join.specs.Entries.{Sided, same_side, of_side, values_at}
 
 -- ---- values behind others

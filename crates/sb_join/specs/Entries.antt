@@ -12,10 +12,10 @@ use Rattle.sb_runs.specs.window.declared.keyed_window.KeyedWindow.{KeyedWindow}
 use Rattle.sb_runs.specs.window.Gatherings.{rows_of_entries}
 use Rattle.sb_runs.specs.window.Spacing.{Spacing}
 use Rattle.sb_runs.specs.window.Windows.{keyed_window_cmp, is_in, values_in}
-use Rattle.sb_join.specs.declared.join.Combine.{Combine}
-use Rattle.sb_join.specs.declared.join.Side.{Side}
-use Rattle.sb_join.specs.declared.join.Side.TheVariants.{Left, Right}
-use Rattle.sb_join.specs.Joins.{pair_values}
+use Rattle.sb_windowed.specs.declared.join.Combine.{Combine}
+use Rattle.sb_windowed.specs.declared.join.Side.{Side}
+use Rattle.sb_windowed.specs.declared.join.Side.TheVariants.{Left, Right}
+use Rattle.sb_windowed.specs.Joins.{pair_values}
 use Rattle.sb_join.specs.Kept.{lane_of}
 
 -- values, each with the side on which it came

@@ -7,10 +7,10 @@ use Rattle.sb_runs.specs.records.Elements.{on_lane, of_lane}
 use Rattle.sb_runs.specs.records.Records.{at_least}
 use Rattle.sb_runs.specs.records.Reorderings.{IsReordered}
 use Rattle.sb_runs.specs.window.Spacing.{Spacing}
-use Rattle.sb_join.specs.declared.join.Combine.{Combine}
-use Rattle.sb_join.specs.declared.join.Side.{Side}
-use Rattle.sb_join.specs.declared.join.Side.TheVariants.{Left, Right}
-use Rattle.sb_join.specs.Joins.{join_rows}
+use Rattle.sb_windowed.specs.declared.join.Combine.{Combine}
+use Rattle.sb_windowed.specs.declared.join.Side.{Side}
+use Rattle.sb_windowed.specs.declared.join.Side.TheVariants.{Left, Right}
+use Rattle.sb_windowed.specs.Joins.{join_rows}
 
 -- what is kept of the left and of the right records, the marks of the sides, the mark of the last closing, and whether
 -- no memory was found. A record that is kept stands for one of its window, key and value: its time is the last one of

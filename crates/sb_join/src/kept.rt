@@ -9,15 +9,15 @@ ghost use Rattle.std.specs.Prelude.{◌≡◌, ℕ, ◌≤◌, List, OnOk, OnErr
 ghost use Rattle.sb_runs.specs.records.declared.element.KeptRec.{KeptRec as Element};
 ghost use Rattle.sb_runs.specs.records.Elements.{of_lane};
 ghost use Rattle.sb_runs.specs.window.Groupings.{IsFrom, Adds, Closes};
-ghost use Rattle.sb_join.specs.Joins.{join_rows};
+ghost use Rattle.sb_windowed.specs.Joins.{join_rows};
 ghost use Rattle.sb_join.specs.Kept as spec;
 ghost use Rattle.sb_join.specs.Orderless.{gives-orderless};
 
-use crate::join::{Combine, Side};
 use crate::part::JoinPart;
 use crate::rows::rows_of;
 use crate::side_values::SideJoiner;
 use sb_runs::{Grouping, NoMemory, Record, Runs, Windows};
+use sb_windowed::{Combine, Side};
 use std::alloc::Global;
 use std::marker::Model;
 
@@ -38,7 +38,7 @@ impl Model for JoinKept {
     ghost use Rattle.std.specs.Prelude.{◌≡◌, false};
     ghost use Rattle.sb_join.specs.Entries as entries;
     ghost use Rattle.sb_join.specs.Kept as spec;
-    ghost use Rattle.sb_join.specs.declared.join.Side.TheVariants.{Left, Right};
+    ghost use Rattle.sb_windowed.specs.declared.join.Side.TheVariants.{Left, Right};
 
     ghost Value = { spec.JoinState };
 

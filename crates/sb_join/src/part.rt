@@ -6,9 +6,9 @@ ghost use Rattle.sb_runs.specs.Runs.{found};
 ghost use Rattle.sb_runs.specs.window.declared.keyed_window.KeyedWindow.{KeyedWindow as Window};
 ghost use Rattle.sb_join.specs.Kept.{IsInTime};
 
-use crate::join::Side;
 use crate::side_values::{SideJoiner, SideValues};
 use sb_runs::{KeyedWindow, NoMemory, Record, Run, Trail, Windows, place, sort_placed};
+use sb_windowed::Side;
 use std::alloc::Global;
 use std::marker::Model;
 

@@ -7,9 +7,9 @@ ghost use Rattle.sb_runs.specs.records.Reorderings.{IsReordered};
 ghost use Rattle.sb_runs.specs.window.Gatherings.{rows_of_entries};
 ghost use Rattle.sb_join.specs.Entries.{combined_values};
 
-use crate::join::{Combine, pair_values};
 use crate::side_values::{SideJoiner, SideValues};
 use sb_runs::{Closed, KeyedWindow, NoMemory, Record};
+use sb_windowed::{Combine, pair_values};
 
 /// The rows of all pairs of the keyed windows that closed, in order.
 ///

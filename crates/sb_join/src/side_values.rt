@@ -1,11 +1,11 @@
 //! What a join keeps of one keyed window: the values that came on both sides.
 
 ghost use Rattle.std.specs.Prelude.{◌≡◌, [], ◌∷◌, ◌++◌, OnOk, IfOk};
-ghost use Rattle.sb_join.specs.declared.join.Side.TheVariants.{Left as OnLeft, Right as OnRight};
+ghost use Rattle.sb_windowed.specs.declared.join.Side.TheVariants.{Left as OnLeft, Right as OnRight};
 ghost use Rattle.sb_join.specs.Entries.{of_side};
 
-use crate::join::Side;
 use sb_runs::{Joiner, KeyedWindow, NoMemory, compare_windows, later_window};
+use sb_windowed::Side;
 use std::alloc::Global;
 use std::cmp::Ordering;
 use std::marker::Model;
@@ -21,7 +21,7 @@ pub(crate) struct SideValues {
 
 impl Model for SideValues {
     ghost use Rattle.std.specs.Prelude.{ℤ, List, ◌∷◌};
-    ghost use Rattle.sb_join.specs.declared.join.Side.{Side as ASide};
+    ghost use Rattle.sb_windowed.specs.declared.join.Side.{Side as ASide};
 
     ghost Value = { List (ASide × ℤ) };
 

@@ -5,7 +5,7 @@ ghost use Rattle.std.specs.Prelude.{filter, not};
 ghost use Rattle.std.specs.Prelude.{OnOk, OnErr, IfOk, IsOk};
 ghost use Rattle.std.specs.List.{list_any};
 ghost use Rattle.sb_slow.specs.base.records.Records.{at_least};
-ghost use Rattle.sb_slow.specs.base.aggregate.Sessions.{is_session_open};
+ghost use Rattle.sb_slow.specs.base.windowed.Sessions.{is_session_open};
 ghost use Rattle.sb_slow.specs.base.records.Elements as elements_spec;
 ghost use Rattle.sb_slow.specs.base.records.Elements.{on_lane};
 ghost use Rattle.sb_slow.specs.base.pipeline.Operators.{operator_at};

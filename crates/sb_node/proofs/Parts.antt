@@ -9,9 +9,9 @@ use Rattle.sb_work.specs.base.records.declared.item.Record.{Record}
 use Rattle.sb_work.specs.base.records.Elements.{all_records, on_lane}
 use Rattle.sb_work.proofs.base.records.OnLanes.{all_records-on_lane}
 use Rattle.sb_work.specs.base.window.Groupings.{IsFrom, Adds}
-use Rattle.sb_work.specs.base.aggregate.Groups as aggregate
+use Rattle.sb_work.specs.aggregate.Groups as aggregate
 use Rattle.sb_sink.specs.Sinks as sink
-use Rattle.sb_work.specs.base.join.Kept as join
+use Rattle.sb_work.specs.join.Kept as join
 use Rattle.sb_session.specs.SessionStates as session
 use Rattle.sb_work.specs.base.pipeline.Operators.{Operator, lanes_of}
 use Rattle.sb_work.specs.base.pipeline.Operators.Operator.{ParDo, Windowed, Sink}

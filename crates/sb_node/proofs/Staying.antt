@@ -2,10 +2,10 @@
 use Rattle.std.proofs.Common.{◌≡◌, ℕ, [], refl, sym, ap, subst, ◌∙◌}
 use Rattle.std.specs.Prelude.{sum_by}
 use Rattle.sb_work.specs.base.records.Elements.{all_records}
-use Rattle.sb_work.specs.base.aggregate.declared.aggregate.Agg.{Agg}
-use Rattle.sb_work.specs.base.aggregate.Groups.{Absorbed, Grouped, IsLike}
-use Rattle.sb_work.specs.base.aggregate.Sessions.{session_rows}
-use Rattle.sb_work.proofs.base.join.KeptLaws.{fresh-all}
+use Rattle.sb_work.specs.base.windowed.declared.aggregate.Agg.{Agg}
+use Rattle.sb_work.specs.aggregate.Groups.{Absorbed, Grouped, IsLike}
+use Rattle.sb_work.specs.base.windowed.Sessions.{session_rows}
+use Rattle.sb_work.proofs.join.KeptLaws.{fresh-all}
 use Rattle.sb_work.specs.base.pipeline.Operators.{Operator}
 use Rattle.sb_work.specs.base.pipeline.Operators.Operator.{ParDo, Windowed, Sink}
 use Rattle.sb_work.specs.base.pipeline.Operators.WindowOperator.{Aggregated, Sessions, Joined}

@@ -7,9 +7,9 @@ use Rattle.sb_work.specs.base.records.Elements.{all_records, on_lane}
 use Rattle.sb_work.specs.base.records.Records.{at_least}
 use Rattle.sb_work.specs.base.records.Reorderings.{IsReordered}
 use Rattle.sb_work.specs.base.window.Groupings.{IsFrom}
-use Rattle.sb_work.specs.base.aggregate.Groups as aggregate
+use Rattle.sb_work.specs.aggregate.Groups as aggregate
 use Rattle.sb_sink.specs.Sinks as sink
-use Rattle.sb_work.specs.base.join.Kept as join
+use Rattle.sb_work.specs.join.Kept as join
 use Rattle.sb_session.specs.SessionStates as session
 use Rattle.sb_work.specs.base.pipeline.Operators.{Operator, operator_rows, lanes_of}
 use Rattle.sb_work.specs.base.pipeline.Operators.Operator.{ParDo, Windowed, Sink}

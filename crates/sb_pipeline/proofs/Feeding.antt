@@ -4,8 +4,8 @@ use Rattle.std.specs.Prelude.{◌≢◌, ◌⊎◌, ◌&&◌}
 use Rattle.std.specs.List.{slice_get, count_by}
 use Rattle.std.proofs.lemmas.Bool.{and_parts, eq-eqb, eqb-true}
 use Rattle.std.proofs.lemmas.List.Sums.{sum_by-append, sum_by-cons}
-use Rattle.sb_aggregate.specs.records.declared.item.Stream.{Stream}
-use Rattle.sb_aggregate.specs.records.declared.item.Stream.TheVariants.{A, B}
+use Rattle.sb_windowed.specs.records.declared.item.Stream.{Stream}
+use Rattle.sb_windowed.specs.records.declared.item.Stream.TheVariants.{A, B}
 use Rattle.sb_pipeline.specs.declared.transform.Down.{Down}
 use Rattle.sb_pipeline.specs.declared.transform.Step.{Step}
 use Rattle.sb_pipeline.specs.Plans.{IsPlace, IsPlan}

@@ -2,8 +2,8 @@
 use Rattle.std.proofs.Common.{◌≡◌, ℕ, List, All, Some, subst}
 use Rattle.std.specs.List.{slice_get}
 use Rattle.std.proofs.lemmas.Option.{slice_get_within, get_or_from_slice_get}
-use Rattle.sb_aggregate.specs.records.declared.intake.LatePolicy.{LatePolicy}
-use Rattle.sb_aggregate.specs.records.declared.key.Keys.{Keys}
+use Rattle.sb_windowed.specs.records.declared.intake.LatePolicy.{LatePolicy}
+use Rattle.sb_windowed.specs.records.declared.key.Keys.{Keys}
 use Rattle.sb_pipeline.specs.declared.transform.Step.{Step}
 use Rattle.sb_pipeline.specs.Plans.{IsPlace, IsPlan, IsValidKind}
 use Rattle.sb_pipeline.specs.Shapes.{Shape}

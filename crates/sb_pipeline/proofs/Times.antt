@@ -4,30 +4,30 @@ use Rattle.std.specs.List.{slice_get, AllByRecursion}
 use Rattle.std.proofs.lemmas.Bool.{eqb-true}
 use Rattle.std.proofs.lemmas.Bool.Decides.{nat_tests}
 use Rattle.std.proofs.lemmas.Option.{slice_get_past}
-use Rattle.sb_aggregate.specs.records.declared.item.Record.{Record}
-use Rattle.sb_aggregate.specs.records.declared.item.Stream.{Stream}
-use Rattle.sb_aggregate.specs.records.declared.item.Stream.TheVariants.{A, B}
-use Rattle.sb_aggregate.specs.records.declared.item.TheConstants.{MAX_TIME, END_MARK}
-use Rattle.sb_aggregate.specs.records.Records.{before, sorted_records}
-use Rattle.sb_aggregate.proofs.records.Elements.{every, All-join, All-flat_map}
-use Rattle.sb_aggregate.specs.window.declared.windows.TheConstants.{MAX_SIZE}
+use Rattle.sb_windowed.specs.records.declared.item.Record.{Record}
+use Rattle.sb_windowed.specs.records.declared.item.Stream.{Stream}
+use Rattle.sb_windowed.specs.records.declared.item.Stream.TheVariants.{A, B}
+use Rattle.sb_windowed.specs.records.declared.item.TheConstants.{MAX_TIME, END_MARK}
+use Rattle.sb_windowed.specs.records.Records.{before, sorted_records}
+use Rattle.sb_windowed.proofs.records.Elements.{every, All-join, All-flat_map}
+use Rattle.sb_windowed.specs.window.declared.windows.TheConstants.{MAX_SIZE}
 use Rattle.sb_pardo.specs.Outputs.{outputs_of}
 use Rattle.sb_pardo.proofs.Keeping.{outputs_keep_time}
-use Rattle.sb_aggregate.proofs.SessionRows.{session_rows-times}
-use Rattle.sb_aggregate.proofs.Times.{aggregate_rows-times}
-use Rattle.sb_join.proofs.Times.{join_rows-times}
+use Rattle.sb_windowed.proofs.SessionRows.{session_rows-times}
+use Rattle.sb_windowed.proofs.AggregateTimes.{aggregate_rows-times}
+use Rattle.sb_windowed.proofs.JoinTimes.{join_rows-times}
 use Rattle.sb_pipeline.specs.declared.transform.Down.{Down}
-use Rattle.sb_aggregate.specs.records.declared.element.KeptRec.{KeptRec}
+use Rattle.sb_windowed.specs.records.declared.element.KeptRec.{KeptRec}
 use Rattle.sb_pipeline.specs.declared.transform.Kind.{Kind}
 use Rattle.sb_pipeline.specs.declared.transform.Kind.TheVariants.{Do, Group, Join, Session}
 use Rattle.sb_pipeline.specs.declared.transform.Step.{Step}
-use Rattle.sb_aggregate.specs.records.Elements.{on_lane, all_records, of_lane}
+use Rattle.sb_windowed.specs.records.Elements.{on_lane, all_records, of_lane}
 use Rattle.sb_pipeline.specs.Operators.{operator_of, operator_at, output}
 use Rattle.sb_pipeline.specs.Shapes.{Shape}
 use Rattle.sb_pipeline.specs.Plans.{IsPlan, IsValidKind}
 use Rattle.sb_pipeline.specs.Flow.{Sent, arrivals_at, from_stream, from_streams, from_step, sent_from}
 use Rattle.sb_pipeline.specs.Results.{output_at, output_of, all_rows}
-use Rattle.sb_aggregate.proofs.records.OnLanes.{All-on_lane, All-all_records, All-of_lane}
+use Rattle.sb_windowed.proofs.records.OnLanes.{All-on_lane, All-all_records, All-of_lane}
 use Rattle.sb_pipeline.proofs.Steps.{kind-at}
 
 -- the latest time of what arrives at a node

@@ -1,12 +1,12 @@
 -- How records flow through a plan, where each node takes whole lists.
 use Rattle.std.specs.Prelude.{ℕ, ◌+◌, ◌==◌, if◌then◌else◌, List, [], ◌∷◌, ◌++◌, flat_map, length, Option, Some, None}
-use Rattle.sb_aggregate.specs.records.declared.item.Record.{Record}
-use Rattle.sb_aggregate.specs.records.declared.item.Stream.{Stream}
-use Rattle.sb_aggregate.specs.records.declared.item.Stream.TheVariants.{A, B}
+use Rattle.sb_windowed.specs.records.declared.item.Record.{Record}
+use Rattle.sb_windowed.specs.records.declared.item.Stream.{Stream}
+use Rattle.sb_windowed.specs.records.declared.item.Stream.TheVariants.{A, B}
 use Rattle.sb_pipeline.specs.declared.transform.Down.{Down}
-use Rattle.sb_aggregate.specs.records.declared.element.KeptRec.{KeptRec}
+use Rattle.sb_windowed.specs.records.declared.element.KeptRec.{KeptRec}
 use Rattle.sb_pipeline.specs.declared.transform.Step.{Step}
-use Rattle.sb_aggregate.specs.records.Elements.{on_lane}
+use Rattle.sb_windowed.specs.records.Elements.{on_lane}
 use Rattle.sb_pipeline.specs.Shapes.{Shape}
 
 -- a list on its way to a lane of a node

@@ -1,14 +1,14 @@
 -- The laws of plans, and their limits as numbers.
 use Rattle.std.specs.Prelude.{◌≡◌, ◌≤◌, ◌^◌, ℕ, List, ◌++◌, All}
-use Rattle.sb_aggregate.specs.records.declared.item.Record.{Record}
-use Rattle.sb_aggregate.specs.records.declared.item.Stream.{Stream}
-use Rattle.sb_aggregate.specs.records.declared.item.Stream.TheVariants.{A}
-use Rattle.sb_aggregate.specs.records.Lines.{IsInRange}
-use Rattle.sb_aggregate.specs.records.Records.{before, sorted_records}
-use Rattle.sb_aggregate.specs.window.declared.windows.TheConstants.{MAX_SIZE}
-use Rattle.sb_aggregate.specs.window.Spacing.{fixed_windows}
-use Rattle.sb_aggregate.specs.window.Aggregations.{sum_rows}
-use Rattle.sb_aggregate.specs.declared.session.TheConstants.{MAX_GAP}
+use Rattle.sb_windowed.specs.records.declared.item.Record.{Record}
+use Rattle.sb_windowed.specs.records.declared.item.Stream.{Stream}
+use Rattle.sb_windowed.specs.records.declared.item.Stream.TheVariants.{A}
+use Rattle.sb_windowed.specs.records.Lines.{IsInRange}
+use Rattle.sb_windowed.specs.records.Records.{before, sorted_records}
+use Rattle.sb_windowed.specs.window.declared.windows.TheConstants.{MAX_SIZE}
+use Rattle.sb_windowed.specs.window.Spacing.{fixed_windows}
+use Rattle.sb_windowed.specs.window.Aggregations.{sum_rows}
+use Rattle.sb_windowed.specs.declared.session.TheConstants.{MAX_GAP}
 use Rattle.sb_pipeline.specs.declared.transform.TheConstants.{MAX_TRANSFORMS}
 use Rattle.sb_pipeline.specs.Plans.{IsPlan}
 use Rattle.sb_pipeline.specs.Results.{all_rows, output_of, rows_below}

@@ -1,19 +1,19 @@
 -- What each node of a plan does.
 use Rattle.std.specs.Prelude.{ℕ, List, flat_map, Option, Some, None}
-use Rattle.sb_aggregate.specs.records.declared.item.Record.{Record}
-use Rattle.sb_aggregate.specs.window.Spacing.{Spacing}
+use Rattle.sb_windowed.specs.records.declared.item.Record.{Record}
+use Rattle.sb_windowed.specs.window.Spacing.{Spacing}
 use Rattle.sb_pardo.specs.declared.operation.Op.{Op}
 use Rattle.sb_pardo.specs.Outputs.{outputs_of}
-use Rattle.sb_aggregate.specs.declared.aggregate.Agg.{Agg}
-use Rattle.sb_aggregate.specs.Aggregates.{aggregate_rows}
-use Rattle.sb_aggregate.specs.Sessions.{session_rows}
-use Rattle.sb_join.specs.declared.join.Combine.{Combine}
-use Rattle.sb_join.specs.Joins.{join_rows}
-use Rattle.sb_aggregate.specs.records.declared.element.KeptRec.{KeptRec}
+use Rattle.sb_windowed.specs.declared.aggregate.Agg.{Agg}
+use Rattle.sb_windowed.specs.Aggregates.{aggregate_rows}
+use Rattle.sb_windowed.specs.Sessions.{session_rows}
+use Rattle.sb_windowed.specs.declared.join.Combine.{Combine}
+use Rattle.sb_windowed.specs.Joins.{join_rows}
+use Rattle.sb_windowed.specs.records.declared.element.KeptRec.{KeptRec}
 use Rattle.sb_pipeline.specs.declared.transform.Kind.{Kind}
 use Rattle.sb_pipeline.specs.declared.transform.Kind.TheVariants.{Do, Group, Session, Join}
 use Rattle.sb_pipeline.specs.declared.transform.Step.{Step}
-use Rattle.sb_aggregate.specs.records.Elements.{all_records, of_lane}
+use Rattle.sb_windowed.specs.records.Elements.{all_records, of_lane}
 
 -- the transforms that gather records by window or session
 pub data WindowOperator : Type 0 where

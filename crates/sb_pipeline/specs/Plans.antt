@@ -1,10 +1,10 @@
 -- Which shapes are plans.
 use Rattle.std.specs.Prelude.{◌≡◌, ◌≤◌, ◌<◌, ℕ, Bool, true, false, List, All, length, count_by, Some, IfSome, slice_get}
-use Rattle.sb_aggregate.specs.window.Spacing.{AreWindows}
+use Rattle.sb_windowed.specs.window.Spacing.{AreWindows}
 use Rattle.sb_pardo.specs.Validity as pardo
-use Rattle.sb_aggregate.specs.Aggregates as aggregate
-use Rattle.sb_aggregate.specs.Aggregates.{GivesOne}
-use Rattle.sb_aggregate.specs.declared.session.TheConstants.{MAX_GAP}
+use Rattle.sb_windowed.specs.Aggregates as aggregate
+use Rattle.sb_windowed.specs.Aggregates.{GivesOne}
+use Rattle.sb_windowed.specs.declared.session.TheConstants.{MAX_GAP}
 use Rattle.sb_pipeline.specs.declared.transform.Down.{Down}
 use Rattle.sb_pipeline.specs.declared.transform.Kind.{Kind}
 use Rattle.sb_pipeline.specs.declared.transform.Kind.TheVariants.{Do, Group, Session, Join}

@@ -1,10 +1,10 @@
 -- What a plan gives over whole lists.
 use Rattle.std.specs.Prelude.{ℕ, List, slice_get}
-use Rattle.sb_aggregate.specs.records.declared.item.Record.{Record}
-use Rattle.sb_aggregate.specs.records.declared.item.Stream.{Stream}
-use Rattle.sb_aggregate.specs.records.declared.item.TheConstants.{END_MARK}
-use Rattle.sb_aggregate.specs.records.Records.{before, sorted_records}
-use Rattle.sb_aggregate.specs.records.declared.element.KeptRec.{KeptRec}
+use Rattle.sb_windowed.specs.records.declared.item.Record.{Record}
+use Rattle.sb_windowed.specs.records.declared.item.Stream.{Stream}
+use Rattle.sb_windowed.specs.records.declared.item.TheConstants.{END_MARK}
+use Rattle.sb_windowed.specs.records.Records.{before, sorted_records}
+use Rattle.sb_windowed.specs.records.declared.element.KeptRec.{KeptRec}
 use Rattle.sb_pipeline.specs.Flow.{flow}
 use Rattle.sb_pipeline.specs.Operators.{operator_at, output}
 use Rattle.sb_pipeline.specs.Shapes.{Shape}

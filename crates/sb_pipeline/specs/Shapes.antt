@@ -1,14 +1,14 @@
 -- Shapes: the transforms of a pipeline in their order, where what each gives goes, and how its input is read.
 use Rattle.std.specs.Prelude.{ℕ, Bool, ◌&&◌, ◌==◌, List, [], ◌∷◌, ◌++◌, map, count_by, Option, Some, None, is_some}
-use Rattle.sb_aggregate.specs.records.declared.intake.LatePolicy.{LatePolicy}
-use Rattle.sb_aggregate.specs.records.declared.intake.LatePolicy.TheVariants.{Refuse}
-use Rattle.sb_aggregate.specs.records.declared.item.Stream.{Stream}
-use Rattle.sb_aggregate.specs.records.declared.item.Stream.TheVariants.{A, B}
-use Rattle.sb_aggregate.specs.records.declared.item.Streams.{Streams}
-use Rattle.sb_aggregate.specs.records.declared.key.Keys.{Keys}
-use Rattle.sb_aggregate.specs.records.declared.key.Keys.TheVariants.{Numbers}
-use Rattle.sb_aggregate.specs.window.Spacing.{fixed_windows}
-use Rattle.sb_aggregate.specs.declared.aggregate.Agg.TheVariants.{Sum}
+use Rattle.sb_windowed.specs.records.declared.intake.LatePolicy.{LatePolicy}
+use Rattle.sb_windowed.specs.records.declared.intake.LatePolicy.TheVariants.{Refuse}
+use Rattle.sb_windowed.specs.records.declared.item.Stream.{Stream}
+use Rattle.sb_windowed.specs.records.declared.item.Stream.TheVariants.{A, B}
+use Rattle.sb_windowed.specs.records.declared.item.Streams.{Streams}
+use Rattle.sb_windowed.specs.records.declared.key.Keys.{Keys}
+use Rattle.sb_windowed.specs.records.declared.key.Keys.TheVariants.{Numbers}
+use Rattle.sb_windowed.specs.window.Spacing.{fixed_windows}
+use Rattle.sb_windowed.specs.declared.aggregate.Agg.TheVariants.{Sum}
 use Rattle.sb_pipeline.specs.declared.transform.Down.{Down}
 use Rattle.sb_pipeline.specs.declared.transform.Kind.TheVariants.{Group}
 use Rattle.sb_pipeline.specs.declared.transform.Step.{Step}

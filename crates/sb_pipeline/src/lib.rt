@@ -12,19 +12,18 @@ mod transform;
 mod validity;
 
 pub use plan::{Plan, sum_plan};
-pub use sb_aggregate::MAX_GAP;
+pub use sb_windowed::MAX_GAP;
 pub use transform::{Down, Kind, MAX_TRANSFORMS, Step};
 
 // What the crates above name of the crates below.
-pub use sb_aggregate::{
-    Agg, AggPart, Aggregate, BadWindow, Dropped, END_MARK, Ends, Grouping, Intake, Item, KeptRec,
-    Key, KeyedWindow, Keys, LatePolicy, MAX_KEY, MAX_LINE_LENGTH, MAX_LINES, MAX_ROW_LENGTH,
-    MAX_SIZE, MAX_TIME, MAX_TOP, MAX_WINDOWS_OF_A_TIME, MAX_WORD_LENGTH, Malformed, NoMemory,
-    Record, Refusal, RowBuf, Sequence, Stop, Stream, Streams, TextBuf, Trail, UsualRecord, Windows,
-    Word, aggregated, part_of, read_line, read_number, row_bytes,
-};
-pub use sb_join::{Combine, JoinKept, JoinPart, Side, join_part_of, pair_values};
 pub use sb_pardo::{
     Change, Field, MAX_ADDENDS, MAX_ROWS, Op, RowFault, Table, TableFault, TableStop, Test, apply,
     is_valid,
+};
+pub use sb_windowed::{
+    Agg, BadWindow, Combine, Dropped, END_MARK, Ends, Grouping, Intake, Item, KeptRec, Key,
+    KeyedWindow, Keys, LatePolicy, MAX_KEY, MAX_LINE_LENGTH, MAX_LINES, MAX_ROW_LENGTH, MAX_SIZE,
+    MAX_TIME, MAX_TOP, MAX_WINDOWS_OF_A_TIME, MAX_WORD_LENGTH, Malformed, NoMemory, Record,
+    Refusal, RowBuf, Sequence, Side, Stop, Stream, Streams, TextBuf, Trail, UsualRecord, Windows,
+    Word, aggregated, pair_values, read_line, read_number, row_bytes,
 };

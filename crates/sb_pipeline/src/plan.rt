@@ -8,7 +8,7 @@ ghost use Rattle.sb_pipeline.specs.Shapes as shape;
 
 use crate::transform::{Down, Kind, Step};
 use crate::validity::{is_plan, lanes_at};
-use sb_aggregate::{Agg, Keys, LatePolicy, MAX_SIZE, NoMemory, Sequence, Stream, Streams, Windows};
+use sb_windowed::{Agg, Keys, LatePolicy, MAX_SIZE, NoMemory, Sequence, Stream, Streams, Windows};
 use std::alloc::Global;
 use std::marker::Model;
 

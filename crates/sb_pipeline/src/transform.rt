@@ -3,9 +3,8 @@
 ghost use Rattle.std.specs.Prelude.{◌≡◌};
 ghost use Rattle.sb_pipeline.specs.Plans.{is_join, has_windows};
 
-use sb_aggregate::{Agg, Windows};
-use sb_join::Combine;
 use sb_pardo::Op;
+use sb_windowed::{Agg, Combine, Windows};
 
 /// How many transforms a plan may have.
 pub const MAX_TRANSFORMS: usize = 12;

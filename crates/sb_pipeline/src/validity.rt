@@ -8,7 +8,7 @@ ghost use Rattle.sb_pipeline.specs.Plans.{IsPlace, IsPlan, IsValidKind, is_join,
 ghost use Rattle.sb_pipeline.specs.Shapes as shape;
 
 use crate::transform::{Down, Kind, MAX_TRANSFORMS, Step};
-use sb_aggregate::{Agg, MAX_GAP};
+use sb_windowed::{Agg, MAX_GAP};
 
 /// Whether the transforms, with the streams going to their sources, are a plan.
 pub(crate) fn is_plan(steps: &[Step], source_a: Option<Down>, source_b: Option<Down>) -> bool

@@ -4,8 +4,8 @@ use Rattle.std.specs.Prelude.{bytes_eq}
 use Rattle.std.specs.List.{AllByRecursion, find}
 use Rattle.std.specs.Option.{option_map, option_or}
 use Rattle.toml.specs.Data.{Members, as_str}
-use Rattle.sb_pipeline.specs.aggregate.declared.aggregate.Agg.{Agg}
-use Rattle.sb_pipeline.specs.aggregate.Aggregates.{GivesOne}
+use Rattle.sb_pipeline.specs.windowed.declared.aggregate.Agg.{Agg}
+use Rattle.sb_pipeline.specs.windowed.Aggregates.{GivesOne}
 use Rattle.sb_plan.specs.declared.fault.PlanKey.TheVariants as key
 use Rattle.sb_plan.specs.declared.words.KindName.{KindName}
 use Rattle.sb_plan.specs.declared.words.KindName.TheVariants as kind

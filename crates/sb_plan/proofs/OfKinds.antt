@@ -21,7 +21,7 @@ use Rattle.sb_pipeline.specs.window.Spacing.{Spacing, AreWindows, fixed_windows}
 use Rattle.sb_pipeline.specs.window.Windows.{spacing_of}
 use Rattle.sb_pipeline.specs.window.declared.windows.BadWindow.TheVariants as bad
 use Rattle.sb_pipeline.proofs.pardo.Tables.{no_images, images_with}
-use Rattle.sb_pipeline.specs.aggregate.declared.aggregate.TheConstants.{MAX_TOP}
+use Rattle.sb_pipeline.specs.windowed.declared.aggregate.TheConstants.{MAX_TOP}
 use Rattle.sb_plan.specs.declared.TheConstants.{MAX_TABLE_BYTES}
 use Rattle.std.proofs.lemmas.Bool.Decides.{nat_tests}
 use Rattle.sb_pipeline.specs.pardo.declared.operation.TheConstants.{MAX_ADDENDS}
@@ -35,12 +35,12 @@ use Rattle.sb_pipeline.specs.pardo.declared.table_file.RowFault.{RowFault}
 use Rattle.sb_pipeline.specs.pardo.declared.table_file.RowFault.TheVariants as row_fault
 use Rattle.sb_pipeline.specs.pardo.Validity.{IsValidChange}
 use Rattle.sb_pipeline.specs.pardo.Tables.{HasKeyImages}
-use Rattle.sb_pipeline.specs.aggregate.Aggregates as aggregate
-use Rattle.sb_pipeline.specs.aggregate.declared.aggregate.Agg.{Agg}
-use Rattle.sb_pipeline.specs.aggregate.declared.aggregate.Agg.TheVariants.{Top}
+use Rattle.sb_pipeline.specs.windowed.Aggregates as aggregate
+use Rattle.sb_pipeline.specs.windowed.declared.aggregate.Agg.{Agg}
+use Rattle.sb_pipeline.specs.windowed.declared.aggregate.Agg.TheVariants.{Top}
 use Rattle.sb_pipeline.specs.declared.transform.Kind.{Kind}
-use Rattle.sb_pipeline.specs.aggregate.declared.session.TheConstants.{MAX_GAP}
-use Rattle.sb_pipeline.specs.aggregate.Aggregates.{GivesOne}
+use Rattle.sb_pipeline.specs.windowed.declared.session.TheConstants.{MAX_GAP}
+use Rattle.sb_pipeline.specs.windowed.Aggregates.{GivesOne}
 use Rattle.sb_pipeline.specs.declared.transform.Kind.TheVariants.{Do, Group, Session, Join}
 use Rattle.sb_plan.specs.declared.fault.PlanCause.TheVariants.{OutOfRange, TableRow, TableTooLong}
 use Rattle.sb_plan.specs.declared.fault.PlanKey.{PlanKey}

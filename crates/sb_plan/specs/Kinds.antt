@@ -9,11 +9,11 @@ use Rattle.sb_pipeline.specs.window.Windows.{spacing_of}
 use Rattle.sb_pipeline.specs.pardo.declared.operation.TheConstants.{MAX_ADDENDS}
 use Rattle.sb_pipeline.specs.pardo.declared.operation.Op.TheVariants.{Filter, Map, Expand, Lookup}
 use Rattle.sb_pipeline.specs.pardo.TableFiles.{then_test, or_fault, table_of}
-use Rattle.sb_pipeline.specs.aggregate.declared.aggregate.Agg.{Agg}
-use Rattle.sb_pipeline.specs.aggregate.declared.aggregate.Agg.TheVariants.{Top}
-use Rattle.sb_pipeline.specs.aggregate.declared.aggregate.TheConstants.{MAX_TOP}
+use Rattle.sb_pipeline.specs.windowed.declared.aggregate.Agg.{Agg}
+use Rattle.sb_pipeline.specs.windowed.declared.aggregate.Agg.TheVariants.{Top}
+use Rattle.sb_pipeline.specs.windowed.declared.aggregate.TheConstants.{MAX_TOP}
 use Rattle.sb_pipeline.specs.declared.transform.Kind.{Kind}
-use Rattle.sb_pipeline.specs.aggregate.declared.session.TheConstants.{MAX_GAP}
+use Rattle.sb_pipeline.specs.windowed.declared.session.TheConstants.{MAX_GAP}
 use Rattle.sb_pipeline.specs.declared.transform.Kind.TheVariants.{Do, Group, Session, Join}
 use Rattle.sb_plan.specs.declared.fault.PlanKey.TheVariants as key
 use Rattle.sb_plan.specs.declared.fault.PlanCause.{PlanCause}

@@ -13,11 +13,11 @@ use Rattle.sb_pipeline.specs.pardo.declared.operation.Test.{Test}
 use Rattle.sb_pipeline.specs.pardo.declared.operation.Test.TheVariants as test
 use Rattle.sb_pipeline.specs.pardo.declared.operation.Change.{Change}
 use Rattle.sb_pipeline.specs.pardo.declared.operation.Change.TheVariants as change
-use Rattle.sb_pipeline.specs.aggregate.declared.aggregate.Agg.{Agg}
-use Rattle.sb_pipeline.specs.aggregate.declared.aggregate.Agg.TheVariants as agg
-use Rattle.sb_pipeline.specs.aggregate.Aggregates.{GivesOne}
-use Rattle.sb_pipeline.specs.join.declared.join.Combine.{Combine}
-use Rattle.sb_pipeline.specs.join.declared.join.Combine.TheVariants as combine
+use Rattle.sb_pipeline.specs.windowed.declared.aggregate.Agg.{Agg}
+use Rattle.sb_pipeline.specs.windowed.declared.aggregate.Agg.TheVariants as agg
+use Rattle.sb_pipeline.specs.windowed.Aggregates.{GivesOne}
+use Rattle.sb_pipeline.specs.windowed.declared.join.Combine.{Combine}
+use Rattle.sb_pipeline.specs.windowed.declared.join.Combine.TheVariants as combine
 use Rattle.sb_plan.specs.declared.words.KindName.{KindName}
 use Rattle.sb_plan.specs.declared.words.KindName.TheVariants as kind
 use Rattle.sb_plan.specs.declared.words.ChangeName.{ChangeName}

@@ -7,18 +7,18 @@ use Rattle.std.specs.Cmp.{nat_cmp_is}
 use Rattle.std.specs.declared.cmp.Ordering.{Ordering}
 use Rattle.std.specs.declared.cmp.Ordering.TheVariants.{Less, Equal, Greater}
 use Rattle.std.proofs.lemmas.Bool.Decides.{nat_tests}
-use Rattle.sb_aggregate.specs.records.declared.item.Record.{Record}
-use Rattle.sb_aggregate.specs.records.Keys.{key_cmp}
-use Rattle.sb_aggregate.specs.records.KeyOrder.{key_cmp_total}
-use Rattle.sb_aggregate.specs.records.Orders.{IsAscending, in_order}
-use Rattle.sb_aggregate.specs.records.Records.{record_cmp}
-use Rattle.sb_aggregate.proofs.records.Elements.{All-flat_map}
-use Rattle.sb_aggregate.specs.window.declared.keyed_window.KeyedWindow.{KeyedWindow}
-use Rattle.sb_aggregate.specs.window.Windows.{keyed_window_cmp}
-use Rattle.sb_aggregate.proofs.window.Rows.{row}
-use Rattle.sb_aggregate.specs.declared.aggregate.Agg.{Agg}
-use Rattle.sb_aggregate.specs.declared.aggregate.Agg.TheVariants.{Count, Sum, Min, Max, Distinct, Top}
-use Rattle.sb_aggregate.specs.Aggregates.{greatest_first, GivesOne}
+use Rattle.sb_windowed.specs.records.declared.item.Record.{Record}
+use Rattle.sb_windowed.specs.records.Keys.{key_cmp}
+use Rattle.sb_windowed.specs.records.KeyOrder.{key_cmp_total}
+use Rattle.sb_windowed.specs.records.Orders.{IsAscending, in_order}
+use Rattle.sb_windowed.specs.records.Records.{record_cmp}
+use Rattle.sb_windowed.proofs.records.Elements.{All-flat_map}
+use Rattle.sb_windowed.specs.window.declared.keyed_window.KeyedWindow.{KeyedWindow}
+use Rattle.sb_windowed.specs.window.Windows.{keyed_window_cmp}
+use Rattle.sb_windowed.proofs.window.Rows.{row}
+use Rattle.sb_windowed.specs.declared.aggregate.Agg.{Agg}
+use Rattle.sb_windowed.specs.declared.aggregate.Agg.TheVariants.{Count, Sum, Min, Max, Distinct, Top}
+use Rattle.sb_windowed.specs.Aggregates.{greatest_first, GivesOne}
 use Rattle.sb_session.specs.Closings.{rows_of}
 
 -- a row of a later session is not before one of an earlier session

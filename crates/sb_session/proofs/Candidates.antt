@@ -6,18 +6,18 @@ use Rattle.std.proofs.lemmas.List.Elements.{recursion_from_All}
 use Rattle.std.proofs.lemmas.Bool.{lt-ltb, ltb-true, eqb-true, and_parts, cases_lt}
 use Rattle.std.proofs.lemmas.List.Folds.{list_any-append, Any-from_list_any, list_any-from_Any}
 use Rattle.std.proofs.lemmas.Map.Views.{tells_apart}
-use Rattle.sb_aggregate.specs.records.declared.item.Record.{Record}
-use Rattle.sb_aggregate.specs.records.declared.key.Key.{Key}
-use Rattle.sb_aggregate.specs.records.Keys.{same_key}
-use Rattle.sb_aggregate.specs.records.Reorderings.{IsReordered}
-use Rattle.sb_aggregate.proofs.records.Elements.{All-any, All-passed, All-anything}
-use Rattle.sb_aggregate.proofs.records.KeyOrder.{exact_keys}
-use Rattle.sb_aggregate.proofs.records.Sums.{any_reordered}
-use Rattle.sb_aggregate.specs.window.declared.keyed_window.KeyedWindow.{KeyedWindow}
-use Rattle.sb_aggregate.specs.window.Windows.{keyed_window_cmp}
-use Rattle.sb_aggregate.specs.Sessions.{end_from, times_from, session_end, is_session_open}
-use Rattle.sb_aggregate.proofs.SessionEnds.{IsEndOf, has_time, end-is}
-use Rattle.sb_aggregate.proofs.SessionLaws.{end-rises, still, or_cases, or_left, or_right, any-filter}
+use Rattle.sb_windowed.specs.records.declared.item.Record.{Record}
+use Rattle.sb_windowed.specs.records.declared.key.Key.{Key}
+use Rattle.sb_windowed.specs.records.Keys.{same_key}
+use Rattle.sb_windowed.specs.records.Reorderings.{IsReordered}
+use Rattle.sb_windowed.proofs.records.Elements.{All-any, All-passed, All-anything}
+use Rattle.sb_windowed.proofs.records.KeyOrder.{exact_keys}
+use Rattle.sb_windowed.proofs.records.Sums.{any_reordered}
+use Rattle.sb_windowed.specs.window.declared.keyed_window.KeyedWindow.{KeyedWindow}
+use Rattle.sb_windowed.specs.window.Windows.{keyed_window_cmp}
+use Rattle.sb_windowed.specs.Sessions.{end_from, times_from, session_end, is_session_open}
+use Rattle.sb_windowed.proofs.SessionEnds.{IsEndOf, has_time, end-is}
+use Rattle.sb_windowed.proofs.SessionLaws.{end-rises, still, or_cases, or_left, or_right, any-filter}
 use Rattle.sb_session.specs.Candidates.{is_candidate, is_followed, HasCandidates, AreDue}
 use Rattle.sb_session.proofs.Sets.{early-goes}
 use Rattle.sb_session.proofs.Closing.{all-have}

@@ -5,26 +5,26 @@ use Rattle.std.specs.List.{filter, list_any, AllByRecursion}
 use Rattle.std.specs.Ordering.{eq_by_cmp, nat_cmp, ordering_then}
 use Rattle.std.specs.Cmp.{tied_itself}
 use Rattle.std.specs.declared.cmp.Ordering.{Ordering}
-use Rattle.sb_aggregate.specs.records.KeyOrder.{key_cmp_total}
+use Rattle.sb_windowed.specs.records.KeyOrder.{key_cmp_total}
 use Rattle.std.specs.declared.cmp.Ordering.TheVariants.{Less, Equal, Greater}
 use Rattle.std.proofs.lemmas.Bool.{lt-ltb, ltb-true, eqb-true, eq-eqb, cases_lt, and_parts, false_from_ne_true}
 use Rattle.std.proofs.lemmas.Bool.Decides.{nat_tests}
 use Rattle.std.proofs.lemmas.List.Elements.{recursion_from_All}
 use Rattle.std.proofs.lemmas.List.Folds.{list_any_at}
 use Rattle.std.proofs.lemmas.Map.Views.{tells_apart}
-use Rattle.sb_aggregate.specs.records.declared.item.Record.{Record}
-use Rattle.sb_aggregate.specs.records.Keys.{key_cmp, same_key}
-use Rattle.sb_aggregate.proofs.records.KeyOrder.{exact_keys}
-use Rattle.sb_aggregate.proofs.records.Elements.{every, All-any, filter_of_filter}
-use Rattle.sb_aggregate.proofs.records.Sums.{IsReordered-map, IsReordered-filter, any_filtered}
-use Rattle.sb_aggregate.specs.records.Reorderings.{IsReordered}
+use Rattle.sb_windowed.specs.records.declared.item.Record.{Record}
+use Rattle.sb_windowed.specs.records.Keys.{key_cmp, same_key}
+use Rattle.sb_windowed.proofs.records.KeyOrder.{exact_keys}
+use Rattle.sb_windowed.proofs.records.Elements.{every, All-any, filter_of_filter}
+use Rattle.sb_windowed.proofs.records.Sums.{IsReordered-map, IsReordered-filter, any_filtered}
+use Rattle.sb_windowed.specs.records.Reorderings.{IsReordered}
 use Rattle.std.proofs.Math.Bool.{and_comm}
-use Rattle.sb_aggregate.specs.window.declared.keyed_window.KeyedWindow.{KeyedWindow}
-use Rattle.sb_aggregate.specs.window.Windows.{keyed_window_cmp}
-use Rattle.sb_aggregate.proofs.window.Rows.{exact_keyed_windows, same_keyed_window}
-use Rattle.sb_aggregate.specs.Sessions.{end_from, times_from, session_end, session_of, is_in_session, is_session_open, values_in_session}
-use Rattle.sb_aggregate.proofs.SessionEnds.{has_time, is_same_key, end-is, end-unique, end-cut}
-use Rattle.sb_aggregate.proofs.SessionLaws.{end-after, end-rises, or_cases, or_left, or_right, any-filter}
+use Rattle.sb_windowed.specs.window.declared.keyed_window.KeyedWindow.{KeyedWindow}
+use Rattle.sb_windowed.specs.window.Windows.{keyed_window_cmp}
+use Rattle.sb_windowed.proofs.window.Rows.{exact_keyed_windows, same_keyed_window}
+use Rattle.sb_windowed.specs.Sessions.{end_from, times_from, session_end, session_of, is_in_session, is_session_open, values_in_session}
+use Rattle.sb_windowed.proofs.SessionEnds.{has_time, is_same_key, end-is, end-unique, end-cut}
+use Rattle.sb_windowed.proofs.SessionLaws.{end-after, end-rises, or_cases, or_left, or_right, any-filter}
 use Rattle.sb_session.specs.Closings.{is_below, Takes}
 
 -- whether a record is still there, where these candidates are left: its session is open at the mark, or among them

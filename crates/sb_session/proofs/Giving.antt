@@ -7,25 +7,25 @@ use Rattle.std.proofs.lemmas.List.{map-append}
 use Rattle.std.proofs.lemmas.List.Sums.{sum_by-append}
 use Rattle.std.proofs.lemmas.List.Elements.{All-from_recursion}
 use Rattle.std.proofs.lemmas.List.Filters.{sum_by-filter_both}
-use Rattle.sb_aggregate.specs.records.declared.element.KeptRec.{KeptRec}
-use Rattle.sb_aggregate.specs.records.declared.item.Record.{Record}
-use Rattle.sb_aggregate.specs.records.Elements.{all_records, on_lane}
-use Rattle.sb_aggregate.specs.records.Keys.{same_key}
-use Rattle.sb_aggregate.specs.records.Orders.{IsAscending}
-use Rattle.sb_aggregate.specs.records.Records.{record_cmp, before, at_least}
-use Rattle.sb_aggregate.specs.records.Reorderings.{IsReordered}
-use Rattle.sb_aggregate.proofs.records.Earlier.{before-low}
-use Rattle.sb_aggregate.proofs.records.Elements.{every, All-any, All-flat_map, All-join, All-map, All-passed, All-anything}
-use Rattle.sb_aggregate.proofs.records.OnLanes.{All-all_records, all_records-on_lane}
-use Rattle.sb_aggregate.proofs.records.Sorting.{sorted-unique}
-use Rattle.sb_aggregate.proofs.records.Sums.{IsReordered-append}
-use Rattle.sb_aggregate.specs.window.Groupings.{IsFrom, Adds, Closes}
-use Rattle.sb_aggregate.specs.window.declared.keyed_window.KeyedWindow.{KeyedWindow}
-use Rattle.sb_aggregate.proofs.window.Rows.{row}
-use Rattle.sb_aggregate.specs.declared.aggregate.Agg.{Agg}
-use Rattle.sb_aggregate.specs.Aggregates.{aggregate_values}
-use Rattle.sb_aggregate.specs.Sessions.{session_end, sessions_of, is_in_session, is_session_open, values_in_session, rows_in_session, session_rows}
-use Rattle.sb_aggregate.proofs.SessionRows.{All-sessions, session_rows-orderless, closed_sessions-final, open_sessions-rest, open-fewer, open-more, open-late}
+use Rattle.sb_windowed.specs.records.declared.element.KeptRec.{KeptRec}
+use Rattle.sb_windowed.specs.records.declared.item.Record.{Record}
+use Rattle.sb_windowed.specs.records.Elements.{all_records, on_lane}
+use Rattle.sb_windowed.specs.records.Keys.{same_key}
+use Rattle.sb_windowed.specs.records.Orders.{IsAscending}
+use Rattle.sb_windowed.specs.records.Records.{record_cmp, before, at_least}
+use Rattle.sb_windowed.specs.records.Reorderings.{IsReordered}
+use Rattle.sb_windowed.proofs.records.Earlier.{before-low}
+use Rattle.sb_windowed.proofs.records.Elements.{every, All-any, All-flat_map, All-join, All-map, All-passed, All-anything}
+use Rattle.sb_windowed.proofs.records.OnLanes.{All-all_records, all_records-on_lane}
+use Rattle.sb_windowed.proofs.records.Sorting.{sorted-unique}
+use Rattle.sb_windowed.proofs.records.Sums.{IsReordered-append}
+use Rattle.sb_windowed.specs.window.Groupings.{IsFrom, Adds, Closes}
+use Rattle.sb_windowed.specs.window.declared.keyed_window.KeyedWindow.{KeyedWindow}
+use Rattle.sb_windowed.proofs.window.Rows.{row}
+use Rattle.sb_windowed.specs.declared.aggregate.Agg.{Agg}
+use Rattle.sb_windowed.specs.Aggregates.{aggregate_values}
+use Rattle.sb_windowed.specs.Sessions.{session_end, sessions_of, is_in_session, is_session_open, values_in_session, rows_in_session, session_rows}
+use Rattle.sb_windowed.proofs.SessionRows.{All-sessions, session_rows-orderless, closed_sessions-final, open_sessions-rest, open-fewer, open-more, open-late}
 use Rattle.sb_session.specs.Kept.{kept_of}
 use Rattle.sb_session.specs.SessionStates.{records_in}
 use Rattle.sb_session.specs.declared.open.OpenSessions.{OpenSessions}

@@ -10,17 +10,17 @@ use Rattle.std.proofs.lemmas.Bool.{lt-ltb, cases_lt}
 use Rattle.std.proofs.lemmas.List.Elements.{recursion_from_All}
 use Rattle.std.proofs.lemmas.List.Sums.{sum_by-cons}
 use Rattle.std.proofs.lemmas.Map.Views.{All-found}
-use Rattle.sb_aggregate.specs.records.declared.item.Record.{Record}
-use Rattle.sb_aggregate.specs.records.Keys.{same_key}
-use Rattle.sb_aggregate.proofs.records.Elements.{every}
-use Rattle.sb_aggregate.proofs.records.Sums.{any_reordered}
-use Rattle.sb_aggregate.specs.window.declared.keyed_window.KeyedWindow.{KeyedWindow}
-use Rattle.sb_aggregate.specs.window.Windows.{keyed_window_cmp}
-use Rattle.sb_aggregate.specs.records.Reorderings.{IsReordered}
-use Rattle.sb_aggregate.specs.declared.aggregate.Agg.{Agg}
-use Rattle.sb_aggregate.specs.Sessions.{session_end, session_of, is_in_session, is_session_open, values_in_session}
-use Rattle.sb_aggregate.proofs.SessionEnds.{has_time}
-use Rattle.sb_aggregate.proofs.Orderless.{aggregates-orderless}
+use Rattle.sb_windowed.specs.records.declared.item.Record.{Record}
+use Rattle.sb_windowed.specs.records.Keys.{same_key}
+use Rattle.sb_windowed.proofs.records.Elements.{every}
+use Rattle.sb_windowed.proofs.records.Sums.{any_reordered}
+use Rattle.sb_windowed.specs.window.declared.keyed_window.KeyedWindow.{KeyedWindow}
+use Rattle.sb_windowed.specs.window.Windows.{keyed_window_cmp}
+use Rattle.sb_windowed.specs.records.Reorderings.{IsReordered}
+use Rattle.sb_windowed.specs.declared.aggregate.Agg.{Agg}
+use Rattle.sb_windowed.specs.Sessions.{session_end, session_of, is_in_session, is_session_open, values_in_session}
+use Rattle.sb_windowed.proofs.SessionEnds.{has_time}
+use Rattle.sb_windowed.proofs.Orderless.{aggregates-orderless}
 use Rattle.sb_session.specs.declared.keyed_time.KeyedTime.{KeyedTime}
 use Rattle.sb_session.specs.Kept.{keyed_time_cmp, kept_of, AreFull}
 use Rattle.sb_session.specs.Candidates.{AreDue}

@@ -9,12 +9,12 @@ use Rattle.std.specs.declared.cmp.Ordering.TheVariants.{Less, Equal, Greater}
 use Rattle.std.proofs.lemmas.Cmp.{then_total, on_total}
 use Rattle.std.proofs.lemmas.Bool.Decides.{nat_tests}
 use Rattle.std.proofs.lemmas.Map.Lookups.{CmpEqualImpliesEq, exact_pairs, exact_unsigned}
-use Rattle.sb_aggregate.specs.records.declared.key.Key.{Key}
-use Rattle.sb_aggregate.specs.records.Keys.{key_cmp, same_key}
-use Rattle.sb_aggregate.specs.records.KeyOrder.{key_cmp_total}
-use Rattle.sb_aggregate.proofs.records.KeyOrder.{exact_keys}
-use Rattle.sb_aggregate.proofs.records.Sorting.{equal_by}
-use Rattle.sb_aggregate.proofs.SessionEnds.{not_less}
+use Rattle.sb_windowed.specs.records.declared.key.Key.{Key}
+use Rattle.sb_windowed.specs.records.Keys.{key_cmp, same_key}
+use Rattle.sb_windowed.specs.records.KeyOrder.{key_cmp_total}
+use Rattle.sb_windowed.proofs.records.KeyOrder.{exact_keys}
+use Rattle.sb_windowed.proofs.records.Sorting.{equal_by}
+use Rattle.sb_windowed.proofs.SessionEnds.{not_less}
 use Rattle.sb_session.specs.declared.keyed_time.KeyedTime.{KeyedTime}
 use Rattle.sb_session.specs.Kept.{keyed_time_cmp}
 

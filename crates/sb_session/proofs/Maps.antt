@@ -11,18 +11,18 @@ use Rattle.std.specs.declared.cmp.Ordering.TheVariants.{Less, Equal, Greater}
 use Rattle.std.proofs.lemmas.Bool.{and_parts, lt-ltb, ltb-true, false_from_ne_true}
 use Rattle.std.proofs.lemmas.List.Elements.{filter-append, recursion_from_All}
 use Rattle.std.proofs.lemmas.Map.Views.{All-found}
-use Rattle.sb_aggregate.proofs.records.Elements.{every, All-map, All-flat_map}
-use Rattle.sb_aggregate.proofs.records.Sums.{IsReordered-map, IsReordered-filter}
+use Rattle.sb_windowed.proofs.records.Elements.{every, All-map, All-flat_map}
+use Rattle.sb_windowed.proofs.records.Sums.{IsReordered-map, IsReordered-filter}
 use Rattle.std.proofs.lemmas.List.Sums.{sum_by-append}
 use Rattle.std.proofs.lemmas.List.{map-append}
 use Rattle.std.proofs.lemmas.List.Folds.{list_any-append}
-use Rattle.sb_aggregate.specs.records.declared.item.Record.{Record}
-use Rattle.sb_aggregate.specs.records.Reorderings.{IsReordered}
-use Rattle.sb_aggregate.specs.records.declared.key.Key.{Key}
-use Rattle.sb_aggregate.specs.records.Keys.{same_key}
-use Rattle.sb_aggregate.proofs.records.KeyOrder.{exact_keys}
+use Rattle.sb_windowed.specs.records.declared.item.Record.{Record}
+use Rattle.sb_windowed.specs.records.Reorderings.{IsReordered}
+use Rattle.sb_windowed.specs.records.declared.key.Key.{Key}
+use Rattle.sb_windowed.specs.records.Keys.{same_key}
+use Rattle.sb_windowed.proofs.records.KeyOrder.{exact_keys}
 use Rattle.std.proofs.lemmas.Map.Views.{tells_apart}
-use Rattle.sb_aggregate.proofs.SessionEnds.{has_time, is_same_key}
+use Rattle.sb_windowed.proofs.SessionEnds.{has_time, is_same_key}
 use Rattle.sb_session.specs.declared.keyed_time.KeyedTime.{KeyedTime}
 use Rattle.sb_session.specs.Kept.{keyed_time_cmp, time_of, records_at, kept_of, AreFull}
 use Rattle.sb_session.specs.Closings.{is_below}

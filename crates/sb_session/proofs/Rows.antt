@@ -7,22 +7,22 @@ use Rattle.std.proofs.lemmas.Bool.{lt-ltb, ltb-true, eqb-true, and_parts}
 use Rattle.std.proofs.lemmas.List.Kept.{IsStrictlySortedBy-filter}
 use Rattle.std.proofs.lemmas.Map.Lookups.{btree_set_from_contains}
 use Rattle.std.proofs.lemmas.Map.Views.{any-filter_same, tells_apart}
-use Rattle.sb_aggregate.specs.records.declared.item.Record.{Record}
-use Rattle.sb_aggregate.specs.records.Keys.{same_key}
-use Rattle.sb_aggregate.proofs.records.KeyOrder.{exact_keys}
-use Rattle.sb_aggregate.specs.records.Records.{before}
-use Rattle.sb_aggregate.proofs.records.Elements.{All-any}
-use Rattle.sb_aggregate.proofs.records.Sums.{any_filtered, none_pass}
-use Rattle.sb_aggregate.proofs.records.Distinct.{distinct-sorted}
-use Rattle.sb_aggregate.specs.window.declared.keyed_window.KeyedWindow.{KeyedWindow}
-use Rattle.sb_aggregate.specs.window.Windows.{keyed_window_cmp}
-use Rattle.sb_aggregate.proofs.window.Rows.{keyed_windows_total, exact_keyed_windows, when-rows}
-use Rattle.sb_aggregate.specs.declared.aggregate.Agg.{Agg}
-use Rattle.sb_aggregate.specs.Aggregates.{aggregate_values}
-use Rattle.sb_aggregate.specs.Sessions.{session_end, session_of, sessions_of, is_in_session, values_in_session, rows_in_session, session_rows}
-use Rattle.sb_aggregate.proofs.SessionRows.{any_sessions}
-use Rattle.sb_aggregate.proofs.SessionLaws.{end-after}
-use Rattle.sb_aggregate.proofs.SessionEnds.{has_time}
+use Rattle.sb_windowed.specs.records.declared.item.Record.{Record}
+use Rattle.sb_windowed.specs.records.Keys.{same_key}
+use Rattle.sb_windowed.proofs.records.KeyOrder.{exact_keys}
+use Rattle.sb_windowed.specs.records.Records.{before}
+use Rattle.sb_windowed.proofs.records.Elements.{All-any}
+use Rattle.sb_windowed.proofs.records.Sums.{any_filtered, none_pass}
+use Rattle.sb_windowed.proofs.records.Distinct.{distinct-sorted}
+use Rattle.sb_windowed.specs.window.declared.keyed_window.KeyedWindow.{KeyedWindow}
+use Rattle.sb_windowed.specs.window.Windows.{keyed_window_cmp}
+use Rattle.sb_windowed.proofs.window.Rows.{keyed_windows_total, exact_keyed_windows, when-rows}
+use Rattle.sb_windowed.specs.declared.aggregate.Agg.{Agg}
+use Rattle.sb_windowed.specs.Aggregates.{aggregate_values}
+use Rattle.sb_windowed.specs.Sessions.{session_end, session_of, sessions_of, is_in_session, values_in_session, rows_in_session, session_rows}
+use Rattle.sb_windowed.proofs.SessionRows.{any_sessions}
+use Rattle.sb_windowed.proofs.SessionLaws.{end-after}
+use Rattle.sb_windowed.proofs.SessionEnds.{has_time}
 use Rattle.sb_session.specs.Candidates.{AreDue}
 use Rattle.sb_session.specs.Closings.{rows_of}
 use Rattle.sb_session.proofs.Closing.{all-have, same_bool}

@@ -8,15 +8,15 @@ use Rattle.std.specs.BTreeMap.{is_at}
 use Rattle.std.specs.Ordering.{eq_by_cmp}
 use Rattle.std.proofs.lemmas.List.Folds.{list_any-append}
 use Rattle.std.proofs.lemmas.Map.Views.{tells_apart}
-use Rattle.sb_aggregate.specs.records.declared.key.Key.{Key}
-use Rattle.sb_aggregate.proofs.records.Elements.{All-any}
-use Rattle.sb_aggregate.proofs.window.Rows.{exact_keyed_windows}
-use Rattle.sb_aggregate.proofs.SessionLaws.{or_cases}
+use Rattle.sb_windowed.specs.records.declared.key.Key.{Key}
+use Rattle.sb_windowed.proofs.records.Elements.{All-any}
+use Rattle.sb_windowed.proofs.window.Rows.{exact_keyed_windows}
+use Rattle.sb_windowed.proofs.SessionLaws.{or_cases}
 use Rattle.sb_session.specs.Candidates.{is_candidate}
 use Rattle.std.specs.declared.cmp.Ordering.TheVariants.{Less}
 use Rattle.std.proofs.lemmas.List.Elements.{recursion_from_All}
-use Rattle.sb_aggregate.specs.window.declared.keyed_window.KeyedWindow.{KeyedWindow}
-use Rattle.sb_aggregate.specs.window.Windows.{keyed_window_cmp}
+use Rattle.sb_windowed.specs.window.declared.keyed_window.KeyedWindow.{KeyedWindow}
+use Rattle.sb_windowed.specs.window.Windows.{keyed_window_cmp}
 
 -- a set whose first candidate was taken out was in order
 pub popped : (o : Option KeyedWindow) (keys left : List KeyedWindow) → IfSome o (λ q. keys ≡ q ∷ left) → IfSome o (λ q. All (λ p. keyed_window_cmp q p ≡ Less) left)

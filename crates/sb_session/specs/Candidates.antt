@@ -4,13 +4,13 @@ use Rattle.std.specs.BTreeMap.{BTreeMap}
 use Rattle.std.specs.List.{list_any, AllByRecursion}
 use Rattle.std.specs.List.Sorted.{IsStrictlySortedBy}
 use Rattle.std.specs.Ordering.{eq_by_cmp}
-use Rattle.sb_aggregate.specs.records.declared.item.Record.{Record}
-use Rattle.sb_aggregate.specs.records.declared.key.Key.{Key}
-use Rattle.sb_aggregate.specs.records.Keys.{same_key}
-use Rattle.sb_aggregate.specs.window.declared.keyed_window.KeyedWindow.{KeyedWindow}
-use Rattle.sb_aggregate.specs.window.Windows.{keyed_window_cmp}
-use Rattle.sb_aggregate.specs.Sessions.{session_end}
-use Rattle.sb_aggregate.proofs.SessionEnds.{has_time}
+use Rattle.sb_windowed.specs.records.declared.item.Record.{Record}
+use Rattle.sb_windowed.specs.records.declared.key.Key.{Key}
+use Rattle.sb_windowed.specs.records.Keys.{same_key}
+use Rattle.sb_windowed.specs.window.declared.keyed_window.KeyedWindow.{KeyedWindow}
+use Rattle.sb_windowed.specs.window.Windows.{keyed_window_cmp}
+use Rattle.sb_windowed.specs.Sessions.{session_end}
+use Rattle.sb_windowed.proofs.SessionEnds.{has_time}
 use Rattle.sb_session.specs.declared.keyed_time.KeyedTime.{KeyedTime}
 use Rattle.sb_session.specs.Kept.{kept_of, AreFull}
 

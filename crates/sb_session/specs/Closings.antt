@@ -2,14 +2,14 @@
 use Rattle.std.specs.Prelude.{◌≡◌, ◌<◌, ◌+◌, ◌-◌, ◌⊎◌, ℕ, ℤ, IsSome, None, nat_lt, Bool, not, ◌&&◌, List, [], ◌∷◌, ◌++◌, map, filter}
 use Rattle.std.specs.BTreeMap.{BTreeMap, get}
 use Rattle.std.specs.List.{flat_map}
-use Rattle.sb_aggregate.specs.records.declared.item.Record.{Record}
-use Rattle.sb_aggregate.specs.records.declared.key.Key.{Key}
-use Rattle.sb_aggregate.specs.records.Keys.{same_key}
-use Rattle.sb_aggregate.specs.records.Reorderings.{IsReordered}
-use Rattle.sb_aggregate.specs.window.declared.keyed_window.KeyedWindow.{KeyedWindow}
-use Rattle.sb_aggregate.specs.declared.aggregate.Agg.{Agg}
-use Rattle.sb_aggregate.specs.Aggregates.{aggregate_values}
-use Rattle.sb_aggregate.specs.Sessions.{is_session_open, values_in_session}
+use Rattle.sb_windowed.specs.records.declared.item.Record.{Record}
+use Rattle.sb_windowed.specs.records.declared.key.Key.{Key}
+use Rattle.sb_windowed.specs.records.Keys.{same_key}
+use Rattle.sb_windowed.specs.records.Reorderings.{IsReordered}
+use Rattle.sb_windowed.specs.window.declared.keyed_window.KeyedWindow.{KeyedWindow}
+use Rattle.sb_windowed.specs.declared.aggregate.Agg.{Agg}
+use Rattle.sb_windowed.specs.Aggregates.{aggregate_values}
+use Rattle.sb_windowed.specs.Sessions.{is_session_open, values_in_session}
 use Rattle.sb_session.specs.declared.keyed_time.KeyedTime.{KeyedTime}
 use Rattle.sb_session.specs.Kept.{keyed_time_cmp, kept_of, AreFull}
 

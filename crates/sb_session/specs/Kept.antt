@@ -4,9 +4,9 @@ use Rattle.std.specs.BTreeMap.{BTreeMap, get}
 use Rattle.std.specs.List.{flat_map}
 use Rattle.std.specs.Ordering.{nat_cmp, ordering_then}
 use Rattle.std.specs.declared.cmp.Ordering.{Ordering}
-use Rattle.sb_aggregate.specs.records.declared.item.Record.{Record}
-use Rattle.sb_aggregate.specs.records.Keys.{key_cmp}
-use Rattle.sb_aggregate.specs.window.declared.keyed_window.KeyedWindow.{KeyedWindow}
+use Rattle.sb_windowed.specs.records.declared.item.Record.{Record}
+use Rattle.sb_windowed.specs.records.Keys.{key_cmp}
+use Rattle.sb_windowed.specs.window.declared.keyed_window.KeyedWindow.{KeyedWindow}
 use Rattle.sb_session.specs.declared.keyed_time.KeyedTime.{KeyedTime}
 
 -- by key, then time

@@ -1,15 +1,15 @@
 -- Sessions between closings: what is kept of those that are open, and what that would give.
 use Rattle.std.specs.Prelude.{◌≡◌, ◌<◌, ℕ, Bool, true, false, All, List, [], ◌++◌, sum_by, Option, Some, None}
 use Rattle.std.proofs.Common.{refl, ap}
-use Rattle.sb_aggregate.specs.records.declared.element.KeptRec.{KeptRec}
-use Rattle.sb_aggregate.specs.records.declared.item.Record.{Record}
-use Rattle.sb_aggregate.specs.records.declared.item.TheConstants.{END_MARK}
-use Rattle.sb_aggregate.specs.records.Elements.{all_records}
-use Rattle.sb_aggregate.specs.records.Reorderings.{IsReordered}
-use Rattle.sb_aggregate.specs.window.SumLemmas.{IsReordered-append, IsReordered-map}
-use Rattle.sb_aggregate.specs.declared.aggregate.Agg.{Agg}
-use Rattle.sb_aggregate.specs.Sessions.{session_rows}
-use Rattle.sb_aggregate.proofs.SessionRows.{session_rows-orderless}
+use Rattle.sb_windowed.specs.records.declared.element.KeptRec.{KeptRec}
+use Rattle.sb_windowed.specs.records.declared.item.Record.{Record}
+use Rattle.sb_windowed.specs.records.declared.item.TheConstants.{END_MARK}
+use Rattle.sb_windowed.specs.records.Elements.{all_records}
+use Rattle.sb_windowed.specs.records.Reorderings.{IsReordered}
+use Rattle.sb_windowed.specs.window.SumLemmas.{IsReordered-append, IsReordered-map}
+use Rattle.sb_windowed.specs.declared.aggregate.Agg.{Agg}
+use Rattle.sb_windowed.specs.Sessions.{session_rows}
+use Rattle.sb_windowed.proofs.SessionRows.{session_rows-orderless}
 use Rattle.sb_session.specs.declared.open.OpenSessions.{OpenSessions}
 use Rattle.sb_session.specs.Kept.{kept_of}
 

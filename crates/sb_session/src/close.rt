@@ -9,7 +9,7 @@ ghost use Rattle.sb_session.specs.Closings as spec;
 
 use crate::keyed_time::KeyedTime;
 use crate::times::{first_between, take_below};
-use sb_aggregate::{Agg, KeyedWindow, NoMemory, Record, Sequence, aggregated};
+use sb_windowed::{Agg, KeyedWindow, NoMemory, Record, Sequence, aggregated};
 use std::alloc::Global;
 use std::collections::BTreeMap;
 

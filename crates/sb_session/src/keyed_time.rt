@@ -1,6 +1,6 @@
 //! Times of keys.
 
-use sb_aggregate::Key;
+use sb_windowed::Key;
 
 /// A time of a key. They are ordered by key, then time.
 #[derive(Clone, Copy, Debug, PartialEq, Eq, PartialOrd, Ord)]

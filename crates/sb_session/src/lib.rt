@@ -4,7 +4,7 @@
 //! the end that its session has if no later record follows. A closing looks at those of the ends that are due, and asks
 //! the map whether the session goes on. So a record costs O(log n) where n are kept, a closing costs as much for each
 //! end that is due, and what stays open is not looked at. What sessions are and what they give is defined in
-//! `sb_aggregate`, on lists alone.
+//! `sb_windowed`, on lists alone.
 #![tactic(auto)]
 
 mod close;

@@ -6,21 +6,21 @@
 
 ghost use Rattle.std.specs.Prelude.{◌≡◌, ◌≤◌, ◌<◌, ◌++◌, ◌∷◌, [], All, filter, IfOk, OnOk, IfSome, IfNone};
 ghost use Rattle.std.specs.List.Sorted.{IsStrictlySortedBy};
-ghost use Rattle.sb_aggregate.specs.records.Orders.{IsAscending};
-ghost use Rattle.sb_aggregate.specs.records.Records.{before, record_cmp};
-ghost use Rattle.sb_aggregate.specs.records.Reorderings.{IsReordered};
-ghost use Rattle.sb_aggregate.specs.records.declared.item.TheConstants as item;
-ghost use Rattle.sb_aggregate.specs.window.Windows.{keyed_window_cmp};
-ghost use Rattle.sb_aggregate.specs.Aggregates.{GivesOne};
-ghost use Rattle.sb_aggregate.specs.Sessions.{is_session_open, session_rows};
-ghost use Rattle.sb_aggregate.specs.declared.session.TheConstants as session;
+ghost use Rattle.sb_windowed.specs.records.Orders.{IsAscending};
+ghost use Rattle.sb_windowed.specs.records.Records.{before, record_cmp};
+ghost use Rattle.sb_windowed.specs.records.Reorderings.{IsReordered};
+ghost use Rattle.sb_windowed.specs.records.declared.item.TheConstants as item;
+ghost use Rattle.sb_windowed.specs.window.Windows.{keyed_window_cmp};
+ghost use Rattle.sb_windowed.specs.Aggregates.{GivesOne};
+ghost use Rattle.sb_windowed.specs.Sessions.{is_session_open, session_rows};
+ghost use Rattle.sb_windowed.specs.declared.session.TheConstants as session;
 ghost use Rattle.sb_session.specs.Candidates.{IsHeld};
 ghost use Rattle.sb_session.specs.Kept.{kept_of};
 
 use crate::close::close_due;
 use crate::keyed_time::KeyedTime;
 use crate::times::add_value;
-use sb_aggregate::{Agg, END_MARK, KeyedWindow, MAX_GAP, NoMemory, Record, Sequence};
+use sb_windowed::{Agg, END_MARK, KeyedWindow, MAX_GAP, NoMemory, Record, Sequence};
 use std::alloc::Global;
 use std::collections::{BTreeMap, BTreeSet};
 

@@ -1,22 +1,22 @@
 //! The grouping of sessions, as the engine asks for it.
 
 ghost use Rattle.std.specs.Prelude.{◌≡◌, ◌≤◌, ◌<◌, List, All, OnOk, OnErr, IfOk};
-ghost use Rattle.sb_aggregate.specs.records.declared.element.KeptRec.{KeptRec as Element};
-ghost use Rattle.sb_aggregate.specs.records.declared.item.TheConstants as item;
-ghost use Rattle.sb_aggregate.specs.records.Elements.{all_records, on_lane};
-ghost use Rattle.sb_aggregate.specs.window.Groupings.{IsFrom, Adds, Closes};
-ghost use Rattle.sb_aggregate.specs.Aggregates.{GivesOne};
-ghost use Rattle.sb_aggregate.specs.Sessions.{session_rows};
+ghost use Rattle.sb_windowed.specs.records.declared.element.KeptRec.{KeptRec as Element};
+ghost use Rattle.sb_windowed.specs.records.declared.item.TheConstants as item;
+ghost use Rattle.sb_windowed.specs.records.Elements.{all_records, on_lane};
+ghost use Rattle.sb_windowed.specs.window.Groupings.{IsFrom, Adds, Closes};
+ghost use Rattle.sb_windowed.specs.Aggregates.{GivesOne};
+ghost use Rattle.sb_windowed.specs.Sessions.{session_rows};
 ghost use Rattle.sb_session.specs.SessionStates as spec;
 ghost use Rattle.sb_session.specs.SessionStates.{gives-orderless};
 
 use crate::open::OpenSessions;
-use sb_aggregate::{Agg, Grouping, MAX_GAP, NoMemory, Record};
+use sb_windowed::{Agg, Grouping, MAX_GAP, NoMemory, Record};
 use std::alloc::Global;
 use std::marker::Model;
 
 /// The grouping of sessions: it keeps the records whose sessions are open. A part is a list of records on lane 0, each
-/// with a time below [`END_MARK`](sb_aggregate::sb_record::END_MARK).
+/// with a time below [`END_MARK`](sb_windowed::END_MARK).
 ///
 /// A record that is absorbed costs O(log n) where n are kept. A closing costs as much for each end that is due, and
 /// each kept time makes one end. After a call that found no memory nothing is kept.
@@ -32,7 +32,7 @@ pub struct Session {
 impl Model for Session {
     ghost use Rattle.std.specs.Prelude.{◌≡◌, IfSome};
     ghost use Rattle.std.specs.Option.{is_none};
-    ghost use Rattle.sb_aggregate.specs.Aggregates.{GivesOne};
+    ghost use Rattle.sb_windowed.specs.Aggregates.{GivesOne};
     ghost use Rattle.sb_session.specs.SessionStates as spec;
 
     ghost Value = { spec.SessionState };

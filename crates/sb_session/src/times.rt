@@ -3,15 +3,15 @@
 ghost use Rattle.std.specs.Prelude.{◌≡◌, ◌++◌, ◌∷◌, [], nat_lt, true, false, ◌&&◌, IsSome, IfSome, IfNone, IfOk, OnOk};
 ghost use Rattle.std.specs.BTreeMap.{IsOrdered, get};
 ghost use Rattle.std.specs.Ordering.{is_lt};
-ghost use Rattle.sb_aggregate.specs.records.Keys.{same_key};
-ghost use Rattle.sb_aggregate.specs.records.Reorderings.{IsReordered};
+ghost use Rattle.sb_windowed.specs.records.Keys.{same_key};
+ghost use Rattle.sb_windowed.specs.records.Reorderings.{IsReordered};
 ghost use Rattle.sb_session.specs.declared.keyed_time.KeyedTime.{KeyedTime as Time};
 ghost use Rattle.sb_session.specs.Kept.{keyed_time_cmp};
 ghost use Rattle.sb_session.specs.Kept as spec;
 ghost use Rattle.sb_session.specs.Closings.{Takes};
 
 use crate::keyed_time::KeyedTime;
-use sb_aggregate::{KeyedWindow, NoMemory, Record, Sequence};
+use sb_windowed::{KeyedWindow, NoMemory, Record, Sequence};
 use std::alloc::Global;
 use std::collections::BTreeMap;
 

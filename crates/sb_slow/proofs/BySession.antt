@@ -23,10 +23,10 @@ use Rattle.sb_base.specs.window.declared.keyed_window.KeyedWindow.{KeyedWindow}
 use Rattle.sb_base.specs.window.Windows.{keyed_window_cmp}
 use Rattle.sb_base.specs.window.Gatherings.{rows_of_entries}
 use Rattle.sb_base.proofs.window.Rows.{keyed_windows_total, exact_keyed_windows, same_keyed_window}
-use Rattle.sb_base.specs.aggregate.declared.aggregate.Agg.{Agg}
-use Rattle.sb_base.specs.aggregate.Aggregates.{aggregate_values}
-use Rattle.sb_base.specs.aggregate.Sessions.{session_end, session_of, sessions_of, is_in_session, values_in_session, session_rows}
-use Rattle.sb_base.proofs.aggregate.SessionRows.{any_sessions}
+use Rattle.sb_base.specs.windowed.declared.aggregate.Agg.{Agg}
+use Rattle.sb_base.specs.windowed.Aggregates.{aggregate_values}
+use Rattle.sb_base.specs.windowed.Sessions.{session_end, session_of, sessions_of, is_in_session, values_in_session, session_rows}
+use Rattle.sb_base.proofs.windowed.SessionRows.{any_sessions}
 use Rattle.sb_slow.specs.Gathered.{values_with, session_values_at}
 
 -- one record more

@@ -8,8 +8,8 @@ use Rattle.sb_base.specs.window.Spacing.{Spacing}
 use Rattle.sb_base.specs.window.Windows.{is_in, keyed_window_cmp, keyed_windows, values_in}
 use Rattle.sb_base.proofs.records.Sums.{none_pass}
 use Rattle.sb_base.proofs.window.Gathering.{entries-keyed_windows}
-use Rattle.sb_base.specs.join.declared.join.Combine.{Combine}
-use Rattle.sb_base.specs.join.Joins.{pair_values, pairs, join_rows}
+use Rattle.sb_base.specs.windowed.declared.join.Combine.{Combine}
+use Rattle.sb_base.specs.windowed.Joins.{pair_values, pairs, join_rows}
 use Rattle.sb_slow.specs.Gathered.{values_at, rows_of_pairs}
 
 -- a left value has no pair where there is no right one

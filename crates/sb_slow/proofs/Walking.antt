@@ -26,8 +26,8 @@ use Rattle.sb_base.proofs.records.KeyOrder.{exact_keys}
 use Rattle.sb_base.proofs.records.Sorting.{equal_by}
 use Rattle.sb_base.specs.records.Orders.{IsAscending}
 use Rattle.sb_base.proofs.records.Elements.{every, All-any}
-use Rattle.sb_base.specs.aggregate.Sessions.{end_from, times_from, session_end}
-use Rattle.sb_base.proofs.aggregate.SessionEnds.{not_less, is_same_key, IsEndOf, has_time, end-is, end-unique, end-on, end-cut}
+use Rattle.sb_base.specs.windowed.Sessions.{end_from, times_from, session_end}
+use Rattle.sb_base.proofs.windowed.SessionEnds.{not_less, is_same_key, IsEndOf, has_time, end-is, end-unique, end-on, end-cut}
 use Rattle.sb_slow.specs.declared.sessions.KeyedTime.{KeyedTime}
 use Rattle.sb_slow.specs.declared.sessions.Ended.{Ended}
 use Rattle.sb_slow.specs.SessionEnds.{keyed_time_cmp, time_of, end_before, AreLatestFirst}

@@ -5,9 +5,9 @@ use Rattle.sb_base.specs.records.declared.item.Record.{Record}
 use Rattle.sb_base.specs.window.declared.keyed_window.KeyedWindow.{KeyedWindow}
 use Rattle.sb_base.specs.window.Spacing.{Spacing}
 use Rattle.sb_base.specs.window.Gatherings.{gathered_value, joined_value}
-use Rattle.sb_base.specs.aggregate.Sessions.{is_in_session}
-use Rattle.sb_base.specs.join.declared.join.Combine.{Combine}
-use Rattle.sb_base.specs.join.Joins.{pair_values}
+use Rattle.sb_base.specs.windowed.Sessions.{is_in_session}
+use Rattle.sb_base.specs.windowed.declared.join.Combine.{Combine}
+use Rattle.sb_base.specs.windowed.Joins.{pair_values}
 
 -- the values of the records that lie in a keyed window, where there are any
 abbrev pub values_at : Spacing → List Record → KeyedWindow → Option (List ℤ)

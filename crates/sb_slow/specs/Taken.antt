@@ -4,9 +4,9 @@ use Rattle.sb_base.specs.records.declared.item.Record.{Record}
 use Rattle.sb_base.specs.records.declared.element.KeptRec.{KeptRec}
 use Rattle.sb_base.specs.records.Elements.{all_records, of_lane}
 use Rattle.sb_base.specs.pardo.Outputs.{outputs_of}
-use Rattle.sb_base.specs.aggregate.Aggregates.{aggregate_rows}
-use Rattle.sb_base.specs.aggregate.Sessions.{session_rows}
-use Rattle.sb_base.specs.join.Joins.{join_rows}
+use Rattle.sb_base.specs.windowed.Aggregates.{aggregate_rows}
+use Rattle.sb_base.specs.windowed.Sessions.{session_rows}
+use Rattle.sb_base.specs.windowed.Joins.{join_rows}
 use Rattle.sb_base.specs.pipeline.declared.transform.Kind.{Kind}
 use Rattle.sb_base.specs.pipeline.declared.transform.Kind.TheVariants.{Do, Group, Session, Join}
 use Rattle.sb_base.specs.pipeline.Plans.{is_join}

@@ -5,7 +5,7 @@
 
 ghost use Rattle.std.specs.Prelude.{◌≡◌, ◌≤◌, ◌<◌, ◌+◌, All, Some, IfOk, map, unwrap_or};
 ghost use Rattle.std.specs.BTreeMap.{get};
-ghost use Rattle.sb_base.specs.aggregate.Sessions.{session_end};
+ghost use Rattle.sb_base.specs.windowed.Sessions.{session_end};
 ghost use Rattle.sb_slow.specs.SessionEnds as spec;
 
 use sb_base::{END_MARK, Key, MAX_GAP, NoMemory, Record};

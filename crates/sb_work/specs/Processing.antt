@@ -3,8 +3,8 @@
 use Rattle.std.specs.Prelude.{◌≡◌, ℕ, ◌==◌, if◌then◌else◌, List, flat_map}
 use Rattle.sb_base.specs.records.declared.item.Record.{Record}
 use Rattle.sb_base.specs.pardo.Outputs.{outputs_of}
-use Rattle.sb_base.specs.join.declared.join.Side.{Side}
-use Rattle.sb_base.specs.join.declared.join.Side.TheVariants.{Left, Right}
+use Rattle.sb_base.specs.windowed.declared.join.Side.{Side}
+use Rattle.sb_base.specs.windowed.declared.join.Side.TheVariants.{Left, Right}
 use Rattle.sb_base.specs.pipeline.Operators.{Operator}
 use Rattle.sb_base.specs.pipeline.Operators.Operator.{ParDo, Windowed, Sink}
 use Rattle.sb_base.specs.pipeline.Operators.WindowOperator.{Aggregated, Sessions, Joined}

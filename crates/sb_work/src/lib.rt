@@ -17,8 +17,10 @@ pub use outputs::{Output, Part, process};
 pub use receipt::Receipt;
 
 // What the crates above name of the crates below.
+pub use sb_aggregate::Aggregate;
 pub use sb_base::{
-    Aggregate, Bundle, Down, Dropped, END_MARK, Grouping, Intake, Item, JoinKept, Key, Keys, Kind,
-    LatePolicy, MAX_BUNDLE, MAX_LINES, MAX_TIME, NoMemory, Plan, Record, Refusal, Sequence, Stop,
-    Stream, Streams, TextBuf, sum_plan,
+    Bundle, Down, Dropped, END_MARK, Grouping, Intake, Item, Key, Keys, Kind, LatePolicy,
+    MAX_BUNDLE, MAX_LINES, MAX_TIME, NoMemory, Plan, Record, Refusal, Sequence, Stop, Stream,
+    Streams, TextBuf, sum_plan,
 };
+pub use sb_join::JoinKept;

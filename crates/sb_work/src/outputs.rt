@@ -7,9 +7,9 @@ ghost use Rattle.sb_work.specs.Processing.{IsOutput};
 
 use crate::claim::Claim;
 use crate::receipt::Receipt;
-use sb_base::{
-    AggPart, END_MARK, JoinPart, Kind, NoMemory, Plan, Record, Side, apply, join_part_of, part_of,
-};
+use sb_aggregate::{AggPart, part_of};
+use sb_base::{END_MARK, Kind, NoMemory, Plan, Record, Side, apply};
+use sb_join::{JoinPart, join_part_of};
 use std::alloc::Global;
 
 /// What a node that gathers records takes in of a bundle.

@@ -21,10 +21,10 @@ use Rattle.sb_cascade.specs.base.records.contracts.item.Record as record_row
 use Rattle.sb_cascade.proofs.base.records.Crossing.{Trail-send, Trail-sync}
 use Rattle.sb_cascade.proofs.base.records.item.Record.TheSendSync as record_crossing
 use Rattle.sb_cascade.proofs.base.window.windows.Windows.TheSendSync as windows_crossing
-use Rattle.sb_cascade.specs.base.aggregate.contracts.grouping.Aggregate as aggregate
-use Rattle.sb_cascade.proofs.base.aggregate.partials.KeptPartials.TheSendSync as partials_crossing
+use Rattle.sb_cascade.specs.work.aggregate.contracts.grouping.Aggregate as aggregate
+use Rattle.sb_cascade.proofs.work.aggregate.partials.KeptPartials.TheSendSync as partials_crossing
 use Rattle.sb_cascade.proofs.session.session.Session.TheSendSync as session_crossing
-use Rattle.sb_cascade.proofs.base.join.kept.JoinKept.TheSendSync as join_crossing
+use Rattle.sb_cascade.proofs.work.join.kept.JoinKept.TheSendSync as join_crossing
 use Rattle.sb_cascade.proofs.sink.sink.SinkKept.TheSendSync as sink_crossing
 use Rattle.sb_cascade.specs.work.contracts.claim.Claim as claim
 use Rattle.sb_cascade.proofs.work.claim.Claim.TheSendSync as claim_crossing

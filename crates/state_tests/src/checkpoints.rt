@@ -2,7 +2,6 @@
 
 ghost use Rattle.std.specs.Prelude.{◌≡◌, ◌≤◌, ◌<◌, All, IsTrue};
 
-use sb_aggregate::Agg;
 use sb_checkpoint::{
     Checkpoint, Cutoff, Resumed, RowsFrom, StreamRec, checkpoint_of, has_session, reach,
     write_checkpoint,
@@ -11,6 +10,7 @@ use sb_emit::{Printing, RowOut};
 use sb_outside::{MemSink, MemSource, Source, SourceFault};
 use sb_pipeline::{Down, Kind, Plan, Step, sum_plan};
 use sb_record::{END_MARK, Item, Key, Record, Stream};
+use sb_windowed::Agg;
 use std::alloc::{AllocError, Global};
 use std::test::Fail;
 

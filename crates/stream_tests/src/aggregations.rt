@@ -1,12 +1,11 @@
 //! Aggregations worked by hand, part by part and closing by closing.
 
 ghost use Rattle.std.specs.Prelude.{◌≡◌, ◌≤◌, ◌<◌, [], All, IsTrue, OnOk};
-ghost use Rattle.sb_base.specs.aggregate.Aggregates.{IsValid};
-ghost use Rattle.sb_base.specs.aggregate.Groups.{IsLike};
+ghost use Rattle.sb_base.specs.windowed.Aggregates.{IsValid};
+ghost use Rattle.sb_aggregate.specs.Groups.{IsLike};
 
-use sb_base::{
-    Agg, Aggregate, END_MARK, Grouping, Key, NoMemory, Record, Windows, aggregated, part_of,
-};
+use sb_aggregate::{Aggregate, part_of};
+use sb_base::{Agg, END_MARK, Grouping, Key, NoMemory, Record, Windows, aggregated};
 use std::alloc::Global;
 use std::test::Fail;
 

@@ -2,10 +2,8 @@
 
 ghost use Rattle.std.specs.Prelude.{◌≡◌, ◌≤◌};
 
-use sb_base::{
-    Combine, END_MARK, Grouping, JoinKept, Key, NoMemory, Record, Side, Windows, join_part_of,
-    pair_values,
-};
+use sb_base::{Combine, END_MARK, Grouping, Key, NoMemory, Record, Side, Windows, pair_values};
+use sb_join::{JoinKept, join_part_of};
 use std::alloc::{AllocError, Global};
 
 /// What happens to a join.

@@ -1,6 +1,6 @@
 //! Tests of the crates below the engine: `sb_record`, `sb_outside`, `sb_window`, `sb_bundle`, `sb_pardo`,
-//! `sb_aggregate`, `sb_join`, `sb_session` and `sb_pipeline`. They stand apart because the gate proves a crate with tests
-//! twice. Nothing stands on this crate.
+//! `sb_windowed`, `sb_aggregate`, `sb_join`, `sb_session` and `sb_pipeline`. They stand apart because the gate proves a
+//! crate with tests twice. Nothing stands on this crate.
 #![tactic(auto)]
 
 #[cfg(test)]

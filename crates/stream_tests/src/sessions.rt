@@ -3,7 +3,7 @@
 ghost use Rattle.std.specs.Prelude.{◌≡◌, nat_lt};
 ghost use Rattle.std.specs.List.{list_all};
 ghost use Rattle.sb_base.specs.records.declared.item.TheConstants as item;
-ghost use Rattle.sb_base.specs.aggregate.Aggregates.{GivesOne};
+ghost use Rattle.sb_base.specs.windowed.Aggregates.{GivesOne};
 
 use sb_base::{Agg, END_MARK, Grouping, Key, NoMemory, Record};
 use sb_session::Session;

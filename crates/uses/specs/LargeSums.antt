@@ -12,7 +12,7 @@ use Rattle.sb_cli.specs.base.window.Spacing.{fixed_windows}
 use Rattle.sb_cli.specs.base.pardo.declared.operation.Field.TheVariants.{Value}
 use Rattle.sb_cli.specs.base.pardo.declared.operation.Test.TheVariants.{AtLeast}
 use Rattle.sb_cli.specs.base.pardo.declared.operation.Op.TheVariants.{Filter}
-use Rattle.sb_cli.specs.base.aggregate.declared.aggregate.Agg.TheVariants.{Sum}
+use Rattle.sb_cli.specs.base.windowed.declared.aggregate.Agg.TheVariants.{Sum}
 use Rattle.sb_cli.specs.base.pipeline.declared.transform.Kind.TheVariants.{Do, Group}
 use Rattle.sb_cli.specs.base.pipeline.declared.transform.Step.{Step}
 use Rattle.sb_cli.specs.base.pipeline.Shapes.{Shape, shape_of}

@@ -11,18 +11,18 @@ use Rattle.sb_containers.specs.base.records.Records.{before, at_least}
 use Rattle.sb_containers.specs.base.SumLemmas.{IsReordered, IsReordered-map, IsReordered-filter}
 use Rattle.sb_containers.specs.base.window.Spacing.{Spacing, AreWindows}
 use Rattle.sb_containers.specs.base.RowLemmas.{is_open_at, rows_by-same, rows_by-before}
-use Rattle.sb_containers.specs.base.aggregate.declared.aggregate.Agg.{Agg}
-use Rattle.sb_containers.specs.base.aggregate.Aggregates.{aggregate_values, aggregate_rows}
-use Rattle.sb_containers.specs.base.aggregate.Sessions.{session_rows, is_session_open}
+use Rattle.sb_containers.specs.base.windowed.declared.aggregate.Agg.{Agg}
+use Rattle.sb_containers.specs.base.windowed.Aggregates.{aggregate_values, aggregate_rows}
+use Rattle.sb_containers.specs.base.windowed.Sessions.{session_rows, is_session_open}
 use Rattle.sb_containers.specs.base.OrderlessLemmas.{aggregate_rows-orderless}
 use Rattle.sb_containers.specs.base.SessionRowLemmas.{session_rows-orderless, closed_sessions-final, open_sessions-rest, open-fewer, open-more, open-late, session_rows-times}
 use Rattle.sb_containers.specs.base.AggregateTimeLemmas.{aggregate_rows-times}
-use Rattle.sb_containers.specs.base.join.declared.join.Combine.{Combine}
-use Rattle.sb_containers.specs.base.join.Joins.{join_rows}
+use Rattle.sb_containers.specs.base.windowed.declared.join.Combine.{Combine}
+use Rattle.sb_containers.specs.base.windowed.Joins.{join_rows}
 use Rattle.sb_containers.specs.base.PairLemmas.{join_rows-same, join_rows-reordered, joins-before}
 use Rattle.sb_containers.specs.base.JoinTimeLemmas.{join_rows-times}
 use Rattle.sb_containers.specs.base.records.declared.element.KeptRec.{KeptRec}
-use Rattle.sb_containers.specs.base.aggregate.declared.session.TheConstants.{MAX_GAP}
+use Rattle.sb_containers.specs.base.windowed.declared.session.TheConstants.{MAX_GAP}
 use Rattle.sb_containers.specs.base.records.Elements.{on_lane, of_lane, all_records}
 use Rattle.sb_containers.specs.base.pipeline.Operators.{WindowOperator, operator_rows}
 use Rattle.sb_containers.specs.base.pipeline.Operators.WindowOperator.{Aggregated, Sessions, Joined}

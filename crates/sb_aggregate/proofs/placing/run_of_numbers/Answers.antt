@@ -20,7 +20,7 @@ loop-entry-preserved c q =
     let none : Numbered = record { end = 0; key = 0; value = pos 0 } in
     let n : Numbered = get_or numbers i none in
     let fits : SFits w64 n.value = search rules in
-    let one : c.of_one-partial.result ≡ made (n.value ∷ []) = c.of_one-partial.ensures ∙ (λ j. partial_values (c.joining.ensures j) (to_z-of_z w64 n.value fits j ∷ [])) in
+    let one : c.of_one-partial.result ≡ made (n.value ∷ []) = c.of_one-partial.ensures ∙ (λ j. partial_values (c.joining_of.ensures j) (to_z-of_z w64 n.value fits j ∷ [])) in
     c.in_ok-add.ensures q
     ∙ (λ j. joined_value (join_values agg) (c.loop-entry.invariant q j) (found ((c.window.ensures j, one j) ∷ []) q))
     ∙ sym (placed-more made (join_values agg) (λ v w vs ws. both-kept agg (v ∷ vs) (w ∷ ws)) (map numbered_entry (take i numbers)) (numbered_entry n).0 n.value q)

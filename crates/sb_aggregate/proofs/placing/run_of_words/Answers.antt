@@ -17,7 +17,7 @@ loop-entry-preserved c q =
     let words = c.args.words.now in
     let x : KeyedWindow × ℤ = c.entry-item.result in
     let fits : SFits w64 c.entry-item.result.1 = search rules in
-    let one : c.of_one-partial.result ≡ partial_values (joining c.args.agg) (c.entry-item.result.1 ∷ []) = c.of_one-partial.ensures ∙ (λ j. partial_values (c.joining.ensures j) (to_z-of_z w64 c.entry-item.result.1 fits j ∷ [])) in
+    let one : c.of_one-partial.result ≡ partial_values (joining c.args.agg) (c.entry-item.result.1 ∷ []) = c.of_one-partial.ensures ∙ (λ j. partial_values (c.joining_of.ensures j) (to_z-of_z w64 c.entry-item.result.1 fits j ∷ [])) in
     c.in_ok-add.ensures q
     ∙ (λ j. joined_value (join_values agg) (c.loop-entry.invariant q j) (found ((x.0, one j) ∷ []) q))
     ∙ sym (placed-more (partial_values (joining agg)) (join_values agg) (λ v w vs ws. both-kept agg (v ∷ vs) (w ∷ ws)) (take i words) x.0 x.1 q)

@@ -1,5 +1,5 @@
 use Rattle.std.proofs.Common.{◌≡◌, ℤ, BTreeSet, IfOk, subst}
-use Rattle.sb_aggregate.specs.declared.aggregate.Agg.TheVariants.{Distinct}
+use Rattle.sb_windowed.specs.declared.aggregate.Agg.TheVariants.{Distinct}
 use Rattle.sb_aggregate.proofs.PartialValues.{join_values-swapped}
 use Rattle.sb_aggregate.proofs.value_set.with_set.Goals as goal
 

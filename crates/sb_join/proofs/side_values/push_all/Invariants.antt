@@ -1,5 +1,5 @@
 use Rattle.std.proofs.Common.{◌≡◌, ◌++◌, take}
-use Rattle.sb_join.specs.declared.join.Side.TheVariants.{Left, Right}
+use Rattle.sb_windowed.specs.declared.join.Side.TheVariants.{Left, Right}
 use Rattle.sb_join.specs.Entries.{of_side}
 use Rattle.sb_join.proofs.side_values.push_all.Given as goal
 

@@ -3,7 +3,7 @@ use Rattle.std.proofs.lemmas.List.{take_more, get_or-map, length-map}
 use Rattle.std.proofs.lemmas.List.Elements.{All-from_recursion, All-same, recursion_from_All, filter-append}
 use Rattle.sb_slow.specs.base.records.declared.item.Record.{Record}
 use Rattle.sb_slow.specs.base.records.declared.item.TheConstants.{END_MARK}
-use Rattle.sb_slow.specs.base.aggregate.Sessions.{session_end, is_session_open}
+use Rattle.sb_slow.specs.base.windowed.Sessions.{session_end, is_session_open}
 use Rattle.sb_slow.specs.base.records.declared.element.KeptRec.{KeptRec}
 use Rattle.sb_slow.specs.base.records.Elements.{all_records}
 use Rattle.sb_slow.specs.base.OnLaneLemmas.{All-all_records}

@@ -1,5 +1,5 @@
 use Rattle.std.proofs.Common.{◌≡◌, filter, take}
-use Rattle.sb_slow.specs.base.aggregate.Sessions.{is_session_open}
+use Rattle.sb_slow.specs.base.windowed.Sessions.{is_session_open}
 use Rattle.sb_slow.specs.base.records.Elements.{all_records}
 use Rattle.sb_machine.proofs.operate.in_open_sessions.Given as goal
 

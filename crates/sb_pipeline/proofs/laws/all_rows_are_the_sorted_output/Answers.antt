@@ -1,6 +1,6 @@
 use Rattle.std.proofs.lemmas.List.Elements.{recursion_from_All}
-use Rattle.sb_aggregate.specs.records.Lines.{IsInRange}
-use Rattle.sb_aggregate.proofs.records.Elements.{every}
+use Rattle.sb_windowed.specs.records.Lines.{IsInRange}
+use Rattle.sb_windowed.proofs.records.Elements.{every}
 use Rattle.sb_pipeline.proofs.Times.{all_rows-sorted}
 use Rattle.sb_pipeline.proofs.laws.all_rows_are_the_sorted_output.Goals as goal
 

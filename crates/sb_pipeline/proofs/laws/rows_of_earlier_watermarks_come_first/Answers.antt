@@ -1,5 +1,5 @@
-use Rattle.sb_aggregate.specs.records.Records.{at_least, before, sorted_records}
-use Rattle.sb_aggregate.proofs.records.Earlier.{sorted_before-front}
+use Rattle.sb_windowed.specs.records.Records.{at_least, before, sorted_records}
+use Rattle.sb_windowed.proofs.records.Earlier.{sorted_before-front}
 use Rattle.sb_pipeline.specs.Results.{output_of}
 use Rattle.sb_pipeline.proofs.laws.rows_of_earlier_watermarks_come_first.Goals as goal
 

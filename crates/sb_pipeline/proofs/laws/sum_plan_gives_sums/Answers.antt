@@ -1,9 +1,9 @@
 use Rattle.std.proofs.Common.{ap, ◌∙◌}
-use Rattle.sb_aggregate.specs.records.Records.{before, sorted_records}
-use Rattle.sb_aggregate.specs.records.declared.item.Stream.TheVariants.{A}
-use Rattle.sb_aggregate.specs.window.Spacing.{fixed_windows}
-use Rattle.sb_aggregate.specs.window.Aggregations.{sum_rows}
-use Rattle.sb_aggregate.proofs.records.OnLanes.{all_records-on_lane}
+use Rattle.sb_windowed.specs.records.Records.{before, sorted_records}
+use Rattle.sb_windowed.specs.records.declared.item.Stream.TheVariants.{A}
+use Rattle.sb_windowed.specs.window.Spacing.{fixed_windows}
+use Rattle.sb_windowed.specs.window.Aggregations.{sum_rows}
+use Rattle.sb_windowed.proofs.records.OnLanes.{all_records-on_lane}
 use Rattle.sb_pipeline.proofs.laws.sum_plan_gives_sums.Goals as goal
 
 pub returns-clause-sums : goal.returns-clause-sums

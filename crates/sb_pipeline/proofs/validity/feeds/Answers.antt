@@ -1,6 +1,6 @@
 use Rattle.std.proofs.Common.{ℕ, ◌++◌, arith, cond, map}
 use Rattle.std.proofs.lemmas.List.Sums.{sum_by-append}
-use Rattle.sb_aggregate.proofs.records.Sums.{sum_by-map}
+use Rattle.sb_windowed.proofs.records.Sums.{sum_by-map}
 use Rattle.sb_pipeline.specs.declared.transform.Down.{Down}
 use Rattle.sb_pipeline.specs.declared.transform.Step.{Step}
 use Rattle.sb_pipeline.specs.Shapes.{if_any, is_same_place}

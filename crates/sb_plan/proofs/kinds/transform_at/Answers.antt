@@ -2,7 +2,7 @@ use Rattle.std.proofs.Common.{IfOk, sym, subst}
 use Rattle.toml.specs.View.{table_view}
 use Rattle.sb_plan.specs.Soundness.{IsOfKind}
 use Rattle.sb_plan.specs.Words.{IsNamed}
-use Rattle.sb_pipeline.specs.aggregate.Aggregates.{GivesOne}
+use Rattle.sb_pipeline.specs.windowed.Aggregates.{GivesOne}
 use Rattle.sb_plan.proofs.OfKinds.{filter-valid, map-valid, group-valid, top-valid, session-valid, join-valid, expanded-valid}
 use Rattle.sb_plan.proofs.kinds.transform_at.Goals as goal
 

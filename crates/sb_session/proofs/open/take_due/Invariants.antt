@@ -2,7 +2,7 @@ use Rattle.std.proofs.Common.{◌≡◌, ◌≤◌, [], ◌++◌}
 use Rattle.std.specs.Prelude.{All, ◌⊎◌}
 use Rattle.std.specs.List.Sorted.{IsStrictlySortedBy}
 use Rattle.std.specs.BTreeSet.{btree_set_len}
-use Rattle.sb_aggregate.specs.window.Windows.{keyed_window_cmp}
+use Rattle.sb_windowed.specs.window.Windows.{keyed_window_cmp}
 use Rattle.sb_session.proofs.open.take_due.Given as goal
 
 abbrev pub invariant-loop-session : goal.invariant-loop-session

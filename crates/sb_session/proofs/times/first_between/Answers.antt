@@ -4,9 +4,9 @@ use Rattle.std.specs.BTreeMap.{get}
 use Rattle.std.specs.Ordering.{is_lt}
 use Rattle.std.proofs.lemmas.Bool.{and_parts, ltb-true, lt-ltb}
 use Rattle.std.proofs.lemmas.Map.Views.{tells_apart}
-use Rattle.sb_aggregate.specs.records.Keys.{same_key}
-use Rattle.sb_aggregate.proofs.records.KeyOrder.{exact_keys}
-use Rattle.sb_aggregate.proofs.SessionEnds.{is_same_key}
+use Rattle.sb_windowed.specs.records.Keys.{same_key}
+use Rattle.sb_windowed.proofs.records.KeyOrder.{exact_keys}
+use Rattle.sb_windowed.proofs.SessionEnds.{is_same_key}
 use Rattle.sb_session.specs.declared.keyed_time.KeyedTime.{KeyedTime}
 use Rattle.sb_session.specs.Kept.{keyed_time_cmp}
 use Rattle.sb_session.proofs.KeyedTimes.{not_lt, not_before, between}

@@ -1,7 +1,7 @@
 use Rattle.std.proofs.Common.{◌++◌, map, filter, not}
 use Rattle.std.specs.BTreeMap.{btree_map_len}
-use Rattle.sb_aggregate.specs.records.Reorderings.{IsReordered}
-use Rattle.sb_aggregate.specs.records.declared.item.Record.{Record}
+use Rattle.sb_windowed.specs.records.Reorderings.{IsReordered}
+use Rattle.sb_windowed.specs.records.declared.item.Record.{Record}
 use Rattle.sb_session.specs.Kept.{kept_of, AreFull}
 use Rattle.sb_session.specs.Closings.{is_below}
 use Rattle.sb_session.proofs.times.take_below.Given as goal

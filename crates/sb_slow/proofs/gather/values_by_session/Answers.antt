@@ -4,7 +4,7 @@ use Rattle.std.proofs.lemmas.List.{take_more, get_or-map}
 use Rattle.sb_base.specs.records.declared.item.Record.{Record}
 use Rattle.sb_base.specs.window.declared.keyed_window.KeyedWindow.{KeyedWindow}
 use Rattle.sb_base.specs.window.Windows.{keyed_window_cmp}
-use Rattle.sb_base.specs.aggregate.Sessions.{session_end, session_of}
+use Rattle.sb_base.specs.windowed.Sessions.{session_end, session_of}
 use Rattle.sb_slow.specs.Gathered.{session_values_at, values_with}
 use Rattle.sb_slow.proofs.BySession.{session_values-more}
 use Rattle.sb_slow.proofs.gather.values_by_session.Goals as goal

@@ -4,7 +4,7 @@ use Rattle.sb_base.specs.records.declared.item.Record.{Record}
 use Rattle.sb_base.specs.window.declared.keyed_window.KeyedWindow.{KeyedWindow}
 use Rattle.sb_base.specs.window.Windows.{keyed_window_cmp}
 use Rattle.sb_base.proofs.window.Gathering.{rows_of_entries-gathered}
-use Rattle.sb_base.specs.aggregate.Aggregates.{aggregate_values}
+use Rattle.sb_base.specs.windowed.Aggregates.{aggregate_values}
 use Rattle.sb_slow.specs.Gathered.{values_at}
 use Rattle.sb_slow.proofs.operate.aggregates.Goals as goal
 

@@ -1,6 +1,6 @@
 use Rattle.std.proofs.Common.{◌≡◌, ◌++◌}
 use Rattle.sb_base.specs.window.Gatherings.{rows_of_entries}
-use Rattle.sb_base.specs.aggregate.Aggregates.{aggregate_values}
+use Rattle.sb_base.specs.windowed.Aggregates.{aggregate_values}
 use Rattle.sb_slow.proofs.operate.aggregates_of.Given as goal
 
 abbrev pub invariant-loop-window : goal.invariant-loop-window

@@ -2,7 +2,7 @@ use Rattle.std.proofs.Common.{rules, ◌≡◌, ◌+◌, [], ◌∷◌, ◌++◌
 use Rattle.std.specs.BTreeMap.{get}
 use Rattle.std.proofs.lemmas.List.{take_more, map-append}
 use Rattle.sb_base.specs.records.declared.item.Record.{Record}
-use Rattle.sb_base.specs.aggregate.Sessions.{session_end}
+use Rattle.sb_base.specs.windowed.Sessions.{session_end}
 use Rattle.sb_slow.specs.SessionEnds.{keyed_time_cmp, time_of}
 use Rattle.sb_slow.proofs.sessions.session_ends.Goals as goal
 

@@ -1,5 +1,5 @@
 use Rattle.std.proofs.Common.{◌≡◌, map, take}
-use Rattle.sb_base.specs.aggregate.Sessions.{session_end}
+use Rattle.sb_base.specs.windowed.Sessions.{session_end}
 use Rattle.sb_slow.proofs.sessions.session_ends.Given as goal
 
 abbrev pub invariant-loop-record : goal.invariant-loop-record

@@ -4,7 +4,7 @@ use Rattle.std.specs.List.{sum_by}
 use Rattle.std.proofs.lemmas.List.Elements.{recursion_from_All}
 use Rattle.sb_base.specs.records.Elements.{all_records, on_lane}
 use Rattle.sb_base.specs.OnLaneLemmas.{all_records-on_lane, All-on_lane}
-use Rattle.sb_base.specs.aggregate.Groups.{Grouped}
+use Rattle.sb_aggregate.specs.Groups.{Grouped}
 use Rattle.stream_tests.proofs.aggregations.absorb_records.Goals as goal
 
 pub absorb-requires-clause-fits : goal.absorb-requires-clause-fits

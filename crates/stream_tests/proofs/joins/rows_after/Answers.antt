@@ -1,7 +1,7 @@
 use Rattle.std.proofs.Common.{◌≤◌, subst, sym, refl, arith}
 use Rattle.sb_base.specs.records.Elements.{on_lane}
 use Rattle.sb_base.specs.window.Groupings.{IsFrom}
-use Rattle.sb_base.specs.join.Kept.{OneSided, lane_of}
+use Rattle.sb_join.specs.Kept.{OneSided, lane_of}
 use Rattle.stream_tests.proofs.joins.rows_after.Goals as goal
 
 pub absorb-requires-clause-from : goal.absorb-requires-clause-from

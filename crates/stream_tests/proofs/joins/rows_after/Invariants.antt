@@ -1,5 +1,5 @@
 use Rattle.std.proofs.Common.{◌≡◌}
-use Rattle.sb_base.specs.join.Kept.{IsSpent}
+use Rattle.sb_join.specs.Kept.{IsSpent}
 use Rattle.stream_tests.proofs.joins.rows_after.Given as goal
 
 abbrev pub invariant-loop-step : goal.invariant-loop-step

@@ -8,8 +8,8 @@ use Rattle.sb_runs.specs.records.Reorderings.{IsReordered}
 use Rattle.sb_runs.proofs.records.OnLanes.{All-all_records}
 use Rattle.sb_runs.specs.window.Groupings.{IsFrom}
 use Rattle.sb_runs.specs.window.Spacing.{Spacing}
-use Rattle.sb_aggregate.specs.declared.aggregate.Agg.{Agg}
-use Rattle.sb_aggregate.specs.Aggregates.{aggregate_rows}
+use Rattle.sb_windowed.specs.declared.aggregate.Agg.{Agg}
+use Rattle.sb_windowed.specs.Aggregates.{aggregate_rows}
 use Rattle.sb_aggregate.specs.Groups.{Absorbed, Grouped, HasPartials, HasPartialsFrom, given}
 use Rattle.sb_aggregate.specs.Held.{run_of, runs_of}
 use Rattle.sb_aggregate.proofs.Absorbing.{flat-more, late-reordered, partials-absorbed, rows-absorbed}

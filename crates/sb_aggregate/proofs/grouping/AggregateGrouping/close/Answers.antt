@@ -3,7 +3,7 @@ use Rattle.std.specs.List.{flat_map}
 use Rattle.sb_runs.specs.records.Elements.{all_records}
 use Rattle.sb_runs.specs.records.Records.{at_least}
 use Rattle.sb_runs.specs.window.Groupings.{Closes}
-use Rattle.sb_aggregate.specs.Aggregates.{aggregate_rows}
+use Rattle.sb_windowed.specs.Aggregates.{aggregate_rows}
 use Rattle.sb_aggregate.specs.Groups.{Absorbed, given}
 use Rattle.sb_aggregate.specs.Held.{runs_of}
 use Rattle.sb_aggregate.proofs.Absorbing.{partials-left, closes-with}

@@ -2,7 +2,7 @@ use Rattle.std.proofs.Common.{◌++◌, sym, ap, ◌∙◌}
 use Rattle.std.specs.Ordering.{int_cmp}
 use Rattle.sb_runs.specs.records.Orders.{distinct}
 use Rattle.sb_aggregate.specs.Held.{set_values}
-use Rattle.sb_aggregate.specs.declared.aggregate.Agg.TheVariants.{Distinct}
+use Rattle.sb_windowed.specs.declared.aggregate.Agg.TheVariants.{Distinct}
 use Rattle.sb_aggregate.proofs.PartialValues.{join_values-swapped}
 use Rattle.sb_aggregate.proofs.value_set.ValueSet.with_all.Goals as goal
 

@@ -1,9 +1,9 @@
 use Rattle.std.proofs.Common.{◌++◌, ap, ◌∙◌}
 use Rattle.sb_runs.specs.records.Elements.{of_lane}
 use Rattle.sb_runs.specs.records.Records.{at_least}
-use Rattle.sb_join.specs.declared.join.Side.TheVariants.{Left, Right}
+use Rattle.sb_windowed.specs.declared.join.Side.TheVariants.{Left, Right}
 use Rattle.sb_join.specs.Entries.{kept_of}
-use Rattle.sb_join.specs.Joins.{join_rows}
+use Rattle.sb_windowed.specs.Joins.{join_rows}
 use Rattle.sb_join.proofs.KeptLaws.{fresh-all}
 use Rattle.sb_join.proofs.kept.JoinKept.new.Goals as goal
 

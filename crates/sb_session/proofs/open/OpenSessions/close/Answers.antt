@@ -1,12 +1,12 @@
 use Rattle.std.proofs.Common.{◌≤◌, List, sym, subst, ◌∙◌, arith}
 use Rattle.std.specs.List.{AllByRecursion}
 use Rattle.std.proofs.lemmas.List.Elements.{recursion_from_All, All-from_recursion}
-use Rattle.sb_aggregate.specs.records.declared.item.Record.{Record}
-use Rattle.sb_aggregate.specs.records.Orders.{IsAscending}
-use Rattle.sb_aggregate.specs.records.Records.{record_cmp}
-use Rattle.sb_aggregate.proofs.records.Elements.{every}
-use Rattle.sb_aggregate.specs.window.declared.keyed_window.KeyedWindow.{KeyedWindow}
-use Rattle.sb_aggregate.specs.Sessions.{values_in_session}
+use Rattle.sb_windowed.specs.records.declared.item.Record.{Record}
+use Rattle.sb_windowed.specs.records.Orders.{IsAscending}
+use Rattle.sb_windowed.specs.records.Records.{record_cmp}
+use Rattle.sb_windowed.proofs.records.Elements.{every}
+use Rattle.sb_windowed.specs.window.declared.keyed_window.KeyedWindow.{KeyedWindow}
+use Rattle.sb_windowed.specs.Sessions.{values_in_session}
 use Rattle.sb_session.specs.Kept.{kept_of}
 use Rattle.sb_session.specs.Candidates.{AreDue}
 use Rattle.sb_session.specs.Closings.{IsClosed}

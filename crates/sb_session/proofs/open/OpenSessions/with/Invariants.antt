@@ -1,5 +1,5 @@
 use Rattle.std.proofs.Common.{◌++◌, take}
-use Rattle.sb_aggregate.specs.records.Reorderings.{IsReordered}
+use Rattle.sb_windowed.specs.records.Reorderings.{IsReordered}
 use Rattle.sb_session.specs.Kept.{kept_of}
 use Rattle.sb_session.specs.Candidates.{IsHeld}
 use Rattle.sb_session.proofs.open.OpenSessions.with.Given as goal

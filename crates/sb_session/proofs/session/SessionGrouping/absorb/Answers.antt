@@ -1,8 +1,8 @@
 use Rattle.std.proofs.Common.{rules, ◌≡◌, ◌++◌, Some, List, subst, ap, ◌∙◌}
 use Rattle.std.specs.Prelude.{sum_by}
-use Rattle.sb_aggregate.specs.records.declared.element.KeptRec.{KeptRec}
-use Rattle.sb_aggregate.specs.records.Elements.{on_lane}
-use Rattle.sb_aggregate.specs.window.Groupings.{IsFrom, Adds}
+use Rattle.sb_windowed.specs.records.declared.element.KeptRec.{KeptRec}
+use Rattle.sb_windowed.specs.records.Elements.{on_lane}
+use Rattle.sb_windowed.specs.window.Groupings.{IsFrom, Adds}
 use Rattle.sb_session.specs.Kept.{kept_of}
 use Rattle.sb_session.specs.SessionStates.{SessionState, gives}
 use Rattle.sb_session.proofs.Giving.{gives_of, open-adds}

@@ -1,5 +1,5 @@
 use Rattle.std.proofs.Common.{rules, ◌≡◌, Some, subst}
-use Rattle.sb_aggregate.specs.window.Groupings.{Closes}
+use Rattle.sb_windowed.specs.window.Groupings.{Closes}
 use Rattle.sb_session.specs.Kept.{kept_of}
 use Rattle.sb_session.specs.SessionStates.{SessionState, gives}
 use Rattle.sb_session.proofs.Giving.{gives_of, open-closes}

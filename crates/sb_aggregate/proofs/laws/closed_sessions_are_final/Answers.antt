@@ -1,5 +1,0 @@
-use Rattle.sb_aggregate.proofs.SessionRows.{closed_sessions-final}
-use Rattle.sb_aggregate.proofs.laws.closed_sessions_are_final.Goals as goal
-
-pub returns : goal.returns
-returns c = closed_sessions-final

@@ -1,5 +1,0 @@
-use Rattle.sb_aggregate.proofs.SessionRows.{open_sessions-rest}
-use Rattle.sb_aggregate.proofs.laws.open_sessions_give_the_rest.Goals as goal
-
-pub returns : goal.returns
-returns c = open_sessions-rest

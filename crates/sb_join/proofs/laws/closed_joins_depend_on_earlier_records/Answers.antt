@@ -1,5 +1,0 @@
-use Rattle.sb_join.proofs.Pairs.{joins-before}
-use Rattle.sb_join.proofs.laws.closed_joins_depend_on_earlier_records.Goals as goal
-
-pub returns : goal.returns
-returns c = joins-before

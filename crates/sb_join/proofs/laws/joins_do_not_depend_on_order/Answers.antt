@@ -1,5 +1,0 @@
-use Rattle.sb_join.proofs.Pairs.{joins-orderless}
-use Rattle.sb_join.proofs.laws.joins_do_not_depend_on_order.Goals as goal
-
-pub returns : goal.returns
-returns c = joins-orderless
