@@ -1,30 +1,30 @@
 -- A run that is cut in two writes what one run writes.
 use Rattle.std.proofs.Common.{◌≡◌, ◌≤◌, ℕ, Bool, false, List, ◌++◌, Option, Some, None, length, refl, sym, ap, subst, ◌∙◌}
 use Rattle.std.proofs.lemmas.List.Concat.{flat_map-append}
-use Rattle.sb_answer_files.specs.base.records.declared.intake.Refusal.{Refusal}
-use Rattle.sb_answer_files.specs.base.records.declared.intake.Stop.{Stop}
-use Rattle.sb_answer_files.specs.base.records.declared.intake.Stop.TheVariants.{End, Refused, Fault}
-use Rattle.sb_answer_files.specs.base.records.declared.item.Item.{Item}
-use Rattle.sb_answer_files.specs.base.records.Inputs.{Accepted, stop_of}
-use Rattle.sb_answer_files.specs.base.records.Intake.{low}
-use Rattle.sb_answer_files.specs.base.records.Records.{at_least}
-use Rattle.sb_answer_files.specs.base.records.Rows.{row_text, text_of}
-use Rattle.sb_answer_files.specs.base.records.Streams.{dropped_of, low_watermark}
-use Rattle.sb_answer_files.specs.outside.Lines.{lines}
-use Rattle.sb_answer_files.specs.base.pipeline.Shapes.{Shape, streams_of}
-use Rattle.sb_answer_files.specs.checkpoint.Checkpoints.{with_comments, low_of, saved_items}
-use Rattle.sb_answer_files.specs.checkpoint.Laws.{AreWholeLines, Resumes, accepted_in, resumed_bytes}
-use Rattle.sb_answer_files.specs.checkpoint.Reach.{HasNoSession}
-use Rattle.sb_answer_files.specs.checkpoint.Texts.{IsRead, items_text, pieces}
-use Rattle.sb_answer_files.proofs.checkpoint.CutInputs.{cut-inputs}
-use Rattle.sb_answer_files.proofs.checkpoint.Pieces.{texts-read_back}
-use Rattle.sb_answer_files.proofs.checkpoint.ReadOrFaulty.{read-or_faulty}
-use Rattle.sb_answer_files.specs.one_feed.Due.{due_mark, due_rows, rows_below}
-use Rattle.sb_answer_files.specs.one_feed.Given.{accepted_of, Given, part_accepted, part_items}
-use Rattle.sb_answer_files.specs.answers.CheckpointFiles.{Said}
-use Rattle.sb_answer_files.specs.answers.Courses.{if_ended, part_course, rest_course, run_course, saved_text}
+use Rattle.sb_answer_runs.specs.answers.base.records.declared.intake.Refusal.{Refusal}
+use Rattle.sb_answer_runs.specs.answers.base.records.declared.intake.Stop.{Stop}
+use Rattle.sb_answer_runs.specs.answers.base.records.declared.intake.Stop.TheVariants.{End, Refused, Fault}
+use Rattle.sb_answer_runs.specs.answers.base.records.declared.item.Item.{Item}
+use Rattle.sb_answer_runs.specs.answers.base.records.Inputs.{Accepted, stop_of}
+use Rattle.sb_answer_runs.specs.answers.base.records.Intake.{low}
+use Rattle.sb_answer_runs.specs.answers.base.records.Records.{at_least}
+use Rattle.sb_answer_runs.specs.answers.base.records.Rows.{row_text, text_of}
+use Rattle.sb_answer_runs.specs.answers.base.records.Streams.{dropped_of, low_watermark}
+use Rattle.sb_answer_runs.specs.answers.outside.Lines.{lines}
+use Rattle.sb_answer_runs.specs.answers.base.pipeline.Shapes.{Shape, streams_of}
+use Rattle.sb_answer_runs.specs.answers.checkpoint.Checkpoints.{with_comments, low_of, saved_items}
+use Rattle.sb_answer_runs.specs.answers.checkpoint.Laws.{AreWholeLines, Resumes, accepted_in, resumed_bytes}
+use Rattle.sb_answer_runs.specs.answers.checkpoint.Reach.{HasNoSession}
+use Rattle.sb_answer_runs.specs.answers.checkpoint.Texts.{IsRead, items_text, pieces}
+use Rattle.sb_answer_runs.proofs.answers.checkpoint.CutInputs.{cut-inputs}
+use Rattle.sb_answer_runs.proofs.answers.checkpoint.Pieces.{texts-read_back}
+use Rattle.sb_answer_runs.proofs.answers.checkpoint.ReadOrFaulty.{read-or_faulty}
+use Rattle.sb_answer_runs.specs.answers.one_feed.Due.{due_mark, due_rows, rows_below}
+use Rattle.sb_answer_runs.specs.answers.one_feed.Given.{accepted_of, Given, part_accepted, part_items}
+use Rattle.sb_answer_runs.specs.answers.CheckpointFiles.{Said}
+use Rattle.sb_answer_runs.specs.answers.Courses.{if_ended, part_course, rest_course, run_course, saved_text}
 use Rattle.sb_cli.specs.Laws.{AreCutBehind, CutRunsWriteTheWhole, IsSavedPart, WriteTheWhole}
-use Rattle.sb_answer_files.proofs.answers.RunAnswers.{low_at_most}
+use Rattle.sb_answer_runs.proofs.answers.RunAnswers.{low_at_most}
 
 -- reading stops as at the end only where no line is refused
 none_refused : (ended : Bool) (refused : Option Refusal) → stop_of ended refused ≡ End → refused ≡ None

@@ -2,35 +2,35 @@
 use Rattle.std.proofs.Common.{◌≡◌, ℕ, Bool, true, false, List, [], ◌++◌, Option, Some, None, refl, sym, ap, subst, ◌∙◌, append_assoc, append-nil, inl, inr}
 use Rattle.std.specs.Io.KnownBytes.{Appends, Consumes, prepend_known}
 use Rattle.std.proofs.lemmas.List.{append_cancel_right}
-use Rattle.sb_answer_files.specs.base.records.declared.intake.Stop.{Stop}
-use Rattle.sb_answer_files.specs.base.records.declared.intake.Stop.TheVariants.{Fault}
-use Rattle.sb_answer_files.specs.base.records.declared.item.Dropped.{Dropped}
-use Rattle.sb_answer_files.specs.base.records.declared.item.Item.{Item}
-use Rattle.sb_answer_files.specs.base.records.Inputs.{Accepted, stop_of}
-use Rattle.sb_answer_files.specs.base.records.Records.{at_least}
-use Rattle.sb_answer_files.specs.base.records.Rows.{text_of}
-use Rattle.sb_answer_files.specs.base.records.Streams.{dropped_of}
-use Rattle.sb_answer_files.specs.outside.Lines.{lines}
-use Rattle.sb_answer_files.specs.base.pipeline.Shapes.{Shape}
-use Rattle.sb_answer_files.specs.checkpoint.Ahead.{AllReadOrNoneOfTheSource}
-use Rattle.sb_answer_files.specs.checkpoint.Checkpoints.{low_of, with_comments}
-use Rattle.sb_answer_files.specs.checkpoint.Laws.{accepted_in}
-use Rattle.sb_answer_files.specs.checkpoint.Reach.{HasNoSession}
-use Rattle.sb_answer_files.specs.checkpoint.Texts.{items_text}
-use Rattle.sb_answer_files.proofs.checkpoint.FirstBytes.{GivesNothing, first-bytes}
-use Rattle.sb_answer_files.proofs.checkpoint.LinesAhead.{none_of_both}
-use Rattle.sb_answer_files.specs.one_feed.Due.{due_rows}
-use Rattle.sb_answer_files.specs.one_feed.Given.{accepted_of, Given, items_of, part_items, stop_at}
-use Rattle.sb_answer_files.specs.told.declared.late.LateRecords.{LateRecords}
-use Rattle.sb_answer_files.specs.told.declared.late.LateRecords.TheVariants.{OfInput, OfFiles}
-use Rattle.sb_answer_files.specs.told.declared.status.Status.{Status}
-use Rattle.sb_answer_files.specs.told.declared.status.Status.TheVariants.{Done, Words, Plan, Line, Input, Output, Folder, Memory, Tap, Audit, FileTooLong, FileLine, Checkpoint}
-use Rattle.sb_answer_files.specs.answers.Answers.{HasWritten, ListsDropped, ListsOfInput}
-use Rattle.sb_answer_files.specs.told.Outcomes.{IsWritten}
-use Rattle.sb_answer_files.specs.answers.CheckpointFiles.{Said}
-use Rattle.sb_answer_files.specs.answers.Courses.{part_course, rest_course, run_course}
+use Rattle.sb_answer_runs.specs.answers.base.records.declared.intake.Stop.{Stop}
+use Rattle.sb_answer_runs.specs.answers.base.records.declared.intake.Stop.TheVariants.{Fault}
+use Rattle.sb_answer_runs.specs.answers.base.records.declared.item.Dropped.{Dropped}
+use Rattle.sb_answer_runs.specs.answers.base.records.declared.item.Item.{Item}
+use Rattle.sb_answer_runs.specs.answers.base.records.Inputs.{Accepted, stop_of}
+use Rattle.sb_answer_runs.specs.answers.base.records.Records.{at_least}
+use Rattle.sb_answer_runs.specs.answers.base.records.Rows.{text_of}
+use Rattle.sb_answer_runs.specs.answers.base.records.Streams.{dropped_of}
+use Rattle.sb_answer_runs.specs.answers.outside.Lines.{lines}
+use Rattle.sb_answer_runs.specs.answers.base.pipeline.Shapes.{Shape}
+use Rattle.sb_answer_runs.specs.answers.checkpoint.Ahead.{AllReadOrNoneOfTheSource}
+use Rattle.sb_answer_runs.specs.answers.checkpoint.Checkpoints.{low_of, with_comments}
+use Rattle.sb_answer_runs.specs.answers.checkpoint.Laws.{accepted_in}
+use Rattle.sb_answer_runs.specs.answers.checkpoint.Reach.{HasNoSession}
+use Rattle.sb_answer_runs.specs.answers.checkpoint.Texts.{items_text}
+use Rattle.sb_answer_runs.proofs.answers.checkpoint.FirstBytes.{GivesNothing, first-bytes}
+use Rattle.sb_answer_runs.proofs.answers.checkpoint.LinesAhead.{none_of_both}
+use Rattle.sb_answer_runs.specs.answers.one_feed.Due.{due_rows}
+use Rattle.sb_answer_runs.specs.answers.one_feed.Given.{accepted_of, Given, items_of, part_items, stop_at}
+use Rattle.sb_answer_runs.specs.answers.told.declared.late.LateRecords.{LateRecords}
+use Rattle.sb_answer_runs.specs.answers.told.declared.late.LateRecords.TheVariants.{OfInput, OfFiles}
+use Rattle.sb_answer_runs.specs.answers.told.declared.status.Status.{Status}
+use Rattle.sb_answer_runs.specs.answers.told.declared.status.Status.TheVariants.{Done, Words, Plan, Line, Input, Output, Folder, Memory, Tap, Audit, FileTooLong, FileLine, Checkpoint}
+use Rattle.sb_answer_runs.specs.answers.Answers.{HasWritten, ListsDropped, ListsOfInput}
+use Rattle.sb_answer_runs.specs.answers.told.Outcomes.{IsWritten}
+use Rattle.sb_answer_runs.specs.answers.CheckpointFiles.{Said}
+use Rattle.sb_answer_runs.specs.answers.Courses.{part_course, rest_course, run_course}
 use Rattle.sb_cli.specs.Laws.{IsSavedPart, ResumedAnswersAreTheRest, WriteTheWhole}
-use Rattle.sb_answer_files.specs.told.Statuses.{status_of}
+use Rattle.sb_answer_runs.specs.answers.told.Statuses.{status_of}
 use Rattle.sb_cli.proofs.CutLaws.{cut_run, fine, lines_are, said_is}
 
 -- ---- where all that is due was written

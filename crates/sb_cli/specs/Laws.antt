@@ -1,23 +1,23 @@
 -- What the answers of a run that is cut in two have to do with that of one run.
 use Rattle.std.specs.Prelude.{◌≡◌, ℕ, List, ◌++◌, Option, Some}
 use Rattle.std.specs.Io.KnownBytes.{Appends}
-use Rattle.sb_answer_files.specs.base.records.declared.intake.Stop.TheVariants.{End}
-use Rattle.sb_answer_files.specs.base.records.declared.item.Dropped.{Dropped}
-use Rattle.sb_answer_files.specs.base.records.Streams.{dropped_of}
-use Rattle.sb_answer_files.specs.base.pipeline.Shapes.{Shape}
-use Rattle.sb_answer_files.specs.checkpoint.Checkpoints.{with_comments}
-use Rattle.sb_answer_files.specs.checkpoint.Laws.{AreWholeLines}
-use Rattle.sb_answer_files.specs.checkpoint.Reach.{HasNoSession}
-use Rattle.sb_answer_files.specs.checkpoint.Texts.{IsRead, items_text, pieces}
-use Rattle.sb_answer_files.specs.one_feed.Given.{Given}
-use Rattle.sb_answer_files.specs.words.declared.options.Options.{Options}
-use Rattle.sb_answer_files.specs.answers.declared.ending.Ending.{Ending}
-use Rattle.sb_answer_files.specs.told.declared.late.LateRecords.TheVariants.{OfInput}
-use Rattle.sb_answer_files.specs.answers.Answers.{IsRestAnswer}
-use Rattle.sb_answer_files.specs.told.Outcomes.{IsWritten}
-use Rattle.sb_answer_files.specs.answers.CheckpointFiles.{Said}
-use Rattle.sb_answer_files.specs.answers.Courses.{Course, part_course, rest_course, run_course, save_course}
-use Rattle.sb_answer_files.specs.told.Statuses.{status_of}
+use Rattle.sb_answer_runs.specs.answers.base.records.declared.intake.Stop.TheVariants.{End}
+use Rattle.sb_answer_runs.specs.answers.base.records.declared.item.Dropped.{Dropped}
+use Rattle.sb_answer_runs.specs.answers.base.records.Streams.{dropped_of}
+use Rattle.sb_answer_runs.specs.answers.base.pipeline.Shapes.{Shape}
+use Rattle.sb_answer_runs.specs.answers.checkpoint.Checkpoints.{with_comments}
+use Rattle.sb_answer_runs.specs.answers.checkpoint.Laws.{AreWholeLines}
+use Rattle.sb_answer_runs.specs.answers.checkpoint.Reach.{HasNoSession}
+use Rattle.sb_answer_runs.specs.answers.checkpoint.Texts.{IsRead, items_text, pieces}
+use Rattle.sb_answer_runs.specs.answers.one_feed.Given.{Given}
+use Rattle.sb_answer_runs.specs.answers.words.declared.options.Options.{Options}
+use Rattle.sb_answer_runs.specs.answers.declared.ending.Ending.{Ending}
+use Rattle.sb_answer_runs.specs.answers.told.declared.late.LateRecords.TheVariants.{OfInput}
+use Rattle.sb_answer_runs.specs.answers.Answers.{IsRestAnswer}
+use Rattle.sb_answer_runs.specs.answers.told.Outcomes.{IsWritten}
+use Rattle.sb_answer_runs.specs.answers.CheckpointFiles.{Said}
+use Rattle.sb_answer_runs.specs.answers.Courses.{Course, part_course, rest_course, run_course, save_course}
+use Rattle.sb_answer_runs.specs.answers.told.Statuses.{status_of}
 
 -- a first part was read to its end, no line of it was refused, and it has ended with a line; and in the text that
 -- `save` writes of it this is read

@@ -1,31 +1,31 @@
 //! The one call that the program makes.
 
 ghost use Rattle.std.specs.Prelude.{◌≡◌, ◌<◌, ◌^◌, false, IsTrue, ℕ, List, [], length, map};
-ghost use Rattle.sb_answer_files.specs.base.records.declared.item.Stream.{Stream as AStream};
-ghost use Rattle.sb_answer_files.specs.outside.Sinks.{SinkCause, WritesAll};
-ghost use Rattle.sb_answer_files.specs.outside.Sources.{Rose};
-ghost use Rattle.sb_answer_files.specs.diary.Texts.{NodeDiary};
-ghost use Rattle.sb_answer_files.specs.base.pipeline.Shapes.{Shape};
-ghost use Rattle.sb_answer_files.specs.told.declared.late.LateRecords.{LateRecords};
-ghost use Rattle.sb_answer_files.specs.told.declared.late.LateRecords.TheVariants.{OfInput};
-ghost use Rattle.sb_answer_files.specs.answers.Answers.{IsAnswer, ReadsNoMore, ending_with};
-ghost use Rattle.sb_answer_files.specs.told.Outcomes.{IsNoTap, IsUnread};
-ghost use Rattle.sb_answer_files.specs.answers.CheckpointFiles.{Said, TellsCheckpoint};
-ghost use Rattle.sb_answer_files.specs.answers.Courses.{course_in};
-ghost use Rattle.sb_answer_files.specs.answers.Faults.{BlamesFile, HasCause, HidesNoFault, IsDoneOrMemory, NothingFails};
-ghost use Rattle.sb_answer_files.specs.answers.Faults.{NothingFailsBehind, NothingFailsInAudit, NothingFailsInFiles, faults_of};
-ghost use Rattle.sb_answer_files.specs.told.Notes.{HasNoted};
-ghost use Rattle.sb_answer_files.specs.answers.Offered.{BlamesTap, IsOffered};
-ghost use Rattle.sb_answer_files.specs.answers.Pipelines.{HasOneWorker, ReadsInput, WritesAsItReads};
-ghost use Rattle.sb_answer_files.specs.answers.Pipelines.{TellsCutPlan, TellsPlan, TellsPlanIn, options_in};
-ghost use Rattle.sb_answer_files.specs.answers.RecordFiles.{TellsBoth};
-ghost use Rattle.sb_answer_files.specs.told.Statuses.{note_text, notes_text};
-ghost use Rattle.sb_answer_files.specs.words.declared.options.Options.{Options};
-ghost use Rattle.sb_answer_files.specs.words.Texts.{texts};
-ghost use Rattle.sb_answer_files.specs.words.Words.{Asked, IsCommand, IsNoCommand};
-ghost use Rattle.sb_answer_files.specs.words.Words.Asked.{Sum, Audit, Work, Feeds, Resume};
+ghost use Rattle.sb_answer_runs.specs.answers.base.records.declared.item.Stream.{Stream as AStream};
+ghost use Rattle.sb_answer_runs.specs.answers.outside.Sinks.{SinkCause, WritesAll};
+ghost use Rattle.sb_answer_runs.specs.answers.outside.Sources.{Rose};
+ghost use Rattle.sb_answer_runs.specs.answers.diary.Texts.{NodeDiary};
+ghost use Rattle.sb_answer_runs.specs.answers.base.pipeline.Shapes.{Shape};
+ghost use Rattle.sb_answer_runs.specs.answers.told.declared.late.LateRecords.{LateRecords};
+ghost use Rattle.sb_answer_runs.specs.answers.told.declared.late.LateRecords.TheVariants.{OfInput};
+ghost use Rattle.sb_answer_runs.specs.answers.Answers.{IsAnswer, ReadsNoMore, ending_with};
+ghost use Rattle.sb_answer_runs.specs.answers.told.Outcomes.{IsNoTap, IsUnread};
+ghost use Rattle.sb_answer_runs.specs.answers.CheckpointFiles.{Said, TellsCheckpoint};
+ghost use Rattle.sb_answer_runs.specs.answers.Courses.{course_in};
+ghost use Rattle.sb_answer_runs.specs.answers.Faults.{BlamesFile, HasCause, HidesNoFault, IsDoneOrMemory, NothingFails};
+ghost use Rattle.sb_answer_runs.specs.answers.Faults.{NothingFailsBehind, NothingFailsInAudit, NothingFailsInFiles, faults_of};
+ghost use Rattle.sb_answer_runs.specs.answers.told.Notes.{HasNoted};
+ghost use Rattle.sb_answer_runs.specs.answers.Offered.{BlamesTap, IsOffered};
+ghost use Rattle.sb_answer_runs.specs.answers.Pipelines.{HasOneWorker, ReadsInput, WritesAsItReads};
+ghost use Rattle.sb_answer_runs.specs.answers.Pipelines.{TellsCutPlan, TellsPlan, TellsPlanIn, options_in};
+ghost use Rattle.sb_answer_runs.specs.answers.RecordFiles.{TellsBoth};
+ghost use Rattle.sb_answer_runs.specs.answers.told.Statuses.{note_text, notes_text};
+ghost use Rattle.sb_answer_runs.specs.answers.words.declared.options.Options.{Options};
+ghost use Rattle.sb_answer_runs.specs.answers.words.Texts.{texts};
+ghost use Rattle.sb_answer_runs.specs.answers.words.Words.{Asked, IsCommand, IsNoCommand};
+ghost use Rattle.sb_answer_runs.specs.answers.words.Words.Asked.{Sum, Audit, Work, Feeds, Resume};
 
-use sb_answer_files::{
+use sb_answer_runs::{
     ByStream, Ending, Request, Status, Tap, answer_audit, answer_feeds, answer_file, answer_part,
     answer_resume, answer_save, answer_slow, answer_sum, answer_watch, answer_work, note_of,
 };

@@ -8,7 +8,7 @@ mod command;
 pub mod laws;
 
 pub use command::streambox;
-pub use sb_answer_files::{LateRecords, MAX_CHECKPOINT_BYTES, Status, WORK_WINDOW};
+pub use sb_answer_runs::{LateRecords, MAX_CHECKPOINT_BYTES, Status, WORK_WINDOW};
 
 // What the crates above name of the crates below.
-pub use sb_answer_files::{RunEnd, Sizes, run};
+pub use sb_answer_runs::{RunEnd, Sizes, run};

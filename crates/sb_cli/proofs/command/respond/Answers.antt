@@ -1,12 +1,12 @@
 use Rattle.std.proofs.Common.{◌≡◌, inr, refl, sym, ap, ◌∙◌, subst}
 use Rattle.std.proofs.lemmas.Option.{same_Some}
-use Rattle.sb_answer_files.specs.base.pipeline.Shapes.{sum_shape}
-use Rattle.sb_answer_files.specs.words.Words.{asked_of}
-use Rattle.sb_answer_files.specs.words.Words.Asked.{Sum, Run, Slow, Audit, Work, Watch, Feeds, Part, Save, Resume}
-use Rattle.sb_answer_files.specs.answers.Answers.{IsAnswer}
-use Rattle.sb_answer_files.proofs.answers.Answering.{no_memory}
+use Rattle.sb_answer_runs.specs.answers.base.pipeline.Shapes.{sum_shape}
+use Rattle.sb_answer_runs.specs.answers.words.Words.{asked_of}
+use Rattle.sb_answer_runs.specs.answers.words.Words.Asked.{Sum, Run, Slow, Audit, Work, Watch, Feeds, Part, Save, Resume}
+use Rattle.sb_answer_runs.specs.answers.Answers.{IsAnswer}
+use Rattle.sb_answer_runs.proofs.answers.Answering.{no_memory}
 use Rattle.sb_cli.proofs.Offering.{offered_for}
-use Rattle.sb_answer_files.proofs.answers.ReadingOn.{reads_no_more, reads_none, stops_for, writes_late}
+use Rattle.sb_answer_runs.proofs.answers.ReadingOn.{reads_no_more, reads_none, stops_for, writes_late}
 use Rattle.sb_cli.proofs.command.respond.Goals as goal
 
 pub returns-in-Ok-Some-Sum-clause-answer : goal.returns-in-Ok-Some-Sum-clause-answer

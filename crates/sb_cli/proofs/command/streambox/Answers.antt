@@ -1,9 +1,9 @@
-use Rattle.sb_answer_files.specs.answers.Faults.{faults_of}
-use Rattle.sb_answer_files.specs.words.Words.Asked.{Audit, Work, Feeds, Resume}
-use Rattle.sb_answer_files.specs.answers.Summaries.{summary_text, work_rows}
-use Rattle.sb_answer_files.proofs.answers.Answering.{audit_is_complete, is_complete, work_is_complete}
-use Rattle.sb_answer_files.proofs.FeedsAnswers.{feeds_is_complete}
-use Rattle.sb_answer_files.proofs.RestAnswers.{rest_is_complete}
+use Rattle.sb_answer_runs.specs.answers.Faults.{faults_of}
+use Rattle.sb_answer_runs.specs.answers.words.Words.Asked.{Audit, Work, Feeds, Resume}
+use Rattle.sb_answer_runs.specs.answers.Summaries.{summary_text, work_rows}
+use Rattle.sb_answer_runs.proofs.answers.Answering.{audit_is_complete, is_complete, work_is_complete}
+use Rattle.sb_answer_runs.proofs.FeedsAnswers.{feeds_is_complete}
+use Rattle.sb_answer_runs.proofs.RestAnswers.{rest_is_complete}
 use Rattle.sb_cli.proofs.command.streambox.Goals as goal
 
 pub returns-clause-complete : goal.returns-clause-complete

@@ -1,9 +1,9 @@
 use Rattle.std.specs.Prelude.{◌++◌}
 use Rattle.std.proofs.KnownBytes.{Appends-trans}
-use Rattle.sb_answer_files.specs.diary.Texts.{diary_text}
-use Rattle.sb_answer_files.proofs.outside.Appending.{prefix_later, prefix_of_more, writes_err}
-use Rattle.sb_answer_files.specs.told.Statuses.{late_text, note_text, notes_text}
-use Rattle.sb_answer_files.proofs.told.Printing.{written_behind}
+use Rattle.sb_answer_runs.specs.answers.diary.Texts.{diary_text}
+use Rattle.sb_answer_runs.proofs.answers.outside.Appending.{prefix_later, prefix_of_more, writes_err}
+use Rattle.sb_answer_runs.specs.answers.told.Statuses.{late_text, note_text, notes_text}
+use Rattle.sb_answer_runs.proofs.answers.told.Printing.{written_behind}
 use Rattle.sb_cli.proofs.command.write_notes.Goals as goal
 
 pub returns-in_err-write-clause-bytes : goal.returns-in_err-write-clause-bytes
